@@ -1,0 +1,193 @@
+-- Objects that are made of parts: what stands in them is found, and they are plain.
+use Rattle.std.proofs.Common.{◌≡◌, ℕ, ◌≤◌, List, [], ◌∷◌, Bool, true, false, not, cond, ◌&&◌, ◌||◌, Option, None, Some, Ordering, Less, Equal, Greater, nat_cmp, refl, sym, ap, ◌∙◌, arith}
+use Rattle.std.proofs.lemmas.Bool.{and_parts}
+use Rattle.std.proofs.lemmas.Slice.Eq.{bytes_eq-Decides}
+use Rattle.std.specs.Prelude.{⊤}
+use Rattle.std.specs.Cmp.Lexicographic.{slice_cmp}
+use Rattle.std.specs.Ordering.{is_lt, match_ordering}
+use Rattle.std.specs.Str.{str_to_ascii_lowercase}
+use Rattle.serde_json.specs.Data.{Num, unsigned, negative, float, Data, null, boolean, number, string, array, object, Items, no_items, item, Members, no_members, member, put, depth, members_depth}
+use Rattle.serde_json.specs.Written.{has_float, items_have_float, members_have_float}
+use Rattle.serde_json.specs.Find.{is_float}
+use Rattle.scim_json.specs.Attributes.{same_name, named, clash, clashes, any_clashes}
+use Rattle.scim_json.specs.Plain.{IsWhole, IsBelow, IsPlain, ItemsArePlain, MembersArePlain}
+use Rattle.scim_json.specs.Writing.{Part, member_if, members_from, put_if}
+
+-- ---- tests on the names of parts, which compute where the names are literals
+
+abbrev pub is_below : List ℕ → List Part → Bool
+is_below name [] = true
+is_below name (p ∷ ps) = is_lt (slice_cmp nat_cmp name p.0) && is_below name ps
+
+-- each name stands before the later ones, in byte order
+abbrev pub are_rising : List Part → Bool
+are_rising [] = true
+are_rising (p ∷ ps) = is_below p.0 ps && are_rising ps
+
+abbrev pub is_apart : List ℕ → List Part → Bool
+is_apart name [] = true
+is_apart name (p ∷ ps) = not (same_name name p.0) && is_apart name ps
+
+-- no two names are equal in lowered letters
+abbrev pub are_apart : List Part → Bool
+are_apart [] = true
+are_apart (p ∷ ps) = is_apart p.0 ps && are_apart ps
+
+abbrev pub is_clear : List ℕ → List Part → Bool
+is_clear name [] = true
+is_clear name (p ∷ ps) = not (clash name p.0) && is_clear name ps
+
+-- no name of the first clashes with one of the second
+abbrev pub are_clear : List Part → List Part → Bool
+are_clear [] qs = true
+are_clear (p ∷ ps) qs = is_clear p.0 qs && are_clear ps qs
+
+-- the value of the first part with this name, in any case
+abbrev pub part_named : List ℕ → List Part → Option Data
+part_named name [] = None
+part_named name (p ∷ ps) = cond (same_name p.0 name) p.1 (part_named name ps)
+
+-- ---- putting the parts in, from the last to the first
+
+abbrev pub put_all : List Part → Members
+put_all [] = no_members
+put_all (p ∷ ps) = put_if p.0 p.1 (put_all ps)
+
+is_less : (o : Ordering) → is_lt o ≡ true → o ≡ Less
+is_less Less h = refl
+is_less Equal h = cc
+is_less Greater h = cc
+
+put-first : (k : List ℕ) (d : Data) (ps : List Part) → is_below k ps ≡ true → put k d (members_from ps) ≡ member k d (members_from ps)
+put-first k d [] h = refl
+put-first k d ((l, None) ∷ ps) h = put-first k d ps (and_parts (is_lt (slice_cmp nat_cmp k l)) _ h).1
+put-first k d ((l, Some e) ∷ ps) h =
+    let less = is_less (slice_cmp nat_cmp k l) (and_parts (is_lt (slice_cmp nat_cmp k l)) _ h).0 in
+    ap (λ o. match_ordering o (member k d (member l e (members_from ps))) (member l d (members_from ps)) (member l e (put k d (members_from ps)))) less
+
+put_if-first : (k : List ℕ) (o : Option Data) (ps : List Part) → is_below k ps ≡ true → put_if k o (members_from ps) ≡ member_if k o (members_from ps)
+put_if-first k None ps h = refl
+put_if-first k (Some d) ps h = put-first k d ps h
+
+-- parts in rising order may be put in from the last to the first
+pub put_all-rising : (ps : List Part) → are_rising ps ≡ true → put_all ps ≡ members_from ps
+put_all-rising [] h = refl
+put_all-rising (p ∷ ps) h =
+    let both = and_parts (is_below p.0 ps) _ h in
+    ap (put_if p.0 p.1) (put_all-rising ps both.1) ∙ put_if-first p.0 p.1 ps both.0
+
+-- ---- finding a part
+
+other_name : (b c : Bool) (k l name : List ℕ) → same_name k name ≡ b → same_name l name ≡ c → not (same_name k l) ≡ true → b ≡ true → c ≡ false
+other_name b true k l name here there apart is =
+    let one : str_to_ascii_lowercase k ≡ str_to_ascii_lowercase name = (bytes_eq-Decides _ _).0 (here ∙ is) in
+    let two : str_to_ascii_lowercase l ≡ str_to_ascii_lowercase name = (bytes_eq-Decides _ _).0 there in
+    let same : same_name k l ≡ true = (bytes_eq-Decides _ _).1 (one ∙ sym two) in
+    sym apart ∙ ap not same
+other_name b false k l name here there apart is = refl
+
+no_part_named : (k name : List ℕ) (ps : List Part) → same_name k name ≡ true → is_apart k ps ≡ true → part_named name ps ≡ None
+no_part_named k name [] here apart = refl
+no_part_named k name (p ∷ ps) here apart =
+    let both = and_parts (not (same_name k p.0)) _ apart in
+    let away = other_name _ _ k p.0 name here refl both.0 refl in
+    ap (λ b. cond b p.1 (part_named name ps)) away ∙ no_part_named k name ps here both.1
+
+skipped : (b : Bool) (rest : Option Data) → (b ≡ true → rest ≡ None) → rest ≡ cond b None rest
+skipped true rest none = none refl
+skipped false rest none = refl
+
+-- where no two names are equal in lowered letters, each part is found under its name
+pub named-members_from : (name : List ℕ) (ps : List Part) → are_apart ps ≡ true → named name (members_from ps) ≡ part_named name ps
+unfolding named
+named-members_from name [] h = refl
+named-members_from name ((k, None) ∷ ps) h =
+    let both = and_parts (is_apart k ps) _ h in
+    named-members_from name ps both.1 ∙ skipped (same_name k name) (part_named name ps) (λ here. no_part_named k name ps here both.0)
+named-members_from name ((k, Some d) ∷ ps) h =
+    let both = and_parts (is_apart k ps) _ h in
+    ap (cond (same_name k name) (Some d)) (named-members_from name ps both.1)
+
+clashes-members_from : (name : List ℕ) (ps : List Part) → is_clear name ps ≡ true → clashes name (members_from ps) ≡ false
+unfolding clashes
+clashes-members_from name [] h = refl
+clashes-members_from name ((k, None) ∷ ps) h = clashes-members_from name ps (and_parts (not (clash name k)) _ h).1
+clashes-members_from name ((k, Some d) ∷ ps) h =
+    let both = and_parts (not (clash name k)) _ h in
+    neither (clash name k) both.0 (clashes-members_from name ps both.1)
+  where
+    neither : (a : Bool) → {b : Bool} → not a ≡ true → b ≡ false → (a || b) ≡ false
+    neither true h g = cc
+    neither false h g = g
+
+nor : (a b : Bool) → a ≡ false → b ≡ false → (a || b) ≡ false
+nor true b h g = h
+nor false b h g = g
+
+-- an object whose names don't clash repeats none
+pub any_clashes-members_from : (ps qs : List Part) → are_clear ps qs ≡ true → any_clashes (members_from ps) (members_from qs) ≡ false
+unfolding any_clashes
+any_clashes-members_from [] qs h = refl
+any_clashes-members_from ((k, None) ∷ ps) qs h = any_clashes-members_from ps qs (and_parts (is_clear k qs) _ h).1
+any_clashes-members_from ((k, Some d) ∷ ps) qs h =
+    let both = and_parts (is_clear k qs) _ h in
+    nor (clashes k (members_from qs)) _ (clashes-members_from k qs both.0) (any_clashes-members_from ps qs both.1)
+
+-- ---- plain data
+
+abbrev pub IsPlainIf : Option Data → Type 0
+IsPlainIf None = ⊤
+IsPlainIf (Some d) = IsPlain d
+
+abbrev pub ArePlainIf : List Part → Type 0
+ArePlainIf [] = ⊤
+ArePlainIf (p ∷ ps) = IsPlainIf p.1 × ArePlainIf ps
+
+IsBelow-members_from : (k : List ℕ) (ps : List Part) → is_below k ps ≡ true → IsBelow k (members_from ps)
+IsBelow-members_from k [] h = tt
+IsBelow-members_from k ((l, None) ∷ ps) h = IsBelow-members_from k ps (and_parts (is_lt (slice_cmp nat_cmp k l)) _ h).1
+IsBelow-members_from k ((l, Some e) ∷ ps) h =
+    let both = and_parts (is_lt (slice_cmp nat_cmp k l)) _ h in
+    (is_less _ both.0, IsBelow-members_from k ps both.1)
+
+pub MembersArePlain-members_from : (ps : List Part) → are_rising ps ≡ true → ArePlainIf ps → MembersArePlain (members_from ps)
+MembersArePlain-members_from [] h plain = tt
+MembersArePlain-members_from ((k, None) ∷ ps) h plain = MembersArePlain-members_from ps (and_parts (is_below k ps) _ h).1 plain.1
+MembersArePlain-members_from ((k, Some d) ∷ ps) h plain =
+    let both = and_parts (is_below k ps) _ h in
+    (IsBelow-members_from k ps both.0, plain.0, MembersArePlain-members_from ps both.1 plain.1)
+
+abbrev pub depth_if : Option Data → ℕ
+depth_if None = 0
+depth_if (Some d) = depth d
+
+abbrev pub AreWithin : ℕ → List Part → Type 0
+AreWithin n [] = ⊤
+AreWithin n (p ∷ ps) = (depth_if p.1 ≤ n) × AreWithin n ps
+
+pub members_depth-members_from : (n : ℕ) (ps : List Part) → AreWithin n ps → members_depth (members_from ps) ≤ n
+members_depth-members_from n [] h = omega arith
+members_depth-members_from n ((k, None) ∷ ps) h = members_depth-members_from n ps h.1
+members_depth-members_from n ((k, Some d) ∷ ps) h = omega (arith, h.0, members_depth-members_from n ps h.1)
+
+is_float-whole : (n : Num) → IsWhole n → is_float n ≡ false
+is_float-whole (unsigned n) h = refl
+is_float-whole (negative z) h = absurd h
+is_float-whole (float x) h = absurd h
+
+mutual
+  pub has_float-plain : (d : Data) → IsPlain d → has_float d ≡ false
+  has_float-plain null h = refl
+  has_float-plain (boolean b) h = refl
+  has_float-plain (number n) h = is_float-whole n h
+  has_float-plain (string s) h = refl
+  has_float-plain (array ds) h = items_have_float-plain ds h
+  has_float-plain (object ms) h = members_have_float-plain ms h
+
+  pub items_have_float-plain : (ds : Items) → ItemsArePlain ds → items_have_float ds ≡ false
+  items_have_float-plain no_items h = refl
+  items_have_float-plain (item d ds) h = nor (has_float d) _ (has_float-plain d h.0) (items_have_float-plain ds h.1)
+
+  pub members_have_float-plain : (ms : Members) → MembersArePlain ms → members_have_float ms ≡ false
+  members_have_float-plain no_members h = refl
+  members_have_float-plain (member k d ms) h = nor (has_float d) _ (has_float-plain d h.1) (members_have_float-plain ms h.2)

@@ -1,0 +1,4 @@
+pub mod Attributes
+pub mod Plain
+pub mod Values
+pub mod Writing

@@ -1,0 +1,33 @@
+-- The data that this workspace writes: whole numbers from 0, and objects with their names in byte order.
+use Rattle.std.specs.Prelude.{◌≡◌, ℕ, ◌^◌, ◌<◌, List, ⊤}
+use Rattle.std.specs.Cmp.Lexicographic.{slice_cmp}
+use Rattle.std.specs.Ordering.{nat_cmp}
+use Rattle.std.specs.declared.cmp.Ordering.TheVariants.{Less}
+use Rattle.serde_json.specs.Data.{Num, unsigned, negative, float, Data, null, boolean, number, string, array, object, Items, no_items, item, Members, no_members, member}
+
+abbrev pub IsWhole : Num → Type 0
+IsWhole (unsigned n) = n < 2 ^ 64
+IsWhole (negative z) = ⊥
+IsWhole (float x) = ⊥
+
+-- the name stands before each of these names, in byte order
+abbrev pub IsBelow : List ℕ → Members → Type 0
+IsBelow name no_members = ⊤
+IsBelow name (member k d ms) = (slice_cmp nat_cmp name k ≡ Less) × IsBelow name ms
+
+abbrev mutual
+  pub IsPlain : Data → Type 0
+  IsPlain null = ⊤
+  IsPlain (boolean b) = ⊤
+  IsPlain (number n) = IsWhole n
+  IsPlain (string s) = ⊤
+  IsPlain (array ds) = ItemsArePlain ds
+  IsPlain (object ms) = MembersArePlain ms
+
+  pub ItemsArePlain : Items → Type 0
+  ItemsArePlain no_items = ⊤
+  ItemsArePlain (item d ds) = IsPlain d × ItemsArePlain ds
+
+  pub MembersArePlain : Members → Type 0
+  MembersArePlain no_members = ⊤
+  MembersArePlain (member k d ms) = IsBelow k ms × IsPlain d × MembersArePlain ms

@@ -1,0 +1,13 @@
+#![tactic(auto)]
+
+// JSON as SCIM reads and writes it: attributes by name in any case, their values, and objects with
+// optional members.
+mod attributes;
+mod laws;
+mod values;
+mod writing;
+
+pub use attributes::{attribute, repeats, value_repeats};
+pub use laws::plain_text_reads_back;
+pub use values::{ValueFault, flag_or, items_in, members_in, text_within, whole_within};
+pub use writing::{compact, put_if};

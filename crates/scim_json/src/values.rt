@@ -1,0 +1,90 @@
+// What an attribute's value must be. An absent value is no fault.
+ghost use Rattle.std.specs.Prelude.{◌≡◌, ◌≤◌, option_map};
+ghost use Rattle.std.specs.Result.{result_map_both};
+ghost use Rattle.serde_json.specs.View.{view, items_view, members_view};
+ghost use Rattle.scim_json.specs.Values as spec;
+
+use serde_json::{Map, Value};
+use thiserror::Error;
+
+/// Why a value isn't one that its attribute may have.
+#[derive(Clone, Copy, PartialEq, Eq, Debug, Drop, Error)]
+pub enum ValueFault {
+    #[error("the value has another type")]
+    WrongType,
+    #[error("the text is too long")]
+    TooLong,
+    #[error("the number is out of range")]
+    OutOfRange,
+}
+
+/// A text of at most `limit` bytes.
+pub fn text_within(value: Option<&Value>, limit: usize) -> Result<Option<&str>, ValueFault>
+    ensures { result_map_both (option_map (λ s. s.now)) (λ e. e) result
+        ≡ spec.text_within limit (option_map (λ v. view v.now) value.entry) }
+{
+    match value {
+        None => Ok(None),
+        Some(Value::String(text)) => {
+            let text = text.as_str();
+            if text.len() <= limit {
+                Ok(Some(text))
+            } else {
+                Err(ValueFault::TooLong)
+            }
+        }
+        Some(_) => Err(ValueFault::WrongType),
+    }
+}
+
+/// A boolean, or `absent` where there is none.
+pub fn flag_or(value: Option<&Value>, absent: bool) -> Result<bool, ValueFault>
+    ensures { result ≡ spec.flag_or absent (option_map (λ v. view v.now) value.entry) }
+{
+    match value {
+        None => Ok(absent),
+        Some(Value::Bool(flag)) => Ok(*flag),
+        Some(_) => Err(ValueFault::WrongType),
+    }
+}
+
+/// A whole number from `low` to `high`, written without sign, fraction or exponent.
+pub fn whole_within(value: Option<&Value>, low: u64, high: u64) -> Result<Option<u64>, ValueFault>
+    ensures { result ≡ spec.whole_within low high (option_map (λ v. view v.now) value.entry) }
+{
+    let Some(value) = value else {
+        return Ok(None);
+    };
+    match value.as_u64() {
+        None => Err(ValueFault::WrongType),
+        Some(number) => if low <= number && number <= high {
+            Ok(Some(number))
+        } else {
+            Err(ValueFault::OutOfRange)
+        },
+    }
+}
+
+/// The items of a list; none where there is no value.
+pub fn items_in(value: Option<&Value>) -> Result<&[Value], ValueFault>
+    ensures { result_map_both (λ vs. items_view vs.now) (λ e. e) result
+        ≡ spec.items_in (option_map (λ v. view v.now) value.entry) }
+{
+    match value {
+        None => Ok(&[]),
+        Some(Value::Array(items)) => Ok(items.as_slice()),
+        Some(_) => Err(ValueFault::WrongType),
+    }
+}
+
+/// The members of an object.
+pub fn members_in(value: Option<&Value>) -> Result<Option<&Map<String, Value>>, ValueFault>
+    ensures { result_map_both (option_map (λ m. members_view m.now.entries)) (λ e. e) result
+        ≡ spec.members_in (option_map (λ v. view v.now) value.entry) }
+{
+    match value {
+        None => Ok(None),
+        Some(Value::Object(members)) => Ok(Some(members)),
+        Some(_) => Err(ValueFault::WrongType),
+    }
+}
