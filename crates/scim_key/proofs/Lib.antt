@@ -1,0 +1,4 @@
+pub mod KeyLemmas
+pub mod IdLemmas
+pub mod BaseLemmas
+pub mod RevisionLaws

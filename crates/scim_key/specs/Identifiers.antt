@@ -1,0 +1,41 @@
+-- The ids of resources.
+use Rattle.std.specs.Prelude.{◌≡◌, ℕ, zero, suc, List, [], ◌∷◌, ◌++◌, Option, Some, None, ◌==◌, ◌+◌, ◌/◌, ◌%◌, ◌≤◌, length, nat_lt, if◌then◌else◌, codes}
+use Rattle.std.specs.Int.{w32, to_be_bytes}
+use Rattle.scim_key.specs.declared.names.NameFault.{NameFault}
+use Rattle.scim_key.specs.declared.names.NameFault.TheVariants.{Empty, TooLong}
+
+-- how many bytes an id may have
+abbrev pub id_limit : ℕ
+id_limit = 256
+
+-- The first thing that is wrong with a text as an id
+unfoldable pub id_fault : List ℕ → Option NameFault
+id_fault bs = if length bs == 0 then Some Empty else if nat_lt id_limit (length bs) then Some TooLong else None
+
+abbrev pub IsId : List ℕ → Type 0
+IsId bs = id_fault bs ≡ None
+
+-- how many resources a provider holds at most, so the greatest number that an id is made of
+abbrev pub last_number : ℕ
+last_number = 1_000_000
+
+-- one lower-case hexadecimal digit
+abbrev pub hex_digit : ℕ → ℕ
+hex_digit d = if nat_lt d 10 then 48 + d else 87 + d
+
+-- the last `count` hexadecimal digits of a number, in lower case, with zeros in front
+unfoldable pub lower_hex : ℕ → ℕ → List ℕ
+lower_hex zero n = []
+lower_hex (suc count) n = lower_hex count (n / 16) ++ hex_digit (n % 16) ∷ []
+
+-- The id of the n-th resource ever created, of either type
+unfoldable pub id_text : ℕ → List ℕ
+id_text n = codes "5c1a0000-0000-8000-8000-" ++ lower_hex 12 n
+
+-- the bytes of the UUID that this id spells: the number stands in the last four
+abbrev pub id_bytes : ℕ → List ℕ
+id_bytes n = 92 ∷ 26 ∷ 0 ∷ 0 ∷ 0 ∷ 0 ∷ 128 ∷ 0 ∷ 128 ∷ 0 ∷ 0 ∷ 0 ∷ to_be_bytes w32 n
+
+-- resources of different numbers have different ids
+abbrev pub IdsDiffer : Type 0
+IdsDiffer = (m n : ℕ) → m ≤ last_number → n ≤ last_number → id_text m ≡ id_text n → m ≡ n

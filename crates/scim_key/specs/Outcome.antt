@@ -1,0 +1,23 @@
+-- What a call may answer where its definition says one thing and memory may be wanting.
+use Rattle.std.specs.Prelude.{◌≡◌, ℕ, List, Option, None, Some, Result, Ok, Err, ◌⊎◌}
+
+-- what came is exactly the answer, or want of memory
+abbrev pub Gives : {X F : Type 0} → F → Result X F → Result X F → Type 0
+Gives memory (Ok x) answer = answer ≡ Ok x
+Gives memory (Err e) answer = (e ≡ memory) ⊎ (answer ≡ Err e)
+
+-- the same, of what is seen of the value that came
+abbrev pub GivesBy : {X Y F : Type 0} → (X → Y) → F → Result X F → Result Y F → Type 0
+GivesBy view memory (Ok x) answer = answer ≡ Ok (view x)
+GivesBy view memory (Err e) answer = (e ≡ memory) ⊎ (answer ≡ Err e)
+
+-- a text was taken as it stands where nothing was wrong with it, else its fault came, or want of memory
+abbrev pub Takes : {F : Type 0} → F → Option F → List ℕ → Result (List ℕ) F → Type 0
+Takes memory fault text (Ok x) = (fault ≡ None) × (x ≡ text)
+Takes memory fault text (Err e) = (e ≡ memory) ⊎ (fault ≡ Some e)
+
+-- one step after the other, up to the first that fails
+infixl 10 ◌>>=◌
+abbrev pub ◌>>=◌ : {A B F : Type 0} → Result A F → (A → Result B F) → Result B F
+(Ok x) >>= f = f x
+(Err e) >>= f = Err e

@@ -1,0 +1,110 @@
+//! Records: what the source and the provider speak of by kind and key.
+ghost use Rattle.std.specs.Prelude.{◌≡◌, ◌==◌, IfOk};
+ghost use lib.Pointwise.{pointwise};
+ghost use Rattle.std.proofs.Common.{rules};
+ghost use Rattle.std.specs.Cmp.{partial_order_from_own_ties};
+ghost use Rattle.std.specs.Cmp.Lexicographic.{slice_cmp};
+ghost use Rattle.std.specs.Cmp.Rules.{comparing};
+ghost use Rattle.std.specs.Ordering.{nat_cmp, as_partial_cmp};
+ghost use Rattle.scim_key.specs.Names.{key_of};
+
+use std::alloc::{AllocError, Global};
+use std::cmp::Ordering;
+use std::marker::Model;
+
+/// The two types of resource. Users come before groups.
+#[derive(Clone, Copy, Debug, PartialEq, Eq, PartialOrd, Ord)]
+pub enum Kind {
+    User,
+    Group,
+}
+
+/// The key of a name: its text with ASCII letters lowered. Keys are ordered by their bytes.
+#[derive(Debug, Drop)]
+pub struct Key {
+    text: String,
+}
+
+impl Model for Key {
+    ghost use Rattle.std.specs.Prelude.{List, ℕ, string_bytes};
+    ghost use Rattle.scim_key.specs.Names.{IsKey};
+
+    ghost Value = { List ℕ };
+
+    ghost view = { λ k. string_bytes k.text };
+
+    ghost invariant = { λ k. IsKey (string_bytes k.text) };
+}
+
+impl Key {
+    /// The key of a text.
+    pub fn of(alloc: Global, text: &str) -> Result<Key, AllocError>
+        ensures { IfOk result (λ key. key ≡ key_of text.now) }
+    {
+        let mut lowered = String::from_str(alloc, text)?;
+        lowered.make_ascii_lowercase();
+        Ok(Key { text: lowered })
+    }
+
+    /// The key's text.
+    pub fn as_str(&self) -> &str
+        ensures { result.now ≡ self.now }
+    {
+        self.text.as_str()
+    }
+}
+
+impl Clone for Key {
+    ghost is_clone = { λ k l. l ≡ k };
+
+    fn clone(&self) -> Result<Key, AllocError> {
+        Ok(Key {
+            text: self.text.clone()?,
+        })
+    }
+}
+
+impl PartialEq for Key {
+    ghost eq = { pointwise ◌==◌ };
+
+    ghost laws = { Prim.search (comparing, rules) };
+
+    fn eq(&self, other: &Key) -> bool {
+        self.text.as_str() == other.text.as_str()
+    }
+}
+
+impl Eq for Key {
+    ghost laws = { Prim.search (comparing, rules) };
+}
+
+impl PartialOrd for Key {
+    ghost partial_cmp = { as_partial_cmp (slice_cmp nat_cmp) };
+
+    ghost laws = { partial_order_from_own_ties (Prim.search (comparing, rules)) (Prim.search (comparing, rules)) };
+
+    fn partial_cmp(&self, other: &Key) -> Option<Ordering> {
+        Some(self.cmp(other))
+    }
+}
+
+impl Ord for Key {
+    ghost cmp = { slice_cmp nat_cmp };
+
+    ghost total = { Prim.search (comparing, rules) };
+
+    ghost matches_partial_cmp = { Prim.search (comparing, rules) };
+
+    ghost matches_eq = { Prim.search (comparing, rules) };
+
+    fn cmp(&self, other: &Key) -> Ordering {
+        self.text.as_str().cmp(other.text.as_str())
+    }
+}
+
+/// The name of a record, ordered by kind, then by key.
+#[derive(Debug, PartialEq, Eq, PartialOrd, Ord, Clone, Drop)]
+pub struct RecordName {
+    pub kind: Kind,
+    pub key: Key,
+}
