@@ -63,6 +63,9 @@ weak_from : (tag : List ℕ) → is_weak tag ≡ true → tag ≡ codes "W/" ++ 
 unfolding is_weak
 weak_from tag h = (starts_is Decides-eqb tag (codes "W/") _ refl).0 h
 
+pub weak_is_long : (tag : List ℕ) → is_weak tag ≡ true → 2 ≤ length tag
+weak_is_long tag h = let e = ap length (weak_from tag h) in omega arith
+
 -- The test passes the tags of the grammar and nothing else.
 pub IsEntityTag-from_test : (tag : List ℕ) → is_entity_tag tag ≡ true → IsEntityTag tag
 unfolding is_entity_tag opaque_tag

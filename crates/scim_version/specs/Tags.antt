@@ -1,7 +1,10 @@
 -- Entity tags (RFC 7232 section 2.3), as their bytes.
-use Rattle.std.specs.Prelude.{◌≡◌, ◌⊎◌, ℕ, Bool, List, [], ◌∷◌, ◌++◌, ◌==◌, ◌&&◌, ◌||◌, ◌-◌, length, take, drop, nat_le, nat_eq, slice_index, IsTrue, if◌then◌else◌, codes}
+use Rattle.std.specs.Prelude.{◌≡◌, ◌⊎◌, ℕ, Bool, List, [], ◌∷◌, ◌++◌, ◌==◌, ◌&&◌, ◌||◌, ◌-◌, not, length, take, drop, nat_le, nat_eq, slice_index, IsTrue, if◌then◌else◌, codes, Option, Some, None}
 use Rattle.std.specs.List.{list_all, starts_with}
 use Rattle.std.specs.Fmt.{decimal}
+use Rattle.std.specs.Str.{bytes_eq}
+use Rattle.scim_version.specs.declared.tags.TagFault.{TagFault}
+use Rattle.scim_version.specs.declared.tags.TagFault.TheVariants.{Malformed}
 
 -- a byte that may stand between the quotes: 0x21, 0x23 to 0x7E or 0x80 to 0xFF
 abbrev pub is_tag_byte : ℕ → Bool
@@ -36,3 +39,15 @@ is_quoted text =
 -- whether a text is an entity tag
 unfoldable pub is_entity_tag : List ℕ → Bool
 is_entity_tag tag = is_quoted (opaque_tag tag)
+
+-- what is wrong with a text as an entity tag
+unfoldable pub tag_fault : List ℕ → Option TagFault
+tag_fault tag = if is_entity_tag tag then None else Some Malformed
+
+-- Strong comparison: both tags are strong and the same byte for byte, so a weak tag equals nothing.
+unfoldable pub strong_eq : List ℕ → List ℕ → Bool
+strong_eq a b = not (is_weak a) && not (is_weak b) && bytes_eq a b
+
+-- Weak comparison: the tags are the same byte for byte once `W/` is disregarded.
+unfoldable pub weak_eq : List ℕ → List ℕ → Bool
+weak_eq a b = bytes_eq (opaque_tag a) (opaque_tag b)

@@ -3,4 +3,4 @@
 
 mod tags;
 
-pub use tags::EntityTag;
+pub use tags::{EntityTag, TagFault};

@@ -1,10 +1,40 @@
 //! Entity tags (RFC 7232 section 2.3).
-ghost use Rattle.std.specs.Prelude.{◌≡◌, IfOk};
-ghost use Rattle.scim_version.specs.Tags.{IsEntityTag, version_tag};
+ghost use Rattle.std.specs.Prelude.{◌≡◌, IfOk, IsErrOf};
+ghost use Rattle.std.specs.List.{list_all};
+ghost use Rattle.std.specs.Str.{bytes_eq};
+ghost use Rattle.scim_key.specs.Outcome.{Takes};
+ghost use Rattle.scim_version.specs.Tags.{IsEntityTag, is_tag_byte, is_quoted, is_weak, is_entity_tag, opaque_tag, strong_eq, tag_fault, version_tag, weak_eq};
+ghost use Rattle.scim_version.specs.declared.tags.TagFault.TheVariants.{Memory};
 
 use itoa::Buffer;
-use std::alloc::{AllocError, Global};
+use std::alloc::{AllocError, AllocFailed, Global};
 use std::marker::Model;
+use thiserror::Error;
+
+/// What is wrong with a text as an entity tag or as a list of them.
+#[derive(Clone, Copy, Debug, PartialEq, Eq, Error)]
+pub enum TagFault {
+    #[error("V1")]
+    Malformed,
+    #[error("V2")]
+    Memory,
+}
+
+impl From<AllocError> for TagFault {
+    ghost from_gives = { λ _ fault. fault ≡ Memory };
+
+    fn from(_: AllocError) -> TagFault {
+        TagFault::Memory
+    }
+}
+
+impl<T: Drop> From<AllocFailed<T>> for TagFault {
+    ghost from_gives = { λ _ fault. fault ≡ Memory };
+
+    fn from(_: AllocFailed<T>) -> TagFault {
+        TagFault::Memory
+    }
+}
 
 /// An entity tag: an optional `W/`, a double quote, any number of bytes 0x21, 0x23 to 0x7E or
 /// 0x80 to 0xFF, and a double quote. It keeps the bytes that it was read or made from.
@@ -24,7 +54,66 @@ impl Model for EntityTag {
     ghost invariant = { λ tag. IsTrue (is_entity_tag tag.bytes.items) };
 }
 
+/// Whether every byte may stand between the quotes of a tag.
+fn are_tag_bytes(bytes: &[u8]) -> bool
+    ensures { result ≡ list_all is_tag_byte bytes.now }
+{
+    bytes
+        .iter()
+        .all(|b| *b == 0x21 || (*b >= 0x23 && *b <= 0x7e) || *b >= 0x80)
+}
+
+/// Whether tag bytes alone stand between two double quotes.
+#[tactic(auto, unfolding(crate::specs::Tags::is_quoted))]
+fn is_quoted_text(bytes: &[u8]) -> bool
+    ensures { result ≡ is_quoted bytes.now }
+{
+    bytes.len() >= 2
+        && bytes[0] == b'"'
+        && bytes[bytes.len() - 1] == b'"'
+        && are_tag_bytes(&bytes[1..bytes.len() - 1])
+}
+
+/// Whether a tag begins with `W/`.
+#[tactic(auto, unfolding(crate::specs::Tags::is_weak))]
+fn is_weak_tag(tag: &[u8]) -> bool
+    ensures { result ≡ is_weak tag.now }
+{
+    tag.starts_with(b"W/")
+}
+
+/// The tag without `W/`.
+#[tactic(auto, unfolding(crate::specs::Tags::opaque_tag))]
+fn without_weakness(tag: &[u8]) -> &[u8]
+    ensures { result.now ≡ opaque_tag tag.now }
+{
+    if is_weak_tag(tag) { &tag[2..] } else { tag }
+}
+
+/// Whether a text is an entity tag.
+#[tactic(auto, unfolding(crate::specs::Tags::is_entity_tag))]
+pub(crate) fn is_tag(text: &[u8]) -> bool
+    ensures { result ≡ is_entity_tag text.now }
+{
+    is_quoted_text(without_weakness(text))
+}
+
 impl EntityTag {
+    /// Reads an entity tag. A text of another form is `Malformed`.
+    #[tactic(auto, unfolding(crate::specs::Tags::tag_fault))]
+    pub fn read(alloc: Global, bytes: &[u8]) -> Result<EntityTag, TagFault>
+        ensures exact { Takes TagFault.Memory (tag_fault bytes.now) bytes.now result }
+        ensures read { IfOk result (λ tag. (tag ≡ bytes.now) × IsEntityTag bytes.now) }
+        ensures malformed { IsErrOf result TagFault.Malformed → ¬ (IsEntityTag bytes.now) }
+    {
+        if !is_tag(bytes) {
+            return Err(TagFault::Malformed);
+        }
+        Ok(EntityTag {
+            bytes: Vec::from_slice(alloc, bytes)?,
+        })
+    }
+
     /// The strong tag of a version.
     pub fn of_counter(alloc: Global, version: u64) -> Result<EntityTag, AllocError>
         ensures { IfOk result (λ tag. tag ≡ version_tag version) }
@@ -42,6 +131,23 @@ impl EntityTag {
         ensures lawful { IsEntityTag self.now }
     {
         self.bytes.as_slice()
+    }
+
+    /// Strong comparison (RFC 7232 section 2.3.2): a weak tag equals nothing.
+    #[tactic(auto, unfolding(crate::specs::Tags::strong_eq))]
+    pub fn strong_eq(&self, other: &EntityTag) -> bool
+        ensures { result ≡ strong_eq self.now other.now }
+    {
+        let (tag, other) = (self.text(), other.text());
+        !is_weak_tag(tag) && !is_weak_tag(other) && tag == other
+    }
+
+    /// Weak comparison (RFC 7232 section 2.3.2): `W/` is disregarded.
+    #[tactic(auto, unfolding(crate::specs::Tags::weak_eq))]
+    pub fn weak_eq(&self, other: &EntityTag) -> bool
+        ensures { result ≡ weak_eq self.now other.now }
+    {
+        without_weakness(self.text()) == without_weakness(other.text())
     }
 }
 
