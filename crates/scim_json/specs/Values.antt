@@ -1,8 +1,8 @@
 -- What an attribute's value must be. An absent value is no fault.
-use Rattle.std.specs.Prelude.{ℕ, List, length, Bool, ◌&&◌, Option, None, Some, Result, Ok, Err, nat_le, if◌then◌else◌}
+use Rattle.std.specs.Prelude.{ℕ, List, length, Bool, Option, None, Some, Result, Ok, Err, nat_le, if◌then◌else◌}
 use Rattle.serde_json.specs.Data.{unsigned, negative, float, Data, null, boolean, number, string, array, object, Items, no_items, Members}
 use Rattle.scim_json.specs.declared.values.ValueFault.{ValueFault}
-use Rattle.scim_json.specs.declared.values.ValueFault.TheVariants.{WrongType, TooLong, OutOfRange}
+use Rattle.scim_json.specs.declared.values.ValueFault.TheVariants.{WrongType, TooLong}
 
 -- a text of at most `limit` bytes
 abbrev pub text_within : ℕ → Option Data → Result (Option (List ℕ)) ValueFault
@@ -24,17 +24,17 @@ flag_or absent (Some (string s)) = Err WrongType
 flag_or absent (Some (array ds)) = Err WrongType
 flag_or absent (Some (object ms)) = Err WrongType
 
--- a whole number without sign, fraction or exponent, from `low` to `high`
-abbrev pub whole_within : ℕ → ℕ → Option Data → Result (Option ℕ) ValueFault
-whole_within low high None = Ok None
-whole_within low high (Some null) = Err WrongType
-whole_within low high (Some (boolean b)) = Err WrongType
-whole_within low high (Some (number (unsigned n))) = if nat_le low n && nat_le n high then Ok (Some n) else Err OutOfRange
-whole_within low high (Some (number (negative z))) = Err WrongType
-whole_within low high (Some (number (float x))) = Err WrongType
-whole_within low high (Some (string s)) = Err WrongType
-whole_within low high (Some (array ds)) = Err WrongType
-whole_within low high (Some (object ms)) = Err WrongType
+-- a whole number without sign, fraction or exponent
+abbrev pub whole_in : Option Data → Result (Option ℕ) ValueFault
+whole_in None = Ok None
+whole_in (Some null) = Err WrongType
+whole_in (Some (boolean b)) = Err WrongType
+whole_in (Some (number (unsigned n))) = Ok (Some n)
+whole_in (Some (number (negative z))) = Err WrongType
+whole_in (Some (number (float x))) = Err WrongType
+whole_in (Some (string s)) = Err WrongType
+whole_in (Some (array ds)) = Err WrongType
+whole_in (Some (object ms)) = Err WrongType
 
 -- a list; an absent one has no items
 abbrev pub items_in : Option Data → Result Items ValueFault

@@ -14,8 +14,6 @@ pub enum ValueFault {
     WrongType,
     #[error("the text is too long")]
     TooLong,
-    #[error("the number is out of range")]
-    OutOfRange,
 }
 
 /// A text of at most `limit` bytes.
@@ -48,19 +46,15 @@ pub fn flag_or(value: Option<&Value>, absent: bool) -> Result<bool, ValueFault>
     }
 }
 
-/// A whole number from `low` to `high`, written without sign, fraction or exponent.
-pub fn whole_within(value: Option<&Value>, low: u64, high: u64) -> Result<Option<u64>, ValueFault>
-    ensures { result ≡ spec.whole_within low high (option_map (λ v. view v.now) value.entry) }
+/// A whole number, written without sign, fraction or exponent.
+pub fn whole_in(value: Option<&Value>) -> Result<Option<u64>, ValueFault>
+    ensures { result ≡ spec.whole_in (option_map (λ v. view v.now) value.entry) }
 {
-    let Some(value) = value else {
-        return Ok(None);
-    };
-    match value.as_u64() {
-        None => Err(ValueFault::WrongType),
-        Some(number) => if low <= number && number <= high {
-            Ok(Some(number))
-        } else {
-            Err(ValueFault::OutOfRange)
+    match value {
+        None => Ok(None),
+        Some(value) => match value.as_u64() {
+            Some(number) => Ok(Some(number)),
+            None => Err(ValueFault::WrongType),
         },
     }
 }
