@@ -1,0 +1,64 @@
+//! The content of a resource.
+ghost use Rattle.std.specs.Prelude.{◌≡◌, ◌↔◌, IfOk, IsTrue};
+ghost use Rattle.scim_resource.specs.Contents.{content_kind, content_name, spelled_name};
+
+use crate::users::User;
+use scim_key::{Kind, RecordName};
+use std::alloc::{AllocError, Global};
+
+/// What a resource contains, but for its id and `meta`.
+#[derive(Debug, Drop)]
+pub enum Content {
+    User(User),
+}
+
+impl Content {
+    /// The type of resource.
+    pub fn kind(&self) -> Kind
+        ensures { result ≡ content_kind self.now }
+    {
+        match self {
+            Content::User(_) => Kind::User,
+        }
+    }
+
+    /// The name as it is spelled: a user's `userName`.
+    pub fn spelled_name(&self) -> &str
+        ensures { result.now ≡ spelled_name self.now }
+    {
+        match self {
+            Content::User(user) => user.user_name().as_str(),
+        }
+    }
+
+    /// The record that this is the content of.
+    pub fn name(&self, alloc: Global) -> Result<RecordName, AllocError>
+        ensures { IfOk result (λ name. name ≡ content_name self.now) }
+    {
+        match self {
+            Content::User(user) => Ok(RecordName {
+                kind: Kind::User,
+                key: user.user_name().key(alloc)?,
+            }),
+        }
+    }
+
+    /// Whether both are contents of one record. It takes no memory.
+    pub fn has_name_of(&self, other: &Content) -> bool
+        ensures { IsTrue result ↔ (content_name self.now ≡ content_name other.now) }
+    {
+        match (self, other) {
+            (Content::User(one), Content::User(two)) => one.user_name().same_key(two.user_name()),
+        }
+    }
+}
+
+impl Clone for Content {
+    ghost is_clone = { λ a b. b ≡ a };
+
+    fn clone(&self) -> Result<Content, AllocError> {
+        match self {
+            Content::User(user) => Ok(Content::User(user.clone()?)),
+        }
+    }
+}

@@ -1,0 +1,144 @@
+//! Rows of the provider, and resources as answers show them.
+ghost use Rattle.std.specs.Prelude.{◌≡◌, ◌≤◌, IfOk};
+ghost use Rattle.std.specs.Option.{option_copied};
+ghost use Rattle.scim_key.specs.Identifiers.{id_text, last_number};
+ghost use Rattle.scim_resource.specs.Rows.{last_version, shown, IsShown};
+
+use crate::contents::Content;
+use scim_key::ResourceId;
+use scim_version::EntityTag;
+use std::alloc::{AllocError, Global};
+use std::marker::Model;
+
+/// A row of the provider: the resource's number in order of creation, from 1 to 1,000,000, its
+/// version, from 1 to 9,007,199,254,740,991, and its content.
+#[derive(Debug, Drop)]
+pub struct Stored {
+    number: u32,
+    version: u64,
+    content: Content,
+}
+
+impl Model for Stored {
+    ghost use Rattle.scim_resource.specs.Rows.{StoredRecord, IsStored};
+
+    ghost Value = { StoredRecord };
+
+    ghost view = { λ s. record { number = s.number; version = s.version; content = s.content } };
+
+    ghost invariant = { λ s. IsStored (record { number = s.number; version = s.version; content = s.content }) };
+}
+
+impl Stored {
+    /// A row.
+    pub fn new(number: u32, version: u64, content: Content) -> Stored
+        requires numbered { 1 ≤ number }
+        requires number_within { number ≤ last_number }
+        requires versioned { 1 ≤ version }
+        requires version_within { version ≤ last_version }
+        ensures { result ≡ record { number = number; version = version; content = content } }
+    {
+        Stored {
+            number,
+            version,
+            content,
+        }
+    }
+
+    /// The resource's number.
+    pub fn number(&self) -> u32
+        ensures value { result ≡ self.now.number }
+        ensures from { 1 ≤ result }
+        ensures to { result ≤ last_number }
+    {
+        self.number
+    }
+
+    /// How many writes of the resource were accepted.
+    pub fn version(&self) -> u64
+        ensures value { result ≡ self.now.version }
+        ensures from { 1 ≤ result }
+        ensures to { result ≤ last_version }
+    {
+        self.version
+    }
+
+    /// What the resource contains.
+    pub fn content(&self) -> &Content
+        ensures { result.now ≡ self.now.content }
+    {
+        &self.content
+    }
+
+    /// The resource's id.
+    pub fn id(&self, alloc: Global) -> Result<ResourceId, AllocError>
+        ensures { IfOk result (λ id. id ≡ id_text self.now.number) }
+    {
+        ResourceId::of_number(alloc, self.number)
+    }
+}
+
+impl Clone for Stored {
+    ghost is_clone = { λ a b. b ≡ a };
+
+    fn clone(&self) -> Result<Stored, AllocError> {
+        Ok(Stored {
+            number: self.number,
+            version: self.version,
+            content: self.content.clone()?,
+        })
+    }
+}
+
+/// A resource as an answer shows it: its id, its entity tag where that is known, and its content.
+#[derive(Debug, Drop)]
+pub struct Shown {
+    id: ResourceId,
+    version: Option<EntityTag>,
+    content: Content,
+}
+
+impl Model for Shown {
+    ghost use Rattle.scim_resource.specs.Rows.{ShownRecord, IsShown};
+
+    ghost Value = { ShownRecord };
+
+    ghost view = { λ s. record { id = s.id; version = s.version; content = s.content } };
+
+    ghost invariant = { λ s. IsShown (record { id = s.id; version = s.version; content = s.content }) };
+}
+
+impl Shown {
+    /// A row as an answer shows it.
+    pub fn of(alloc: Global, stored: &Stored) -> Result<Shown, AllocError>
+        ensures { IfOk result (λ s. s ≡ shown stored.now) }
+    {
+        Ok(Shown {
+            id: stored.id(alloc)?,
+            version: Some(EntityTag::of_counter(alloc, stored.version())?),
+            content: stored.content().clone()?,
+        })
+    }
+
+    /// The resource's id.
+    pub fn id(&self) -> &ResourceId
+        ensures { result.now ≡ self.now.id }
+    {
+        &self.id
+    }
+
+    /// The entity tag, where it is known.
+    pub fn version(&self) -> Option<&EntityTag>
+        ensures value { option_copied result ≡ self.now.version }
+        ensures lawful { IsShown self.now }
+    {
+        self.version.as_ref()
+    }
+
+    /// What the resource contains.
+    pub fn content(&self) -> &Content
+        ensures { result.now ≡ self.now.content }
+    {
+        &self.content
+    }
+}
