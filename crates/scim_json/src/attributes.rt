@@ -78,7 +78,8 @@ fn clash(a: &str, b: &str) -> bool
     a != b && same_name(a, b)
 }
 
-fn same_name(a: &str, b: &str) -> bool
+/// Whether the names are equal in lowered letters.
+pub fn same_name(a: &str, b: &str) -> bool
     ensures { result ≡ spec.same_name a.now b.now }
 {
     a.eq_ignore_ascii_case(b)

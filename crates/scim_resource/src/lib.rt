@@ -2,9 +2,13 @@
 #![tactic(auto)]
 
 mod contents;
+mod faults;
+mod reading;
 mod rows;
+mod schemas;
 mod users;
 
 pub use contents::Content;
+pub use faults::ReadFault;
 pub use rows::{Shown, Stored};
 pub use users::User;

@@ -1,0 +1,12 @@
+-- What a fault of a name is as a fault of a resource.
+use Rattle.scim_key.specs.declared.names.NameFault.{NameFault}
+use Rattle.scim_key.specs.declared.names.NameFault.TheVariants as names
+use Rattle.scim_resource.specs.declared.faults.ReadFault.{ReadFault}
+use Rattle.scim_resource.specs.declared.faults.ReadFault.TheVariants.{InvalidValue, Memory}
+
+abbrev pub fault_of_name : NameFault → ReadFault
+fault_of_name names.Empty = InvalidValue
+fault_of_name names.TooLong = InvalidValue
+fault_of_name names.Character = InvalidValue
+fault_of_name names.SpaceAtEnd = InvalidValue
+fault_of_name names.Memory = Memory

@@ -1,0 +1,10 @@
+-- The URNs of schemas.
+use Rattle.std.specs.Prelude.{ℕ, List, codes}
+
+-- the core schema of users (RFC 7643 section 4.1)
+unfoldable pub core_user : List ℕ
+core_user = codes "urn:ietf:params:scim:schemas:core:2.0:User"
+
+-- the extension with the source's revision
+unfoldable pub source_extension : List ℕ
+source_extension = codes "urn:example:params:scim:schemas:extension:source:1.0"

@@ -1,0 +1,49 @@
+//! Why a value isn't read as a resource.
+ghost use Rattle.std.specs.Prelude.{◌≡◌};
+ghost use Rattle.scim_resource.specs.declared.faults.ReadFault.TheVariants.{InvalidValue, Memory};
+ghost use Rattle.scim_resource.specs.Faults.{fault_of_name};
+
+use scim_json::ValueFault;
+use scim_key::NameFault;
+use std::alloc::AllocError;
+use thiserror::Error;
+
+/// Why a value isn't read as a resource. `InvalidSyntax` goes before `InvalidValue`.
+#[derive(Clone, Copy, Debug, PartialEq, Eq, Error)]
+pub enum ReadFault {
+    /// The value is no object, or an object that is looked into repeats a name.
+    #[error("P1")]
+    InvalidSyntax,
+    /// An attribute is missing or not allowed.
+    #[error("P2")]
+    InvalidValue,
+    #[error("memory")]
+    Memory,
+}
+
+impl From<AllocError> for ReadFault {
+    ghost from_gives = { λ _ fault. fault ≡ Memory };
+
+    fn from(_: AllocError) -> ReadFault {
+        ReadFault::Memory
+    }
+}
+
+impl From<ValueFault> for ReadFault {
+    ghost from_gives = { λ _ fault. fault ≡ InvalidValue };
+
+    fn from(_: ValueFault) -> ReadFault {
+        ReadFault::InvalidValue
+    }
+}
+
+impl From<NameFault> for ReadFault {
+    ghost from_gives = { λ name fault. fault ≡ fault_of_name name };
+
+    fn from(fault: NameFault) -> ReadFault {
+        match fault {
+            NameFault::Memory => ReadFault::Memory,
+            _ => ReadFault::InvalidValue,
+        }
+    }
+}

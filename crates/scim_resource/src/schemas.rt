@@ -1,0 +1,19 @@
+//! The URNs of schemas.
+ghost use Rattle.std.specs.Prelude.{◌≡◌};
+ghost use Rattle.scim_resource.specs.Schemas as spec;
+
+/// The core schema of users (RFC 7643 section 4.1).
+#[tactic(auto, unfolding(crate::specs::Schemas::core_user))]
+pub(crate) fn core_user() -> &'static str
+    ensures { result.now ≡ spec.core_user }
+{
+    "urn:ietf:params:scim:schemas:core:2.0:User"
+}
+
+/// The extension with the source's revision.
+#[tactic(auto, unfolding(crate::specs::Schemas::source_extension))]
+pub(crate) fn source_extension() -> &'static str
+    ensures { result.now ≡ spec.source_extension }
+{
+    "urn:example:params:scim:schemas:extension:source:1.0"
+}
