@@ -12,7 +12,7 @@ use Rattle.std.proofs.lemmas.Slice.Eq.{starts_is}
 use Rattle.scim_version.specs.Tags.{IsEntityTag, is_tag_byte, quoted, is_quoted, is_weak, opaque_tag, is_entity_tag, version_tag}
 
 -- what stands between the quotes of a quoted text
-middle-quoted : (opaque : List ℕ) → take (length (quoted opaque) - 2) (drop 1 (quoted opaque)) ≡ opaque
+pub middle-quoted : (opaque : List ℕ) → take (length (quoted opaque) - 2) (drop 1 (quoted opaque)) ≡ opaque
 middle-quoted opaque =
     let n : length (quoted opaque) - 2 ≡ length opaque = omega (arith, length-append opaque (34 ∷ [])) in
     rw n (take_at opaque (34 ∷ []) (length opaque) refl)
@@ -27,7 +27,7 @@ is_quoted-quoted opaque =
     rw (middle-quoted, last-quoted, long) refl
 
 -- a list that isn't empty is its front and its last element
-front_and_last : (xs : List ℕ) → 0 < length xs → xs ≡ take (length xs - 1) xs ++ get_or xs (length xs - 1) 0 ∷ []
+pub front_and_last : (xs : List ℕ) → 0 < length xs → xs ≡ take (length xs - 1) xs ++ get_or xs (length xs - 1) 0 ∷ []
 front_and_last xs some =
     let last : length xs - 1 < length xs = omega arith in
     let end : drop (length xs - 1 + 1) xs ≡ [] = drop_all _ xs (omega arith) in
@@ -50,7 +50,7 @@ decimal_is_tag_bytes n h =
     n h
 
 -- what passes the test for quotes
-is_quoted_from : (text : List ℕ) → is_quoted text ≡ true → (opaque : List ℕ) × (list_all is_tag_byte opaque ≡ true) × (text ≡ quoted opaque)
+pub is_quoted_from : (text : List ℕ) → is_quoted text ≡ true → (opaque : List ℕ) × (list_all is_tag_byte opaque ≡ true) × (text ≡ quoted opaque)
 unfolding is_quoted
 is_quoted_from text h =
     let p = and_parts _ _ h in
@@ -71,16 +71,16 @@ pub IsEntityTag-from_test : (tag : List ℕ) → is_entity_tag tag ≡ true → 
 unfolding is_entity_tag opaque_tag
 IsEntityTag-from_test tag h =
     elim (cases_Bool (is_weak tag)) [
-      inl weak ↦ let q = is_quoted_from (drop 2 tag) (rw weak at h) in (q.0, q.1, inr (weak_from tag weak ∙ ap (λ r. codes "W/" ++ r) q.2))
-    | inr strong ↦ let q = is_quoted_from tag (rw strong at h) in (q.0, q.1, inl q.2)
+      | inl weak ↦ let q = is_quoted_from (drop 2 tag) (rw weak at h) in (q.0, q.1, inr (weak_from tag weak ∙ ap (λ r. codes "W/" ++ r) q.2))
+      | inr strong ↦ let q = is_quoted_from tag (rw strong at h) in (q.0, q.1, inl q.2)
     ]
 
 pub test-from_IsEntityTag : (tag : List ℕ) → IsEntityTag tag → is_entity_tag tag ≡ true
 unfolding is_entity_tag opaque_tag is_weak
 test-from_IsEntityTag tag h =
     elim (h.2) [
-      inl strong ↦ rw strong (is_quoted-quoted h.0 ∙ h.1)
-    | inr weak ↦ rw weak (is_quoted-quoted h.0 ∙ h.1)
+      | inl strong ↦ rw strong (is_quoted-quoted h.0 ∙ h.1)
+      | inr weak ↦ rw weak (is_quoted-quoted h.0 ∙ h.1)
     ]
 
 pub version_tag_is_entity_tag : (n : ℕ) → n < 2 ^ 64 → is_entity_tag (version_tag n) ≡ true

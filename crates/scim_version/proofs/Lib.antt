@@ -1,1 +1,5 @@
 pub mod Grammar
+pub mod Blanks
+pub mod Parts
+pub mod Choices
+pub mod Versions

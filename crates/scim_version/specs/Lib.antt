@@ -1,1 +1,3 @@
 pub mod Tags
+pub mod Lists
+pub mod Conditions

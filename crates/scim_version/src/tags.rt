@@ -98,6 +98,15 @@ pub(crate) fn is_tag(text: &[u8]) -> bool
     is_quoted_text(without_weakness(text))
 }
 
+/// Whether a text is the tag of a version, which it compares without taking memory.
+fn is_version_tag(text: &[u8], version: u64) -> bool
+    ensures { result ≡ bytes_eq text.now (version_tag version) }
+{
+    let mut buffer = Buffer::new();
+    let digits = buffer.format(version).as_bytes();
+    is_quoted_text(text) && &text[1..text.len() - 1] == digits
+}
+
 impl EntityTag {
     /// Reads an entity tag. A text of another form is `Malformed`.
     #[tactic(auto, unfolding(crate::specs::Tags::tag_fault))]
@@ -148,6 +157,20 @@ impl EntityTag {
         ensures { result ≡ weak_eq self.now other.now }
     {
         without_weakness(self.text()) == without_weakness(other.text())
+    }
+
+    /// Whether the tag is strongly equal to the tag of a version.
+    pub(crate) fn is_of_version(&self, version: u64) -> bool
+        ensures { result ≡ strong_eq self.now (version_tag version) }
+    {
+        is_version_tag(self.text(), version)
+    }
+
+    /// Whether the tag is weakly equal to the tag of a version.
+    pub(crate) fn is_weakly_of_version(&self, version: u64) -> bool
+        ensures { result ≡ weak_eq self.now (version_tag version) }
+    {
+        is_version_tag(without_weakness(self.text()), version)
     }
 }
 

@@ -1,4 +1,4 @@
-use Rattle.std.proofs.Common.{rules, arith, sym, ◌≤◌, length}
+use Rattle.std.proofs.Common.{rules, sym, ◌≤◌, length}
 use Rattle.scim_version.proofs.Grammar.{weak_is_long}
 use Rattle.scim_version.proofs.tags.without_weakness.Goals as goal
 

@@ -1,0 +1,137 @@
+//! The conditions of a request (RFC 7232 sections 3.1 and 3.2).
+ghost use Rattle.std.specs.Prelude.{◌≡◌, List, ℕ, map};
+ghost use Rattle.std.specs.Str.{bytes_eq};
+ghost use Rattle.scim_key.specs.Outcome.{Gives, GivesBy};
+ghost use Rattle.scim_version.specs.Tags.{version_tag};
+ghost use Rattle.scim_version.specs.Conditions.{Spells, condition_of, has_version, has_version_weakly, holds_match, holds_none_match, is_star, tags_from};
+
+use crate::lists::elements_of;
+use crate::tags::{EntityTag, TagFault, is_tag};
+use std::alloc::Global;
+use std::marker::Model;
+
+/// A list of entity tags.
+#[derive(Debug, Drop)]
+pub struct TagList {
+    tags: Vec<EntityTag>,
+}
+
+impl Model for TagList {
+    ghost use Rattle.std.specs.Prelude.{List, ℕ};
+
+    ghost Value = { List (List ℕ) };
+
+    ghost view = { λ list. list.tags.items };
+}
+
+/// The condition of an `If-Match` or an `If-None-Match` field. `Always` stands where there is no field.
+#[derive(Debug, Drop)]
+pub enum Condition {
+    Always,
+    AnyTag,
+    Tags(TagList),
+}
+
+impl TagList {
+    /// The list of these tags.
+    pub fn from_vec(tags: Vec<EntityTag>) -> TagList
+        ensures { result ≡ tags.items }
+    {
+        TagList { tags }
+    }
+
+    /// The tags, in order.
+    pub fn as_slice(&self) -> &[EntityTag]
+        ensures { result.now ≡ self.now }
+    {
+        self.tags.as_slice()
+    }
+
+    /// Gives the tags back.
+    pub fn into_vec(self) -> Vec<EntityTag>
+        ensures { result.items ≡ self }
+    {
+        let TagList { tags } = self;
+        tags
+    }
+
+    /// Whether some tag is strongly equal to the tag of a version.
+    #[tactic(auto, unfolding(crate::specs::Conditions::has_version))]
+    fn has_version(&self, version: u64) -> bool
+        ensures { result ≡ has_version self.now version }
+    {
+        self.tags.iter().any(|tag| tag.is_of_version(version))
+    }
+
+    /// Whether some tag is weakly equal to the tag of a version.
+    #[tactic(auto, unfolding(crate::specs::Conditions::has_version_weakly))]
+    fn has_version_weakly(&self, version: u64) -> bool
+        ensures { result ≡ has_version_weakly self.now version }
+    {
+        self.tags
+            .iter()
+            .any(|tag| tag.is_weakly_of_version(version))
+    }
+}
+
+/// Whether `*` is the only element.
+#[tactic(auto, unfolding(crate::specs::Conditions::is_star))]
+fn is_star_alone(elements: &[&[u8]]) -> bool
+    ensures { result ≡ is_star (map (λ e. e.now) elements.now) }
+{
+    matches!(elements, [only] if *only == b"*".as_slice())
+}
+
+/// The tags that these texts are.
+#[tactic(auto, unfolding(crate::specs::Conditions::tags_from))]
+fn tags_of(alloc: Global, texts: &[&[u8]]) -> Result<Vec<EntityTag>, TagFault>
+    ensures { GivesBy (λ tags. tags.items) TagFault.Memory result (tags_from (map (λ e. e.now) texts.now)) }
+{
+    let mut tags = Vec::new(alloc);
+    for text in texts {
+        tags.push(EntityTag::read(alloc, text)?)?;
+    }
+    Ok(tags)
+}
+
+impl Condition {
+    /// Reads the field `If-Match` or `If-None-Match`, its lines joined by commas: `*`, or entity tags
+    /// between commas. A field of another form, also one without any tag, is `Malformed`.
+    #[tactic(auto, unfolding(crate::specs::Conditions::condition_of, crate::specs::Conditions::condition_from))]
+    pub fn read_list(alloc: Global, bytes: &[u8]) -> Result<Condition, TagFault>
+        ensures exact { Gives TagFault.Memory result (condition_of bytes.now) }
+    {
+        let elements = elements_of(alloc, bytes)?;
+        if elements.is_empty() {
+            return Err(TagFault::Malformed);
+        }
+        if is_star_alone(&elements) {
+            return Ok(Condition::AnyTag);
+        }
+        Ok(Condition::Tags(TagList::from_vec(tags_of(alloc, &elements)?)))
+    }
+
+    /// Whether `If-Match` holds of a resource at its current version, or of no resource.
+    pub fn holds_match(&self, version: Option<u64>) -> bool
+        ensures { result ≡ holds_match self.now version }
+    {
+        match (self, version) {
+            (Condition::Always, _) => true,
+            (_, None) => false,
+            (Condition::AnyTag, Some(_)) => true,
+            (Condition::Tags(list), Some(version)) => list.has_version(version),
+        }
+    }
+
+    /// Whether `If-None-Match` holds of a resource at its current version, or of no resource.
+    pub fn holds_none_match(&self, version: Option<u64>) -> bool
+        ensures { result ≡ holds_none_match self.now version }
+    {
+        match (self, version) {
+            (Condition::Always, _) => true,
+            (_, None) => true,
+            (Condition::AnyTag, Some(_)) => false,
+            (Condition::Tags(list), Some(version)) => !list.has_version_weakly(version),
+        }
+    }
+}
