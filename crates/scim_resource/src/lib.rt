@@ -3,12 +3,15 @@
 
 mod contents;
 mod faults;
+mod locations;
 mod reading;
 mod rows;
 mod schemas;
 mod users;
+mod writing;
 
 pub use contents::Content;
 pub use faults::ReadFault;
+pub use locations::location;
 pub use rows::{Shown, Stored};
 pub use users::User;
