@@ -42,9 +42,13 @@ resource_data id meta (User u) = user_data id meta u
 abbrev pub content_data : Content → Data
 content_data c = resource_data None None c
 
+-- where it is found
+abbrev pub shown_location : List ℕ → ShownRecord → List ℕ
+shown_location base s = location_text base (content_kind s.content) s.id
+
 abbrev pub meta_parts : List ℕ → ShownRecord → List Part
 meta_parts base s =
-    (codes "location", Some (string (location_text base (content_kind s.content) s.id)))
+    (codes "location", Some (string (shown_location base s)))
     ∷ (codes "resourceType", Some (string (type_name (content_kind s.content))))
     ∷ (codes "version", option_map string s.version)
     ∷ []

@@ -1,5 +1,5 @@
 //! Writing a resource as JSON.
-ghost use Rattle.std.specs.Prelude.{◌≡◌, false, IfOk, option_map};
+ghost use Rattle.std.specs.Prelude.{◌≡◌, false, IfOk, option_map, string_bytes};
 ghost use Rattle.serde_json.specs.Data.{array, string};
 ghost use Rattle.serde_json.specs.View.{view};
 ghost use Rattle.serde_json.specs.Written.{has_float};
@@ -26,6 +26,13 @@ impl Content {
 }
 
 impl Shown {
+    /// The URI of the resource at a service with this base.
+    pub fn location(&self, alloc: Global, base: &Base) -> Result<String, AllocError>
+        ensures { IfOk result (λ text. string_bytes text ≡ spec.shown_location base.now self.now) }
+    {
+        location(alloc, base, self.content().kind(), self.id())
+    }
+
     /// What is shown of the resource by a service at this base.
     pub fn to_value(&self, alloc: Global, base: &Base) -> Result<Value, AllocError>
         ensures { IfOk result (λ value. view value ≡ spec.shown_data base.now self.now) }
@@ -51,7 +58,6 @@ fn resource_value(
     }
 }
 
-#[tactic(auto, using(crate::proofs::Written::user_data_is))]
 fn user_value(
     alloc: Global,
     user: &User,
@@ -70,7 +76,12 @@ fn user_value(
     put_if(&mut members, alloc, "schemas", Some(schemas))?;
     put_if(&mut members, alloc, "meta", meta)?;
     put_if(&mut members, alloc, "id", id)?;
-    put_if(&mut members, alloc, "active", Some(Value::Bool(user.is_active())))?;
+    put_if(
+        &mut members,
+        alloc,
+        "active",
+        Some(Value::Bool(user.is_active())),
+    )?;
     Ok(Value::Object(members))
 }
 
@@ -103,9 +114,8 @@ fn user_schemas(alloc: Global, revision: Option<Revision>) -> Result<Value, Allo
 fn meta_value(alloc: Global, base: &Base, shown: &Shown) -> Result<Value, AllocError>
     ensures { IfOk result (λ value. view value ≡ spec.meta_data base.now shown.now) }
 {
-    let kind = shown.content().kind();
-    let place = Value::String(location(alloc, base, kind, shown.id())?);
-    let type_name = Value::try_from_str(alloc, type_name(kind))?;
+    let place = Value::String(shown.location(alloc, base)?);
+    let type_name = Value::try_from_str(alloc, type_name(shown.content().kind()))?;
     let version = version_value(alloc, shown)?;
     let mut members = Map::new(alloc);
     put_if(&mut members, alloc, "version", version)?;
