@@ -1,0 +1,92 @@
+-- What a judged head says.
+use Rattle.std.proofs.Common.{◌≡◌, ℕ, Bool, true, false, cond, Option, Some, None, Result, Ok, Err, refl}
+use Rattle.std.specs.Prelude.{IfOk, IfErr, nat_lt, codes, ⊤}
+use Rattle.std.proofs.lemmas.Result.{IfOk-at_ok, IfErr-at_err}
+use Rattle.http_text.specs.declared.fault.ReadFault.{ReadFault}
+use Rattle.http_text.specs.declared.fault.ReadFault.TheVariants.{Malformed, HostMissingOrRepeated, LengthMissing, BodyTooLong, HeadTooLong, TransferCoding, Expectation, EndedEarly, ReadFailed, OutOfMemory, TurnsExhausted}
+use Rattle.http_text.specs.Message.{Head, minor_of, values, Length, absent, stated, unreadable, length_of, body_length, body_limit}
+use Rattle.http_text.specs.Judging.{◌>>=◌, refused_where, readable_length, length_wanted, is_head, has_body, is_host_wrong, is_any, judge_head}
+
+-- a refusal by the head
+abbrev pub IsHeadFault : ReadFault → Type 0
+IsHeadFault Malformed = ⊤
+IsHeadFault (HostMissingOrRepeated is_head) = ⊤
+IsHeadFault (LengthMissing is_head) = ⊤
+IsHeadFault (BodyTooLong is_head) = ⊤
+IsHeadFault HeadTooLong = ⊥
+IsHeadFault (TransferCoding is_head) = ⊤
+IsHeadFault (Expectation is_head) = ⊤
+IsHeadFault EndedEarly = ⊥
+IsHeadFault ReadFailed = ⊥
+IsHeadFault OutOfMemory = ⊥
+IsHeadFault TurnsExhausted = ⊥
+
+limit_fault : (b h : Bool) (n : ℕ) → IfErr (let r : Result ℕ ReadFault = cond b (Err (BodyTooLong h)) (Ok n) in r) IsHeadFault
+limit_fault true h n = tt
+limit_fault false h n = tt
+
+wanted_fault : (w h : Bool) (length : Option ℕ) → IfErr (length_wanted w h length) IsHeadFault
+wanted_fault true h None = tt
+wanted_fault false h None = tt
+wanted_fault true h (Some n) = limit_fault (nat_lt body_limit n) h n
+wanted_fault false h (Some n) = limit_fault (nat_lt body_limit n) h n
+
+-- the steps of judging, whatever they test
+abbrev judged : Length → Bool → Bool → Bool → Bool → Bool → ReadFault → ReadFault → ReadFault → Result ℕ ReadFault
+judged l a b c w h f g e = readable_length l >>= (λ length. refused_where a f >>= (λ _. refused_where b g >>= (λ _. refused_where c e >>= (λ _. length_wanted w h length))))
+
+refused : (a b c w h : Bool) (f g e : ReadFault) → IsHeadFault f → IsHeadFault g → IsHeadFault e → (length : Option ℕ)
+    → IfErr (refused_where a f >>= (λ _. refused_where b g >>= (λ _. refused_where c e >>= (λ _. length_wanted w h length)))) IsHeadFault
+refused true b c w h f g e x y z length = x
+refused false true c w h f g e x y z length = y
+refused false false true w h f g e x y z length = z
+refused false false false w h f g e x y z length = wanted_fault w h length
+
+faults : (l : Length) (a b c w h : Bool) (f g e : ReadFault) → IsHeadFault f → IsHeadFault g → IsHeadFault e → IfErr (judged l a b c w h f g e) IsHeadFault
+faults absent a b c w h f g e x y z = refused a b c w h f g e x y z None
+faults (stated n) a b c w h f g e x y z = refused a b c w h f g e x y z (Some n)
+faults unreadable a b c w h f g e x y z = tt
+
+abbrev host_wrong : Head → Bool
+host_wrong head = is_host_wrong (minor_of head.start) (values (codes "host") head.fields)
+
+abbrev coded : Head → Bool
+coded head = is_any (values (codes "transfer-encoding") head.fields)
+
+abbrev expects : Head → Bool
+expects head = is_any (values (codes "expect") head.fields)
+
+judge_faults : (head : Head) → IfErr (judge_head head) IsHeadFault
+judge_faults head = faults (length_of head) (host_wrong head) (coded head) (expects head) (has_body head) (is_head head) (HostMissingOrRepeated (is_head head)) (TransferCoding (is_head head)) (Expectation (is_head head)) tt tt tt
+
+-- a head is refused by a refusal of heads
+pub judged_fault : (head : Head) (fault : ReadFault) → judge_head head ≡ Err fault → IsHeadFault fault
+judged_fault head fault e = IfErr-at_err IsHeadFault e (judge_faults head)
+
+limit_length : (b h : Bool) (n : ℕ) → IfOk (let r : Result ℕ ReadFault = cond b (Err (BodyTooLong h)) (Ok n) in r) (λ k. k ≡ n)
+limit_length true h n = tt
+limit_length false h n = refl
+
+wanted_length : (w h : Bool) (n : ℕ) → IfOk (length_wanted w h (Some n)) (λ k. k ≡ n)
+wanted_length true h n = limit_length (nat_lt body_limit n) h n
+wanted_length false h n = limit_length (nat_lt body_limit n) h n
+
+wanted_none : (w h : Bool) → IfOk (length_wanted w h None) (λ k. k ≡ 0)
+wanted_none true h = tt
+wanted_none false h = refl
+
+accepted : (l : Length) (a b c w h : Bool) (f g e : ReadFault) → IfOk (judged l a b c w h f g e) (λ n. n ≡ body_length l)
+accepted absent true b c w h f g e = tt
+accepted absent false true c w h f g e = tt
+accepted absent false false true w h f g e = tt
+accepted absent false false false w h f g e = wanted_none w h
+accepted (stated n) true b c w h f g e = tt
+accepted (stated n) false true c w h f g e = tt
+accepted (stated n) false false true w h f g e = tt
+accepted (stated n) false false false w h f g e = wanted_length w h n
+accepted unreadable a b c w h f g e = tt
+
+-- an accepted head is followed by as many bytes as it states
+pub accepted_length : (head : Head) (n : ℕ) → judge_head head ≡ Ok n → n ≡ body_length (length_of head)
+accepted_length head n e =
+    IfOk-at_ok (λ k. k ≡ body_length (length_of head)) e (accepted (length_of head) (host_wrong head) (coded head) (expects head) (has_body head) (is_head head) (HostMissingOrRepeated (is_head head)) (TransferCoding (is_head head)) (Expectation (is_head head)))

@@ -1,0 +1,13 @@
+pub mod BodyLemmas
+pub mod CountLemmas
+pub mod DigitLemmas
+pub mod FieldLemmas
+pub mod FindLemmas
+pub mod HeadLemmas
+pub mod JudgeLemmas
+pub mod KnownLemmas
+pub mod ListLemmas
+pub mod RequestLemmas
+pub mod ResponseLemmas
+pub mod SendLemmas
+pub mod TurnLemmas

@@ -1,0 +1,46 @@
+-- What is counted of a stream, and how far a count goes.
+use Rattle.std.specs.Prelude.{◌≡◌, ℕ, ◌+◌, ◌-◌, ◌^◌, ◌<◌, ◌≤◌, ◌⊎◌, max, min, List, Option}
+
+-- where each count stays
+abbrev pub greatest_count : ℕ
+greatest_count = 2 ^ 64 - 1
+
+-- n counted up by k, up to the greatest count
+abbrev pub count_up : ℕ → ℕ → ℕ
+count_up n k = max n (min (n + k) greatest_count)
+
+-- a reader, as contracts see it
+pub record Reading : Type 0 where
+  -- the bytes that it has left, where they are known
+  pub remaining : Option (List ℕ)
+  -- its reads so far
+  pub calls : ℕ
+  -- those that failed; an interrupted one didn't
+  pub failures : ℕ
+
+-- a writer, as contracts see it
+pub record Writing : Type 0 where
+  -- the bytes that it holds, where they are known
+  pub contents : Option (List ℕ)
+  -- its writes and flushes so far
+  pub calls : ℕ
+  -- those that failed; an interrupted write didn't, an interrupted flush did
+  pub failures : ℕ
+  -- its flushes so far
+  pub flushes : ℕ
+
+-- a count rose, or stood where no count rises
+abbrev pub HasRisen : ℕ → ℕ → Type 0
+HasRisen old new = (old < new) ⊎ (greatest_count ≤ old)
+
+-- a count rose by k, or came to where no count rises
+abbrev pub HasReached : ℕ → ℕ → ℕ → Type 0
+HasReached k old new = (old + k ≤ new) ⊎ (greatest_count ≤ new)
+
+-- the greatest number of reads, or of writes and flushes, for one message
+abbrev pub turn_limit : ℕ
+turn_limit = 100000
+
+-- at most so many turns were made, each counted
+abbrev pub CountsTurns : ℕ → ℕ → Type 0
+CountsTurns old new = (n : ℕ) × (n ≤ turn_limit) × (new ≡ count_up old n)

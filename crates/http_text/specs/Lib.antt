@@ -1,0 +1,9 @@
+pub mod Counts
+pub mod IncomingView
+pub mod Judging
+pub mod Message
+pub mod Requests
+pub mod Response
+pub mod Sending
+pub mod Steps
+pub mod Streams

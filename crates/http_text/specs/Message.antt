@@ -1,0 +1,107 @@
+-- An HTTP/1.1 message in its parts, and which bytes are a request (RFC 9112, sections 2 to 6).
+use Rattle.std.specs.Prelude.{◌≡◌, ℕ, ◌≤◌, Bool, ◌&&◌, List, [], ◌∷◌, ◌++◌, length, map, filter, if◌then◌else◌, nat_le, nat_lt, codes}
+use Rattle.std.specs.List.{list_all}
+use Rattle.std.specs.Char.{is_ascii_digit, to_ascii_lowercase}
+use Rattle.std.specs.Str.{bytes_eq}
+use Rattle.std.specs.Str.Parse.{digits_value}
+use Rattle.httparse.specs.Grammar.{RequestHead, ReadsRequest}
+use Rattle.httparse.specs.Spans.{name_and_value}
+
+-- a field's name, and its value without the white space around it
+abbrev pub NamedValue : Type 0
+NamedValue = List ℕ × List ℕ
+
+-- a first line: a request's method and target, or a response's status code, each with the digit after `HTTP/1.`
+pub data StartLine : Type 0 where
+  request_line : (method target : List ℕ) (minor : ℕ) → StartLine
+  status_line : (minor code : ℕ) → StartLine
+
+pub record Head : Type 0 where
+  pub start : StartLine
+  pub fields : List NamedValue
+
+pub record Message : Type 0 where
+  pub head : Head
+  pub body : List ℕ
+
+-- a response has no method and no target
+abbrev pub method_of : StartLine → List ℕ
+method_of (request_line method target minor) = method
+method_of (status_line minor code) = []
+
+abbrev pub target_of : StartLine → List ℕ
+target_of (request_line method target minor) = target
+target_of (status_line minor code) = []
+
+abbrev pub minor_of : StartLine → ℕ
+minor_of (request_line method target minor) = minor
+minor_of (status_line minor code) = minor
+
+-- the text with ASCII letters lowered
+abbrev pub lowered : List ℕ → List ℕ
+lowered text = map to_ascii_lowercase text
+
+-- a field has this name, letters in any case
+abbrev pub is_named : List ℕ → NamedValue → Bool
+is_named name field = bytes_eq (lowered field.0) (lowered name)
+
+-- the values of the fields with this name, in order
+abbrev pub values : List ℕ → List NamedValue → List (List ℕ)
+values name fields = map (λ (field : NamedValue). field.1) (filter (is_named name) fields)
+
+-- the greatest lengths of a head and of a body, and the greatest number of field lines
+abbrev pub head_limit : ℕ
+head_limit = 16384
+
+abbrev pub field_limit : ℕ
+field_limit = 64
+
+abbrev pub body_limit : ℕ
+body_limit = 32768
+
+-- the parts of a request's head of httparse's grammar
+abbrev pub head_of : RequestHead → Head
+head_of tree = record {
+  start = request_line tree.method tree.target tree.minor;
+  fields = map name_and_value tree.fields;
+}
+
+-- the bytes are a request's head of the grammar within the limits, and these are its parts
+pub record IsRequestHead (bytes : List ℕ) (head : Head) : Type 0 where
+  pub tree : RequestHead
+  pub reads : ReadsRequest bytes tree []
+  pub size : length bytes ≤ head_limit
+  pub fields : length tree.fields ≤ field_limit
+  pub parts : head ≡ head_of tree
+
+-- a length is written in 1 to 18 digits
+abbrev pub is_length : List ℕ → Bool
+is_length text = nat_lt 0 (length text) && (nat_le (length text) 18 && list_all is_ascii_digit text)
+
+-- what a Content-Length states
+pub data Length : Type 0 where
+  absent : Length
+  stated : ℕ → Length
+  unreadable : Length
+
+-- one that is repeated, or no length, can't be read
+abbrev pub length_in : List (List ℕ) → Length
+length_in [] = absent
+length_in (text ∷ []) = if is_length text then stated (digits_value 10 text) else unreadable
+length_in (text ∷ other ∷ texts) = unreadable
+
+abbrev pub length_of : Head → Length
+length_of head = length_in (values (codes "content-length") head.fields)
+
+-- how many bytes follow a head: as many as it states, none without a statement
+abbrev pub body_length : Length → ℕ
+body_length absent = 0
+body_length (stated n) = n
+body_length unreadable = 0
+
+-- the bytes are a request's head and then exactly the body that it states
+pub record IsRequestMessage (bytes : List ℕ) (m : Message) : Type 0 where
+  pub front : List ℕ
+  pub head : IsRequestHead front m.head
+  pub split : bytes ≡ front ++ m.body
+  pub body : length m.body ≡ body_length (length_of m.head)

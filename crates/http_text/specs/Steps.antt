@@ -1,0 +1,67 @@
+-- What the steps of reading a request do.
+use Rattle.std.specs.Prelude.{◌≡◌, ℕ, ◌-◌, ◌<◌, ◌≤◌, ◌⊎◌, List, [], ◌++◌, length, Option}
+use Rattle.std.specs.Io.KnownBytes.{Keeps, Consumes, IsAtEnd}
+use Rattle.httparse.specs.Grammar.{NeverHasRequest}
+use Rattle.httparse.specs.Spans.{RequestExceeds, RequestOverflows}
+use Rattle.http_text.specs.declared.fault.ReadFault.{ReadFault}
+use Rattle.http_text.specs.declared.fault.ReadFault.TheVariants.{Malformed, HostMissingOrRepeated, LengthMissing, BodyTooLong, HeadTooLong, TransferCoding, Expectation, EndedEarly, ReadFailed, OutOfMemory, TurnsExhausted}
+use Rattle.http_text.specs.Counts.{Reading, count_up, HasRisen}
+use Rattle.http_text.specs.Message.{Message, IsRequestHead, field_limit}
+use Rattle.http_text.specs.Requests.{IsHeadAtLimit}
+
+-- from so many turns left to so many, each a call
+pub record SpendsTurns (old new : Reading) (before after : ℕ) : Type 0 where
+  pub left : after ≤ before
+  pub calls : new.calls ≡ count_up old.calls (before - after)
+
+-- a failure was counted, or no turn is left; else no read failed
+abbrev pub EndsTurns : Reading → Reading → ℕ → ReadFault → Type 0
+EndsTurns old new after ReadFailed = HasRisen old.failures new.failures
+EndsTurns old new after TurnsExhausted = (after ≡ 0) × (new.failures ≡ old.failures)
+EndsTurns old new after fault = new.failures ≡ old.failures
+
+-- no bytes came: the reader is at its end, or it isn't known why not
+abbrev pub GivesNone : Option (List ℕ) → Option (List ℕ) → ReadFault → Type 0
+GivesNone old new Malformed = ⊥
+GivesNone old new (HostMissingOrRepeated is_head) = ⊥
+GivesNone old new (LengthMissing is_head) = ⊥
+GivesNone old new (BodyTooLong is_head) = ⊥
+GivesNone old new HeadTooLong = ⊥
+GivesNone old new (TransferCoding is_head) = ⊥
+GivesNone old new (Expectation is_head) = ⊥
+GivesNone old new EndedEarly = Keeps old new × IsAtEnd new
+GivesNone old new ReadFailed = Keeps old new
+GivesNone old new OutOfMemory = ⊥
+GivesNone old new TurnsExhausted = Keeps old new
+
+-- what a parse refuses
+abbrev pub RefusesHead : List ℕ → ReadFault → Type 0
+RefusesHead bytes Malformed = NeverHasRequest bytes
+RefusesHead bytes (HostMissingOrRepeated is_head) = ⊥
+RefusesHead bytes (LengthMissing is_head) = ⊥
+RefusesHead bytes (BodyTooLong is_head) = ⊥
+RefusesHead bytes HeadTooLong = IsHeadAtLimit bytes ⊎ (RequestExceeds field_limit bytes × RequestOverflows field_limit bytes)
+RefusesHead bytes (TransferCoding is_head) = ⊥
+RefusesHead bytes (Expectation is_head) = ⊥
+RefusesHead bytes EndedEarly = ⊥
+RefusesHead bytes ReadFailed = ⊥
+RefusesHead bytes OutOfMemory = ⊥
+RefusesHead bytes TurnsExhausted = ⊥
+
+-- exactly the bytes of a head were taken, and nothing of a body
+abbrev pub TakesHead : Option (List ℕ) → Option (List ℕ) → Message → Type 0
+TakesHead old new m = (bytes : List ℕ) × Consumes old new bytes × IsRequestHead bytes m.head × (m.body ≡ [])
+
+-- so many bytes were taken, and stand at the body's end
+abbrev pub TakesBody : Option (List ℕ) → Option (List ℕ) → Message → Message → ℕ → Type 0
+TakesBody old new before after count =
+    (bytes : List ℕ) × Consumes old new bytes × (length bytes ≡ count)
+    × (after ≡ record { head = before.head; body = before.body ++ bytes })
+
+-- fewer were taken
+abbrev pub CutsBody : Option (List ℕ) → Option (List ℕ) → ℕ → ReadFault → Type 0
+CutsBody old new count OutOfMemory = (bytes : List ℕ) × Consumes old new bytes
+CutsBody old new count EndedEarly = (bytes : List ℕ) × Consumes old new bytes × (length bytes < count) × IsAtEnd new
+CutsBody old new count ReadFailed = (bytes : List ℕ) × Consumes old new bytes × (length bytes < count)
+CutsBody old new count TurnsExhausted = (bytes : List ℕ) × Consumes old new bytes × (length bytes < count)
+CutsBody old new count fault = ⊥

@@ -1,0 +1,53 @@
+//! Why no request was read, and why bytes weren't sent whole.
+
+use thiserror::Error;
+
+/// Why no request was read. Its text is its code. `is_head` tells whether the request's method was
+/// HEAD, whose answer has no body.
+#[derive(Clone, Copy, Debug, PartialEq, Eq, Error)]
+pub enum ReadFault {
+    /// No bytes that follow make a head, or its `Content-Length` is repeated or isn't 1 to 18 digits.
+    #[error("H1")]
+    Malformed,
+    /// An HTTP/1.1 request without `Host`, or any request with two (RFC 9112, section 3.2).
+    #[error("H2")]
+    HostMissingOrRepeated { is_head: bool },
+    /// A POST or PUT without `Content-Length`.
+    #[error("H3")]
+    LengthMissing { is_head: bool },
+    /// A `Content-Length` above 32,768.
+    #[error("H4")]
+    BodyTooLong { is_head: bool },
+    /// 16,384 bytes hold no whole head, or there are more than 64 field lines.
+    #[error("H5")]
+    HeadTooLong,
+    /// `Transfer-Encoding` is there.
+    #[error("H6")]
+    TransferCoding { is_head: bool },
+    /// `Expect` is there.
+    #[error("H7")]
+    Expectation { is_head: bool },
+    /// The bytes ended before the request did.
+    #[error("H10")]
+    EndedEarly,
+    /// A read failed.
+    #[error("H11")]
+    ReadFailed,
+    /// Memory was wanting.
+    #[error("H13")]
+    OutOfMemory,
+    /// 100,000 reads didn't give the whole request.
+    #[error("H14")]
+    TurnsExhausted,
+}
+
+/// Why bytes weren't sent whole. Its text is its code.
+#[derive(Clone, Copy, Debug, PartialEq, Eq, Error)]
+pub enum SendFault {
+    /// A write or the flush failed, after so many bytes were taken.
+    #[error("H12")]
+    WriteFailed { sent: usize },
+    /// 100,000 writes and flushes weren't enough; so many bytes were taken.
+    #[error("H14")]
+    TurnsExhausted { sent: usize },
+}

@@ -1,0 +1,170 @@
+//! A message that was read: one buffer that lends its parts.
+ghost use Rattle.std.specs.Prelude.{◌≡◌, [], ◌∷◌, ◌++◌, length, vec_len, map, All, IfSome, IfOk, IfErr, OnOk, MatchOption};
+ghost use Rattle.httparse.specs.Grammar.{RequestHead};
+ghost use Rattle.httparse.specs.Spans.{header_bytes, IsHeaderWithin, IsRequestWithin, IsRequestAt};
+ghost use Rattle.http_text.specs.Message.{method_of, target_of, minor_of, values, head_of};
+
+use crate::fault::ReadFault;
+use httparse::spans::{HeaderSpan, RequestSpans, Span};
+use std::alloc::Global;
+use std::marker::Model;
+
+/// A message that was read. It lends the parts of its one buffer.
+#[derive(Debug, Drop)]
+pub struct Incoming {
+    pub(crate) bytes: Vec<u8>,
+    pub(crate) head_length: usize,
+    pub(crate) method: Span,
+    pub(crate) target: Span,
+    pub(crate) minor: u8,
+    pub(crate) fields: Vec<HeaderSpan>,
+}
+
+impl Model for Incoming {
+    ghost use Rattle.http_text.specs.Message.{Message};
+
+    ghost Value = { Message };
+
+    ghost use Rattle.http_text.specs.IncomingView.{message_of, IsLaidOut};
+
+    ghost view = { message_of };
+
+    ghost invariant = { IsLaidOut };
+}
+
+/// The values of the fields with one name, in the order of their lines.
+#[derive(Debug, Drop)]
+pub struct FieldValues<'a> {
+    name: &'a [u8],
+    head: &'a [u8],
+    fields: &'a [HeaderSpan],
+}
+
+impl<'a> Model for FieldValues<'a> {
+    ghost use Rattle.std.specs.Prelude.{List, ℕ, length, map, All};
+    ghost use Rattle.httparse.specs.Spans.{header_bytes, IsHeaderWithin};
+    ghost use Rattle.http_text.specs.Message.{values};
+
+    ghost Value = { List (List ℕ) };
+
+    ghost view = { λ s. values s.name.now (map (header_bytes s.head.now) s.fields.now) };
+
+    ghost invariant = { λ s. All (IsHeaderWithin (length s.head.now)) s.fields.now };
+}
+
+impl Incoming {
+    /// The message of a whole head, with no body yet.
+    pub(crate) fn from_head(
+        alloc: Global,
+        bytes: Vec<u8>,
+        head: RequestSpans,
+        fields: &[HeaderSpan],
+    ) -> Result<Incoming, ReadFault>
+        requires within { IsRequestWithin bytes.items fields.now head }
+        requires whole { head.len ≡ vec_len bytes }
+        ensures message { IfOk result (λ message. (tree : RequestHead)
+            → IsRequestAt bytes.items fields.now head tree
+            → message ≡ record { head = head_of tree; body = [] }) }
+        ensures memory { IfErr result (λ fault. fault ≡ ReadFault.OutOfMemory) }
+    {
+        match Vec::from_slice(alloc, &fields[..head.headers]) {
+            Ok(fields) => Ok(Incoming {
+                bytes,
+                head_length: head.len,
+                method: head.method,
+                target: head.path,
+                minor: head.version,
+                fields,
+            }),
+            Err(_) => Err(ReadFault::OutOfMemory),
+        }
+    }
+
+    /// Adds bytes to the body.
+    pub(crate) fn append(&mut self, bytes: &[u8]) -> Result<(), ReadFault>
+        ensures ok { OnOk result
+            (self.new ≡ record { head = self.old.head; body = self.old.body ++ bytes.now }) }
+        ensures memory { IfErr result (λ fault. fault ≡ ReadFault.OutOfMemory) }
+    {
+        match self.bytes.extend_from_slice(bytes) {
+            Ok(()) => Ok(()),
+            Err(_) => Err(ReadFault::OutOfMemory),
+        }
+    }
+
+    /// A request's method, letters as they came.
+    pub fn method(&self) -> &[u8]
+        ensures { result.now ≡ method_of self.now.head.start }
+    {
+        self.method.of(&self.bytes[..self.head_length])
+    }
+
+    /// A request's target, escapes as they came.
+    pub fn target(&self) -> &[u8]
+        ensures { result.now ≡ target_of self.now.head.start }
+    {
+        self.target.of(&self.bytes[..self.head_length])
+    }
+
+    /// The digit after `HTTP/1.`.
+    pub fn minor_version(&self) -> u8
+        ensures { result ≡ minor_of self.now.head.start }
+    {
+        self.minor
+    }
+
+    /// The values of the fields with this name, letters in any case, in the order of their lines.
+    /// White space at the ends of a value is left out.
+    pub fn fields<'a>(&'a self, name: &'a str) -> FieldValues<'a>
+        ensures { result ≡ values name.now self.now.head.fields }
+    {
+        FieldValues {
+            name: name.as_bytes(),
+            head: &self.bytes[..self.head_length],
+            fields: &self.fields,
+        }
+    }
+
+    /// The body, which is empty where there is none.
+    pub fn body(&self) -> &[u8]
+        ensures { result.now ≡ self.now.body }
+    {
+        &self.bytes[self.head_length..]
+    }
+}
+
+impl<'a> Iterator for FieldValues<'a> {
+    ghost use Rattle.std.specs.Iterator.{YieldsFirstRef, item_count};
+
+    type Item = &'a [u8];
+
+    ghost next_gives = { YieldsFirstRef (λ it. it) };
+
+    ghost remaining = { item_count (λ it. it) };
+
+    fn next(&mut self) -> Option<&'a [u8]> {
+        let (value, rest) = split_named(self.name, self.head, self.fields)?;
+        self.fields = rest;
+        Some(value)
+    }
+}
+
+/// The value of the first field with this name, and the fields after it.
+fn split_named<'a>(
+    name: &[u8],
+    head: &'a [u8],
+    fields: &'a [HeaderSpan],
+) -> Option<(&'a [u8], &'a [HeaderSpan])>
+    requires { All (IsHeaderWithin (length head.now)) fields.now }
+    ensures within { IfSome result (λ found. All (IsHeaderWithin (length head.now)) found.1.now) }
+    ensures first { MatchOption result (values name.now (map (header_bytes head.now) fields.now) ≡ [])
+        (λ found. values name.now (map (header_bytes head.now) fields.now)
+        ≡ found.0.now ∷ values name.now (map (header_bytes head.now) found.1.now)) }
+{
+    for (i, field) in fields.iter().enumerate() {
+        if field.name.of(head).eq_ignore_ascii_case(name) {
+            return Some((field.value.of(head), &fields[i + 1..]));
+        }
+    }
+    None
+}

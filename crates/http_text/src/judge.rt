@@ -1,0 +1,113 @@
+//! Which requests are refused by their heads, and in which order.
+ghost use Rattle.std.specs.Prelude.{◌≡◌, Some, None, if◌then◌else◌, codes};
+ghost use Rattle.std.specs.Str.Parse.{digits_value};
+ghost use Rattle.http_text.specs.Message.{is_length, length_of, minor_of, values};
+ghost use Rattle.http_text.specs.Judging.{readable_length, refused_where, is_head, has_body, is_host_wrong, is_any, length_wanted, judge_head};
+
+use crate::fault::ReadFault;
+use crate::incoming::Incoming;
+
+/// The greatest length of a body.
+const BODY_LIMIT: u64 = 32_768;
+
+/// The greatest number of digits that a length is written in.
+const LENGTH_DIGITS: usize = 18;
+
+/// The length of the body that follows a head, or the first refusal.
+pub(crate) fn judge(message: &Incoming) -> Result<u64, ReadFault>
+    ensures { result ≡ judge_head message.now.head }
+{
+    let is_head = is_head(message);
+    let length = stated_length(message)?;
+    refuse_where(
+        is_host_wrong(message),
+        ReadFault::HostMissingOrRepeated { is_head },
+    )?;
+    refuse_where(
+        has_field(message, "transfer-encoding"),
+        ReadFault::TransferCoding { is_head },
+    )?;
+    refuse_where(
+        has_field(message, "expect"),
+        ReadFault::Expectation { is_head },
+    )?;
+    length_wanted(has_body(message), is_head, length)
+}
+
+fn is_head(message: &Incoming) -> bool
+    ensures { result ≡ is_head message.now.head }
+{
+    message.method() == b"HEAD".as_slice()
+}
+
+fn has_body(message: &Incoming) -> bool
+    ensures { result ≡ has_body message.now.head }
+{
+    message.method() == b"POST".as_slice() || message.method() == b"PUT".as_slice()
+}
+
+fn stated_length(message: &Incoming) -> Result<Option<u64>, ReadFault>
+    ensures { result ≡ readable_length (length_of message.now.head) }
+{
+    let mut values = message.fields("content-length");
+    let Some(text) = values.next() else {
+        return Ok(None);
+    };
+    if values.next().is_some() {
+        return Err(ReadFault::Malformed);
+    }
+    match read_length(text) {
+        Some(length) => Ok(Some(length)),
+        None => Err(ReadFault::Malformed),
+    }
+}
+
+fn read_length(text: &[u8]) -> Option<u64>
+    ensures { result ≡ (if is_length text.now then Some (digits_value 10 text.now) else None) }
+{
+    if text.is_empty() || text.len() > LENGTH_DIGITS {
+        return None;
+    }
+    let mut length: u64 = 0;
+    for digit in text {
+        if !digit.is_ascii_digit() {
+            return None;
+        }
+        length = length * 10 + u64::from(*digit - b'0');
+    }
+    Some(length)
+}
+
+fn is_host_wrong(message: &Incoming) -> bool
+    ensures { result
+        ≡ is_host_wrong (minor_of message.now.head.start) (values (codes "host") message.now.head.fields) }
+{
+    let mut hosts = message.fields("host");
+    if hosts.next().is_none() {
+        return message.minor_version() == 1;
+    }
+    hosts.next().is_some()
+}
+
+fn has_field(message: &Incoming, name: &str) -> bool
+    ensures { result ≡ is_any (values name.now message.now.head.fields) }
+{
+    message.fields(name).next().is_some()
+}
+
+fn refuse_where(is_refused: bool, fault: ReadFault) -> Result<(), ReadFault>
+    ensures { result ≡ refused_where is_refused fault }
+{
+    if is_refused { Err(fault) } else { Ok(()) }
+}
+
+fn length_wanted(has_body: bool, is_head: bool, length: Option<u64>) -> Result<u64, ReadFault>
+    ensures { result ≡ length_wanted has_body is_head length }
+{
+    match length {
+        None if has_body => Err(ReadFault::LengthMissing { is_head }),
+        None => Ok(0),
+        Some(length) if length > BODY_LIMIT => Err(ReadFault::BodyTooLong { is_head }),
+        Some(length) => Ok(length),
+    }
+}
