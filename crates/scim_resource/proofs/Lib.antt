@@ -1,3 +1,4 @@
 pub mod Lists
+pub mod RoundTrips
 pub mod Tags
 pub mod Written

@@ -3,6 +3,7 @@
 
 mod contents;
 mod faults;
+mod laws;
 mod locations;
 mod reading;
 mod rows;
@@ -12,6 +13,7 @@ mod writing;
 
 pub use contents::Content;
 pub use faults::ReadFault;
+pub use laws::{shown_reads_back, text_reads_back};
 pub use locations::location;
 pub use rows::{Shown, Stored};
 pub use users::User;

@@ -1,8 +1,10 @@
 //! Writing a resource as JSON.
-ghost use Rattle.std.specs.Prelude.{◌≡◌, false, IfOk, option_map, string_bytes};
+ghost use Rattle.std.specs.Prelude.{◌≡◌, false, IfOk, OnOk, option_map, string_bytes};
 ghost use Rattle.serde_json.specs.Data.{array, string};
 ghost use Rattle.serde_json.specs.View.{view};
 ghost use Rattle.serde_json.specs.Written.{has_float};
+ghost use Rattle.scim_resource.specs.Contents.{IsContent};
+ghost use Rattle.scim_resource.specs.Users.{IsUser};
 ghost use Rattle.scim_resource.specs.Writing as spec;
 
 use crate::contents::Content;
@@ -18,8 +20,11 @@ use std::str;
 
 impl Content {
     /// What is stored of the resource.
+    #[tactic(auto, using(crate::proofs::RoundTrips::content_whole))]
     pub fn to_value(&self, alloc: Global) -> Result<Value, AllocError>
-        ensures { IfOk result (λ value. view value ≡ spec.content_data self.now) }
+        ensures value { IfOk result (λ value. view value ≡ spec.content_data self.now) }
+        ensures whole { IfOk result (λ value. has_float (view value) ≡ false) }
+        ensures lawful { OnOk result (IsContent self.now) }
     {
         resource_value(alloc, self, None, None)
     }
@@ -34,8 +39,11 @@ impl Shown {
     }
 
     /// What is shown of the resource by a service at this base.
+    #[tactic(auto, using(crate::proofs::RoundTrips::shown_whole))]
     pub fn to_value(&self, alloc: Global, base: &Base) -> Result<Value, AllocError>
-        ensures { IfOk result (λ value. view value ≡ spec.shown_data base.now self.now) }
+        ensures value { IfOk result (λ value. view value ≡ spec.shown_data base.now self.now) }
+        ensures whole { IfOk result (λ value. has_float (view value) ≡ false) }
+        ensures lawful { OnOk result (IsContent self.now.content) }
     {
         let id = Value::try_from_str(alloc, self.id().as_str())?;
         let meta = meta_value(alloc, base, self)?;
@@ -50,8 +58,9 @@ fn resource_value(
     id: Option<Value>,
     meta: Option<Value>,
 ) -> Result<Value, AllocError>
-    ensures { IfOk result (λ value. view value
+    ensures value { IfOk result (λ value. view value
         ≡ spec.resource_data (option_map view id) (option_map view meta) content.now) }
+    ensures lawful { OnOk result (IsContent content.now) }
 {
     match content {
         Content::User(user) => user_value(alloc, user, id, meta),
@@ -64,8 +73,9 @@ fn user_value(
     id: Option<Value>,
     meta: Option<Value>,
 ) -> Result<Value, AllocError>
-    ensures { IfOk result (λ value. view value
+    ensures value { IfOk result (λ value. view value
         ≡ spec.user_data (option_map view id) (option_map view meta) user.now) }
+    ensures lawful { OnOk result (IsUser user.now) }
 {
     let name = Value::try_from_str(alloc, user.user_name().as_str())?;
     let source = source_value(alloc, user.revision())?;

@@ -6,8 +6,8 @@ use Rattle.scim_resource.specs.Writing.{source_data, user_schemas}
 use Rattle.scim_resource.proofs.Written.{user_written, user_put}
 use Rattle.scim_resource.proofs.writing.user_value.Goals as goal
 
-pub returns : goal.returns
-returns c =
+pub returns-clause-value : goal.returns-clause-value
+returns-clause-value c =
     let u = c.args.user.now in
     let named : view c.in_ok-name.name ≡ string u.user_name = search rules in
     let listed : view c.in_ok-schemas.schemas ≡ array (user_schemas u.revision) = search rules in
