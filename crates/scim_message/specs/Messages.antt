@@ -1,0 +1,8 @@
+-- Answers, and their status.
+use Rattle.std.specs.Prelude.{ℕ}
+use Rattle.scim_message.specs.declared.messages.Answer.{Answer}
+use Rattle.scim_message.specs.declared.messages.Answer.TheVariants.{Created, Error}
+
+abbrev pub answer_status : Answer → ℕ
+answer_status (Created shown) = 201
+answer_status (Error error) = error.status
