@@ -1,0 +1,80 @@
+-- The readers of fields, as the code takes its steps.
+use Rattle.std.proofs.Common.{◌≡◌, ◌<◌, ◌≤◌, ◌^◌, ℕ, List, [], ◌∷◌, Bool, true, false, cond, Result, Ok, Err, length, refl, ap, sym, ◌∙◌, ◌&&◌, nat_le, arith, rules, lit<}
+use Rattle.std.proofs.lemmas.Bool.{and_parts, false_from_ne_true}
+use Rattle.std.proofs.lemmas.Bool.Decides.{nat_tests}
+use Rattle.std.proofs.lemmas.Str.{IsUtf8-from_is_utf8, is_utf8-from_IsUtf8}
+use Rattle.std.proofs.lemmas.Str.Parse.{IsDigitsTest, IsNumeralModel, numerals_by_value, parse_gives, digits_value_short}
+use Rattle.std.specs.Char.{is_ascii_digit}
+use Rattle.std.specs.List.{list_all}
+use Rattle.std.specs.Str.{is_utf8}
+use Rattle.std.specs.Str.Parse.{ParsesUnsigned, digits_value}
+use Rattle.csv.specs.Records.{AllText, field_at}
+use Rattle.scim_key.specs.Outcome.{◌>>=◌}
+use Rattle.source_csv.specs.Fields.{Record, field, is_numeral, read_texts, read_user, read_user_fields}
+use Rattle.source_csv.specs.declared.faults.RowCode.{RowCode}
+use Rattle.source_csv.specs.declared.faults.RowCode.TheVariants as code
+
+-- the test of UTF-8 says what `csv` says of a record of text
+pub texts_from_test : (fields : Record) → list_all is_utf8 fields ≡ true → AllText fields
+unfolding AllText
+texts_from_test [] h = tt
+texts_from_test (f ∷ fs) h =
+    let parts = and_parts (is_utf8 f) (list_all is_utf8 fs) h in
+    (IsUtf8-from_is_utf8 f parts.0, texts_from_test fs parts.1)
+
+pub test_from_texts : (fields : Record) → AllText fields → list_all is_utf8 fields ≡ true
+unfolding AllText
+test_from_texts [] h = refl
+test_from_texts (f ∷ fs) h = rw (is_utf8-from_IsUtf8 f h.0, test_from_texts fs h.1)
+
+pub read_texts-text : (fields : Record) → AllText fields → read_texts fields ≡ Ok fields
+unfolding read_texts
+read_texts-text fields h = rw (test_from_texts fields h)
+
+pub read_texts-bytes : (fields : Record) → (AllText fields → ⊥) → read_texts fields ≡ Err code.NotUtf8
+unfolding read_texts
+read_texts-bytes fields bytes =
+    let e : list_all is_utf8 fields ≡ false = false_from_ne_true _ (λ h. bytes (texts_from_test fields h)) in
+    rw e
+
+-- what is read as text is the record itself
+pub read_texts-same : (fields texts : Record) → read_texts fields ≡ Ok texts → texts ≡ fields
+unfolding read_texts
+read_texts-same fields texts e = by (list_all is_utf8 fields) e
+  where
+    by : (b : Bool) → cond b (Ok fields) (Err code.NotUtf8) ≡ Ok texts → texts ≡ fields
+    by true e = cc
+    by false e = cc
+
+-- a record of seven fields
+pub read_user-seven : (fields : Record) → length fields ≡ 7
+    → read_user fields ≡ (read_texts fields >>= λ texts. read_user_fields (field fields 0) (field fields 1) (field fields 2) (field fields 3) (field fields 4) (field fields 5) (field fields 6))
+unfolding read_user field_at
+read_user-seven (a ∷ b ∷ c ∷ d ∷ e ∷ f ∷ g ∷ []) seven = refl
+read_user-seven fields seven = absurd (omega arith)
+
+pub read_user-texts : (fields texts : Record) → length fields ≡ 7 → read_texts fields ≡ Ok texts
+    → read_user fields ≡ read_user_fields (field texts 0) (field texts 1) (field texts 2) (field texts 3) (field texts 4) (field texts 5) (field texts 6)
+read_user-texts fields texts seven e = rw (read_texts-same fields texts e) (read_user-seven fields seven ∙ rw e refl)
+
+pub read_user-bytes : (fields : Record) (c : RowCode) → length fields ≡ 7 → read_texts fields ≡ Err c → read_user fields ≡ Err c
+read_user-bytes fields c seven e = read_user-seven fields seven ∙ rw e refl
+
+-- a record of another number of fields
+pub read_user-other : (fields : Record) → (length fields ≡ 7 → ⊥) → read_user fields ≡ Err code.FieldCount
+unfolding read_user
+read_user-other (a ∷ b ∷ c ∷ d ∷ e ∷ f ∷ g ∷ []) other = absurd (other refl)
+read_user-other fields other = refl
+
+-- 18 digits fit 64 bits
+numerals : IsNumeralModel (λ text. list_all is_ascii_digit text ≡ true) (digits_value 10)
+numerals = numerals_by_value _ (search rules)
+
+pub numeral_is_read : {E : Type 0} (text : List ℕ) (r : Result ℕ E) → ParsesUnsigned 64 10 text r → is_numeral text ≡ true → r ≡ Ok (digits_value 10 text)
+numeral_is_read text r parses numeral =
+    let front = and_parts (nat_le 1 (length text) && nat_le (length text) 18) (list_all is_ascii_digit text) numeral in
+    let sizes = and_parts (nat_le 1 (length text)) (nat_le (length text) 18) front.0 in
+    let some : 0 < length text = grind (arith, nat_tests) in
+    let short : length text ≤ 18 = grind (arith, nat_tests) in
+    let small : digits_value 10 text < 10 ^ 18 = digits_value_short numerals text 18 front.1 short in
+    parse_gives numerals 64 text r parses front.1 some (omega arith)

@@ -1,0 +1,86 @@
+-- The records of a file: its header, and the rest one by one.
+use Rattle.std.proofs.Common.{◌≡◌, ◌==◌, ℕ, zero, suc, ◌+◌, List, [], ◌∷◌, ◌++◌, Bool, true, false, Option, Some, None, Result, Ok, Err, Bor, length, refl, ap, sym, subst, inl, append_assoc, length-append, ◌∙◌, ◌&&◌, arith, rules, eqb, ⊎_elim, codes}
+use Rattle.std.proofs.lemmas.Bool.{and_parts, cases_eq, false_from_ne_true, ne_eqb}
+use Rattle.std.specs.Cmp.Lexicographic.{pointwise}
+use Rattle.std.specs.Str.{bytes_eq}
+use Rattle.csv.specs.Machine.{Read, next_record}
+use Rattle.csv.specs.Reading.{AreRecords, Reached, RowStep, default_config}
+use Rattle.csv.specs.Records.{Row, field_at, fields_of}
+use Rattle.csv.specs.declared.iter.ByteRecordsIntoIter.{ByteRecordsIntoIter}
+use Rattle.csv.proofs.ReadFacts.{rows-end, rows-more}
+use Rattle.csv.specs.declared.parser.State.{State}
+use Rattle.source_csv.specs.declared.rows.Row.{Row as SourceRow}
+use Rattle.source_csv.specs.declared.faults.RowFault.{RowFault}
+use Rattle.source_csv.specs.Fields.{Record, field, read_user}
+use Rattle.source_csv.specs.Reader.{IsAt}
+use Rattle.source_csv.specs.Files.{at_place, rows_from, rows_of, same_record, users_header}
+
+-- the header, field by field
+abbrev pub header_by_place : Record → Bool
+header_by_place fields =
+    bytes_eq (field fields 0) (codes "login") && (bytes_eq (field fields 1) (codes "revision") && (bytes_eq (field fields 2) (codes "number")
+    && (bytes_eq (field fields 3) (codes "given") && (bytes_eq (field fields 4) (codes "family") && (bytes_eq (field fields 5) (codes "mail") && (bytes_eq (field fields 6) (codes "status") && true))))))
+
+same_length : (one two : Record) → same_record one two ≡ true → length one ≡ length two
+same_length [] [] e = refl
+same_length [] (f ∷ two) e = cc
+same_length (f ∷ one) [] e = cc
+same_length (f ∷ one) (g ∷ two) e = ap suc (same_length one two (and_parts (bytes_eq f g) (same_record one two) e).1)
+
+pub header_of_seven : (fields : Record) → length fields ≡ 7 → header_by_place fields ≡ same_record fields users_header
+unfolding field_at
+header_of_seven (a ∷ b ∷ c ∷ d ∷ e ∷ f ∷ g ∷ []) seven = refl
+header_of_seven fields seven = absurd (omega arith)
+
+pub header_of_other : (fields : Record) → (length fields ≡ 7 → ⊥) → false ≡ same_record fields users_header
+header_of_other fields other = sym (false_from_ne_true _ (λ e. other (same_length fields users_header e)))
+
+-- where a record comes next, it is the first of the records, and where none does, there are no records
+pub first_record : (s : State) (xs : List ℕ) (p : Read) (records : List Record)
+    → AreRecords default_config s xs records → next_record default_config s [] [] xs ≡ Some p
+    → (rest : List Record) × (records ≡ p.0 ∷ rest) × AreRecords default_config p.1 p.2 rest
+unfolding Reached
+first_record s xs p [] (t, ys, reached, end) e = absurd (cc (reached.0, reached.1, end, e))
+first_record s xs p (r ∷ rest) (t, ys, reached, end) e =
+    let same : reached.0 ≡ p = cc (reached.1, e) in
+    let next : Reached default_config p.1 p.2 rest t ys = subst (λ (q : Read). Reached default_config q.1 q.2 rest t ys) same reached.3 in
+    (rest, cc (reached.2, same), (t, ys, next, end))
+
+pub no_record : (s : State) (xs : List ℕ) (records : List Record)
+    → AreRecords default_config s xs records → next_record default_config s [] [] xs ≡ None → records ≡ []
+unfolding Reached
+no_record s xs [] are e = refl
+no_record s xs (r ∷ rest) (t, ys, reached, end) e = absurd (cc (reached.1, e))
+
+-- a step of the iterator that gives a record, and one that gives none
+pub steps_on : (s : State) (xs : List ℕ) (a b : ByteRecordsIntoIter (Bor (List ℕ))) (fields : Row)
+    → IsAt s xs a → RowStep (λ (bytes : Bor (List ℕ)). Some bytes.now) a.rdr b.rdr b.left (Some (Ok fields))
+    → (p : Read) × (next_record default_config s [] [] xs ≡ Some p) × (fields_of fields ≡ p.0) × IsAt p.1 p.2 b
+unfolding Reached
+steps_on s xs a b fields at step =
+    let more = rows-more (λ (bytes : Bor (List ℕ)). Some bytes.now) a.rdr b.rdr (fields_of fields) default_config s xs xs [] at.config at.source (sym at.stands, refl) step.0 in
+    (more.2.0, more.2.1, more.2.2, record {
+      trim = step.0.3 ∙ at.trim;
+      ready = inl step.1;
+      left = step.2;
+      config = step.0.2 ∙ at.config;
+      source = more.1 ∙ ap Some (sym more.2.3.1);
+      stands = sym more.2.3.0;
+    })
+
+pub steps_out : (s : State) (xs : List ℕ) (a b : ByteRecordsIntoIter (Bor (List ℕ)))
+    → IsAt s xs a → RowStep (λ (bytes : Bor (List ℕ)). Some bytes.now) a.rdr b.rdr b.left None
+    → next_record default_config s [] [] xs ≡ None
+steps_out s xs a b at step = rw at.stands at (rows-end (λ (bytes : Bor (List ℕ)). Some bytes.now) a.rdr b.rdr [] default_config xs at.config at.source step)
+
+-- one more row after those that were read
+pub push_row : (items : List (Result SourceRow RowFault)) (row : Result SourceRow RowFault) (fields : Record) (left more : List Record)
+    → row ≡ at_place (length items + 1) (read_user fields) → left ≡ fields ∷ more
+    → items ++ rows_from (length items + 1) left ≡ (items ++ row ∷ []) ++ rows_from (length (items ++ row ∷ []) + 1) more
+push_row items row fields left more at first = rw (first, at, append_assoc, length-append)
+
+-- no row yet, after the header
+pub no_rows : (items : List (Result SourceRow RowFault)) (records rest : List Record) (header : Record)
+    → items ≡ [] → records ≡ header ∷ rest → same_record header users_header ≡ true
+    → rows_of records ≡ Ok (items ++ rows_from (length items + 1) rest)
+no_rows items records rest header none first lawful = rw (none, first, lawful) refl

@@ -1,0 +1,78 @@
+-- What the fields of a record say, and what a record is as a row: the first refusal that stands in it decides.
+use Rattle.std.specs.Prelude.{◌≡◌, ℕ, Bool, true, false, List, [], ◌∷◌, Result, Ok, Err, ◌&&◌, if◌then◌else◌, nat_le, length, codes, is_none, unwrap_or}
+use Rattle.std.specs.List.{list_all}
+use Rattle.std.specs.Char.{is_ascii_digit}
+use Rattle.std.specs.Str.{bytes_eq, is_utf8}
+use Rattle.std.specs.Str.Parse.{digits_value}
+use Rattle.csv.specs.Records.{field_at}
+use Rattle.scim_key.specs.Names.{user_name_fault}
+use Rattle.scim_key.specs.Outcome.{◌>>=◌}
+use Rattle.scim_key.specs.Revisions.{RevisionValue, is_revision}
+use Rattle.source_csv.specs.Rows.{UserFields, value_limit}
+use Rattle.source_csv.specs.declared.faults.RowCode.{RowCode}
+use Rattle.source_csv.specs.declared.faults.RowCode.TheVariants as code
+use Rattle.source_csv.specs.declared.faults.Refusal.{Refusal}
+use Rattle.source_csv.specs.declared.faults.Refusal.TheVariants.{Refused, Memory}
+
+-- a record of a file: its fields
+abbrev pub Record : Type 0
+Record = List (List ℕ)
+
+-- S3: every field is UTF-8
+unfoldable pub read_texts : Record → Result Record RowCode
+read_texts fields = if list_all is_utf8 fields then Ok fields else Err code.NotUtf8
+
+-- S4: a login is a `userName`
+unfoldable pub read_login : List ℕ → Result (List ℕ) RowCode
+read_login text = if is_none (user_name_fault text) then Ok text else Err code.Name
+
+-- 1 to 18 digits, whatever zeros lead
+abbrev pub is_numeral : List ℕ → Bool
+is_numeral text = nat_le 1 (length text) && nat_le (length text) 18 && list_all is_ascii_digit text
+
+-- S5: a revision is 1 to 18 digits with a value in its range
+unfoldable pub read_revision : List ℕ → Result RevisionValue RowCode
+read_revision text = if is_numeral text && is_revision (digits_value 10 text) then Ok (digits_value 10 text) else Err code.Revision
+
+-- S6: a number, a given name, a family name or a mail has at most 256 bytes
+unfoldable pub read_value : List ℕ → Result (List ℕ) RowCode
+read_value text = if nat_le (length text) value_limit then Ok text else Err code.Value
+
+-- S6: a status is `active` or `left`
+unfoldable pub read_status : List ℕ → Result Bool RowCode
+read_status text = if bytes_eq text (codes "active") then Ok true else if bytes_eq text (codes "left") then Ok false else Err code.Value
+
+-- a record's fields by name, as a row
+unfoldable pub read_user_fields : (login revision number given family mail status : List ℕ) → Result UserFields RowCode
+read_user_fields login revision number given family mail status = do
+  name ← read_login login
+  count ← read_revision revision
+  external ← read_value number
+  first ← read_value given
+  last ← read_value family
+  address ← read_value mail
+  active ← read_status status
+  Ok (record { login = name; revision = count; number = external; given = first; family = last; mail = address; active = active })
+
+-- A record of a users file as a row. S2: it has another number of fields.
+unfoldable pub read_user : Record → Result UserFields RowCode
+read_user (login ∷ revision ∷ number ∷ given ∷ family ∷ mail ∷ status ∷ []) = do
+  texts ← read_texts (login ∷ revision ∷ number ∷ given ∷ family ∷ mail ∷ status ∷ [])
+  read_user_fields login revision number given family mail status
+read_user fields = Err code.FieldCount
+
+-- the field at a place, empty where there is none
+abbrev pub field : Record → ℕ → List ℕ
+field fields place = unwrap_or (field_at fields place) []
+
+-- what came is exactly what is read, or want of memory
+abbrev pub Reads : {X : Type 0} → Result X Refusal → Result X RowCode → Type 0
+Reads (Ok x) answer = answer ≡ Ok x
+Reads (Err (Refused c)) answer = answer ≡ Err c
+Reads (Err Memory) answer = Unit {0}
+
+-- the same, of what is seen of the value that came
+abbrev pub ReadsBy : {X Y : Type 0} → (X → Y) → Result X Refusal → Result Y RowCode → Type 0
+ReadsBy view (Ok x) answer = answer ≡ Ok (view x)
+ReadsBy view (Err (Refused c)) answer = answer ≡ Err c
+ReadsBy view (Err Memory) answer = Unit {0}

@@ -1,0 +1,91 @@
+//! The fields of a record.
+ghost use Rattle.std.specs.Prelude.{◌≡◌, ◌≤◌, Ok, Err, IfOk, MatchResult, string_bytes, string_len};
+ghost use Rattle.csv.specs.Records.{fields_of};
+ghost use Rattle.scim_key.specs.Revisions.{IsRevision};
+ghost use Rattle.std.specs.Char.{is_ascii_digit};
+ghost use Rattle.std.specs.List.{list_all};
+ghost use Rattle.source_csv.specs.Fields.{Reads, ReadsBy, field, is_numeral, read_login, read_revision, read_status, read_texts, read_value};
+ghost use Rattle.source_csv.specs.Rows.{value_limit};
+
+use crate::faults::{Refusal, RowCode};
+use csv::{ByteRecord, StringRecord};
+use scim_key::{NameFault, Revision, UserName};
+use std::alloc::Global;
+
+/// The record as text.
+#[tactic(auto, unfolding(crate::specs::Fields::read_texts))]
+pub(crate) fn texts_of(raw: ByteRecord) -> Result<StringRecord, RowCode>
+    ensures { MatchResult result (λ texts. read_texts (fields_of raw) ≡ Ok (fields_of texts)) (λ code. read_texts (fields_of raw) ≡ Err code) }
+{
+    match StringRecord::from_byte_record(raw) {
+        Ok(texts) => Ok(texts),
+        Err(_) => Err(RowCode::NotUtf8),
+    }
+}
+
+/// The field at a place, empty where there is none.
+pub(crate) fn field(texts: &StringRecord, place: usize) -> &str
+    ensures { result.now ≡ field (fields_of texts.now) place }
+{
+    texts.get(place).unwrap_or("")
+}
+
+#[tactic(auto, unfolding(crate::specs::Fields::read_login))]
+pub(crate) fn login_of(alloc: Global, text: &str) -> Result<UserName, Refusal>
+    ensures { Reads result (read_login text.now) }
+{
+    match UserName::read(alloc, text) {
+        Ok(login) => Ok(login),
+        Err(NameFault::Memory) => Err(Refusal::Memory),
+        Err(_) => Err(Refusal::Refused(RowCode::Name)),
+    }
+}
+
+fn are_digits(bytes: &[u8]) -> bool
+    ensures { result ≡ list_all is_ascii_digit bytes.now }
+{
+    bytes.iter().all(|b| b.is_ascii_digit())
+}
+
+/// Whether a text is 1 to 18 digits.
+fn is_numeral(text: &str) -> bool
+    ensures { result ≡ is_numeral text.now }
+{
+    text.len() >= 1 && text.len() <= 18 && are_digits(text.as_bytes())
+}
+
+#[tactic(auto, unfolding(crate::specs::Fields::read_revision))]
+pub(crate) fn revision_of(text: &str) -> Result<Revision, RowCode>
+    ensures exact { result ≡ read_revision text.now }
+    ensures lawful { IfOk result (λ revision. IsRevision revision) }
+{
+    if !is_numeral(text) {
+        return Err(RowCode::Revision);
+    }
+    match text.parse::<u64>() {
+        Ok(number) => Revision::of_number(number).ok_or(RowCode::Revision),
+        Err(_) => Err(RowCode::Revision),
+    }
+}
+
+#[tactic(auto, unfolding(crate::specs::Fields::read_value))]
+pub(crate) fn value_of(alloc: Global, text: &str) -> Result<String, Refusal>
+    ensures exact { ReadsBy string_bytes result (read_value text.now) }
+    ensures lawful { IfOk result (λ value. string_len value ≤ value_limit) }
+{
+    if text.len() > 256 {
+        return Err(Refusal::Refused(RowCode::Value));
+    }
+    Ok(String::from_str(alloc, text)?)
+}
+
+#[tactic(auto, unfolding(crate::specs::Fields::read_status))]
+pub(crate) fn status_of(text: &str) -> Result<bool, RowCode>
+    ensures { result ≡ read_status text.now }
+{
+    match text {
+        "active" => Ok(true),
+        "left" => Ok(false),
+        _ => Err(RowCode::Value),
+    }
+}

@@ -1,0 +1,122 @@
+//! Files of the source.
+ghost use Rattle.std.specs.Prelude.{◌≡◌, List, MatchResult};
+ghost use Rattle.std.specs.List.{enumerate_from, list_all};
+ghost use Rattle.std.specs.Str.{bytes_eq};
+ghost use Rattle.csv.specs.Reading.{strip_bom};
+ghost use Rattle.csv.specs.Records.{fields_of};
+ghost use Rattle.csv.specs.declared.parser.State.TheVariants.{StartRecord};
+ghost use Rattle.scim_key.specs.Outcome.{Gives};
+ghost use Rattle.source_csv.specs.Fields.{Record, field, read_user};
+ghost use Rattle.source_csv.specs.Reader.{IsAt};
+ghost use Rattle.source_csv.specs.Files.{AreRecordsOf, at_place, rows_of, same_record, users_header};
+
+use crate::faults::{Refusal, RowFault, SourceFault};
+use crate::rows::Row;
+use crate::users::read_user;
+use csv::{ByteRecord, ByteRecordsIntoIter, ReaderBuilder};
+use std::alloc::Global;
+use std::marker::Model;
+
+/// The records of a file in their order: each is a row, or is refused.
+#[derive(Debug, Drop)]
+pub struct SourceRows {
+    rows: Vec<Result<Row, RowFault>>,
+}
+
+impl Model for SourceRows {
+    ghost use Rattle.std.specs.Prelude.{List, Result};
+    ghost use Rattle.source_csv.specs.declared.rows.Row.{Row};
+    ghost use Rattle.source_csv.specs.declared.faults.RowFault.{RowFault};
+
+    ghost Value = { List (Result Row RowFault) };
+
+    ghost view = { λ s. s.rows.items };
+}
+
+impl SourceRows {
+    /// The records, the one at place 1 first.
+    pub fn as_slice(&self) -> &[Result<Row, RowFault>]
+        ensures { result.now ≡ self.now }
+    {
+        self.rows.as_slice()
+    }
+
+    /// The records, the one at place 1 first.
+    pub fn into_vec(self) -> Vec<Result<Row, RowFault>>
+        ensures { result.items ≡ self }
+    {
+        self.rows
+    }
+}
+
+/// Whether a record has this field at a place.
+fn has_field(raw: &ByteRecord, place: usize, name: &str) -> bool
+    ensures { result ≡ bytes_eq (field (fields_of raw.now) place) name.now }
+{
+    raw.get(place).unwrap_or(b"") == name.as_bytes()
+}
+
+/// Whether the fields of a record are these, from the first on.
+fn has_fields(raw: &ByteRecord, names: &[&str]) -> bool
+    ensures { result ≡ list_all (λ p. bytes_eq (field (fields_of raw.now) p.0) p.1.now) (enumerate_from 0 names.now) }
+{
+    names
+        .iter()
+        .enumerate()
+        .all(|(place, name)| has_field(raw, place, name))
+}
+
+/// Whether a record is the header of a users file.
+fn is_users_header(raw: &ByteRecord) -> bool
+    ensures { result ≡ same_record (fields_of raw.now) users_header }
+{
+    let names = [
+        "login", "revision", "number", "given", "family", "mail", "status",
+    ];
+    raw.len() == names.len() && has_fields(raw, &names)
+}
+
+/// What a record at a place is.
+fn row_at(
+    alloc: Global,
+    place: usize,
+    raw: ByteRecord,
+) -> Result<Result<Row, RowFault>, SourceFault>
+    ensures { MatchResult result (λ row. row ≡ at_place place (read_user (fields_of raw))) (λ fault. fault ≡ SourceFault.Memory) }
+{
+    match read_user(alloc, raw) {
+        Ok(row) => Ok(Ok(Row::User(row))),
+        Err(Refusal::Refused(code)) => Ok(Err(RowFault { place, code })),
+        Err(Refusal::Memory) => Err(SourceFault::Memory),
+    }
+}
+
+/// The records of a file, its header among them.
+fn records_of(alloc: Global, bytes: &[u8]) -> ByteRecordsIntoIter<&[u8]>
+    ensures { IsAt StartRecord (strip_bom bytes.now) result }
+{
+    ReaderBuilder::new()
+        .has_headers(false)
+        .flexible(true)
+        .from_reader(alloc, bytes)
+        .into_byte_records()
+}
+
+/// Reads a users file. Its records are counted from 1 after the header.
+pub fn read_users(alloc: Global, bytes: &[u8]) -> Result<SourceRows, SourceFault>
+    ensures { (records : List Record) → AreRecordsOf bytes.now records → Gives SourceFault.Memory result (rows_of records) }
+{
+    let mut records = records_of(alloc, bytes);
+    let header = match records.next() {
+        Some(header) => header?,
+        None => return Err(SourceFault::Header),
+    };
+    if !is_users_header(&header) {
+        return Err(SourceFault::Header);
+    }
+    let mut rows = Vec::new(alloc);
+    for fields in records {
+        rows.push(row_at(alloc, rows.len() + 1, fields?)?)?;
+    }
+    Ok(SourceRows { rows })
+}

@@ -1,0 +1,13 @@
+//! Rows of the source: CSV files of users, read record by record.
+#![tactic(auto)]
+
+mod faults;
+mod fields;
+mod files;
+mod rows;
+mod users;
+
+pub use faults::{RowCode, RowFault, SourceFault};
+pub use files::{SourceRows, read_users};
+pub use rows::Row;
+pub use users::UserRow;
