@@ -17,7 +17,7 @@ middle-quoted opaque =
     let n : length (quoted opaque) - 2 ≡ length opaque = omega (arith, length-append opaque (34 ∷ [])) in
     rw n (take_at opaque (34 ∷ []) (length opaque) refl)
 
-last-quoted : (opaque : List ℕ) → get_or (quoted opaque) (length (quoted opaque) - 1) 0 ≡ 34
+pub last-quoted : (opaque : List ℕ) → get_or (quoted opaque) (length (quoted opaque) - 1) 0 ≡ 34
 last-quoted opaque = get_or_at (34 ∷ opaque) 34 [] 0 _ (omega (arith, length-append opaque (34 ∷ [])))
 
 pub is_quoted-quoted : (opaque : List ℕ) → is_quoted (quoted opaque) ≡ list_all is_tag_byte opaque

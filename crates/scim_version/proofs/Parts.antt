@@ -39,7 +39,7 @@ pub parts-inside : (b : ℕ) (bs : List ℕ) → b ≢ 34 → parts true (b ∷ 
 unfolding parts
 parts-inside b bs quote = rw (ne_eqb b 34 quote, and_false (eqb b 44)) (put_first-glued b (parts true bs))
 
-parts-nil : (quoted : Bool) → parts quoted [] ≡ [] ∷ []
+pub parts-nil : (quoted : Bool) → parts quoted [] ≡ [] ∷ []
 unfolding parts
 parts-nil quoted = refl
 
@@ -48,7 +48,7 @@ put_first-alone b [] = refl
 put_first-alone b (part ∷ more) = refl
 
 -- there is always a first part
-parts-alone : (quoted : Bool) (bs : List ℕ) → glued [] (parts quoted bs) ≡ parts quoted bs
+pub parts-alone : (quoted : Bool) (bs : List ℕ) → glued [] (parts quoted bs) ≡ parts quoted bs
 unfolding parts
 parts-alone quoted [] = refl
 parts-alone quoted (b ∷ bs) =

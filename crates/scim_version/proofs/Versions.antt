@@ -1,12 +1,16 @@
 -- The tags of versions.
-use Rattle.std.proofs.Common.{◌≡◌, ◌∙◌, sym, ap, refl, subst, inl, inr, ℕ, ◌-◌, ◌≤◌, Bool, true, false, ◌&&◌, List, ◌∷◌, length, take, drop, arith}
+use Rattle.std.proofs.Common.{◌≡◌, ◌<◌, ◌^◌, ◌∙◌, sym, ap, refl, subst, inl, inr, ℕ, ◌-◌, ◌≤◌, Bool, true, false, ◌&&◌, ◌||◌, List, [], ◌∷◌, length, take, drop, arith}
+use Rattle.std.specs.Prelude.{◌↔◌, IsTrue}
+use Rattle.std.specs.Fmt.{decimal}
 use Rattle.std.specs.List.{list_all}
+use Rattle.std.proofs.lemmas.Fmt.{decimal_injective}
 use Rattle.std.specs.Str.{bytes_eq}
 use Rattle.std.proofs.lemmas.Bool.{and_parts, leb-true, false_from_ne_true, both_ways, cases_Bool}
 use Rattle.std.proofs.lemmas.Bool.Decides.{same_from_decides, Decides-like}
 use Rattle.std.proofs.lemmas.Slice.Eq.{bytes_eq-Decides}
 use Rattle.std.proofs.lemmas.List.{same_from_push}
 use Rattle.scim_version.specs.Tags.{is_tag_byte, quoted, is_quoted, is_weak, opaque_tag, strong_eq, weak_eq, version_tag}
+use Rattle.scim_version.specs.Conditions.{has_version}
 use Rattle.scim_version.proofs.Grammar.{is_quoted_from, is_quoted-quoted, middle-quoted}
 
 pub quoted_is_long : (text : List ℕ) → is_quoted text ≡ true → 2 ≤ length text
@@ -52,3 +56,22 @@ strong_eq-version tag n =
 pub weak_eq-version : (tag : List ℕ) (n : ℕ) → bytes_eq (opaque_tag tag) (version_tag n) ≡ weak_eq tag (version_tag n)
 unfolding weak_eq opaque_tag is_weak
 weak_eq-version tag n = refl
+
+-- no two versions have one tag
+pub strong_eq-versions : (m n : ℕ) → m < 2 ^ 64 → n < 2 ^ 64 → (IsTrue (strong_eq (version_tag m) (version_tag n)) ↔ (m ≡ n))
+strong_eq-versions m n small less =
+    let same = bytes_eq-Decides (version_tag m) (version_tag n) in (
+      λ h. decimal_injective m n small less (same_quoted (decimal m) (decimal n) (same.0 (strong_eq-version (version_tag m) n ∙ h))),
+      λ e. sym (strong_eq-version (version_tag m) n) ∙ same.1 (ap version_tag e),
+    )
+
+or_false : (b : Bool) → (b || false) ≡ b
+or_false true = refl
+or_false false = refl
+
+pub has_version-alone : (m n : ℕ) → m < 2 ^ 64 → n < 2 ^ 64 → (IsTrue (has_version (version_tag m ∷ []) n) ↔ (m ≡ n))
+unfolding has_version
+has_version-alone m n small less =
+    let law = strong_eq-versions m n small less in
+    let is = or_false (strong_eq (version_tag m) (version_tag n)) in
+    (λ h. law.0 (sym is ∙ h), λ e. is ∙ law.1 e)

@@ -1,12 +1,11 @@
 //! The conditions of a request (RFC 7232 sections 3.1 and 3.2).
-ghost use Rattle.std.specs.Prelude.{◌≡◌, List, ℕ, map};
-ghost use Rattle.std.specs.Str.{bytes_eq};
+ghost use Rattle.std.specs.Prelude.{◌≡◌, IfOk, List, ℕ, map};
 ghost use Rattle.scim_key.specs.Outcome.{Gives, GivesBy};
-ghost use Rattle.scim_version.specs.Tags.{version_tag};
 ghost use Rattle.scim_version.specs.Conditions.{Spells, condition_of, has_version, has_version_weakly, holds_match, holds_none_match, is_star, tags_from};
+ghost use Rattle.scim_version.specs.declared.conditions.Condition.{Condition};
 
 use crate::lists::elements_of;
-use crate::tags::{EntityTag, TagFault, is_tag};
+use crate::tags::{EntityTag, TagFault};
 use std::alloc::Global;
 use std::marker::Model;
 
@@ -94,21 +93,33 @@ fn tags_of(alloc: Global, texts: &[&[u8]]) -> Result<Vec<EntityTag>, TagFault>
     Ok(tags)
 }
 
+/// The condition that a text spells, by the elements of its list.
+#[tactic(auto, unfolding(crate::specs::Conditions::condition_of, crate::specs::Conditions::condition_from))]
+fn condition_in(alloc: Global, text: &[u8]) -> Result<Condition, TagFault>
+    ensures { Gives TagFault.Memory result (condition_of text.now) }
+{
+    let elements = elements_of(alloc, text)?;
+    if elements.is_empty() {
+        return Err(TagFault::Malformed);
+    }
+    if is_star_alone(&elements) {
+        return Ok(Condition::AnyTag);
+    }
+    let tags = tags_of(alloc, &elements)?;
+    Ok(Condition::Tags(TagList::from_vec(tags)))
+}
+
 impl Condition {
-    /// Reads the field `If-Match` or `If-None-Match`, its lines joined by commas: `*`, or entity tags
-    /// between commas. A field of another form, also one without any tag, is `Malformed`.
-    #[tactic(auto, unfolding(crate::specs::Conditions::condition_of, crate::specs::Conditions::condition_from))]
+    /// Reads the field `If-Match` or `If-None-Match`, its lines joined by commas. A field of another form,
+    /// also a list without any tag or with `*` beside a tag, is `Malformed`.
     pub fn read_list(alloc: Global, bytes: &[u8]) -> Result<Condition, TagFault>
+        // What is read is spelled so.
+        ensures found { IfOk result (λ condition. Spells bytes.now condition) }
+        // What is spelled so is read, unless memory runs out.
+        ensures only { (condition : Condition) → Spells bytes.now condition → Gives TagFault.Memory result (Ok condition) }
         ensures exact { Gives TagFault.Memory result (condition_of bytes.now) }
     {
-        let elements = elements_of(alloc, bytes)?;
-        if elements.is_empty() {
-            return Err(TagFault::Malformed);
-        }
-        if is_star_alone(&elements) {
-            return Ok(Condition::AnyTag);
-        }
-        Ok(Condition::Tags(TagList::from_vec(tags_of(alloc, &elements)?)))
+        condition_in(alloc, bytes)
     }
 
     /// Whether `If-Match` holds of a resource at its current version, or of no resource.

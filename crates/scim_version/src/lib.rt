@@ -2,8 +2,10 @@
 #![tactic(auto)]
 
 mod conditions;
+mod laws;
 mod lists;
 mod tags;
 
 pub use conditions::{Condition, TagList};
+pub use laws::{lists_are_spelled, tags_are_spelled, version_tags_differ};
 pub use tags::{EntityTag, TagFault};

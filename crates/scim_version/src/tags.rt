@@ -92,10 +92,21 @@ fn without_weakness(tag: &[u8]) -> &[u8]
 
 /// Whether a text is an entity tag.
 #[tactic(auto, unfolding(crate::specs::Tags::is_entity_tag))]
-pub(crate) fn is_tag(text: &[u8]) -> bool
+fn is_tag(text: &[u8]) -> bool
     ensures { result ≡ is_entity_tag text.now }
 {
     is_quoted_text(without_weakness(text))
+}
+
+/// The number of a version between double quotes.
+fn bytes_of_version(alloc: Global, version: u64) -> Result<Vec<u8>, AllocError>
+    ensures { IfOk result (λ bytes. bytes.items ≡ version_tag version) }
+{
+    let mut buffer = Buffer::new();
+    let mut bytes = Vec::from_slice(alloc, b"\"")?;
+    bytes.extend_from_slice(buffer.format(version).as_bytes())?;
+    bytes.push(b'"')?;
+    Ok(bytes)
 }
 
 /// Whether a text is the tag of a version, which it compares without taking memory.
@@ -127,10 +138,7 @@ impl EntityTag {
     pub fn of_counter(alloc: Global, version: u64) -> Result<EntityTag, AllocError>
         ensures { IfOk result (λ tag. tag ≡ version_tag version) }
     {
-        let mut buffer = Buffer::new();
-        let mut bytes = Vec::from_slice(alloc, b"\"")?;
-        bytes.extend_from_slice(buffer.format(version).as_bytes())?;
-        bytes.push(b'"')?;
+        let bytes = bytes_of_version(alloc, version)?;
         Ok(EntityTag { bytes })
     }
 
@@ -178,8 +186,7 @@ impl Clone for EntityTag {
     ghost is_clone = { λ tag copy. copy ≡ tag };
 
     fn clone(&self) -> Result<EntityTag, AllocError> {
-        Ok(EntityTag {
-            bytes: self.bytes.clone()?,
-        })
+        let bytes = self.bytes.clone()?;
+        Ok(EntityTag { bytes })
     }
 }

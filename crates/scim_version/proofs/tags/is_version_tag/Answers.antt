@@ -1,4 +1,5 @@
 use Rattle.std.proofs.Common.{◌≤◌, ◌∙◌, length, sym, arith, rules}
+use Rattle.std.specs.Fmt.{decimal}
 use Rattle.scim_version.proofs.Grammar.{decimal_is_tag_bytes}
 use Rattle.scim_version.proofs.Versions.{quoted_is_long, bytes_eq-quoted, bytes_eq-unquoted}
 use Rattle.scim_version.proofs.tags.is_version_tag.Goals as goal
@@ -20,8 +21,7 @@ slice_bounds-eq-start c =
 
 pub returns-then-is_quoted_text : goal.returns-then-is_quoted_text
 returns-then-is_quoted_text c =
-    rw (c.eq.ensures, c.as_bytes-digits.ensures.value, c.format.ensures.text)
-    (bytes_eq-quoted c.args.text.now _ (sym c.if-is_quoted_text.ensures))
+    let law = bytes_eq-quoted c.args.text.now (decimal c.args.version) (sym c.if-is_quoted_text.ensures) in cc
 
 pub returns-else-is_quoted_text : goal.returns-else-is_quoted_text
 returns-else-is_quoted_text c =

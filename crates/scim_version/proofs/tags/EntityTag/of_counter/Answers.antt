@@ -1,9 +1,5 @@
-use Rattle.std.proofs.Common.{◌≡◌, rules}
-use Rattle.scim_version.specs.Tags.{version_tag}
 use Rattle.scim_version.proofs.Grammar.{version_tag_is_entity_tag}
 use Rattle.scim_version.proofs.tags.EntityTag.of_counter.Goals as goal
 
 pub invariant_of-result : goal.invariant_of-result
-invariant_of-result c =
-    let tag : c.push.new.self.items ≡ version_tag c.args.version = search rules in
-    rw tag (version_tag_is_entity_tag c.args.version c.ranges.version.fits)
+invariant_of-result c = rw c.in_ok-bytes.ensures (version_tag_is_entity_tag c.args.version c.ranges.version.fits)
