@@ -1,5 +1,8 @@
 -- The rows of the source as contracts see them, and the limits that they keep.
-use Rattle.std.specs.Prelude.{ℕ, Bool, List, length, ◌≤◌}
+use Rattle.std.specs.Prelude.{◌≡◌, ℕ, Bool, true, false, List, [], ◌∷◌, length, ◌≤◌, ◌==◌, ◌&&◌}
+use Rattle.std.specs.Cmp.Lexicographic.{slice_cmp}
+use Rattle.std.specs.Ordering.{nat_cmp, is_lt}
+use Rattle.std.specs.Str.{bytes_eq}
 use Rattle.scim_key.specs.Revisions.{RevisionValue, IsRevision}
 
 -- how many bytes a user's number, given name, family name and mail have at most
@@ -23,3 +26,29 @@ pub record IsUserRow (row : UserFields) : Type 0 where
   pub given : length row.given ≤ value_limit
   pub family : length row.family ≤ value_limit
   pub mail : length row.mail ≤ value_limit
+
+-- whether the numbers, names and mails of two rows are equal, by bytes
+abbrev pub same_values : UserFields → UserFields → Bool
+same_values a b = bytes_eq a.number b.number && bytes_eq a.given b.given && bytes_eq a.family b.family && bytes_eq a.mail b.mail
+
+-- how many members a group has at most
+abbrev pub member_limit : ℕ
+member_limit = 400
+
+-- keys in byte order, none of them twice
+abbrev pub are_rising : List (List ℕ) → Bool
+are_rising [] = true
+are_rising (key ∷ []) = true
+are_rising (key ∷ next ∷ keys) = is_lt (slice_cmp nat_cmp key next) && are_rising (next ∷ keys)
+
+-- a row of a group. Its members are the keys of their names, in byte order
+pub record GroupFields : Type 0 where
+  pub name : List ℕ
+  pub revision : RevisionValue
+  pub members : List (List ℕ)
+
+-- what every row of a group keeps, beside its name's being a `GroupName`
+pub record IsGroupRow (row : GroupFields) : Type 0 where
+  pub revision : IsRevision row.revision
+  pub few : length row.members ≤ member_limit
+  pub rising : are_rising row.members ≡ true

@@ -1,13 +1,16 @@
 //! Rows of users.
-ghost use Rattle.std.specs.Prelude.{◌≡◌, ◌==◌, length};
+ghost use Rattle.std.specs.Prelude.{◌≡◌, ◌==◌, ◌≤◌, ◌↔◌, IsTrue, length};
+ghost use Rattle.std.specs.Str.{bytes_eq};
 ghost use Rattle.csv.specs.Records.{fields_of};
+ghost use Rattle.scim_key.specs.Revisions.{IsRevision};
+ghost use Rattle.source_csv.specs.Rows.{same_values, value_limit};
 ghost use Rattle.source_csv.specs.Fields.{Reads, field, read_user, read_user_fields};
 
 use crate::faults::{Refusal, RowCode};
 use crate::fields::{field, login_of, revision_of, status_of, texts_of, value_of};
 use csv::{ByteRecord, StringRecord};
 use scim_key::{Revision, UserName};
-use std::alloc::Global;
+use std::alloc::{AllocError, Global};
 use std::marker::Model;
 
 /// What the source says of a user at a revision. An empty number, given name, family name or mail is
@@ -60,11 +63,101 @@ pub(crate) fn read_user(alloc: Global, raw: ByteRecord) -> Result<UserRow, Refus
     user_of(alloc, &texts_of(raw)?)
 }
 
+/// Whether two texts are equal, by bytes.
+fn same_text(a: &str, b: &str) -> bool
+    ensures { result ≡ bytes_eq a.now b.now }
+{
+    a == b
+}
+
 impl UserRow {
     /// The user's name, as the source spells it.
     pub fn login(&self) -> &UserName
         ensures { result.now ≡ self.now.login }
     {
         &self.login
+    }
+
+    /// The revision at which the source says this.
+    pub fn revision(&self) -> Revision
+        ensures value { result ≡ self.now.revision }
+        ensures lawful { IsRevision self.now.revision }
+    {
+        self.revision
+    }
+
+    /// The user's number in the source, empty for none.
+    pub fn number(&self) -> &str
+        ensures value { result.now ≡ self.now.number }
+        ensures short { length self.now.number ≤ value_limit }
+    {
+        self.number.as_str()
+    }
+
+    /// The given name, empty for none.
+    pub fn given(&self) -> &str
+        ensures value { result.now ≡ self.now.given }
+        ensures short { length self.now.given ≤ value_limit }
+    {
+        self.given.as_str()
+    }
+
+    /// The family name, empty for none.
+    pub fn family(&self) -> &str
+        ensures value { result.now ≡ self.now.family }
+        ensures short { length self.now.family ≤ value_limit }
+    {
+        self.family.as_str()
+    }
+
+    /// The mail address, empty for none.
+    pub fn mail(&self) -> &str
+        ensures value { result.now ≡ self.now.mail }
+        ensures short { length self.now.mail ≤ value_limit }
+    {
+        self.mail.as_str()
+    }
+
+    /// Whether the status is `active`, so isn't `left`.
+    pub fn is_active(&self) -> bool
+        ensures { result ≡ self.now.active }
+    {
+        self.active
+    }
+
+    /// Whether number, names and mail are equal.
+    fn same_values(&self, other: &UserRow) -> bool
+        ensures { result ≡ same_values self.now other.now }
+    {
+        same_text(self.number(), other.number())
+            && same_text(self.given(), other.given())
+            && same_text(self.family(), other.family())
+            && same_text(self.mail(), other.mail())
+    }
+
+    /// Whether all fields are equal, by bytes: a login in another spelling is another field.
+    pub fn same_fields(&self, other: &UserRow) -> bool
+        ensures { IsTrue result ↔ (self.now ≡ other.now) }
+    {
+        same_text(self.login.as_str(), other.login.as_str())
+            && self.revision == other.revision
+            && self.active == other.active
+            && self.same_values(other)
+    }
+}
+
+impl Clone for UserRow {
+    ghost is_clone = { λ a b. b ≡ a };
+
+    fn clone(&self) -> Result<UserRow, AllocError> {
+        Ok(UserRow {
+            login: self.login.clone()?,
+            revision: self.revision,
+            number: self.number.clone()?,
+            given: self.given.clone()?,
+            family: self.family.clone()?,
+            mail: self.mail.clone()?,
+            active: self.active,
+        })
     }
 }
