@@ -1,5 +1,5 @@
-// Finding an attribute in an object. Names are compared with ASCII letters lowered (RFC 7643,
-// section 2.1).
+//! Finding an attribute in an object. Names are compared with ASCII letters lowered (RFC 7643,
+//! section 2.1).
 ghost use Rattle.std.specs.Prelude.{◌≡◌, option_map};
 ghost use Rattle.serde_json.specs.View.{view, members_view};
 ghost use Rattle.scim_json.specs.Attributes as spec;

@@ -1,4 +1,4 @@
-// A fact about the definitions, with nothing to run.
+//! A fact about the definitions, with nothing to run.
 ghost use Rattle.std.specs.Prelude.{◌≡◌, ◌≤◌, Some};
 ghost use Rattle.serde_json.specs.Data.{Data, depth};
 ghost use Rattle.serde_json.specs.Read.{read, max_depth};

@@ -1,7 +1,7 @@
+//! JSON as SCIM reads and writes it: attributes by name in any case, their values, and objects with
+//! optional members.
 #![tactic(auto)]
 
-// JSON as SCIM reads and writes it: attributes by name in any case, their values, and objects with
-// optional members.
 mod attributes;
 mod laws;
 mod values;

@@ -1,4 +1,4 @@
-// What an attribute's value must be. An absent value is no fault.
+//! What an attribute's value must be. An absent value is no fault.
 ghost use Rattle.std.specs.Prelude.{◌≡◌, ◌≤◌, option_map};
 ghost use Rattle.std.specs.Result.{result_map_both};
 ghost use Rattle.serde_json.specs.View.{view, items_view, members_view};

@@ -1,4 +1,4 @@
-// Objects with optional members, and their compact text.
+//! Objects with optional members, and their compact text.
 ghost use Rattle.std.specs.Prelude.{◌≡◌, false, IfOk, OnOk, OnErr, option_map};
 ghost use Rattle.serde_json.specs.View.{view, members_view};
 ghost use Rattle.serde_json.specs.Written.{has_float, compact_text};
