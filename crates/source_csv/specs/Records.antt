@@ -1,9 +1,10 @@
--- Which record a row is of, and at which revision.
-use Rattle.std.specs.Prelude.{ℕ, List}
+-- Which record a row is of, at which revision, and when two rows are the same.
+use Rattle.std.specs.Prelude.{Bool, false}
 use Rattle.scim_key.specs.Names.{key_of}
 use Rattle.scim_key.specs.Revisions.{RevisionValue}
 use Rattle.scim_key.specs.declared.records.Kind.TheVariants as kind
 use Rattle.scim_key.specs.declared.records.RecordName.{RecordName}
+use Rattle.source_csv.specs.Rows.{same_group, same_user}
 use Rattle.source_csv.specs.declared.rows.Row.{Row}
 use Rattle.source_csv.specs.declared.rows.Row.TheVariants.{User, Group}
 
@@ -14,3 +15,10 @@ row_name (Group row) = record { kind = kind.Group; key = key_of row.name }
 abbrev pub row_revision : Row → RevisionValue
 row_revision (User row) = row.revision
 row_revision (Group row) = row.revision
+
+-- whether all fields of two rows are equal, by bytes
+abbrev pub same_row : Row → Row → Bool
+same_row (User a) (User b) = same_user a b
+same_row (User a) (Group b) = false
+same_row (Group a) (User b) = false
+same_row (Group a) (Group b) = same_group a b

@@ -1,6 +1,7 @@
 -- The rows of the source as contracts see them, and the limits that they keep.
 use Rattle.std.specs.Prelude.{◌≡◌, ℕ, Bool, true, false, List, [], ◌∷◌, length, ◌≤◌, ◌==◌, ◌&&◌}
-use Rattle.std.specs.Cmp.Lexicographic.{slice_cmp}
+use Rattle.std.specs.Bool.{beq}
+use Rattle.std.specs.Cmp.Lexicographic.{pointwise, slice_cmp}
 use Rattle.std.specs.Ordering.{nat_cmp, is_lt}
 use Rattle.std.specs.Str.{bytes_eq}
 use Rattle.scim_key.specs.Revisions.{RevisionValue, IsRevision}
@@ -31,6 +32,10 @@ pub record IsUserRow (row : UserFields) : Type 0 where
 abbrev pub same_values : UserFields → UserFields → Bool
 same_values a b = bytes_eq a.number b.number && bytes_eq a.given b.given && bytes_eq a.family b.family && bytes_eq a.mail b.mail
 
+-- whether all fields of two rows of users are equal, by bytes: a login in another spelling is another field
+abbrev pub same_user : UserFields → UserFields → Bool
+same_user a b = bytes_eq a.login b.login && (a.revision == b.revision) && beq a.active b.active && same_values a b
+
 -- how many members a group has at most
 abbrev pub member_limit : ℕ
 member_limit = 400
@@ -52,3 +57,7 @@ pub record IsGroupRow (row : GroupFields) : Type 0 where
   pub revision : IsRevision row.revision
   pub few : length row.members ≤ member_limit
   pub rising : are_rising row.members ≡ true
+
+-- the same of two rows of groups
+abbrev pub same_group : GroupFields → GroupFields → Bool
+same_group a b = bytes_eq a.name b.name && (a.revision == b.revision) && pointwise bytes_eq a.members b.members

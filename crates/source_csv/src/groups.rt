@@ -1,7 +1,9 @@
 //! Rows of groups.
 ghost use Rattle.std.specs.Prelude.{◌≡◌, ◌≤◌, ◌↔◌, IsTrue, true, length};
+ghost use Rattle.std.specs.Cmp.Lexicographic.{pointwise};
+ghost use Rattle.std.specs.Str.{bytes_eq};
 ghost use Rattle.scim_key.specs.Revisions.{IsRevision};
-ghost use Rattle.source_csv.specs.Rows.{member_limit, are_rising};
+ghost use Rattle.source_csv.specs.Rows.{same_group, member_limit, are_rising};
 
 use scim_key::{GroupName, Key, Revision};
 use std::alloc::AllocError;
@@ -28,7 +30,8 @@ impl Model for GroupRow {
 
 /// Whether two lists of keys are equal.
 fn same_keys(a: &[Key], b: &[Key]) -> bool
-    ensures { IsTrue result ↔ (a.now ≡ b.now) }
+    ensures exact { result ≡ pointwise bytes_eq a.now b.now }
+    ensures equal { IsTrue result ↔ (a.now ≡ b.now) }
 {
     a == b
 }
@@ -60,7 +63,8 @@ impl GroupRow {
 
     /// Whether all fields are equal, by bytes: a name in another spelling is another field.
     pub fn same_fields(&self, other: &GroupRow) -> bool
-        ensures { IsTrue result ↔ (self.now ≡ other.now) }
+        ensures exact { result ≡ same_group self.now other.now }
+        ensures equal { IsTrue result ↔ (self.now ≡ other.now) }
     {
         self.name.as_str() == other.name.as_str()
             && self.revision == other.revision

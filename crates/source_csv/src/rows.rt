@@ -1,7 +1,7 @@
 //! Rows of the source, of whatever kind.
 ghost use Rattle.std.specs.Prelude.{◌≡◌, ◌↔◌, IfOk, IsTrue};
 ghost use Rattle.scim_key.specs.Revisions.{IsRevision};
-ghost use Rattle.source_csv.specs.Records.{row_name, row_revision};
+ghost use Rattle.source_csv.specs.Records.{row_name, row_revision, same_row};
 
 use crate::groups::GroupRow;
 use crate::users::UserRow;
@@ -45,7 +45,8 @@ impl Row {
 
     /// Whether all fields are equal, by bytes: a name in another spelling is another field.
     pub fn same_fields(&self, other: &Row) -> bool
-        ensures { IsTrue result ↔ (self.now ≡ other.now) }
+        ensures exact { result ≡ same_row self.now other.now }
+        ensures equal { IsTrue result ↔ (self.now ≡ other.now) }
     {
         match (self, other) {
             (Row::User(one), Row::User(two)) => one.same_fields(two),

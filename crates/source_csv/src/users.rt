@@ -3,7 +3,7 @@ ghost use Rattle.std.specs.Prelude.{◌≡◌, ◌==◌, ◌≤◌, ◌↔◌, I
 ghost use Rattle.std.specs.Str.{bytes_eq};
 ghost use Rattle.csv.specs.Records.{fields_of};
 ghost use Rattle.scim_key.specs.Revisions.{IsRevision};
-ghost use Rattle.source_csv.specs.Rows.{same_values, value_limit};
+ghost use Rattle.source_csv.specs.Rows.{same_user, same_values, value_limit};
 ghost use Rattle.source_csv.specs.Fields.{Reads, field, read_user, read_user_fields};
 
 use crate::faults::{Refusal, RowCode};
@@ -137,7 +137,8 @@ impl UserRow {
 
     /// Whether all fields are equal, by bytes: a login in another spelling is another field.
     pub fn same_fields(&self, other: &UserRow) -> bool
-        ensures { IsTrue result ↔ (self.now ≡ other.now) }
+        ensures exact { result ≡ same_user self.now other.now }
+        ensures equal { IsTrue result ↔ (self.now ≡ other.now) }
     {
         same_text(self.login.as_str(), other.login.as_str())
             && self.revision == other.revision
