@@ -1,0 +1,2 @@
+pub mod StoryLaws
+pub mod MemoryLaws

@@ -1,0 +1,43 @@
+-- The rows of a provider, in order of creation, and how one of them is found.
+use Rattle.std.specs.Prelude.{ℕ, Bool, true, false, ◌&&◌, List, Option, take, nat_lt}
+use Rattle.std.specs.List.{find, filter}
+use Rattle.std.specs.Str.{bytes_eq}
+use Rattle.scim_key.specs.declared.records.Kind.{Kind}
+use Rattle.scim_key.specs.declared.records.Kind.TheVariants.{User, Group}
+use Rattle.scim_key.specs.declared.records.RecordName.{RecordName}
+use Rattle.scim_key.specs.Identifiers.{id_text}
+use Rattle.scim_resource.specs.Contents.{content_name}
+use Rattle.scim_resource.specs.Rows.{StoredRecord}
+
+abbrev pub same_kind : Kind → Kind → Bool
+same_kind User User = true
+same_kind User Group = false
+same_kind Group User = false
+same_kind Group Group = true
+
+-- the same type and the same key
+abbrev pub same_record : RecordName → RecordName → Bool
+same_record a b = same_kind a.kind b.kind && bytes_eq a.key b.key
+
+-- whether a row is of this record
+abbrev pub is_named : RecordName → StoredRecord → Bool
+is_named name row = same_record name (content_name row.content)
+
+-- the row of a record, if there is one
+abbrev pub row_named : RecordName → List StoredRecord → Option StoredRecord
+row_named name rows = find (is_named name) rows
+
+-- whether a row has this id, byte for byte
+abbrev pub has_id : List ℕ → StoredRecord → Bool
+has_id id row = bytes_eq id (id_text row.number)
+
+-- the row with this id, if there is one
+abbrev pub row_with_id : List ℕ → List StoredRecord → Option StoredRecord
+row_with_id id rows = find (has_id id) rows
+
+-- at most `limit` rows, in order, from the first with a number above `after`
+abbrev pub is_after : ℕ → StoredRecord → Bool
+is_after after row = nat_lt after row.number
+
+abbrev pub page_after : ℕ → ℕ → List StoredRecord → List StoredRecord
+page_after after limit rows = take limit (filter (is_after after) rows)

@@ -1,0 +1,13 @@
+//! Laws of the provider.
+ghost use Rattle.provider_core.specs.Stories.{RowsFollowStories};
+ghost use Rattle.provider_core.specs.MemoryFaults.{OnlyMemoryWants};
+
+/// Rows with a version counter answer and change as the table of whole stories does.
+pub fn rows_follow_stories()
+    ensures { RowsFollowStories }
+{}
+
+/// Over a registry in memory a request meets no store fault: what gets no answer wants memory.
+pub fn memory_never_faults()
+    ensures { OnlyMemoryWants }
+{}

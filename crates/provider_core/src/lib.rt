@@ -1,0 +1,15 @@
+//! The provider over a registry: what each request answers and changes.
+#![tactic(auto)]
+
+mod laws;
+mod memory;
+mod pending;
+mod provider;
+mod registry;
+
+pub use laws::{memory_never_faults, rows_follow_stories};
+pub use memory::MemoryRegistry;
+pub use pending::{Change, Pending};
+pub use provider::{Provider, ProviderFault};
+pub use registry::{Registry, RegistryFault};
+pub use scim_message::{Answer, ErrorResponse, Request};

@@ -1,0 +1,108 @@
+//! A registry in memory.
+ghost use Rattle.std.specs.Prelude.{◌≡◌, ◌<◌, ◌-◌, [], drop, take, slice_get, IfOk};
+
+use crate::registry::{Registry, RegistryFault};
+use scim_key::{RecordName, ResourceId};
+use scim_resource::Stored;
+use std::alloc::{AllocError, Global};
+use std::collections::BTreeMap;
+use std::marker::Model;
+
+/// A registry whose rows stand in memory, with an index by name.
+#[derive(Debug, Drop)]
+pub struct MemoryRegistry {
+    rows: Vec<Stored>,
+    numbers: BTreeMap<RecordName, u32>,
+    writes: u64,
+}
+
+impl Model for MemoryRegistry {
+    ghost use Rattle.provider_core.specs.Memory.{MemoryRecord, IsIndexed};
+
+    ghost Value = { MemoryRecord };
+
+    ghost view = { λ r. record { rows = r.rows.items; writes = r.writes } };
+
+    ghost invariant = { λ r. IsIndexed r.numbers r.rows.items };
+}
+
+impl MemoryRegistry {
+    /// A registry without rows.
+    pub fn new(alloc: Global) -> MemoryRegistry
+        ensures { result ≡ record { rows = []; writes = 0 } }
+    {
+        MemoryRegistry {
+            rows: Vec::new(alloc),
+            numbers: BTreeMap::new(alloc),
+            writes: 0,
+        }
+    }
+}
+
+/// A copy of the row at this place, counted from 1, if there is one.
+fn copy_at(rows: &[Stored], place: u32) -> Result<Option<Stored>, AllocError>
+    requires { 0 < place }
+    ensures { IfOk result (λ row. row ≡ slice_get rows.now (place - 1)) }
+{
+    match rows.get(place as usize - 1) {
+        Some(row) => Ok(Some(row.clone()?)),
+        None => Ok(None),
+    }
+}
+
+/// At most `limit` rows after the first `after`.
+fn part(rows: &[Stored], after: u32, limit: usize) -> &[Stored]
+    ensures { result.now ≡ take limit (drop after rows.now) }
+{
+    let rest = &rows[rows.len().min(after as usize)..];
+    &rest[..rest.len().min(limit)]
+}
+
+impl Registry for MemoryRegistry {
+    ghost rows = { λ r. r.rows };
+
+    ghost is_faithful = { λ _. Unit {0} };
+
+    ghost faults = { λ _. 0 };
+
+    ghost writes = { λ r. r.writes };
+
+    fn count(&mut self) -> Result<u32, RegistryFault> {
+        Ok(self.rows.len() as u32)
+    }
+
+    fn by_key(&mut self, name: &RecordName) -> Result<Option<Stored>, RegistryFault> {
+        match self.numbers.get(name) {
+            Some(number) => Ok(copy_at(self.rows.as_slice(), *number)?),
+            None => Ok(None),
+        }
+    }
+
+    fn by_id(&mut self, id: &ResourceId) -> Result<Option<Stored>, RegistryFault> {
+        match id.number() {
+            Some(number) => Ok(copy_at(self.rows.as_slice(), number)?),
+            None => Ok(None),
+        }
+    }
+
+    fn scan(&mut self, after: u32, limit: usize) -> Result<Vec<Stored>, RegistryFault> {
+        let alloc = *self.rows.allocator();
+        Ok(part(self.rows.as_slice(), after, limit).to_vec(alloc)?)
+    }
+
+    fn insert(&mut self, row: Stored) -> Result<(), RegistryFault> {
+        let name = row.content().name(*self.rows.allocator())?;
+        self.rows.reserve(1)?;
+        self.numbers.insert(name, row.number())?;
+        self.rows.push(row)?;
+        self.writes = self.writes.saturating_add(1);
+        Ok(())
+    }
+
+    fn update(&mut self, row: &Stored) -> Result<(), RegistryFault> {
+        let place = row.number() as usize - 1;
+        self.rows[place] = row.clone()?;
+        self.writes = self.writes.saturating_add(1);
+        Ok(())
+    }
+}

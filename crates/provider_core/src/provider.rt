@@ -1,0 +1,158 @@
+//! The provider over a registry.
+ghost use Rattle.std.specs.Prelude.{◌≡◌, ◌<◌, ◌≤◌, ◌+◌, None, false, IfOk, IfErr, OnOk, OnErr};
+ghost use Rattle.provider_core.specs.Outcomes.{outcome, refused, creating, changed_rows, IsOutcome};
+ghost use Rattle.provider_core.specs.Stores.{IsExcusedProvider, IsQuiet};
+ghost use Rattle.provider_core.specs.declared.provider.ProviderFault.TheVariants as provider_faults;
+
+use crate::pending::{Change, Pending};
+use crate::registry::{Registry, RegistryFault};
+use scim_message::{Answer, ErrorResponse, Refusal, Request};
+use scim_resource::{Content, Shown, Stored};
+use std::alloc::{AllocError, Global};
+use std::marker::Model;
+use thiserror::Error;
+
+/// Why a request got no answer. Nothing has changed then.
+#[derive(Clone, Copy, Debug, PartialEq, Eq, Error)]
+pub enum ProviderFault {
+    #[error("P10")]
+    Store,
+    #[error("P11")]
+    Memory,
+}
+
+impl From<AllocError> for ProviderFault {
+    ghost from_gives = { λ _ fault. fault ≡ provider_faults.Memory };
+
+    fn from(_: AllocError) -> ProviderFault {
+        ProviderFault::Memory
+    }
+}
+
+impl From<RegistryFault> for ProviderFault {
+    ghost use Rattle.provider_core.specs.Stores.{provider_fault};
+
+    ghost from_gives = { λ from fault. fault ≡ provider_fault from };
+
+    fn from(fault: RegistryFault) -> ProviderFault {
+        match fault {
+            RegistryFault::Store => ProviderFault::Store,
+            RegistryFault::Memory => ProviderFault::Memory,
+        }
+    }
+}
+
+/// A provider (RFC 7644 section 3), which answers over the rows of a registry.
+#[derive(Debug, Drop)]
+pub struct Provider<R: Registry> {
+    registry: R,
+}
+
+impl<R: Registry> Model for Provider<R> {
+    ghost Value = { R };
+
+    ghost view = { λ p. p.registry };
+}
+
+/// What is pending where a request is refused.
+fn refusal(alloc: Global, refusal: Refusal) -> Result<Pending, AllocError>
+    ensures { IfOk result (λ pending. pending ≡ refused refusal) }
+{
+    Ok(Pending {
+        change: Change::Unchanged,
+        answer: Answer::Error(ErrorResponse::of(alloc, refusal)?),
+    })
+}
+
+/// What is pending where a content becomes a new row, `count` of them being there.
+fn insertion(alloc: Global, count: u32, content: &Content) -> Result<Pending, AllocError>
+    requires { count < 1_000_000 }
+    ensures { IfOk result (λ pending. pending ≡ creating None false count content.now) }
+{
+    let row = Stored::new(count + 1, 1, content.clone()?);
+    let shown = Shown::of(alloc, &row)?;
+    Ok(Pending {
+        change: Change::Insert(row),
+        answer: Answer::Created(shown),
+    })
+}
+
+impl<R: Registry> Provider<R> {
+    /// A provider over the rows of a registry.
+    pub fn new(registry: R) -> Provider<R>
+        ensures { result ≡ registry }
+    {
+        Provider { registry }
+    }
+
+    /// The registry, with the rows as they stand.
+    pub fn close(self) -> R
+        ensures { result ≡ self }
+    {
+        let Provider { registry } = self;
+        registry
+    }
+
+    /// Forms the answer to a request and the change that goes with it. It changes nothing.
+    pub fn prepare(&mut self, alloc: Global, request: &Request) -> Result<Pending, ProviderFault>
+        ensures ok { R.is_faithful self.new → IfOk result (λ pending. pending ≡ outcome (R.rows self.old) request.now) }
+        ensures same { R.is_faithful self.new → R.rows self.new ≡ R.rows self.old }
+        ensures quiet { IsQuiet R.is_faithful R.faults self.old self.new }
+        ensures unwritten { R.writes self.new ≡ R.writes self.old }
+        ensures cause { IfErr result (IsExcusedProvider (R.faults self.old) (R.faults self.new)) }
+    {
+        match request {
+            Request::Create { content } => self.prepare_create(alloc, content),
+        }
+    }
+
+    fn prepare_create(&mut self, alloc: Global, content: &Content) -> Result<Pending, ProviderFault>
+        ensures ok { R.is_faithful self.new → IfOk result (λ pending. pending ≡ outcome (R.rows self.old) (Request.Create content.now)) }
+        ensures same { R.is_faithful self.new → R.rows self.new ≡ R.rows self.old }
+        ensures quiet { IsQuiet R.is_faithful R.faults self.old self.new }
+        ensures unwritten { R.writes self.new ≡ R.writes self.old }
+        ensures cause { IfErr result (IsExcusedProvider (R.faults self.old) (R.faults self.new)) }
+    {
+        let name = content.name(alloc)?;
+        if self.registry.by_key(&name)?.is_some() {
+            return Ok(refusal(alloc, Refusal::NameTaken)?);
+        }
+        let count = self.registry.count()?;
+        if count >= 1_000_000 {
+            return Ok(refusal(alloc, Refusal::LimitReached)?);
+        }
+        Ok(insertion(alloc, count, content)?)
+    }
+
+    /// Makes the change of what was prepared on the rows that now stand, and gives the answer.
+    /// It writes once at most, and takes no memory of its own.
+    pub fn commit(&mut self, pending: Pending) -> Result<Answer, ProviderFault>
+        requires { R.is_faithful self.old → IsOutcome (R.rows self.old) pending }
+        ensures answer { IfOk result (λ answer. answer ≡ pending.answer) }
+        ensures ok { R.is_faithful self.new → OnOk result (R.rows self.new ≡ changed_rows (R.rows self.old) pending.change) }
+        ensures err { R.is_faithful self.new → OnErr result (R.rows self.new ≡ R.rows self.old) }
+        ensures quiet { IsQuiet R.is_faithful R.faults self.old self.new }
+        ensures written { R.writes self.new ≤ R.writes self.old + 1 }
+        ensures cause { IfErr result (IsExcusedProvider (R.faults self.old) (R.faults self.new)) }
+    {
+        let Pending { change, answer } = pending;
+        match change {
+            Change::Unchanged => {}
+            Change::Insert(row) => self.registry.insert(row)?,
+        }
+        Ok(answer)
+    }
+
+    /// Answers a request and makes its change.
+    pub fn answer(&mut self, alloc: Global, request: &Request) -> Result<Answer, ProviderFault>
+        ensures answer { R.is_faithful self.new → IfOk result (λ answer. answer ≡ (outcome (R.rows self.old) request.now).answer) }
+        ensures ok { R.is_faithful self.new → OnOk result (R.rows self.new ≡ changed_rows (R.rows self.old) (outcome (R.rows self.old) request.now).change) }
+        ensures err { R.is_faithful self.new → OnErr result (R.rows self.new ≡ R.rows self.old) }
+        ensures quiet { IsQuiet R.is_faithful R.faults self.old self.new }
+        ensures written { R.writes self.new ≤ R.writes self.old + 1 }
+        ensures cause { IfErr result (IsExcusedProvider (R.faults self.old) (R.faults self.new)) }
+    {
+        let pending = self.prepare(alloc, request)?;
+        self.commit(pending)
+    }
+}

@@ -1,0 +1,110 @@
+//! What a provider asks of the store of its rows.
+ghost use Rattle.std.specs.Prelude.{◌≡◌, ℕ, ◌+◌, ◌-◌, ◌≤◌, List, [], ◌∷◌, ◌++◌, length, IfOk, OnOk, OnErr, IfErr, None, Some, option_map, slice_get, slice_set};
+ghost use Rattle.scim_resource.specs.Rows.{StoredRecord};
+ghost use Rattle.scim_resource.specs.Contents.{content_name};
+ghost use Rattle.provider_core.specs.Rows.{row_named, row_with_id, page_after};
+ghost use Rattle.provider_core.specs.Outcomes.{most_resources};
+ghost use Rattle.provider_core.specs.Stores.{HasRisen, IsExcused, IsQuiet, HoldsNumber};
+
+use scim_key::{RecordName, ResourceId};
+use scim_resource::Stored;
+use std::alloc::{AllocError, AllocFailed};
+use thiserror::Error;
+
+/// Why a call of a registry failed. The rows are then as they were.
+#[derive(Clone, Copy, Debug, PartialEq, Eq, Error)]
+pub enum RegistryFault {
+    #[error("store")]
+    Store,
+    #[error("memory")]
+    Memory,
+}
+
+impl From<AllocError> for RegistryFault {
+    ghost use Rattle.provider_core.specs.declared.registry.RegistryFault.TheVariants.{Memory};
+
+    ghost from_gives = { λ _ fault. fault ≡ Memory };
+
+    fn from(_: AllocError) -> RegistryFault {
+        RegistryFault::Memory
+    }
+}
+
+impl<T: Drop> From<AllocFailed<T>> for RegistryFault {
+    ghost use Rattle.provider_core.specs.declared.registry.RegistryFault.TheVariants.{Memory};
+
+    ghost from_gives = { λ _ fault. fault ≡ Memory };
+
+    fn from(_: AllocFailed<T>) -> RegistryFault {
+        RegistryFault::Memory
+    }
+}
+
+/// The rows of a provider, in order of creation.
+///
+/// What is said of the rows holds while the store is faithful, that is while it returns what was
+/// committed; a registry in memory always is. A fault of the store is counted.
+pub trait Registry {
+    ghost rows: { Self → List StoredRecord };
+
+    ghost is_faithful: { Self → Type 0 };
+
+    ghost faults: { Self → ℕ };
+
+    ghost writes: { Self → ℕ };
+
+    /// How many rows there are.
+    fn count(&mut self) -> Result<u32, RegistryFault>
+        ensures ok { is_faithful self.new → IfOk result (λ n. n ≡ length (rows self.old)) }
+        ensures same { is_faithful self.new → rows self.new ≡ rows self.old }
+        ensures quiet { IsQuiet is_faithful faults self.old self.new }
+        ensures unwritten { writes self.new ≡ writes self.old }
+        ensures cause { IfErr result (IsExcused (faults self.old) (faults self.new)) };
+
+    /// The row of a record, if there is one.
+    fn by_key(&mut self, name: &RecordName) -> Result<Option<Stored>, RegistryFault>
+        ensures ok { is_faithful self.new → IfOk result (λ row. row ≡ row_named name.now (rows self.old)) }
+        ensures same { is_faithful self.new → rows self.new ≡ rows self.old }
+        ensures quiet { IsQuiet is_faithful faults self.old self.new }
+        ensures unwritten { writes self.new ≡ writes self.old }
+        ensures cause { IfErr result (IsExcused (faults self.old) (faults self.new)) };
+
+    /// The row with this id, if there is one.
+    fn by_id(&mut self, id: &ResourceId) -> Result<Option<Stored>, RegistryFault>
+        ensures ok { is_faithful self.new → IfOk result (λ row. row ≡ row_with_id id.now (rows self.old)) }
+        ensures same { is_faithful self.new → rows self.new ≡ rows self.old }
+        ensures quiet { IsQuiet is_faithful faults self.old self.new }
+        ensures unwritten { writes self.new ≡ writes self.old }
+        ensures cause { IfErr result (IsExcused (faults self.old) (faults self.new)) };
+
+    /// At most `limit` rows, in order, from the first with a number above `after`.
+    fn scan(&mut self, after: u32, limit: usize) -> Result<Vec<Stored>, RegistryFault>
+        ensures ok { is_faithful self.new → IfOk result (λ page. page.items ≡ page_after after limit (rows self.old)) }
+        ensures same { is_faithful self.new → rows self.new ≡ rows self.old }
+        ensures quiet { IsQuiet is_faithful faults self.old self.new }
+        ensures unwritten { writes self.new ≡ writes self.old }
+        ensures cause { IfErr result (IsExcused (faults self.old) (faults self.new)) };
+
+    /// Adds a row with the next number and a free name.
+    fn insert(&mut self, row: Stored) -> Result<(), RegistryFault>
+        requires next { is_faithful self.old → row.number ≡ length (rows self.old) + 1 }
+        requires free { is_faithful self.old → row_named (content_name row.content) (rows self.old) ≡ None }
+        ensures ok { is_faithful self.new → OnOk result (rows self.new ≡ rows self.old ++ row ∷ []) }
+        ensures same { is_faithful self.new → OnErr result (rows self.new ≡ rows self.old) }
+        ensures quiet { IsQuiet is_faithful faults self.old self.new }
+        ensures written { writes self.new ≤ writes self.old + 1 }
+        ensures counted { OnOk result (HasRisen (writes self.old) (writes self.new)) }
+        ensures unwritten { OnErr result (writes self.new ≡ writes self.old) }
+        ensures cause { IfErr result (IsExcused (faults self.old) (faults self.new)) };
+
+    /// Puts a row in the place of the one with its number, which has its name too.
+    fn update(&mut self, row: &Stored) -> Result<(), RegistryFault>
+        requires there { is_faithful self.old → HoldsNumber (rows self.old) row.now }
+        ensures ok { is_faithful self.new → OnOk result (rows self.new ≡ slice_set (rows self.old) (row.now.number - 1) row.now) }
+        ensures same { is_faithful self.new → OnErr result (rows self.new ≡ rows self.old) }
+        ensures quiet { IsQuiet is_faithful faults self.old self.new }
+        ensures written { writes self.new ≤ writes self.old + 1 }
+        ensures counted { OnOk result (HasRisen (writes self.old) (writes self.new)) }
+        ensures unwritten { OnErr result (writes self.new ≡ writes self.old) }
+        ensures cause { IfErr result (IsExcused (faults self.old) (faults self.new)) };
+}
