@@ -1,9 +1,11 @@
 -- Accepting a row.
-use Rattle.std.specs.Prelude.{◌≡◌, ◌≢◌, ◌↔◌, ℕ, Bool, true, false, List, [], ◌∷◌, ◌++◌, Option, Some, None, Result, Ok, Err, if◌then◌else◌}
+use Rattle.std.specs.Prelude.{◌≡◌, ◌≢◌, ◌↔◌, ℕ, true, false, List, [], ◌∷◌, ◌++◌, length, Option, Some, None, Result, Ok, Err, if◌then◌else◌}
+use Rattle.std.specs.List.{list_all}
 use Rattle.scim_key.specs.Revisions.{before, ◌≺◌}
+use Rattle.scim_key.specs.declared.records.RecordName.{RecordName}
 use Rattle.source_csv.specs.Records.{row_name, row_revision, same_row}
 use Rattle.source_csv.specs.declared.rows.Row.{Row}
-use Rattle.source_book.specs.History.{History, last_row, missing_member}
+use Rattle.source_book.specs.History.{History, Rises, is_user, last_row, members_of, missing_member, rows_of}
 use Rattle.source_book.specs.declared.accepting.BookFault.{BookFault}
 use Rattle.source_book.specs.declared.accepting.BookFault.TheVariants.{Differs, NoSuchMember}
 use Rattle.source_book.specs.declared.accepting.Verdict.{Verdict}
@@ -22,3 +24,51 @@ accepted (Some held) row missing =
     else if before (row_revision held) (row_revision row) then newer missing
     else if same_row row held then Ok Known
     else Err Differs
+
+-- Accepting a row into the history, the first case that applies
+
+-- the row is the first of its record, or of a higher revision than the last
+abbrev pub IsNewer : History → Row → Type 0
+IsNewer history row = (held : Row) → last_row history (row_name row) ≡ Some held → row_revision held ≺ row_revision row
+
+-- every member is a user record of the history
+abbrev pub AllAreUsers : History → Row → Type 0
+AllAreUsers history row = list_all (is_user history) (members_of row) ≡ true
+
+-- the member at this place is none, and every member before it is one
+abbrev pub IsFirstMissing : History → Row → ℕ → Type 0
+IsFirstMissing history row place = (earlier : List (List ℕ)) × (key : List ℕ) × (later : List (List ℕ))
+    × (members_of row ≡ earlier ++ key ∷ later) × (length earlier ≡ place) × (list_all (is_user history) earlier ≡ true) × (is_user history key ≡ false)
+
+pub data Accepts (history : History) (row : Row) : Result Verdict BookFault → Type 0 where
+  older : (held : Row) → last_row history (row_name row) ≡ Some held → row_revision row ≺ row_revision held → Accepts history row (Ok Older)
+  known : (held : Row) → last_row history (row_name row) ≡ Some held → row_revision row ≡ row_revision held → row ≡ held → Accepts history row (Ok Known)
+  differs : (held : Row) → last_row history (row_name row) ≡ Some held → row_revision row ≡ row_revision held → row ≢ held → Accepts history row (Err Differs)
+  missing : (place : ℕ) → IsNewer history row → IsFirstMissing history row place → Accepts history row (Err (NoSuchMember place))
+  new : IsNewer history row → AllAreUsers history row → Accepts history row (Ok New)
+
+-- the verdict on a row by the history alone
+abbrev pub accepting : History → Row → Result Verdict BookFault
+accepting history row = accepted (last_row history (row_name row)) row (missing_member history row)
+
+-- `accept`, of the last row of the record and of the first member that is no user record, accepts into the history
+abbrev pub AcceptsByHistory : Type 0
+AcceptsByHistory = (history : History) (row : Row) (answer : Result Verdict BookFault) → Accepts history row answer ↔ (answer ≡ accepting history row)
+
+-- the history after a row was offered: a new one is appended, and no other changes it
+abbrev pub after_verdict : History → Row → Result Verdict BookFault → History
+after_verdict history row (Ok New) = history ++ row ∷ []
+after_verdict history row (Ok Known) = history
+after_verdict history row (Ok Older) = history
+after_verdict history row (Err fault) = history
+
+-- the history after rows were offered one by one
+abbrev pub history_after : History → List Row → History
+history_after history [] = history
+history_after history (row ∷ rows) = history_after (after_verdict history row (accepting history row)) rows
+
+-- whatever rows are offered, the accepted ones of each record strictly rise, and none is lost or changed later
+pub record HistoriesRise : Type 0 where
+  pub rises : (offered : List Row) (name : RecordName) → Rises (rows_of (history_after [] offered) name)
+  pub stays : (history : History) (offered : List Row) (name : RecordName)
+      → (later : List Row) × (rows_of (history_after history offered) name ≡ rows_of history name ++ later)

@@ -1,11 +1,12 @@
 -- The history of the source: the rows that were accepted.
-use Rattle.std.specs.Prelude.{ℕ, Bool, true, false, not, List, [], Option, None, ◌&&◌, is_some}
-use Rattle.std.specs.List.{filter, last_or, position_from}
+use Rattle.std.specs.Prelude.{ℕ, Bool, true, false, not, List, [], ◌∷◌, Option, None, ◌&&◌, is_some}
+use Rattle.std.specs.List.{AllByRecursion, filter, last_or, position_from}
 use Rattle.std.specs.Str.{bytes_eq}
+use Rattle.scim_key.specs.Revisions.{◌≺◌}
 use Rattle.scim_key.specs.declared.records.Kind.{Kind}
 use Rattle.scim_key.specs.declared.records.Kind.TheVariants as kind
 use Rattle.scim_key.specs.declared.records.RecordName.{RecordName}
-use Rattle.source_csv.specs.Records.{row_name}
+use Rattle.source_csv.specs.Records.{row_name, row_revision}
 use Rattle.source_csv.specs.declared.rows.Row.{Row}
 use Rattle.source_csv.specs.declared.rows.Row.TheVariants.{User, Group}
 
@@ -47,3 +48,8 @@ members_of (Group row) = row.members
 abbrev pub missing_member : History → Row → Option ℕ
 missing_member history row = position_from (λ key. not (is_user history key)) 0 (members_of row)
 
+
+-- each row is of a higher revision than all before it
+abbrev pub Rises : List Row → Type 0
+Rises [] = Unit {0}
+Rises (row ∷ rows) = AllByRecursion (λ later. row_revision row ≺ row_revision later) rows × Rises rows

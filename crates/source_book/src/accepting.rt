@@ -1,7 +1,7 @@
 //! Accepting a row, by the last accepted row of its record.
 ghost use Rattle.std.specs.Prelude.{◌≡◌};
 ghost use Rattle.std.specs.Option.{option_copied};
-ghost use Rattle.source_book.specs.Accepting.{accepted, newer};
+ghost use Rattle.source_book.specs.Accepting.{AcceptsByHistory, HistoriesRise, accepted, newer};
 
 use source_csv::Row;
 use thiserror::Error;
@@ -60,3 +60,14 @@ pub fn accept(
         Err(BookFault::Differs)
     }
 }
+
+/// `accept` accepts by the history of the source: by the last row of the record in it, and by the
+/// first member that is no user record of it.
+pub fn accept_is_by_history()
+    ensures { AcceptsByHistory }
+{}
+
+/// The accepted rows of a record strictly rise, and stay.
+pub fn histories_rise()
+    ensures { HistoriesRise }
+{}

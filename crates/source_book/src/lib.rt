@@ -3,4 +3,4 @@
 
 mod accepting;
 
-pub use accepting::{BookFault, Verdict, accept};
+pub use accepting::{BookFault, Verdict, accept, accept_is_by_history, histories_rise};

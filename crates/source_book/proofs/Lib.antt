@@ -1,0 +1,2 @@
+pub mod Acceptance
+pub mod Rising
