@@ -18,19 +18,13 @@ pub(crate) fn judge(message: &Incoming) -> Result<u64, ReadFault>
     ensures { result ≡ judge_head message.now.head }
 {
     let is_head = is_head(message);
+    let host_fault = ReadFault::HostMissingOrRepeated { is_head };
+    let coding_fault = ReadFault::TransferCoding { is_head };
+    let expectation_fault = ReadFault::Expectation { is_head };
     let length = stated_length(message)?;
-    refuse_where(
-        is_host_wrong(message),
-        ReadFault::HostMissingOrRepeated { is_head },
-    )?;
-    refuse_where(
-        has_field(message, "transfer-encoding"),
-        ReadFault::TransferCoding { is_head },
-    )?;
-    refuse_where(
-        has_field(message, "expect"),
-        ReadFault::Expectation { is_head },
-    )?;
+    refuse_where(is_host_wrong(message), host_fault)?;
+    refuse_where(has_field(message, "transfer-encoding"), coding_fault)?;
+    refuse_where(has_field(message, "expect"), expectation_fault)?;
     length_wanted(has_body(message), is_head, length)
 }
 

@@ -2,18 +2,21 @@
 //! formed, and bytes are sent to a writer.
 #![tactic(auto)]
 
+mod counts;
 mod fault;
 mod incoming;
+mod input;
 mod judge;
+mod output;
 mod request;
 mod response;
 mod sending;
-mod streams;
 
 pub use fault::{ReadFault, SendFault};
 pub use http::StatusCode;
 pub use incoming::{FieldValues, Incoming};
+pub use input::Input;
+pub use output::Output;
 pub use request::{messages_are_apart, read_request};
 pub use response::{FieldLine, write_response};
 pub use sending::send;
-pub use streams::{Input, Output};

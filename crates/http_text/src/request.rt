@@ -7,12 +7,13 @@ ghost use Rattle.http_text.specs.Message.{head_limit, field_limit, head_of};
 ghost use Rattle.http_text.specs.Requests.{IsUndecided, TakesMessage, TakesRefused, FindsMessage, FindsRefusedHead, FindsEnd, FindsLong, FindsMalformed, EndsReading, MessagesAreApart};
 ghost use Rattle.http_text.specs.Steps.{SpendsTurns, EndsTurns, GivesNone, RefusesHead, TakesHead, TakesBody, CutsBody};
 ghost use Rattle.http_text.specs.Streams.{Reads};
-ghost use Rattle.http_text.specs.declared.streams.ReadTurn.TheVariants as Turn;
+ghost use Rattle.http_text.specs.declared.input.ReadTurn.TheVariants as Turn;
 
+use crate::counts::TURN_LIMIT;
 use crate::fault::ReadFault;
 use crate::incoming::Incoming;
+use crate::input::{Input, ReadTurn};
 use crate::judge::judge;
-use crate::streams::{Input, ReadTurn, TURN_LIMIT};
 use httparse::spans::{EMPTY_HEADER_SPAN, HeaderSpan, RequestSpans, parse_request};
 use httparse::{Error, Status};
 use std::alloc::Global;

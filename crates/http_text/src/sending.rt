@@ -1,11 +1,12 @@
 //! Bytes sent whole, or how far they came.
-ghost use Rattle.std.specs.Prelude.{◌≡◌, OnOk, IfErr};
-ghost use Rattle.std.specs.Io.KnownBytes.{Appends};
+ghost use Rattle.std.specs.Prelude.{◌≡◌, OnOk, OnErr, IfErr};
+ghost use Rattle.std.specs.Io.KnownBytes.{Keeps, Appends};
 ghost use Rattle.http_text.specs.Counts.{count_up, CountsTurns};
 ghost use Rattle.http_text.specs.Sending.{IsLost, EndsSending};
 
+use crate::counts::TURN_LIMIT;
 use crate::fault::SendFault;
-use crate::streams::{Output, TURN_LIMIT, WriteTurn};
+use crate::output::{Output, WriteTurn};
 use std::io::Write;
 
 /// Sends the bytes and flushes. An interrupted write is made again.
@@ -23,11 +24,7 @@ pub fn send<W: Write>(writer: &mut Output<W>, bytes: &[u8]) -> Result<(), SendFa
     for _ in 0..TURN_LIMIT {
         let sent = bytes.len() - rest.len();
         if rest.is_empty() {
-            return if writer.flush() {
-                Ok(())
-            } else {
-                Err(SendFault::WriteFailed { sent })
-            };
+            return finish(writer, sent);
         }
         match writer.write(rest) {
             WriteTurn::Taken(count) => rest = &rest[count..],
@@ -38,4 +35,21 @@ pub fn send<W: Write>(writer: &mut Output<W>, bytes: &[u8]) -> Result<(), SendFa
     Err(SendFault::TurnsExhausted {
         sent: bytes.len() - rest.len(),
     })
+}
+
+/// Flushes what was sent.
+fn finish<W: Write>(writer: &mut Output<W>, sent: usize) -> Result<(), SendFault>
+    ensures bytes { Keeps writer.old.contents writer.new.contents }
+    ensures flushed { writer.new.flushes ≡ count_up writer.old.flushes 1 }
+    ensures counted { writer.new.calls ≡ count_up writer.old.calls 1 }
+    ensures clean { OnOk result (writer.new.failures ≡ writer.old.failures) }
+    ensures fault { IfErr result (λ fault. fault ≡ SendFault.WriteFailed sent) }
+    ensures failed { OnErr result (writer.new.failures ≡ count_up writer.old.failures 1) }
+{
+    let is_flushed = writer.flush();
+    if is_flushed {
+        Ok(())
+    } else {
+        Err(SendFault::WriteFailed { sent })
+    }
 }

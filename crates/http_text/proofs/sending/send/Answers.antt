@@ -1,23 +1,13 @@
-use Rattle.http_text.proofs.CountLemmas.{HasRisen-count_up}
-use Rattle.http_text.proofs.SendLemmas.{count_more, HasSent-kept, HasSent-more}
 use Rattle.http_text.proofs.ListLemmas.{rest_from}
+use Rattle.http_text.proofs.SendLemmas.{count_more, HasSent-kept, HasSent-more}
 use Rattle.http_text.proofs.sending.send.Goals.{in-Taken, in-Interrupted}
 use Rattle.http_text.proofs.sending.send.Goals as goal
 
-pub returns-then-flush-clause-counts : goal.returns-then-flush-clause-counts
-returns-then-flush-clause-counts g c = count_more _ _ _ _ _ c.loop-test.true c.loop.invariant.calls c.flush.ensures.calls
-
-pub returns-else-flush-clause-counts : goal.returns-else-flush-clause-counts
-returns-else-flush-clause-counts g c = count_more _ _ _ _ _ c.loop-test.true c.loop.invariant.calls c.flush.ensures.calls
+pub returns-then-is_empty-clause-counts : goal.returns-then-is_empty-clause-counts
+returns-then-is_empty-clause-counts g c = count_more _ _ _ _ _ c.loop-test.true c.loop.invariant.calls c.finish.ensures.counted
 
 pub returns-in-Failed-clause-counts : goal.returns-in-Failed-clause-counts
 returns-in-Failed-clause-counts g c = count_more _ _ _ _ _ c.loop-test.true c.loop.invariant.calls c.write.ensures.calls
-
-pub returns-else-flush-clause-fault : goal.returns-else-flush-clause-fault
-returns-else-flush-clause-fault g c = rw (c.if-flush.ensures.failures, c.loop.invariant.failures) (HasRisen-count_up _)
-
-pub returns-in-Failed-clause-fault : goal.returns-in-Failed-clause-fault
-returns-in-Failed-clause-fault g c = rw (c.in-Failed.ensures.failures, c.loop.invariant.failures) (HasRisen-count_up _)
 
 pub loop-preserved : goal.loop-preserved
 loop-preserved g c =

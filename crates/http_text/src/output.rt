@@ -1,0 +1,113 @@
+//! A writer that counts its writes and flushes.
+ghost use Rattle.std.specs.Prelude.{◌≡◌, ◌<◌, length};
+ghost use Rattle.std.specs.Io.KnownBytes.{Keeps};
+ghost use Rattle.http_text.specs.Counts.{count_up};
+ghost use Rattle.http_text.specs.Streams.{Writes, write_failures, flush_failures};
+
+use crate::counts::count;
+use std::io::{ErrorKind, Write};
+use std::marker::Model;
+
+/// A writer with the number of its writes and flushes and of those that failed. Each number stays
+/// at the greatest `u64`. An interrupted write is no failure; an interrupted flush and a write that
+/// takes no byte are failures.
+#[derive(Drop)]
+pub struct Output<W: Write> {
+    writer: W,
+    calls: u64,
+    failures: u64,
+    flushes: u64,
+}
+
+/// What one write took.
+#[derive(Clone, Copy)]
+pub(crate) enum WriteTurn {
+    Taken(usize),
+    Interrupted,
+    Failed,
+}
+
+impl<W: Write> Model for Output<W> {
+    ghost use Rattle.http_text.specs.Counts.{Writing};
+
+    ghost Value = { Writing };
+
+    ghost view = { λ s. record {
+      contents = W.contents s.writer;
+      calls = s.calls;
+      failures = s.failures;
+      flushes = s.flushes;
+    } };
+}
+
+impl<W: Write> Output<W> {
+    /// A writer that has counted nothing yet. Lend it as `&mut` to have it back.
+    pub fn new(writer: W) -> Output<W>
+        ensures { result ≡ record { contents = W.contents writer; calls = 0; failures = 0; flushes = 0 } }
+    {
+        Output {
+            writer,
+            calls: 0,
+            failures: 0,
+            flushes: 0,
+        }
+    }
+
+    /// The writer, with what it took.
+    pub fn into_inner(self) -> W
+        ensures { W.contents result ≡ self.contents }
+    {
+        self.writer
+    }
+
+    /// How many writes and flushes were made.
+    pub fn calls(&self) -> u64
+        ensures { result ≡ self.now.calls }
+    {
+        self.calls
+    }
+
+    /// How many writes and flushes failed.
+    pub fn failures(&self) -> u64
+        ensures { result ≡ self.now.failures }
+    {
+        self.failures
+    }
+
+    pub(crate) fn write(&mut self, bytes: &[u8]) -> WriteTurn
+        requires { 0 < length bytes.now }
+        ensures bytes { Writes self.old.contents self.new.contents bytes.now result }
+        ensures calls { self.new.calls ≡ count_up self.old.calls 1 }
+        ensures failures { self.new.failures ≡ count_up self.old.failures (write_failures result) }
+        ensures flushes { self.new.flushes ≡ self.old.flushes }
+    {
+        count(&mut self.calls);
+        match self.writer.write(bytes) {
+            Ok(0) => {}
+            Ok(taken) => return WriteTurn::Taken(taken),
+            Err(error) => {
+                if error.kind() == ErrorKind::Interrupted {
+                    return WriteTurn::Interrupted;
+                }
+            }
+        }
+        count(&mut self.failures);
+        WriteTurn::Failed
+    }
+
+    /// Whether the flush was done.
+    pub(crate) fn flush(&mut self) -> bool
+        ensures bytes { Keeps self.old.contents self.new.contents }
+        ensures calls { self.new.calls ≡ count_up self.old.calls 1 }
+        ensures failures { self.new.failures ≡ count_up self.old.failures (flush_failures result) }
+        ensures flushes { self.new.flushes ≡ count_up self.old.flushes 1 }
+    {
+        count(&mut self.calls);
+        count(&mut self.flushes);
+        let is_flushed = self.writer.flush().is_ok();
+        if !is_flushed {
+            count(&mut self.failures);
+        }
+        is_flushed
+    }
+}
