@@ -1,0 +1,15 @@
+//! The worked examples, as tests over whole connections.
+#![tactic(auto)]
+
+#[cfg(test)]
+mod creating;
+#[cfg(test)]
+mod names;
+#[cfg(test)]
+mod refusing;
+#[cfg(test)]
+mod registries;
+#[cfg(test)]
+mod streams;
+#[cfg(test)]
+mod support;

@@ -1,0 +1,91 @@
+//! Registries of which a test knows what they answer.
+ghost use Rattle.std.specs.Prelude.{[]};
+
+use provider_core::{Registry, RegistryFault};
+use scim_key::{RecordName, ResourceId};
+use scim_resource::Stored;
+
+/// Holds as many rows as a provider may, and finds none of them.
+#[derive(Drop)]
+pub struct FullRegistry;
+
+impl Registry for FullRegistry {
+    ghost rows = { λ _. [] };
+
+    ghost is_faithful = { λ _. ⊥ };
+
+    ghost faults = { λ _. 0 };
+
+    ghost writes = { λ _. 0 };
+
+    fn count(&mut self) -> Result<u32, RegistryFault> {
+        Ok(1_000_000)
+    }
+
+    fn by_key(&mut self, _: &RecordName) -> Result<Option<Stored>, RegistryFault> {
+        Ok(None)
+    }
+
+    fn by_id(&mut self, _: &ResourceId) -> Result<Option<Stored>, RegistryFault> {
+        Ok(None)
+    }
+
+    fn scan(&mut self, _: u32, _: usize) -> Result<Vec<Stored>, RegistryFault> {
+        Err(RegistryFault::Memory)
+    }
+
+    fn insert(&mut self, _: Stored) -> Result<(), RegistryFault> {
+        Err(RegistryFault::Memory)
+    }
+
+    fn update(&mut self, _: &Stored) -> Result<(), RegistryFault> {
+        Err(RegistryFault::Memory)
+    }
+}
+
+/// Fails at every call, and counts its faults.
+#[derive(Drop)]
+pub struct FaultyRegistry {
+    pub faults: u64,
+}
+
+impl FaultyRegistry {
+    fn fails<X>(&mut self) -> Result<X, RegistryFault> {
+        self.faults = self.faults.saturating_add(1);
+        Err(RegistryFault::Store)
+    }
+}
+
+impl Registry for FaultyRegistry {
+    ghost rows = { λ _. [] };
+
+    ghost is_faithful = { λ _. ⊥ };
+
+    ghost faults = { λ r. r.faults };
+
+    ghost writes = { λ _. 0 };
+
+    fn count(&mut self) -> Result<u32, RegistryFault> {
+        self.fails()
+    }
+
+    fn by_key(&mut self, _: &RecordName) -> Result<Option<Stored>, RegistryFault> {
+        self.fails()
+    }
+
+    fn by_id(&mut self, _: &ResourceId) -> Result<Option<Stored>, RegistryFault> {
+        self.fails()
+    }
+
+    fn scan(&mut self, _: u32, _: usize) -> Result<Vec<Stored>, RegistryFault> {
+        self.fails()
+    }
+
+    fn insert(&mut self, _: Stored) -> Result<(), RegistryFault> {
+        self.fails()
+    }
+
+    fn update(&mut self, _: &Stored) -> Result<(), RegistryFault> {
+        self.fails()
+    }
+}

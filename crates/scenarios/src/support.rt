@@ -1,0 +1,116 @@
+//! Readers, writers and registries that fail where a test wants it, and whole exchanges.
+use http_text::{Input, Output};
+use provider_core::{MemoryRegistry, Provider, Registry};
+use scim_key::Base;
+use scim_server::{Served, serve};
+use std::alloc::Global;
+use std::io;
+use std::io::{Read, Write};
+use std::test::Fail;
+
+/// The request that creates the user `bob` at revision 1, as the connector writes it.
+pub static CREATE_BOB: &[u8] =
+    b"POST /v2/Users HTTP/1.1\r\nHost: localhost:8080\r\nAccept: application/scim+json\r\nConnection: close\r\nContent-Length: 214\r\nContent-Type: application/scim+json\r\n\r\n{\"active\":true,\"schemas\":[\"urn:ietf:params:scim:schemas:core:2.0:User\",\"urn:example:params:scim:schemas:extension:source:1.0\"],\"urn:example:params:scim:schemas:extension:source:1.0\":{\"revision\":1},\"userName\":\"bob\"}";
+
+/// The answer to it.
+pub static BOB_CREATED: &[u8] =
+    b"HTTP/1.1 201 Created\r\nConnection: close\r\nContent-Length: 388\r\nContent-Location: http://localhost:8080/v2/Users/5c1a0000-0000-8000-8000-000000000001\r\nContent-Type: application/scim+json\r\nETag: \"1\"\r\nLocation: http://localhost:8080/v2/Users/5c1a0000-0000-8000-8000-000000000001\r\n\r\n{\"active\":true,\"id\":\"5c1a0000-0000-8000-8000-000000000001\",\"meta\":{\"location\":\"http://localhost:8080/v2/Users/5c1a0000-0000-8000-8000-000000000001\",\"resourceType\":\"User\",\"version\":\"\\\"1\\\"\"},\"schemas\":[\"urn:ietf:params:scim:schemas:core:2.0:User\",\"urn:example:params:scim:schemas:extension:source:1.0\"],\"urn:example:params:scim:schemas:extension:source:1.0\":{\"revision\":1},\"userName\":\"bob\"}";
+
+/// The fixed response, which takes no memory.
+pub static GIVEN_UP: &[u8] =
+    b"HTTP/1.1 500 Internal Server Error\r\nConnection: close\r\nContent-Length: 129\r\nContent-Type: application/scim+json\r\n\r\n{\"detail\":\"the provider could not complete the request\",\"schemas\":[\"urn:ietf:params:scim:api:messages:2.0:Error\"],\"status\":\"500\"}";
+
+/// An empty provider in memory.
+pub fn empty(alloc: Global) -> Provider<MemoryRegistry> {
+    Provider::new(MemoryRegistry::new(alloc))
+}
+
+/// The base of all tests.
+pub fn base(alloc: Global) -> Result<Base, Fail> {
+    Ok(Base::read(alloc, "http://localhost:8080/v2")?)
+}
+
+/// What a provider answers to these bytes.
+pub fn exchange<R: Registry>(
+    alloc: Global,
+    provider: &mut Provider<R>,
+    request: &[u8],
+) -> Result<(Served, Vec<u8>), Fail> {
+    let base = base(alloc)?;
+    let mut reader = Input::new(request);
+    let mut writer = Output::new(Vec::new(alloc));
+    let served = serve(alloc, provider, &base, &mut reader, &mut writer);
+    Ok((served, writer.into_inner()))
+}
+
+/// What an empty provider answers to these bytes, and how many rows it then has.
+pub fn asked(alloc: Global, request: &[u8]) -> Result<(Served, Vec<u8>, u32), Fail> {
+    let mut provider = empty(alloc);
+    let (served, written) = exchange(alloc, &mut provider, request)?;
+    let rows = provider.close().count()?;
+    Ok((served, written, rows))
+}
+
+/// A POST of this body to `/v2/Users`.
+pub fn post(alloc: Global, body: &str) -> Result<Vec<u8>, Fail> {
+    let length = body.len();
+    let text = format!(in alloc;
+        "POST /v2/Users HTTP/1.1\r\nHost: localhost:8080\r\nContent-Length: {length}\r\nContent-Type: application/scim+json\r\n\r\n{body}"
+    )?;
+    Ok(text.into_bytes())
+}
+
+/// Gives one byte a call, and fails once it gave so many.
+#[derive(Drop)]
+pub struct FailingReader<'a> {
+    pub bytes: &'a [u8],
+    pub left: usize,
+    pub kind: io::ErrorKind,
+}
+
+impl<'a> Read for FailingReader<'a> {
+    fn read(&mut self, buffer: &mut [u8]) -> io::Result<usize> {
+        if self.left == 0 {
+            return Err(io::Error::from(self.kind));
+        }
+        match (self.bytes.first(), buffer.first_mut()) {
+            (Some(byte), Some(place)) => {
+                *place = *byte;
+                self.bytes = self.bytes.get(1..).unwrap_or(&[]);
+                self.left = self.left.saturating_sub(1);
+                Ok(1)
+            }
+            _ => Ok(0),
+        }
+    }
+}
+
+/// Takes at most one byte a call, fails once it took so many, and fails to flush where it is told to.
+#[derive(Drop)]
+pub struct FailingWriter {
+    pub taken: Vec<u8>,
+    pub room: usize,
+    pub flush_fault: Option<io::ErrorKind>,
+}
+
+impl Write for FailingWriter {
+    fn write(&mut self, bytes: &[u8]) -> io::Result<usize> {
+        if self.taken.len() >= self.room {
+            return Err(io::Error::from(io::ErrorKind::BrokenPipe));
+        }
+        match bytes.first() {
+            Some(byte) => {
+                self.taken.push(*byte)?;
+                Ok(1)
+            }
+            None => Ok(0),
+        }
+    }
+
+    fn flush(&mut self) -> io::Result<()> {
+        match self.flush_fault {
+            Some(kind) => Err(io::Error::from(kind)),
+            None => Ok(()),
+        }
+    }
+}

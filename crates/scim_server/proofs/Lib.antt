@@ -1,0 +1,2 @@
+pub mod JsonLemmas
+pub mod ServedLemmas

@@ -1,0 +1,6 @@
+use Rattle.std.proofs.Common.{inr, refl}
+use Rattle.scim_server.specs.Replies.{fixed_reply}
+use Rattle.scim_server.proofs.serving.refuse.Goals as goal
+
+pub returns-in-Err-clause-sent : goal.returns-in-Err-clause-sent
+returns-in-Err-clause-sent g c = (fixed_reply, inr refl, c.send_fixed.ensures.sent)

@@ -1,0 +1,7 @@
+pub mod Known
+pub mod Meaning
+pub mod Media
+pub mod Reactions
+pub mod Replies
+pub mod Routes
+pub mod Serving

@@ -1,0 +1,31 @@
+-- The media type that a request states for its body.
+use Rattle.std.specs.Prelude.{ℕ, Bool, true, false, List, [], ◌∷◌, Option, Some, None, ◌==◌, ◌&&◌, ◌||◌, not, find, take, drop, length, codes}
+use Rattle.std.specs.Str.{bytes_eq}
+use Rattle.http_text.specs.Message.{lowered}
+
+-- a space or a tab
+abbrev pub is_blank : ℕ → Bool
+is_blank b = (b == 32) || (b == 9)
+
+-- nothing, or a `;`
+abbrev pub begins_parameters : Option ℕ → Bool
+begins_parameters None = true
+begins_parameters (Some b) = b == 59
+
+-- the first byte that is no blank, if there is one, is the `;` of parameters
+abbrev pub ends_type : List ℕ → Bool
+ends_type rest = begins_parameters (find (λ byte. not (is_blank byte)) rest)
+
+-- a text is this media type, letters in any case, whatever its parameters
+abbrev pub is_media_type : List ℕ → List ℕ → Bool
+is_media_type name text = bytes_eq (lowered (take (length name) text)) (lowered name) && ends_type (drop (length name) text)
+
+-- the media types of SCIM (RFC 7644 section 3.1)
+abbrev pub is_json_type : List ℕ → Bool
+is_json_type text = is_media_type (codes "application/scim+json") text || is_media_type (codes "application/json") text
+
+-- of the values of `Content-Type` there is none, or one with such a type
+abbrev pub is_type_served : List (List ℕ) → Bool
+is_type_served [] = true
+is_type_served (text ∷ []) = is_json_type text
+is_type_served (text ∷ other ∷ texts) = false

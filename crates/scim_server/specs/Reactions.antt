@@ -1,0 +1,22 @@
+-- What a fault of reading leads to.
+use Rattle.std.specs.Prelude.{false}
+use Rattle.http_text.specs.declared.fault.ReadFault.{ReadFault}
+use Rattle.http_text.specs.declared.fault.ReadFault.TheVariants as faults
+use Rattle.scim_message.specs.declared.refusals.Refusal.TheVariants as refusals
+use Rattle.scim_server.specs.declared.reactions.Reaction.{Reaction}
+use Rattle.scim_server.specs.declared.reactions.Reaction.TheVariants.{Refuse, GiveUp, StaySilent}
+
+-- a refusal, whose body is left out of an answer to HEAD; the fixed text; or nothing
+abbrev pub reaction_to : ReadFault → Reaction
+reaction_to faults.Malformed = Refuse refusals.Malformed false
+reaction_to (faults.HostMissingOrRepeated is_head) = Refuse refusals.Host is_head
+reaction_to (faults.LengthMissing is_head) = Refuse refusals.LengthMissing is_head
+reaction_to (faults.BodyTooLong is_head) = Refuse refusals.BodyTooLong is_head
+reaction_to faults.HeadTooLong = Refuse refusals.HeadTooLong false
+reaction_to (faults.TransferCoding is_head) = Refuse refusals.TransferCoding is_head
+reaction_to (faults.Expectation is_head) = Refuse refusals.Expectation is_head
+reaction_to faults.EndedEarly = StaySilent
+reaction_to faults.ReadFailed = StaySilent
+reaction_to faults.OutOfMemory = GiveUp
+reaction_to faults.TurnsExhausted = StaySilent
+

@@ -1,0 +1,88 @@
+-- Answers as responses.
+use Rattle.std.specs.Prelude.{ℕ, ◌<◌, ◌≤◌, Bool, true, false, List, [], ◌∷◌, Option, Some, None, if◌then◌else◌, ◌&&◌, nat_le, nat_lt, length, codes}
+use Rattle.std.specs.Fmt.{decimal}
+use Rattle.std.specs.List.{flat_map}
+use Rattle.scim_resource.specs.Contents.{content_kind}
+use Rattle.scim_resource.specs.Locations.{location_text}
+use Rattle.scim_message.specs.declared.messages.Answer.{Answer}
+use Rattle.scim_message.specs.declared.messages.Answer.TheVariants.{Created, Error}
+use Rattle.scim_message.specs.Messages.{answer_status}
+use Rattle.http_text.specs.Message.{NamedValue}
+use Rattle.http_text.specs.Response.{response_text}
+use Rattle.scim_message.specs.Bodies.{body_text}
+
+-- a field line, which is written where it has a value
+abbrev pub Line : Type 0
+Line = List ℕ × Option (List ℕ)
+
+abbrev pub line_with : List ℕ → Option (List ℕ) → List NamedValue
+line_with name None = []
+line_with name (Some value) = (name, value) ∷ []
+
+abbrev pub written_lines : List Line → List NamedValue
+written_lines lines = flat_map (λ (line : Line). line_with line.0 line.1) lines
+
+-- the URI of the one resource that an answer shows
+abbrev pub shown_location : List ℕ → Answer → Option (List ℕ)
+shown_location base (Created shown) = Some (location_text base (content_kind shown.content) shown.id)
+shown_location base (Error error) = None
+
+-- the entity tag of that resource, where it is known
+abbrev pub shown_tag : Answer → Option (List ℕ)
+shown_tag (Created shown) = shown.version
+shown_tag (Error error) = None
+
+-- whether that resource was created
+abbrev pub is_created : Answer → Bool
+is_created (Created shown) = true
+is_created (Error error) = false
+
+abbrev pub value_if : Bool → Option (List ℕ) → Option (List ℕ)
+value_if true value = value
+value_if false value = None
+
+-- the field lines of a response: the body's length, the URI and the tag of the resource that it shows, and whether it
+-- was created, which its URI tells once more
+abbrev pub lines_of : List ℕ → Option (List ℕ) → Option (List ℕ) → Bool → List Line
+lines_of length_ location tag created =
+    (codes "Connection", Some (codes "close"))
+    ∷ (codes "Content-Length", Some length_)
+    ∷ (codes "Content-Location", location)
+    ∷ (codes "Content-Type", Some (codes "application/scim+json"))
+    ∷ (codes "ETag", tag)
+    ∷ (codes "Location", value_if created location)
+    ∷ []
+
+abbrev pub answer_lines : List ℕ → Answer → List Line
+answer_lines base answer = lines_of (decimal (length (body_text base answer))) (shown_location base answer) (shown_tag answer) (is_created answer)
+
+-- the status code of an answer; a number that is none is written as 500
+abbrev pub written_status : Answer → ℕ
+written_status answer = if nat_le 100 (answer_status answer) && nat_lt (answer_status answer) 1000 then answer_status answer else 500
+
+abbrev pub unless_left_out : Bool → List ℕ → List ℕ
+unless_left_out true body = []
+unless_left_out false body = body
+
+-- The text of an answer. One to HEAD leaves the body out and keeps the head
+abbrev pub answer_text : List ℕ → (leaves_body_out : Bool) → Answer → List ℕ
+answer_text base leaves_body_out answer =
+    response_text (written_status answer) (written_lines (answer_lines base answer)) (unless_left_out leaves_body_out (body_text base answer))
+
+-- a response as it is sent
+pub record ReplyRecord : Type 0 where
+  pub status : ℕ
+  pub text : List ℕ
+
+abbrev pub reply_of : List ℕ → (leaves_body_out : Bool) → Answer → ReplyRecord
+reply_of base leaves_body_out answer = record { status = written_status answer; text = answer_text base leaves_body_out answer }
+
+-- The one text that stands for an answer where the store failed or memory was wanting
+unfoldable pub fixed_text : List ℕ
+fixed_text =
+    response_text 500
+    ((codes "Connection", codes "close") ∷ (codes "Content-Length", codes "129") ∷ (codes "Content-Type", codes "application/scim+json") ∷ [])
+    (codes "{\"detail\":\"the provider could not complete the request\",\"schemas\":[\"urn:ietf:params:scim:api:messages:2.0:Error\"],\"status\":\"500\"}")
+
+abbrev pub fixed_reply : ReplyRecord
+fixed_reply = record { status = 500; text = fixed_text }

@@ -1,0 +1,98 @@
+-- What one connection does: what is written, and what becomes of the rows.
+use Rattle.std.specs.Prelude.{◌≡◌, ℕ, ◌⊎◌, Bool, List, Result, Ok, Err, IfOk, IfErr, OnOk}
+use Rattle.std.specs.Io.KnownBytes.{Appends}
+use Rattle.scim_resource.specs.Rows.{StoredRecord}
+use Rattle.scim_message.specs.declared.messages.Answer.{Answer}
+use Rattle.scim_message.specs.declared.messages.Answer.TheVariants.{Error}
+use Rattle.scim_message.specs.declared.messages.Request.{Request}
+use Rattle.scim_message.specs.declared.refusals.Refusal.{Refusal}
+use Rattle.scim_message.specs.Refusals.{error_of}
+use Rattle.provider_core.specs.Outcomes.{outcome, changed_rows}
+use Rattle.http_text.specs.declared.fault.ReadFault.{ReadFault}
+use Rattle.http_text.specs.declared.fault.SendFault.{SendFault}
+use Rattle.http_text.specs.Counts.{Reading, Writing, count_up, CountsTurns}
+use Rattle.http_text.specs.Message.{Message}
+use Rattle.http_text.specs.Judging.{is_head}
+use Rattle.http_text.specs.Requests.{TakesMessage, TakesRefused, FindsMessage, FindsRefusedHead, FindsEnd, FindsLong, FindsMalformed, EndsReading}
+use Rattle.http_text.specs.Sending.{IsLost, EndsSending}
+use Rattle.scim_server.specs.declared.serving.Served.{Served}
+use Rattle.scim_server.specs.declared.serving.Served.TheVariants.{Answered, NoRequest, Lost}
+use Rattle.scim_server.specs.declared.reactions.Reaction.{Reaction}
+use Rattle.scim_server.specs.declared.reactions.Reaction.TheVariants.{Refuse, GiveUp, StaySilent}
+use Rattle.scim_server.specs.Meaning.{request_of}
+use Rattle.scim_server.specs.Reactions.{reaction_to}
+use Rattle.scim_server.specs.Replies.{ReplyRecord, reply_of, fixed_reply}
+
+-- the model's answer to a request, and its change of the rows, while the store is faithful
+pub record AnswersRequest (faithful : Type 0) (base : List ℕ) (old new : List StoredRecord) (leaves_body_out : Bool) (request : Request) (reply : ReplyRecord) : Type 0 where
+  pub answer : Answer
+  pub reply_is : reply ≡ reply_of base leaves_body_out answer
+  pub answer_is : faithful → answer ≡ (outcome old request).answer
+  pub rows : faithful → new ≡ changed_rows old (outcome old request).change
+
+-- the error message of a refusal
+abbrev pub refusal_reply : List ℕ → Bool → Refusal → ReplyRecord
+refusal_reply base leaves_body_out refusal = reply_of base leaves_body_out (Error (error_of refusal))
+
+-- that message, and the rows as they were
+pub record AnswersRefusal (base : List ℕ) (old new : List StoredRecord) (leaves_body_out : Bool) (refusal : Refusal) (reply : ReplyRecord) : Type 0 where
+  pub reply_is : reply ≡ refusal_reply base leaves_body_out refusal
+  pub rows : new ≡ old
+
+-- the fixed text, and the rows as they were
+pub record GivesUp (faithful : Type 0) (old new : List StoredRecord) (reply : ReplyRecord) : Type 0 where
+  pub reply_is : reply ≡ fixed_reply
+  pub rows : faithful → new ≡ old
+
+-- what a message means is answered so
+abbrev pub AnswersMeaning : (faithful : Type 0) → List ℕ → (old new : List StoredRecord) → Bool → Result Request Refusal → ReplyRecord → Type 0
+AnswersMeaning faithful base old new leaves_body_out (Ok request) reply = AnswersRequest faithful base old new leaves_body_out request reply
+AnswersMeaning faithful base old new leaves_body_out (Err refusal) reply = AnswersRefusal base old new leaves_body_out refusal reply
+
+-- a reply was written whole and flushed, or was lost as the writer's counts allow
+abbrev pub IsSent : Writing → Writing → ReplyRecord → Served → Type 0
+IsSent before after reply (Answered status) =
+    (status ≡ reply.status) × Appends before.contents after.contents reply.text
+    × (after.flushes ≡ count_up before.flushes 1) × (after.failures ≡ before.failures)
+IsSent before after reply (NoRequest fault) = ⊥
+IsSent before after reply (Lost status) =
+    (status ≡ reply.status) × ((fault : SendFault) × IsLost before after reply.text fault × EndsSending before after fault)
+
+-- a reply of this kind was sent
+abbrev pub Sends : Writing → Writing → (ReplyRecord → Type 0) → Served → Type 0
+Sends before after IsReply served = (reply : ReplyRecord) × IsReply reply × IsSent before after reply served
+
+-- nothing was written
+pub record IsSilent (before after : Writing) (fault : ReadFault) (served : Served) : Type 0 where
+  pub served_is : served ≡ NoRequest fault
+  pub written : after ≡ before
+
+-- the error message of a refusal, or the fixed text in its place
+abbrev pub AnswersFault : List ℕ → Bool → Refusal → ReplyRecord → Type 0
+AnswersFault base leaves_body_out refusal reply = (reply ≡ refusal_reply base leaves_body_out refusal) ⊎ (reply ≡ fixed_reply)
+
+-- the reaction to a fault of reading
+abbrev pub Reacts : List ℕ → (before after : Writing) → ReadFault → Reaction → Served → Type 0
+Reacts base before after fault (Refuse refusal leaves_body_out) served = Sends before after (AnswersFault base leaves_body_out refusal) served
+Reacts base before after fault GiveUp served = Sends before after (λ reply. reply ≡ fixed_reply) served
+Reacts base before after fault StaySilent served = IsSilent before after fault served
+
+-- What became of what was read: a message has its answer, or the fixed one where the store failed or memory was wanting;
+-- a fault has its reaction, and the rows are as they were
+abbrev pub Serves : (faithful : Type 0) → List ℕ → (old new : List StoredRecord) → (before after : Writing) → Result Message ReadFault → Served → Type 0
+Serves faithful base old new before after (Ok m) served =
+    Sends before after (λ reply. AnswersMeaning faithful base old new (is_head m.head) (request_of m) reply ⊎ GivesUp faithful old new reply) served
+Serves faithful base old new before after (Err fault) served = Reacts base before after fault (reaction_to fault) served × (new ≡ old)
+
+-- what was read, as the reader of requests tells it
+pub record HasRead (old new : Reading) (r : Result Message ReadFault) : Type 0 where
+  pub message : IfOk r (TakesMessage old.remaining new.remaining)
+  pub refused : IfErr r (TakesRefused old.remaining new.remaining)
+  pub found : FindsMessage old.remaining new.remaining r
+  pub refused_head : FindsRefusedHead old.remaining r
+  pub ended : FindsEnd old.remaining r
+  pub long : FindsLong old.remaining r
+  pub malformed : FindsMalformed old.remaining r
+  pub counts : CountsTurns old.calls new.calls
+  pub clean : OnOk r (new.failures ≡ old.failures)
+  pub fault : IfErr r (EndsReading old new)

@@ -1,0 +1,43 @@
+//! What a fault of reading leads to.
+ghost use Rattle.std.specs.Prelude.{◌≡◌};
+ghost use Rattle.scim_server.specs.Reactions as spec;
+
+use http_text::ReadFault;
+use scim_message::Refusal;
+
+/// What is done where no message was read.
+#[derive(Clone, Copy, Debug)]
+pub(crate) enum Reaction {
+    /// The refusal is answered; to HEAD its body is left out.
+    Refuse {
+        refusal: Refusal,
+        leaves_body_out: bool,
+    },
+    /// The fixed text is answered.
+    GiveUp,
+    /// Nothing is written.
+    StaySilent,
+}
+
+/// A malformed head and one that is too long are always answered whole.
+pub(crate) fn reaction_to(fault: ReadFault) -> Reaction
+    ensures { result ≡ spec.reaction_to fault }
+{
+    let (refusal, leaves_body_out) = match fault {
+        ReadFault::Malformed => (Refusal::Malformed, false),
+        ReadFault::HostMissingOrRepeated { is_head } => (Refusal::Host, is_head),
+        ReadFault::LengthMissing { is_head } => (Refusal::LengthMissing, is_head),
+        ReadFault::BodyTooLong { is_head } => (Refusal::BodyTooLong, is_head),
+        ReadFault::HeadTooLong => (Refusal::HeadTooLong, false),
+        ReadFault::TransferCoding { is_head } => (Refusal::TransferCoding, is_head),
+        ReadFault::Expectation { is_head } => (Refusal::Expectation, is_head),
+        ReadFault::OutOfMemory => return Reaction::GiveUp,
+        ReadFault::EndedEarly => return Reaction::StaySilent,
+        ReadFault::ReadFailed => return Reaction::StaySilent,
+        ReadFault::TurnsExhausted => return Reaction::StaySilent,
+    };
+    Reaction::Refuse {
+        refusal,
+        leaves_body_out,
+    }
+}

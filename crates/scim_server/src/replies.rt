@@ -1,0 +1,190 @@
+//! Answers as responses (RFC 7644 section 3.14, RFC 9110 section 15).
+ghost use Rattle.std.specs.Prelude.{◌≡◌, ◌++◌, map, false, IfOk, OnOk, string_bytes};
+ghost use Rattle.std.specs.Option.{option_map};
+ghost use Rattle.http_text.specs.Response.{named_value};
+ghost use Rattle.scim_server.specs.Replies as spec;
+
+use http_text::{FieldLine, StatusCode, write_response};
+use itoa::Buffer;
+use scim_key::Base;
+use scim_message::{Answer, body_of};
+use scim_resource::location;
+use std::alloc::{AllocError, Global};
+use std::marker::Model;
+
+/// A response as it is sent: its status code and its bytes.
+#[derive(Debug, Drop)]
+pub(crate) struct Reply {
+    status: u16,
+    text: Vec<u8>,
+}
+
+impl Model for Reply {
+    ghost use Rattle.scim_server.specs.Replies.{ReplyRecord};
+
+    ghost Value = { ReplyRecord };
+
+    ghost view = { λ r. record { status = r.status; text = r.text.items } };
+}
+
+impl Reply {
+    /// The response with an answer.
+    pub(crate) fn of(
+        alloc: Global,
+        answer: &Answer,
+        base: &Base,
+        leaves_body_out: bool,
+    ) -> Result<Reply, AllocError>
+        ensures { IfOk result (λ reply. reply ≡ spec.reply_of base.now leaves_body_out answer.now) }
+    {
+        Ok(Reply {
+            status: status_of(answer).as_u16(),
+            text: text_of(alloc, answer, base, leaves_body_out)?,
+        })
+    }
+
+    /// Its status code.
+    pub(crate) fn status(&self) -> u16
+        ensures { result ≡ self.now.status }
+    {
+        self.status
+    }
+
+    /// Its bytes.
+    pub(crate) fn text(&self) -> &[u8]
+        ensures { result.now ≡ self.now.text }
+    {
+        &self.text
+    }
+}
+
+/// The bytes of the response with an answer.
+pub fn response_of(alloc: Global, answer: &Answer, base: &Base) -> Result<Vec<u8>, AllocError>
+    ensures { IfOk result (λ text. text.items ≡ spec.answer_text base.now false answer.now) }
+{
+    text_of(alloc, answer, base, false)
+}
+
+/// The one response that stands for an answer where the store failed or memory was wanting.
+#[tactic(auto, unfolding(crate::specs::Replies::fixed_text))]
+pub(crate) fn fixed_response() -> &'static [u8]
+    ensures { result.now ≡ spec.fixed_text }
+{
+    b"HTTP/1.1 500 Internal Server Error\r\nConnection: close\r\nContent-Length: 129\r\nContent-Type: application/scim+json\r\n\r\n{\"detail\":\"the provider could not complete the request\",\"schemas\":[\"urn:ietf:params:scim:api:messages:2.0:Error\"],\"status\":\"500\"}"
+}
+
+fn status_of(answer: &Answer) -> StatusCode
+    ensures { result ≡ spec.written_status answer.now }
+{
+    match StatusCode::from_u16(answer.status()) {
+        Ok(status) => status,
+        Err(_) => StatusCode::INTERNAL_SERVER_ERROR,
+    }
+}
+
+fn text_of(
+    alloc: Global,
+    answer: &Answer,
+    base: &Base,
+    leaves_body_out: bool,
+) -> Result<Vec<u8>, AllocError>
+    ensures { IfOk result
+        (λ text. text.items ≡ spec.answer_text base.now leaves_body_out answer.now) }
+{
+    let body = body_of(alloc, answer, base)?;
+    let location = location_of(alloc, answer, base)?;
+    let mut buffer = Buffer::new();
+    let length = buffer.format(body.len());
+    let fields = fields_of(
+        alloc,
+        length.as_bytes(),
+        bytes_of(&location),
+        tag_of(answer),
+        is_created(answer),
+    )?;
+    let sent = unless_left_out(leaves_body_out, &body);
+    write_response(alloc, status_of(answer), &fields, sent)
+}
+
+/// The field lines of a response.
+fn fields_of<'a>(
+    alloc: Global,
+    length: &'a [u8],
+    location: Option<&'a [u8]>,
+    tag: Option<&'a [u8]>,
+    created: bool,
+) -> Result<Vec<FieldLine<'a>>, AllocError>
+    ensures { IfOk result (λ fields. map named_value fields.items
+        ≡ spec.written_lines (spec.lines_of length.now (option_map (λ t. t.now) location.entry)
+            (option_map (λ t. t.now) tag.entry) created)) }
+{
+    let mut fields = Vec::new(alloc);
+    push_line(&mut fields, "Connection", Some(b"close"))?;
+    push_line(&mut fields, "Content-Length", Some(length))?;
+    push_line(&mut fields, "Content-Location", location)?;
+    push_line(&mut fields, "Content-Type", Some(b"application/scim+json"))?;
+    push_line(&mut fields, "ETag", tag)?;
+    push_line(&mut fields, "Location", if created { location } else { None })?;
+    Ok(fields)
+}
+
+/// Adds a field line where it has a value.
+fn push_line<'a>(
+    fields: &mut Vec<FieldLine<'a>>,
+    name: &'a str,
+    value: Option<&'a [u8]>,
+) -> Result<(), AllocError>
+    ensures { OnOk result (map named_value fields.new.items ≡ map named_value fields.old.items
+        ++ spec.line_with name.now (option_map (λ t. t.now) value.entry)) }
+{
+    if let Some(value) = value {
+        fields.push(FieldLine { name, value })?;
+    }
+    Ok(())
+}
+
+/// The URI of the one resource that an answer shows.
+fn location_of(alloc: Global, answer: &Answer, base: &Base) -> Result<Option<String>, AllocError>
+    ensures { IfOk result
+        (λ text. option_map string_bytes text ≡ spec.shown_location base.now answer.now) }
+{
+    match answer {
+        Answer::Created(shown) => Ok(Some(location(alloc, base, shown.content().kind(), shown.id())?)),
+        Answer::Error(_) => Ok(None),
+    }
+}
+
+fn bytes_of(text: &Option<String>) -> Option<&[u8]>
+    ensures { option_map (λ t. t.now) result ≡ option_map string_bytes text.now }
+{
+    match text {
+        Some(text) => Some(text.as_bytes()),
+        None => None,
+    }
+}
+
+/// The entity tag of that resource, where it is known.
+fn tag_of(answer: &Answer) -> Option<&[u8]>
+    ensures { option_map (λ t. t.now) result ≡ spec.shown_tag answer.now }
+{
+    match answer {
+        Answer::Created(shown) => match shown.version() {
+            Some(tag) => Some(tag.text()),
+            None => None,
+        },
+        Answer::Error(_) => None,
+    }
+}
+
+/// Whether that resource was created.
+fn is_created(answer: &Answer) -> bool
+    ensures { result ≡ spec.is_created answer.now }
+{
+    matches!(answer, Answer::Created(_))
+}
+
+fn unless_left_out(leaves_body_out: bool, body: &[u8]) -> &[u8]
+    ensures { result.now ≡ spec.unless_left_out leaves_body_out body.now }
+{
+    if leaves_body_out { &[] } else { body }
+}

@@ -1,0 +1,206 @@
+//! One connection.
+ghost use Rattle.std.specs.Prelude.{◌≡◌, ◌≤◌, ◌+◌, Result, IfOk, IfErr, OnErr};
+ghost use Rattle.scim_server.specs.Reactions.{reaction_to};
+ghost use Rattle.http_text.specs.Counts.{CountsTurns};
+ghost use Rattle.http_text.specs.Judging as judging;
+ghost use Rattle.http_text.specs.Message.{Message};
+ghost use Rattle.http_text.specs.declared.fault.ReadFault.{ReadFault};
+ghost use Rattle.provider_core.specs.Stores.{IsQuiet, IsExcusedProvider};
+ghost use Rattle.scim_server.specs.Meaning.{request_of};
+ghost use Rattle.scim_server.specs.Replies.{fixed_reply};
+ghost use Rattle.scim_server.specs.Serving as spec;
+ghost use Rattle.scim_server.specs.Known as known;
+
+use crate::reactions::{Reaction, reaction_to};
+use crate::replies::{Reply, fixed_response};
+use crate::requests::{MeaningFault, meaning};
+use http_text::{Incoming, Input, Output, ReadFault, read_request, send};
+use provider_core::{Answer, ErrorResponse, Provider, ProviderFault, Registry, Request};
+use scim_key::Base;
+use scim_message::Refusal;
+use std::alloc::{AllocError, Global};
+use std::io::{Read, Write};
+
+/// What became of one connection.
+#[derive(Clone, Copy, Debug, PartialEq, Eq)]
+pub enum Served {
+    /// A response with this status code was written whole.
+    Answered { status: u16 },
+    /// No request came, and nothing was written.
+    NoRequest(ReadFault),
+    /// A response with this status code couldn't be written whole, or the flush after it failed.
+    Lost { status: u16 },
+}
+
+/// Reads one request, answers it and makes its change. What follows the request stays unread. The
+/// bytes of the answer are formed before the change is made and sent after it. Where the store
+/// fails or memory is wanting, one fixed response is sent, which takes no memory, and the rows
+/// stay as they were.
+pub fn serve<R: Registry, I: Read, O: Write>(
+    alloc: Global,
+    provider: &mut Provider<R>,
+    base: &Base,
+    reader: &mut Input<I>,
+    writer: &mut Output<O>,
+) -> Served
+    // What was read, and what became of it.
+    ensures served { (r : Result Message ReadFault) × spec.HasRead reader.old reader.new r
+        × spec.Serves (R.is_faithful provider.new) base.now (R.rows provider.old) (R.rows provider.new) writer.old writer.new r result }
+
+    // The same, from what stands at the reader's front.
+    ensures message { known.AnswersMessage (R.is_faithful provider.new) base.now (R.rows provider.old) (R.rows provider.new) writer.old writer.new result
+        reader.old.remaining reader.new.remaining }
+    ensures refused_head { known.RefusesHead (R.is_faithful provider.new) base.now (R.rows provider.old) (R.rows provider.new) writer.old writer.new result
+        reader.old.remaining }
+    ensures long { known.RefusesLong (R.is_faithful provider.new) base.now (R.rows provider.old) (R.rows provider.new) writer.old writer.new result
+        reader.old.remaining }
+    ensures part { known.LeavesPart (R.is_faithful provider.new) base.now (R.rows provider.old) (R.rows provider.new) writer.old writer.new result
+        reader.old.remaining }
+    ensures malformed { known.RefusesMalformed (R.is_faithful provider.new) base.now (R.rows provider.old) (R.rows provider.new) writer.old writer.new result
+        reader.old.remaining }
+
+    // What the store and the writer count.
+    ensures quiet { IsQuiet R.is_faithful R.faults provider.old provider.new }
+    ensures writes { R.writes provider.new ≤ R.writes provider.old + 1 }
+    ensures turns { CountsTurns writer.old.calls writer.new.calls }
+{
+    match read_request(alloc, reader) {
+        Ok(incoming) => serve_message(alloc, provider, base, &incoming, writer),
+        Err(fault) => serve_fault(alloc, base, fault, writer),
+    }
+}
+
+/// Answers a message.
+fn serve_message<R: Registry, O: Write>(
+    alloc: Global,
+    provider: &mut Provider<R>,
+    base: &Base,
+    incoming: &Incoming,
+    writer: &mut Output<O>,
+) -> Served
+    ensures served { spec.Serves (R.is_faithful provider.new) base.now (R.rows provider.old) (R.rows provider.new) writer.old writer.new (Ok incoming.now) result }
+    ensures quiet { IsQuiet R.is_faithful R.faults provider.old provider.new }
+    ensures writes { R.writes provider.new ≤ R.writes provider.old + 1 }
+    ensures turns { CountsTurns writer.old.calls writer.new.calls }
+{
+    match reply_to(alloc, provider, base, incoming) {
+        Ok(reply) => sent(writer, reply.status(), reply.text()),
+        Err(_) => send_fixed(writer),
+    }
+}
+
+/// Answers a fault of reading, or stays silent.
+fn serve_fault<O: Write>(
+    alloc: Global,
+    base: &Base,
+    fault: ReadFault,
+    writer: &mut Output<O>,
+) -> Served
+    ensures served { spec.Reacts base.now writer.old writer.new fault (reaction_to fault) result }
+    ensures turns { CountsTurns writer.old.calls writer.new.calls }
+{
+    match reaction_to(fault) {
+        Reaction::Refuse {
+            refusal,
+            leaves_body_out,
+        } => refuse(alloc, base, refusal, leaves_body_out, writer),
+        Reaction::GiveUp => send_fixed(writer),
+        Reaction::StaySilent => Served::NoRequest(fault),
+    }
+}
+
+/// Answers a refusal.
+fn refuse<O: Write>(
+    alloc: Global,
+    base: &Base,
+    refusal: Refusal,
+    leaves_body_out: bool,
+    writer: &mut Output<O>,
+) -> Served
+    ensures sent { spec.Sends writer.old writer.new (spec.AnswersFault base.now leaves_body_out refusal) result }
+    ensures turns { CountsTurns writer.old.calls writer.new.calls }
+{
+    match refusal_reply(alloc, base, refusal, leaves_body_out) {
+        Ok(reply) => sent(writer, reply.status(), reply.text()),
+        Err(_) => send_fixed(writer),
+    }
+}
+
+/// The response to a message, whose change is made.
+fn reply_to<R: Registry>(
+    alloc: Global,
+    provider: &mut Provider<R>,
+    base: &Base,
+    incoming: &Incoming,
+) -> Result<Reply, ProviderFault>
+    ensures reply { IfOk result (spec.AnswersMeaning (R.is_faithful provider.new) base.now (R.rows provider.old) (R.rows provider.new) (judging.is_head incoming.now.head) (request_of incoming.now)) }
+    ensures same { R.is_faithful provider.new → OnErr result (R.rows provider.new ≡ R.rows provider.old) }
+    ensures quiet { IsQuiet R.is_faithful R.faults provider.old provider.new }
+    ensures writes { R.writes provider.new ≤ R.writes provider.old + 1 }
+    ensures cause { IfErr result (IsExcusedProvider (R.faults provider.old) (R.faults provider.new)) }
+{
+    let leaves_body_out = is_head(incoming);
+    match meaning(alloc, incoming) {
+        Ok(request) => carry_out(alloc, provider, base, &request, leaves_body_out),
+        Err(MeaningFault::Refused(refusal)) => Ok(refusal_reply(alloc, base, refusal, leaves_body_out)?),
+        Err(MeaningFault::OutOfMemory) => Err(ProviderFault::Memory),
+    }
+}
+
+fn is_head(incoming: &Incoming) -> bool
+    ensures { result ≡ judging.is_head incoming.now.head }
+{
+    incoming.method() == b"HEAD".as_slice()
+}
+
+/// Makes the change of a request, and gives its response, which is formed before.
+fn carry_out<R: Registry>(
+    alloc: Global,
+    provider: &mut Provider<R>,
+    base: &Base,
+    request: &Request,
+    leaves_body_out: bool,
+) -> Result<Reply, ProviderFault>
+    ensures reply { IfOk result (spec.AnswersRequest (R.is_faithful provider.new) base.now (R.rows provider.old) (R.rows provider.new) leaves_body_out request.now) }
+    ensures same { R.is_faithful provider.new → OnErr result (R.rows provider.new ≡ R.rows provider.old) }
+    ensures quiet { IsQuiet R.is_faithful R.faults provider.old provider.new }
+    ensures writes { R.writes provider.new ≤ R.writes provider.old + 1 }
+    ensures cause { IfErr result (IsExcusedProvider (R.faults provider.old) (R.faults provider.new)) }
+{
+    let pending = provider.prepare(alloc, request)?;
+    let reply = Reply::of(alloc, pending.answer(), base, leaves_body_out)?;
+    provider.commit(pending)?;
+    Ok(reply)
+}
+
+/// The response to a refusal.
+fn refusal_reply(
+    alloc: Global,
+    base: &Base,
+    refusal: Refusal,
+    leaves_body_out: bool,
+) -> Result<Reply, AllocError>
+    ensures { IfOk result (λ reply. reply ≡ spec.refusal_reply base.now leaves_body_out refusal) }
+{
+    let answer = Answer::Error(ErrorResponse::of(alloc, refusal)?);
+    Reply::of(alloc, &answer, base, leaves_body_out)
+}
+
+/// Sends a response.
+fn sent<O: Write>(writer: &mut Output<O>, status: u16, text: &[u8]) -> Served
+    ensures sent { spec.IsSent writer.old writer.new (record { status = status; text = text.now }) result }
+    ensures turns { CountsTurns writer.old.calls writer.new.calls }
+{
+    match send(writer, text) {
+        Ok(()) => Served::Answered { status },
+        Err(_) => Served::Lost { status },
+    }
+}
+
+/// Sends the response that stands for every other where the store failed or memory was wanting.
+fn send_fixed<O: Write>(writer: &mut Output<O>) -> Served
+    ensures sent { spec.IsSent writer.old writer.new fixed_reply result }
+    ensures turns { CountsTurns writer.old.calls writer.new.calls }
+{
+    sent(writer, 500, fixed_response())
+}

@@ -1,0 +1,84 @@
+//! The command line.
+use crate::status::{Status, memory_fault};
+use clap::error::ErrorKind;
+use clap::{Arg, ArgMatches, Command, Error};
+use scim_key::{Base, NameFault};
+use std::alloc::{AllocError, Global};
+use std::env;
+use std::rt::Runtime;
+
+/// What the command line asks for.
+#[derive(Debug, Drop)]
+pub enum Choice {
+    /// One request from standard input is answered on standard output.
+    Answer { base: Base },
+}
+
+/// The words of the command line. A word that isn't UTF-8 is no lawful one.
+pub fn words<R: Runtime + AllocGlobal>(rt: &R) -> Result<Vec<String>, Status> {
+    let words = match env::args(rt) {
+        Ok(words) => words,
+        Err(_) => return Err(usage(rt, "the command line isn't UTF-8")),
+    };
+    words.collect(rt.alloc()).map_err(|_| memory_fault(rt))
+}
+
+/// What these words ask for, or how the program ends where they ask for nothing that it does.
+pub fn choose<R: Runtime + AllocGlobal>(rt: &R, words: &[String]) -> Result<Choice, Status> {
+    let command = command(rt.alloc()).map_err(|_| memory_fault(rt))?;
+    match command.try_get_matches_from(words) {
+        Ok(matches) => chosen(rt, &matches),
+        Err(error) => Err(refused(rt, error)),
+    }
+}
+
+fn command<'a>(alloc: Global) -> Result<Command<'a>, AllocError> {
+    let base = Arg::new(alloc, "base")
+        .long("base")
+        .value_name("URL")
+        .help("the base of the service: http://HOST/v2")
+        .default_value("http://localhost:8080/v2");
+    let answer = Command::new(alloc, "answer")
+        .about("answers one HTTP request from standard input on standard output")
+        .arg(base)?;
+    Command::new(alloc, "scimlink")
+        .version("0.1.0")
+        .about("SCIM 2.0 provisioning, proved")
+        .subcommand_required(true)
+        .subcommand(answer)
+}
+
+fn chosen<R: Runtime + AllocGlobal>(rt: &R, matches: &ArgMatches<'_>) -> Result<Choice, Status> {
+    match matches.subcommand() {
+        Some(("answer", answer)) => Ok(Choice::Answer {
+            base: base(rt, answer)?,
+        }),
+        _ => Err(usage(rt, "there is no such subcommand")),
+    }
+}
+
+fn base<R: Runtime + AllocGlobal>(rt: &R, matches: &ArgMatches<'_>) -> Result<Base, Status> {
+    let text = matches.get_str("base").unwrap_or("");
+    Base::read(rt.alloc(), text).map_err(|fault| match fault {
+        NameFault::Memory => memory_fault(rt),
+        _ => usage(rt, "--base is http://HOST/v2"),
+    })
+}
+
+/// Prints what clap has to say: help and version are no fault.
+fn refused(rt: &impl Runtime, error: Error) -> Status {
+    if error.kind() == ErrorKind::OutOfMemory {
+        return memory_fault(rt);
+    }
+    let printed = error.print(rt);
+    match (error.exit_code(), printed) {
+        (0, Ok(())) => Status::Done,
+        (0, Err(_)) => Status::Fault,
+        _ => Status::Usage,
+    }
+}
+
+fn usage(rt: &impl Eprint, why: &str) -> Status {
+    let _ = eprintln!(rt; "error: {why}");
+    Status::Usage
+}

@@ -1,0 +1,35 @@
+//! How a run ends.
+
+/// The exit status of the program.
+#[derive(Clone, Copy, Debug, PartialEq, Eq)]
+pub enum Status {
+    /// All is done.
+    Done,
+    /// The command line isn't lawful.
+    Usage,
+    /// A store, a file, a connection or memory failed.
+    Fault,
+}
+
+impl Status {
+    /// The number that the program ends with.
+    pub fn code(self) -> u8 {
+        match self {
+            Status::Done => 0,
+            Status::Usage => 2,
+            Status::Fault => 3,
+        }
+    }
+}
+
+/// Says on standard error that memory was wanting.
+pub fn memory_fault(rt: &impl Eprint) -> Status {
+    let _ = eprintln!(rt; "memory fault");
+    Status::Fault
+}
+
+/// Says on standard error that a connection failed.
+pub fn connection_fault(rt: &impl Eprint) -> Status {
+    let _ = eprintln!(rt; "connection fault");
+    Status::Fault
+}
