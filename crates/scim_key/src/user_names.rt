@@ -94,4 +94,3 @@ impl UserName {
         have_same_key(self.text.as_str(), other.text.as_str())
     }
 }
-
