@@ -1,0 +1,7 @@
+pub mod Consumed
+pub mod Cuts
+pub mod Grammatical
+pub mod Lexical
+pub mod Progress
+pub mod Quotes
+pub mod Stepwise

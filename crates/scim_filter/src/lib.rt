@@ -1,0 +1,12 @@
+//! Filters (RFC 7644 section 3.4.2.2): what they are, how a text spells them, and what they mean.
+#![tactic(auto)]
+
+mod filters;
+mod laws;
+mod reader;
+mod terms;
+mod tokens;
+mod words;
+
+pub use filters::{Filter, FilterFault};
+pub use laws::one_filter;

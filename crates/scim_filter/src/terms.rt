@@ -1,0 +1,99 @@
+//! Attributes, operators and tests: what stands between the connectives of a filter.
+ghost use Rattle.std.specs.Prelude.{◌≡◌, IfOk, string_bytes};
+
+use std::alloc::AllocError;
+use std::marker::Model;
+
+/// An attribute whose values are texts.
+#[derive(Clone, Copy, Debug, PartialEq, Eq)]
+pub enum TextAttribute {
+    UserName,
+    DisplayName,
+    GivenName,
+    FamilyName,
+    EmailValue,
+    EmailType,
+    Member,
+    Id,
+    ExternalId,
+    Version,
+}
+
+/// An attribute whose values are booleans.
+#[derive(Clone, Copy, Debug, PartialEq, Eq)]
+pub enum FlagAttribute {
+    Active,
+    EmailPrimary,
+}
+
+/// An attribute that a filter may name.
+#[derive(Clone, Copy, Debug, PartialEq, Eq)]
+pub enum Attribute {
+    OfText(TextAttribute),
+    OfFlag(FlagAttribute),
+}
+
+/// How a text is compared: `eq`, `ne`, `co`, `sw` or `ew`.
+#[derive(Clone, Copy, Debug, PartialEq, Eq)]
+pub enum TextOperator {
+    Equal,
+    NotEqual,
+    Contains,
+    StartsWith,
+    EndsWith,
+}
+
+/// How a boolean is compared: `eq` or `ne`.
+#[derive(Clone, Copy, Debug, PartialEq, Eq)]
+pub enum FlagOperator {
+    Is,
+    IsNot,
+}
+
+/// A text that a filter compares with. Any text may be one, also the empty one.
+#[derive(Debug, Drop)]
+pub struct FilterText {
+    text: String,
+}
+
+impl Model for FilterText {
+    ghost use Rattle.std.specs.Prelude.{List, ℕ, string_bytes};
+
+    ghost Value = { List ℕ };
+
+    ghost view = { λ t. string_bytes t.text };
+}
+
+impl FilterText {
+    /// A text as it stands.
+    pub fn from_string(text: String) -> FilterText
+        ensures { result ≡ string_bytes text }
+    {
+        FilterText { text }
+    }
+
+    /// The text.
+    pub fn as_str(&self) -> &str
+        ensures { result.now ≡ self.now }
+    {
+        self.text.as_str()
+    }
+}
+
+impl Clone for FilterText {
+    ghost is_clone = { λ a b. b ≡ a };
+
+    fn clone(&self) -> Result<FilterText, AllocError> {
+        Ok(FilterText {
+            text: self.text.clone()?,
+        })
+    }
+}
+
+/// One test of a filter, on one attribute.
+#[derive(Debug, Drop)]
+pub enum Test {
+    Present(Attribute),
+    Text(TextAttribute, TextOperator, FilterText),
+    Flag(FlagAttribute, FlagOperator, bool),
+}
