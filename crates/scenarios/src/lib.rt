@@ -13,3 +13,5 @@ mod registries;
 mod streams;
 #[cfg(test)]
 mod support;
+#[cfg(test)]
+mod tags;

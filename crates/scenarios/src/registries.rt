@@ -1,5 +1,6 @@
 //! Registries of which a test knows what they answer.
-ghost use Rattle.std.specs.Prelude.{[]};
+ghost use Rattle.std.specs.Prelude.{[], ◌≤◌, IsErrOf};
+ghost use Rattle.provider_core.specs.Stores.{HasRisen};
 
 use provider_core::{Registry, RegistryFault};
 use scim_key::{RecordName, ResourceId};
@@ -50,7 +51,11 @@ pub struct FaultyRegistry {
 }
 
 impl FaultyRegistry {
-    fn fails<X>(&mut self) -> Result<X, RegistryFault> {
+    fn fails<X>(&mut self) -> Result<X, RegistryFault>
+        ensures store { IsErrOf result RegistryFault.Store }
+        ensures counted { HasRisen self.old.faults self.new.faults }
+        ensures kept { self.old.faults ≤ self.new.faults }
+    {
         self.faults = self.faults.saturating_add(1);
         Err(RegistryFault::Store)
     }

@@ -19,4 +19,3 @@ reaction_to faults.EndedEarly = StaySilent
 reaction_to faults.ReadFailed = StaySilent
 reaction_to faults.OutOfMemory = GiveUp
 reaction_to faults.TurnsExhausted = StaySilent
-

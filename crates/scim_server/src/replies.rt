@@ -116,7 +116,7 @@ fn fields_of<'a>(
 ) -> Result<Vec<FieldLine<'a>>, AllocError>
     ensures { IfOk result (λ fields. map named_value fields.items
         ≡ spec.written_lines (spec.lines_of length.now (option_map (λ t. t.now) location.entry)
-            (option_map (λ t. t.now) tag.entry) created)) }
+        (option_map (λ t. t.now) tag.entry) created)) }
 {
     let mut fields = Vec::new(alloc);
     push_line(&mut fields, "Connection", Some(b"close"))?;
@@ -124,7 +124,11 @@ fn fields_of<'a>(
     push_line(&mut fields, "Content-Location", location)?;
     push_line(&mut fields, "Content-Type", Some(b"application/scim+json"))?;
     push_line(&mut fields, "ETag", tag)?;
-    push_line(&mut fields, "Location", if created { location } else { None })?;
+    push_line(
+        &mut fields,
+        "Location",
+        if created { location } else { None },
+    )?;
     Ok(fields)
 }
 
@@ -149,7 +153,12 @@ fn location_of(alloc: Global, answer: &Answer, base: &Base) -> Result<Option<Str
         (λ text. option_map string_bytes text ≡ spec.shown_location base.now answer.now) }
 {
     match answer {
-        Answer::Created(shown) => Ok(Some(location(alloc, base, shown.content().kind(), shown.id())?)),
+        Answer::Created(shown) => Ok(Some(location(
+            alloc,
+            base,
+            shown.content().kind(),
+            shown.id(),
+        )?)),
         Answer::Error(_) => Ok(None),
     }
 }

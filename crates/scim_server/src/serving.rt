@@ -142,7 +142,12 @@ fn reply_to<R: Registry>(
     let leaves_body_out = is_head(incoming);
     match meaning(alloc, incoming) {
         Ok(request) => carry_out(alloc, provider, base, &request, leaves_body_out),
-        Err(MeaningFault::Refused(refusal)) => Ok(refusal_reply(alloc, base, refusal, leaves_body_out)?),
+        Err(MeaningFault::Refused(refusal)) => Ok(refusal_reply(
+            alloc,
+            base,
+            refusal,
+            leaves_body_out,
+        )?),
         Err(MeaningFault::OutOfMemory) => Err(ProviderFault::Memory),
     }
 }

@@ -1,4 +1,6 @@
 //! How a run ends.
+ghost use Rattle.std.specs.Prelude.{◌≡◌};
+ghost use Rattle.scimlink.specs.Statuses.{status_code};
 
 /// The exit status of the program.
 #[derive(Clone, Copy, Debug, PartialEq, Eq)]
@@ -13,7 +15,9 @@ pub enum Status {
 
 impl Status {
     /// The number that the program ends with.
-    pub fn code(self) -> u8 {
+    pub fn code(self) -> u8
+        ensures { result ≡ status_code self }
+    {
         match self {
             Status::Done => 0,
             Status::Usage => 2,
@@ -23,13 +27,17 @@ impl Status {
 }
 
 /// Says on standard error that memory was wanting.
-pub fn memory_fault(rt: &impl Eprint) -> Status {
+pub fn memory_fault(rt: &impl Eprint) -> Status
+    ensures { result ≡ Status.Fault }
+{
     let _ = eprintln!(rt; "memory fault");
     Status::Fault
 }
 
 /// Says on standard error that a connection failed.
-pub fn connection_fault(rt: &impl Eprint) -> Status {
+pub fn connection_fault(rt: &impl Eprint) -> Status
+    ensures { result ≡ Status.Fault }
+{
     let _ = eprintln!(rt; "connection fault");
     Status::Fault
 }
