@@ -10,7 +10,7 @@ use Rattle.std.specs.Str.{is_utf8}
 use Rattle.std.specs.Str.Parse.{ParsesUnsigned, digits_value}
 use Rattle.csv.specs.Records.{AllText, field_at}
 use Rattle.scim_key.specs.Outcome.{◌>>=◌}
-use Rattle.source_csv.specs.Fields.{Record, field, is_numeral, read_texts, read_user, read_user_fields}
+use Rattle.source_csv.specs.Fields.{Record, field, is_numeral, read_group, read_group_fields, read_texts, read_user, read_user_fields}
 use Rattle.source_csv.specs.declared.faults.RowCode.{RowCode}
 use Rattle.source_csv.specs.declared.faults.RowCode.TheVariants as code
 
@@ -38,7 +38,7 @@ read_texts-bytes fields bytes =
     rw e
 
 -- what is read as text is the record itself
-pub read_texts-same : (fields texts : Record) → read_texts fields ≡ Ok texts → texts ≡ fields
+read_texts-same : (fields texts : Record) → read_texts fields ≡ Ok texts → texts ≡ fields
 unfolding read_texts
 read_texts-same fields texts e = by (list_all is_utf8 fields) e
   where
@@ -47,7 +47,7 @@ read_texts-same fields texts e = by (list_all is_utf8 fields) e
     by false e = cc
 
 -- a record of seven fields
-pub read_user-seven : (fields : Record) → length fields ≡ 7
+read_user-seven : (fields : Record) → length fields ≡ 7
     → read_user fields ≡ (read_texts fields >>= λ texts. read_user_fields (field fields 0) (field fields 1) (field fields 2) (field fields 3) (field fields 4) (field fields 5) (field fields 6))
 unfolding read_user field_at
 read_user-seven (a ∷ b ∷ c ∷ d ∷ e ∷ f ∷ g ∷ []) seven = refl
@@ -65,6 +65,25 @@ pub read_user-other : (fields : Record) → (length fields ≡ 7 → ⊥) → re
 unfolding read_user
 read_user-other (a ∷ b ∷ c ∷ d ∷ e ∷ f ∷ g ∷ []) other = absurd (other refl)
 read_user-other fields other = refl
+
+-- the same of a record of three
+read_group-three : (fields : Record) → length fields ≡ 3
+    → read_group fields ≡ (read_texts fields >>= λ texts. read_group_fields (field fields 0) (field fields 1) (field fields 2))
+unfolding read_group field_at
+read_group-three (a ∷ b ∷ c ∷ []) three = refl
+read_group-three fields three = absurd (omega arith)
+
+pub read_group-texts : (fields texts : Record) → length fields ≡ 3 → read_texts fields ≡ Ok texts
+    → read_group fields ≡ read_group_fields (field texts 0) (field texts 1) (field texts 2)
+read_group-texts fields texts three e = rw (read_texts-same fields texts e) (read_group-three fields three ∙ rw e refl)
+
+pub read_group-bytes : (fields : Record) (c : RowCode) → length fields ≡ 3 → read_texts fields ≡ Err c → read_group fields ≡ Err c
+read_group-bytes fields c three e = read_group-three fields three ∙ rw e refl
+
+pub read_group-other : (fields : Record) → (length fields ≡ 3 → ⊥) → read_group fields ≡ Err code.FieldCount
+unfolding read_group
+read_group-other (a ∷ b ∷ c ∷ []) other = absurd (other refl)
+read_group-other fields other = refl
 
 -- 18 digits fit 64 bits
 numerals : IsNumeralModel (λ text. list_all is_ascii_digit text ≡ true) (digits_value 10)

@@ -1,3 +1,5 @@
 pub mod FieldLemmas
 pub mod FileLemmas
 pub mod RowLemmas
+pub mod Order
+pub mod MemberLemmas

@@ -1,14 +1,14 @@
 -- What the fields of a record say, and what a record is as a row: the first refusal that stands in it decides.
-use Rattle.std.specs.Prelude.{◌≡◌, ℕ, Bool, true, false, List, [], ◌∷◌, Result, Ok, Err, ◌&&◌, if◌then◌else◌, nat_le, length, codes, is_none, unwrap_or}
-use Rattle.std.specs.List.{list_all}
+use Rattle.std.specs.Prelude.{◌≡◌, ℕ, Bool, true, false, List, [], ◌∷◌, Result, Ok, Err, ◌&&◌, if◌then◌else◌, ◌||◌, ◌==◌, nat_le, nat_lt, length, map, codes, is_none, unwrap_or}
+use Rattle.std.specs.List.{list_all, list_any, slice_split}
 use Rattle.std.specs.Char.{is_ascii_digit}
 use Rattle.std.specs.Str.{bytes_eq, is_utf8}
 use Rattle.std.specs.Str.Parse.{digits_value}
 use Rattle.csv.specs.Records.{field_at}
-use Rattle.scim_key.specs.Names.{user_name_fault}
+use Rattle.scim_key.specs.Names.{group_name_fault, key_of, user_name_fault}
 use Rattle.scim_key.specs.Outcome.{◌>>=◌}
 use Rattle.scim_key.specs.Revisions.{RevisionValue, is_revision}
-use Rattle.source_csv.specs.Rows.{UserFields, value_limit}
+use Rattle.source_csv.specs.Rows.{GroupFields, UserFields, member_limit, precedes, value_limit}
 use Rattle.source_csv.specs.declared.faults.RowCode.{RowCode}
 use Rattle.source_csv.specs.declared.faults.RowCode.TheVariants as code
 use Rattle.source_csv.specs.declared.faults.Refusal.{Refusal}
@@ -60,6 +60,66 @@ read_user (login ∷ revision ∷ number ∷ given ∷ family ∷ mail ∷ statu
   texts ← read_texts (login ∷ revision ∷ number ∷ given ∷ family ∷ mail ∷ status ∷ [])
   read_user_fields login revision number given family mail status
 read_user fields = Err code.FieldCount
+
+-- S4: the name of a group
+unfoldable pub read_group_name : List ℕ → Result (List ℕ) RowCode
+read_group_name text = if is_none (group_name_fault text) then Ok text else Err code.Name
+
+-- the members' names: what stands between the spaces. An empty text has none
+abbrev pub pieces : List ℕ → List (List ℕ)
+pieces [] = []
+pieces (b ∷ text) = slice_split (λ c. c == 32) (b ∷ text)
+
+abbrev pub is_login : List ℕ → Bool
+is_login text = is_none (user_name_fault text)
+
+-- the key of a member
+unfoldable pub read_member : List ℕ → Result (List ℕ) RowCode
+read_member text = do
+  name ← read_login text
+  Ok (key_of name)
+
+-- S4: each member is a `userName`; it is known by its key
+unfoldable pub read_members : List ℕ → Result (List (List ℕ)) RowCode
+read_members text = if list_all is_login (pieces text) then Ok (map key_of (pieces text)) else Err code.Name
+
+-- a key among keys that are in byte order
+abbrev pub put : List ℕ → List (List ℕ) → List (List ℕ)
+put key [] = key ∷ []
+put key (next ∷ keys) = if precedes next key then next ∷ put key keys else key ∷ next ∷ keys
+
+-- these keys in byte order
+abbrev pub in_order : List (List ℕ) → List (List ℕ)
+in_order [] = []
+in_order (key ∷ keys) = put key (in_order keys)
+
+-- whether some key stands twice
+abbrev pub has_repeat : List (List ℕ) → Bool
+has_repeat [] = false
+has_repeat (key ∷ keys) = list_any (bytes_eq key) keys || has_repeat keys
+
+-- S9: two members have one key; S10: there are more than 400
+unfoldable pub read_keys : List (List ℕ) → Result (List (List ℕ)) RowCode
+read_keys keys =
+    if has_repeat keys then Err code.RepeatedMember
+    else if nat_lt member_limit (length keys) then Err code.TooManyMembers
+    else Ok (in_order keys)
+
+-- a record's fields by name, as a row
+unfoldable pub read_group_fields : (name revision members : List ℕ) → Result GroupFields RowCode
+read_group_fields name revision members = do
+  title ← read_group_name name
+  keys ← read_members members
+  count ← read_revision revision
+  sorted ← read_keys keys
+  Ok (record { name = title; revision = count; members = sorted })
+
+-- A record of a groups file as a row. S2: it has another number of fields.
+unfoldable pub read_group : Record → Result GroupFields RowCode
+read_group (name ∷ revision ∷ members ∷ []) = do
+  texts ← read_texts (name ∷ revision ∷ members ∷ [])
+  read_group_fields name revision members
+read_group fields = Err code.FieldCount
 
 -- the field at a place, empty where there is none
 abbrev pub field : Record → ℕ → List ℕ

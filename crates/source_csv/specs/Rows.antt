@@ -40,11 +40,15 @@ same_user a b = bytes_eq a.login b.login && (a.revision == b.revision) && beq a.
 abbrev pub member_limit : ℕ
 member_limit = 400
 
+-- whether a key stands before another in byte order
+unfoldable pub precedes : List ℕ → List ℕ → Bool
+precedes key other = is_lt (slice_cmp nat_cmp key other)
+
 -- keys in byte order, none of them twice
 abbrev pub are_rising : List (List ℕ) → Bool
 are_rising [] = true
 are_rising (key ∷ []) = true
-are_rising (key ∷ next ∷ keys) = is_lt (slice_cmp nat_cmp key next) && are_rising (next ∷ keys)
+are_rising (key ∷ next ∷ keys) = precedes key next && are_rising (next ∷ keys)
 
 -- a row of a group. Its members are the keys of their names, in byte order
 pub record GroupFields : Type 0 where

@@ -29,6 +29,10 @@ pub enum RowCode {
     Revision,
     #[error("S6")]
     Value,
+    #[error("S9")]
+    RepeatedMember,
+    #[error("S10")]
+    TooManyMembers,
 }
 
 /// A record that is no row, by its place: records are counted from 1 after the header.
@@ -58,6 +62,14 @@ impl From<AllocError> for Refusal {
     ghost from_gives = { λ _ made. made ≡ refusal.Memory };
 
     fn from(_: AllocError) -> Refusal {
+        Refusal::Memory
+    }
+}
+
+impl<T: Drop> From<AllocFailed<T>> for Refusal {
+    ghost from_gives = { λ _ made. made ≡ refusal.Memory };
+
+    fn from(_: AllocFailed<T>) -> Refusal {
         Refusal::Memory
     }
 }

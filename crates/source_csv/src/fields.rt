@@ -4,12 +4,12 @@ ghost use Rattle.csv.specs.Records.{fields_of};
 ghost use Rattle.scim_key.specs.Revisions.{IsRevision};
 ghost use Rattle.std.specs.Char.{is_ascii_digit};
 ghost use Rattle.std.specs.List.{list_all};
-ghost use Rattle.source_csv.specs.Fields.{Reads, ReadsBy, field, is_numeral, read_login, read_revision, read_status, read_texts, read_value};
+ghost use Rattle.source_csv.specs.Fields.{Reads, ReadsBy, field, is_numeral, read_group_name, read_login, read_revision, read_status, read_texts, read_value};
 ghost use Rattle.source_csv.specs.Rows.{value_limit};
 
 use crate::faults::{Refusal, RowCode};
 use csv::{ByteRecord, StringRecord};
-use scim_key::{NameFault, Revision, UserName};
+use scim_key::{GroupName, NameFault, Revision, UserName};
 use std::alloc::Global;
 
 /// The record as text.
@@ -30,6 +30,7 @@ pub(crate) fn field(texts: &StringRecord, place: usize) -> &str
     texts.get(place).unwrap_or("")
 }
 
+/// The name of a user.
 #[tactic(auto, unfolding(crate::specs::Fields::read_login))]
 pub(crate) fn login_of(alloc: Global, text: &str) -> Result<UserName, Refusal>
     ensures { Reads result (read_login text.now) }
@@ -41,6 +42,19 @@ pub(crate) fn login_of(alloc: Global, text: &str) -> Result<UserName, Refusal>
     }
 }
 
+/// The name of a group.
+#[tactic(auto, unfolding(crate::specs::Fields::read_group_name))]
+pub(crate) fn group_name_of(alloc: Global, text: &str) -> Result<GroupName, Refusal>
+    ensures { Reads result (read_group_name text.now) }
+{
+    match GroupName::read(alloc, text) {
+        Ok(name) => Ok(name),
+        Err(NameFault::Memory) => Err(Refusal::Memory),
+        Err(_) => Err(Refusal::Refused(RowCode::Name)),
+    }
+}
+
+/// Whether every byte is an ASCII digit.
 fn are_digits(bytes: &[u8]) -> bool
     ensures { result ≡ list_all is_ascii_digit bytes.now }
 {
@@ -54,6 +68,7 @@ fn is_numeral(text: &str) -> bool
     text.len() >= 1 && text.len() <= 18 && are_digits(text.as_bytes())
 }
 
+/// The revision that a text spells, with whatever zeros in front.
 #[tactic(auto, unfolding(crate::specs::Fields::read_revision))]
 pub(crate) fn revision_of(text: &str) -> Result<Revision, RowCode>
     ensures exact { result ≡ read_revision text.now }
@@ -68,6 +83,7 @@ pub(crate) fn revision_of(text: &str) -> Result<Revision, RowCode>
     }
 }
 
+/// A text of at most 256 bytes.
 #[tactic(auto, unfolding(crate::specs::Fields::read_value))]
 pub(crate) fn value_of(alloc: Global, text: &str) -> Result<String, Refusal>
     ensures exact { ReadsBy string_bytes result (read_value text.now) }
@@ -79,6 +95,7 @@ pub(crate) fn value_of(alloc: Global, text: &str) -> Result<String, Refusal>
     Ok(String::from_str(alloc, text)?)
 }
 
+/// Whether a status is `active`, where it is one.
 #[tactic(auto, unfolding(crate::specs::Fields::read_status))]
 pub(crate) fn status_of(text: &str) -> Result<bool, RowCode>
     ensures { result ≡ read_status text.now }
