@@ -1,18 +1,17 @@
 -- The verdict by the last row is the acceptance by the history.
-use Rattle.std.proofs.Common.{◌≡◌, ◌≢◌, ◌↔◌, ◌+◌, ℕ, zero, suc, List, [], ◌∷◌, ◌++◌, Bool, true, false, not, cond, Option, Some, None, Result, Ok, Err, length, refl, ap, sym, subst, ◌∙◌, ◌&&◌, inl, inr, arith, add-zero, zero-add}
-use Rattle.std.proofs.lemmas.Bool.{and_parts, cases_Bool, false≢true, false_from_ne_true, true≢false}
+use Rattle.std.proofs.Common.{◌≡◌, ◌+◌, ℕ, suc, List, [], ◌∷◌, ◌++◌, Bool, true, false, not, Option, Some, None, Result, Ok, length, refl, ap, sym, subst, ◌∙◌, inl, inr, arith, add-zero, zero-add}
+use Rattle.std.proofs.lemmas.Bool.{and_parts, cases_Bool, false≢true, false_from_ne_true}
 use Rattle.std.specs.List.{list_all, position_from}
 use Rattle.scim_key.proofs.RevisionLaws.{irreflexive, transitive, total}
-use Rattle.scim_key.specs.Revisions.{RevisionValue, before, ◌≺◌, ◌≼◌}
+use Rattle.scim_key.specs.Revisions.{RevisionValue, before, ◌≺◌}
 use Rattle.source_csv.proofs.RowLemmas.{row_from_test, row_itself}
 use Rattle.source_csv.specs.Records.{row_name, row_revision, same_row}
 use Rattle.source_csv.specs.declared.rows.Row.{Row}
-use Rattle.source_book.specs.Accepting.{Accepts, Accepts.older, Accepts.known, Accepts.differs, Accepts.missing, Accepts.new, AllAreUsers, IsFirstMissing, IsNewer, accepted, accepting, newer}
+use Rattle.source_book.specs.Accepting.{Accepts, Accepts.older, Accepts.known, Accepts.differs, Accepts.missing, Accepts.new, IsNewer, accepted, accepting, newer}
 use Rattle.source_book.specs.History.{History, is_user, last_row, members_of, missing_member}
 use Rattle.source_book.specs.declared.accepting.BookFault.{BookFault}
-use Rattle.source_book.specs.declared.accepting.BookFault.TheVariants.{Differs, NoSuchMember}
 use Rattle.source_book.specs.declared.accepting.Verdict.{Verdict}
-use Rattle.source_book.specs.declared.accepting.Verdict.TheVariants.{New, Known, Older}
+use Rattle.source_book.specs.declared.accepting.Verdict.TheVariants.{New}
 
 -- a revision doesn't come before itself, nor before one that comes before it
 not_before_itself : (a b : RevisionValue) → a ≡ b → before a b ≡ false

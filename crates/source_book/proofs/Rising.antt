@@ -1,9 +1,9 @@
 -- The accepted rows of a record strictly rise, and stay.
-use Rattle.std.proofs.Common.{◌≡◌, ℕ, List, [], ◌∷◌, ◌++◌, Bool, true, false, Option, Some, None, Result, Ok, Err, refl, ap, sym, subst, ◌∙◌, inl, inr, append_assoc}
+use Rattle.std.proofs.Common.{◌≡◌, ℕ, List, [], ◌∷◌, ◌++◌, true, Some, None, Result, Ok, Err, refl, ap, sym, ◌∙◌, inl, inr, append_assoc}
 use Rattle.std.proofs.lemmas.Bool.{and_parts, cases_Bool}
 use Rattle.std.proofs.lemmas.List.{append-nil}
 use Rattle.std.proofs.lemmas.Slice.Eq.{bytes_eq-Decides}
-use Rattle.std.specs.List.{AllByRecursion, filter, last_or}
+use Rattle.std.specs.List.{AllByRecursion, last_or}
 use Rattle.std.specs.Str.{bytes_eq}
 use Rattle.scim_key.proofs.RevisionLaws.{transitive}
 use Rattle.scim_key.specs.Revisions.{◌≺◌}
@@ -13,7 +13,7 @@ use Rattle.scim_key.specs.declared.records.RecordName.{RecordName}
 use Rattle.source_csv.specs.Records.{row_name, row_revision}
 use Rattle.source_csv.specs.declared.rows.Row.{Row}
 use Rattle.source_book.specs.Accepting.{HistoriesRise, after_verdict, accepting, history_after}
-use Rattle.source_book.specs.History.{History, Rises, last_row, rows_of, same_kind, same_name}
+use Rattle.source_book.specs.History.{History, Rises, rows_of, same_kind, same_name}
 use Rattle.source_book.specs.declared.accepting.BookFault.{BookFault}
 use Rattle.source_book.specs.declared.accepting.Verdict.{Verdict}
 use Rattle.source_book.specs.declared.accepting.Verdict.TheVariants.{New, Known, Older}

@@ -48,7 +48,6 @@ members_of (Group row) = row.members
 abbrev pub missing_member : History → Row → Option ℕ
 missing_member history row = position_from (λ key. not (is_user history key)) 0 (members_of row)
 
-
 -- each row is of a higher revision than all before it
 abbrev pub Rises : List Row → Type 0
 Rises [] = Unit {0}

@@ -40,11 +40,7 @@ fn newer(missing: Option<usize>) -> Result<Verdict, BookFault>
 
 /// The verdict on a row, where `held` is the last accepted row of its record, and `missing` the place
 /// of its first member that is no user record. It takes no memory.
-pub fn accept(
-    held: Option<&Row>,
-    row: &Row,
-    missing: Option<usize>,
-) -> Result<Verdict, BookFault>
+pub fn accept(held: Option<&Row>, row: &Row, missing: Option<usize>) -> Result<Verdict, BookFault>
     ensures { result ≡ accepted (option_copied held.entry) row.now missing }
 {
     let Some(held) = held else {

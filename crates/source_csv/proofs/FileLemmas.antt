@@ -1,7 +1,6 @@
 -- The records of a file: its header, and the rest one by one.
-use Rattle.std.proofs.Common.{◌≡◌, ◌==◌, ℕ, zero, suc, ◌+◌, List, [], ◌∷◌, ◌++◌, Bool, true, false, Option, Some, None, Result, Ok, Err, Bor, length, refl, ap, sym, subst, inl, append_assoc, length-append, ◌∙◌, ◌&&◌, arith, rules, eqb, ⊎_elim, codes}
-use Rattle.std.proofs.lemmas.Bool.{and_parts, cases_eq, false_from_ne_true, ne_eqb}
-use Rattle.std.specs.Cmp.Lexicographic.{pointwise}
+use Rattle.std.proofs.Common.{◌≡◌, ℕ, suc, ◌+◌, List, [], ◌∷◌, ◌++◌, Bool, true, false, Some, None, Result, Ok, Bor, length, refl, ap, sym, subst, inl, append_assoc, length-append, ◌∙◌, ◌&&◌, arith, codes}
+use Rattle.std.proofs.lemmas.Bool.{and_parts, false_from_ne_true}
 use Rattle.std.specs.Str.{bytes_eq}
 use Rattle.csv.specs.Machine.{Read, next_record}
 use Rattle.csv.specs.Reading.{AreRecords, Reached, RowStep, default_config}
@@ -11,15 +10,20 @@ use Rattle.csv.proofs.ReadFacts.{rows-end, rows-more}
 use Rattle.csv.specs.declared.parser.State.{State}
 use Rattle.source_csv.specs.declared.rows.Row.{Row as SourceRow}
 use Rattle.source_csv.specs.declared.faults.RowFault.{RowFault}
-use Rattle.source_csv.specs.Fields.{Record, field, read_user}
+use Rattle.source_csv.specs.Fields.{Record, field}
+use Rattle.scim_key.specs.declared.records.Kind.{Kind}
+use Rattle.scim_key.specs.declared.records.Kind.TheVariants as kind
 use Rattle.source_csv.specs.Reader.{IsAt}
-use Rattle.source_csv.specs.Files.{at_place, rows_from, rows_of, same_record, users_header}
+use Rattle.source_csv.specs.Files.{at_place, header_of, read_row, rows_from, rows_of, same_record}
 
--- the header, field by field
-abbrev pub header_by_place : Record → Bool
-header_by_place fields =
+-- the headers, field by field
+abbrev pub users_by_place : Record → Bool
+users_by_place fields =
     bytes_eq (field fields 0) (codes "login") && (bytes_eq (field fields 1) (codes "revision") && (bytes_eq (field fields 2) (codes "number")
     && (bytes_eq (field fields 3) (codes "given") && (bytes_eq (field fields 4) (codes "family") && (bytes_eq (field fields 5) (codes "mail") && (bytes_eq (field fields 6) (codes "status") && true))))))
+
+abbrev pub groups_by_place : Record → Bool
+groups_by_place fields = bytes_eq (field fields 0) (codes "name") && (bytes_eq (field fields 1) (codes "revision") && (bytes_eq (field fields 2) (codes "members") && true))
 
 same_length : (one two : Record) → same_record one two ≡ true → length one ≡ length two
 same_length [] [] e = refl
@@ -27,13 +31,18 @@ same_length [] (f ∷ two) e = cc
 same_length (f ∷ one) [] e = cc
 same_length (f ∷ one) (g ∷ two) e = ap suc (same_length one two (and_parts (bytes_eq f g) (same_record one two) e).1)
 
-pub header_of_seven : (fields : Record) → length fields ≡ 7 → header_by_place fields ≡ same_record fields users_header
+pub header_of_seven : (fields : Record) → length fields ≡ 7 → users_by_place fields ≡ same_record fields (header_of kind.User)
 unfolding field_at
 header_of_seven (a ∷ b ∷ c ∷ d ∷ e ∷ f ∷ g ∷ []) seven = refl
 header_of_seven fields seven = absurd (omega arith)
 
-pub header_of_other : (fields : Record) → (length fields ≡ 7 → ⊥) → false ≡ same_record fields users_header
-header_of_other fields other = sym (false_from_ne_true _ (λ e. other (same_length fields users_header e)))
+pub header_of_three : (fields : Record) → length fields ≡ 3 → groups_by_place fields ≡ same_record fields (header_of kind.Group)
+unfolding field_at
+header_of_three (a ∷ b ∷ c ∷ []) three = refl
+header_of_three fields three = absurd (omega arith)
+
+pub header_of_other : (fields header : Record) → (length fields ≡ length header → ⊥) → false ≡ same_record fields header
+header_of_other fields header other = sym (false_from_ne_true _ (λ e. other (same_length fields header e)))
 
 -- where a record comes next, it is the first of the records, and where none does, there are no records
 pub first_record : (s : State) (xs : List ℕ) (p : Read) (records : List Record)
@@ -58,15 +67,19 @@ pub steps_on : (s : State) (xs : List ℕ) (a b : ByteRecordsIntoIter (Bor (List
     → (p : Read) × (next_record default_config s [] [] xs ≡ Some p) × (fields_of fields ≡ p.0) × IsAt p.1 p.2 b
 unfolding Reached
 steps_on s xs a b fields at step =
-    let more = rows-more (λ (bytes : Bor (List ℕ)). Some bytes.now) a.rdr b.rdr (fields_of fields) default_config s xs xs [] at.config at.source (sym at.stands, refl) step.0 in
-    (more.2.0, more.2.1, more.2.2, record {
-      trim = step.0.3 ∙ at.trim;
-      ready = inl step.1;
-      left = step.2;
-      config = step.0.2 ∙ at.config;
-      source = more.1 ∙ ap Some (sym more.2.3.1);
-      stands = sym more.2.3.0;
-    })
+    let more = rows-more (λ (bytes : Bor (List ℕ)). Some bytes.now) a.rdr b.rdr (fields_of fields) default_config s xs xs [] at.config at.source (sym at.stands, refl) step.0 in (
+      more.2.0,
+      more.2.1,
+      more.2.2,
+      record {
+        trim = step.0.3 ∙ at.trim;
+        ready = inl step.1;
+        left = step.2;
+        config = step.0.2 ∙ at.config;
+        source = more.1 ∙ ap Some (sym more.2.3.1);
+        stands = sym more.2.3.0;
+      },
+    )
 
 pub steps_out : (s : State) (xs : List ℕ) (a b : ByteRecordsIntoIter (Bor (List ℕ)))
     → IsAt s xs a → RowStep (λ (bytes : Bor (List ℕ)). Some bytes.now) a.rdr b.rdr b.left None
@@ -74,13 +87,13 @@ pub steps_out : (s : State) (xs : List ℕ) (a b : ByteRecordsIntoIter (Bor (Lis
 steps_out s xs a b at step = rw at.stands at (rows-end (λ (bytes : Bor (List ℕ)). Some bytes.now) a.rdr b.rdr [] default_config xs at.config at.source step)
 
 -- one more row after those that were read
-pub push_row : (items : List (Result SourceRow RowFault)) (row : Result SourceRow RowFault) (fields : Record) (left more : List Record)
-    → row ≡ at_place (length items + 1) (read_user fields) → left ≡ fields ∷ more
-    → items ++ rows_from (length items + 1) left ≡ (items ++ row ∷ []) ++ rows_from (length (items ++ row ∷ []) + 1) more
-push_row items row fields left more at first = rw (first, at, append_assoc, length-append)
+pub push_row : (of : Kind) (items : List (Result SourceRow RowFault)) (row : Result SourceRow RowFault) (fields : Record) (left more : List Record)
+    → row ≡ at_place (length items + 1) (read_row of fields) → left ≡ fields ∷ more
+    → items ++ rows_from of (length items + 1) left ≡ (items ++ row ∷ []) ++ rows_from of (length (items ++ row ∷ []) + 1) more
+push_row of items row fields left more at first = rw (first, at, append_assoc, length-append)
 
 -- no row yet, after the header
-pub no_rows : (items : List (Result SourceRow RowFault)) (records rest : List Record) (header : Record)
-    → items ≡ [] → records ≡ header ∷ rest → same_record header users_header ≡ true
-    → rows_of records ≡ Ok (items ++ rows_from (length items + 1) rest)
-no_rows items records rest header none first lawful = rw (none, first, lawful) refl
+pub no_rows : (of : Kind) (items : List (Result SourceRow RowFault)) (records rest : List Record) (header : Record)
+    → items ≡ [] → records ≡ header ∷ rest → same_record header (header_of of) ≡ true
+    → rows_of of records ≡ Ok (items ++ rows_from of (length items + 1) rest)
+no_rows of items records rest header none first lawful = rw (none, first, lawful) refl

@@ -3,3 +3,4 @@ pub mod FileLemmas
 pub mod RowLemmas
 pub mod Order
 pub mod MemberLemmas
+pub mod Existence

@@ -1,10 +1,10 @@
 -- The members of a group: their names one by one, and their keys in byte order.
-use Rattle.std.proofs.Common.{◌≡◌, ◌<◌, ◌≤◌, ◌+◌, ◌-◌, ℕ, zero, suc, List, [], ◌∷◌, ◌++◌, Bool, true, false, cond, ◌&&◌, ◌==◌, Result, Ok, Err, length, get_or, take, drop, map, refl, ap, sym, ◌∙◌, inl, inr, arith, add-one, length-drop}
+use Rattle.std.proofs.Common.{◌≡◌, ◌<◌, ◌≤◌, ◌+◌, ◌-◌, ℕ, zero, suc, List, [], ◌∷◌, ◌++◌, Bool, true, false, ◌&&◌, ◌==◌, Ok, Err, length, get_or, take, drop, map, refl, ap, sym, ◌∙◌, inl, inr, arith, length-drop}
 use Rattle.std.proofs.lemmas.Bool.{cases_Bool, eqb-true}
 use Rattle.std.proofs.lemmas.List.{map-append, take_all, take_more}
 use Rattle.std.proofs.lemmas.List.Recursion.{and_fails_at, and_push}
 use Rattle.std.specs.List.{list_all, slice_split}
-use Rattle.scim_key.specs.Names.{key_of, user_name_fault}
+use Rattle.scim_key.specs.Names.{key_of}
 use Rattle.source_csv.specs.Fields.{Reads, ReadsBy, is_login, pieces, read_login, read_member, read_members}
 use Rattle.source_csv.specs.Rows.{are_rising, precedes}
 use Rattle.source_csv.specs.declared.faults.Refusal.{Refusal}

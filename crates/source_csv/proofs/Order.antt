@@ -1,5 +1,5 @@
 -- Keys in byte order.
-use Rattle.std.proofs.Common.{◌≡◌, ◌⊎◌, ◌+◌, ◌<◌, ◌≤◌, ℕ, suc, List, [], ◌∷◌, Bool, true, false, not, cond, ◌&&◌, ◌||◌, Ok, Err, nat_lt, refl, ap, sym, subst, ◌∙◌, inl, inr, arith, length, add-one}
+use Rattle.std.proofs.Common.{◌≡◌, ◌⊎◌, ◌+◌, ◌<◌, ◌≤◌, ℕ, suc, List, [], ◌∷◌, Bool, true, false, not, cond, ◌||◌, Ok, Err, nat_lt, refl, ap, sym, subst, ◌∙◌, inl, inr, arith, length, add-one}
 use Rattle.std.proofs.lemmas.Bool.{cases_Bool, false≢true, false_from_ne_true, le-ltb, lt-ltb, not-false, not-true}
 use Rattle.std.proofs.lemmas.Cmp.{nat_list_cmp_total, tied_itself}
 use Rattle.std.proofs.lemmas.List.Elements.{recursion_from_All}
@@ -216,10 +216,10 @@ pub from_sort : (keys : List Key) → IsSorted (slice_cmp nat_cmp) keys → IsIn
 unfolding precedes
 from_sort [] sorted = tt
 from_sort (x ∷ keys) sorted = (
-      recursion_from_All (λ y. is_lt (slice_cmp nat_cmp y x) ≡ false) keys
+  recursion_from_All (λ y. is_lt (slice_cmp nat_cmp y x) ≡ false) keys
       (λ k d fits. rw add-one at (sorted_far (λ a b. is_lt (slice_cmp nat_cmp a b)) (ranks_by nat_list_cmp_total (λ a. a)) (x ∷ keys) sorted 0 (k + 1) d (omega arith) (omega arith))),
-      from_sort keys (λ k d low fits. rw add-one (rw add-one at (sorted (suc k) d (omega arith) (omega arith)))),
-    )
+  from_sort keys (λ k d low fits. rw add-one (rw add-one at (sorted (suc k) d (omega arith) (omega arith)))),
+)
 
 -- what the keys say, by what they are sorted to
 module _ (xs ys : List Key) (moved : IsPermutation xs ys) (sorted : IsSorted (slice_cmp nat_cmp) ys) where

@@ -6,14 +6,17 @@ ghost use Rattle.csv.specs.Reading.{strip_bom};
 ghost use Rattle.csv.specs.Records.{fields_of};
 ghost use Rattle.csv.specs.declared.parser.State.TheVariants.{StartRecord};
 ghost use Rattle.scim_key.specs.Outcome.{Gives};
-ghost use Rattle.source_csv.specs.Fields.{Record, field, read_user};
+ghost use Rattle.scim_key.specs.declared.records.Kind.TheVariants as kind;
+ghost use Rattle.source_csv.specs.Fields.{Reads, Record, field};
 ghost use Rattle.source_csv.specs.Reader.{IsAt};
-ghost use Rattle.source_csv.specs.Files.{AreRecordsOf, at_place, rows_of, same_record, users_header};
+ghost use Rattle.source_csv.specs.Files.{AreRecordsOf, FilesHaveRecords, at_place, header_of, read_row, rows_of, same_record};
 
 use crate::faults::{Refusal, RowFault, SourceFault};
+use crate::groups::read_group;
 use crate::rows::Row;
 use crate::users::read_user;
 use csv::{ByteRecord, ByteRecordsIntoIter, ReaderBuilder};
+use scim_key::Kind;
 use std::alloc::Global;
 use std::marker::Model;
 
@@ -66,9 +69,9 @@ fn has_fields(raw: &ByteRecord, names: &[&str]) -> bool
         .all(|(place, name)| has_field(raw, place, name))
 }
 
-/// Whether a record is the header of a users file.
+/// Whether a record is the header of a file of users.
 fn is_users_header(raw: &ByteRecord) -> bool
-    ensures { result ≡ same_record (fields_of raw.now) users_header }
+    ensures { result ≡ same_record (fields_of raw.now) (header_of kind.User) }
 {
     let names = [
         "login", "revision", "number", "given", "family", "mail", "status",
@@ -76,16 +79,46 @@ fn is_users_header(raw: &ByteRecord) -> bool
     raw.len() == names.len() && has_fields(raw, &names)
 }
 
+/// Whether a record is the header of a file of groups.
+fn is_groups_header(raw: &ByteRecord) -> bool
+    ensures { result ≡ same_record (fields_of raw.now) (header_of kind.Group) }
+{
+    let names = ["name", "revision", "members"];
+    raw.len() == names.len() && has_fields(raw, &names)
+}
+
+/// Whether a record is the header of a file of this kind.
+fn is_header(kind: Kind, raw: &ByteRecord) -> bool
+    ensures { result ≡ same_record (fields_of raw.now) (header_of kind) }
+{
+    match kind {
+        Kind::User => is_users_header(raw),
+        Kind::Group => is_groups_header(raw),
+    }
+}
+
+/// Reads a record of a file of this kind.
+#[tactic(auto, unfolding(crate::specs::Files::read_row))]
+fn read_row(alloc: Global, kind: Kind, raw: ByteRecord) -> Result<Row, Refusal>
+    ensures { Reads result (read_row kind (fields_of raw)) }
+{
+    match kind {
+        Kind::User => Ok(Row::User(read_user(alloc, raw)?)),
+        Kind::Group => Ok(Row::Group(read_group(alloc, raw)?)),
+    }
+}
+
 /// What a record at a place is.
 fn row_at(
     alloc: Global,
+    kind: Kind,
     place: usize,
     raw: ByteRecord,
 ) -> Result<Result<Row, RowFault>, SourceFault>
-    ensures { MatchResult result (λ row. row ≡ at_place place (read_user (fields_of raw))) (λ fault. fault ≡ SourceFault.Memory) }
+    ensures { MatchResult result (λ row. row ≡ at_place place (read_row kind (fields_of raw))) (λ fault. fault ≡ SourceFault.Memory) }
 {
-    match read_user(alloc, raw) {
-        Ok(row) => Ok(Ok(Row::User(row))),
+    match read_row(alloc, kind, raw) {
+        Ok(row) => Ok(Ok(row)),
         Err(Refusal::Refused(code)) => Ok(Err(RowFault { place, code })),
         Err(Refusal::Memory) => Err(SourceFault::Memory),
     }
@@ -102,21 +135,40 @@ fn records_of(alloc: Global, bytes: &[u8]) -> ByteRecordsIntoIter<&[u8]>
         .into_byte_records()
 }
 
-/// Reads a users file. Its records are counted from 1 after the header.
-pub fn read_users(alloc: Global, bytes: &[u8]) -> Result<SourceRows, SourceFault>
-    ensures { (records : List Record) → AreRecordsOf bytes.now records → Gives SourceFault.Memory result (rows_of records) }
+/// Reads a file of this kind.
+fn read_rows(alloc: Global, kind: Kind, bytes: &[u8]) -> Result<SourceRows, SourceFault>
+    ensures { (records : List Record) → AreRecordsOf bytes.now records → Gives SourceFault.Memory result (rows_of kind records) }
 {
     let mut records = records_of(alloc, bytes);
     let header = match records.next() {
         Some(header) => header?,
         None => return Err(SourceFault::Header),
     };
-    if !is_users_header(&header) {
+    if !is_header(kind, &header) {
         return Err(SourceFault::Header);
     }
     let mut rows = Vec::new(alloc);
     for fields in records {
-        rows.push(row_at(alloc, rows.len() + 1, fields?)?)?;
+        rows.push(row_at(alloc, kind, rows.len() + 1, fields?)?)?;
     }
     Ok(SourceRows { rows })
 }
+
+/// Reads a file of users. Its records are counted from 1 after the header.
+pub fn read_users(alloc: Global, bytes: &[u8]) -> Result<SourceRows, SourceFault>
+    ensures { (records : List Record) → AreRecordsOf bytes.now records → Gives SourceFault.Memory result (rows_of kind.User records) }
+{
+    read_rows(alloc, Kind::User, bytes)
+}
+
+/// Reads a file of groups. Its records are counted from 1 after the header.
+pub fn read_groups(alloc: Global, bytes: &[u8]) -> Result<SourceRows, SourceFault>
+    ensures { (records : List Record) → AreRecordsOf bytes.now records → Gives SourceFault.Memory result (rows_of kind.Group records) }
+{
+    read_rows(alloc, Kind::Group, bytes)
+}
+
+/// Each file has one list of records, of which `read_users` and `read_groups` speak.
+pub fn files_have_records()
+    ensures { FilesHaveRecords }
+{}

@@ -1,4 +1,4 @@
-//! Rows of the source: CSV files of users, read record by record.
+//! Rows of the source: CSV files of users and of groups, read record by record.
 #![tactic(auto)]
 
 mod faults;
@@ -9,7 +9,7 @@ mod rows;
 mod users;
 
 pub use faults::{RowCode, RowFault, SourceFault};
-pub use files::{SourceRows, read_users};
+pub use files::{SourceRows, files_have_records, read_groups, read_users};
 pub use groups::GroupRow;
 pub use rows::Row;
 pub use users::UserRow;

@@ -1,4 +1,4 @@
-use Rattle.std.proofs.Common.{◌≡◌, Ok, true, ℕ, rules}
+use Rattle.std.proofs.Common.{◌≡◌, true, rules}
 use Rattle.source_csv.proofs.FieldLemmas.{numeral_is_read}
 use Rattle.source_csv.specs.Fields.{is_numeral}
 use Rattle.source_csv.proofs.fields.revision_of.Goals as goal
