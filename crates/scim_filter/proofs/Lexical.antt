@@ -16,7 +16,7 @@ use Rattle.scim_filter.specs.declared.tokens.Token.TheVariants.{Gap, Open, Close
 use Rattle.scim_filter.specs.declared.filters.FilterFault.{FilterFault}
 use Rattle.scim_filter.specs.declared.filters.FilterFault.TheVariants.{Unsupported}
 
-by_cond : {A : Type 0} (P : A → Type 0) (c : Bool) (x y : A) → (c ≡ true → P x) → (c ≡ false → P y) → P (cond c x y)
+pub by_cond : {A : Type 0} (P : A → Type 0) (c : Bool) (x y : A) → (c ≡ true → P x) → (c ≡ false → P y) → P (cond c x y)
 by_cond P true x y f g = f refl
 by_cond P false x y f g = g refl
 
@@ -202,7 +202,7 @@ word_ends w (token front Close is b more) e = refl
 word_ends w (token front {rest} (Plain v) is b more) e = let k = a_word_begins v front rest is in absurd (cc)
 word_ends w (token front (Quoted s) is b more) e = refl
 
-open_ends : (ts : List Token) → EndsBefore Open ts
+pub open_ends : (ts : List Token) → EndsBefore Open ts
 open_ends [] = tt
 open_ends (Gap ∷ ts) = refl
 open_ends (Open ∷ ts) = refl
@@ -210,7 +210,7 @@ open_ends (Close ∷ ts) = refl
 open_ends (Plain w ∷ ts) = refl
 open_ends (Quoted s ∷ ts) = refl
 
-close_ends : (ts : List Token) → EndsBefore Close ts
+pub close_ends : (ts : List Token) → EndsBefore Close ts
 close_ends [] = tt
 close_ends (Gap ∷ ts) = refl
 close_ends (Open ∷ ts) = refl
@@ -218,7 +218,7 @@ close_ends (Close ∷ ts) = refl
 close_ends (Plain w ∷ ts) = refl
 close_ends (Quoted s ∷ ts) = refl
 
-text_ends : (x : List ℕ) (ts : List Token) → EndsBefore (Quoted x) ts
+pub text_ends : (x : List ℕ) (ts : List Token) → EndsBefore (Quoted x) ts
 text_ends x [] = tt
 text_ends x (Gap ∷ ts) = refl
 text_ends x (Open ∷ ts) = refl

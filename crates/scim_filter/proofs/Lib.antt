@@ -4,4 +4,6 @@ pub mod Grammatical
 pub mod Lexical
 pub mod Progress
 pub mod Quotes
+pub mod Spelling
 pub mod Stepwise
+pub mod Strings

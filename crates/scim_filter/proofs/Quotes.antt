@@ -14,7 +14,7 @@ quote_at-backslash : (b : ℕ) (bs : List ℕ) → b ≡ 92 → quote_at false (
 unfolding quote_at
 quote_at-backslash b bs e = rw e refl
 
-quote_at-other : (b : ℕ) (bs : List ℕ) → (b ≡ 92 → ⊥) → (b ≡ 34 → ⊥) → quote_at false (b ∷ bs) ≡ option_map suc (quote_at false bs)
+pub quote_at-other : (b : ℕ) (bs : List ℕ) → (b ≡ 92 → ⊥) → (b ≡ 34 → ⊥) → quote_at false (b ∷ bs) ≡ option_map suc (quote_at false bs)
 unfolding quote_at
 quote_at-other b bs e f = grind (arith, nat_tests)
 

@@ -3,5 +3,7 @@ pub mod Expressions
 pub mod Grammar
 pub mod Lexing
 pub mod Machine
+pub mod Names
+pub mod Texts
 pub mod Tokens
 pub mod Words

@@ -1,11 +1,14 @@
 //! Filters as trees of tests.
-ghost use Rattle.std.specs.Prelude.{◌≡◌, IfOk};
+ghost use Rattle.std.specs.Prelude.{◌≡◌, ◌≤◌, IfOk, length, string_bytes};
 ghost use Rattle.scim_key.specs.Outcome.{Gives};
-ghost use Rattle.scim_filter.specs.Expressions.{Expression, Only, Both, Either, Negated};
+ghost use Rattle.scim_filter.specs.Expressions.{Expression, Only, Both, Either, Negated, expression_of};
 
 use crate::reader::Reader;
-use crate::terms::Test;
+use crate::single::test_key;
+use crate::terms::{FilterText, Test, TextAttribute, TextOperator};
+use crate::texts::write_filter;
 use crate::tokens::token_at;
+use scim_key::{GroupName, RecordName, UserName};
 use std::alloc::{AllocError, AllocFailed, Global};
 use std::marker::Model;
 use thiserror::Error;
@@ -69,7 +72,10 @@ impl Model for Filter {
 }
 
 impl Filter {
-    ghost use Rattle.scim_filter.specs.Grammar.{Spells};
+    ghost use Rattle.scim_filter.specs.Grammar.{Spells, text_limit, depth_limit};
+    ghost use Rattle.scim_filter.specs.Texts.{filter_text, nesting};
+    ghost use Rattle.scim_filter.specs.Names.{name_filter, single_key};
+    ghost use Rattle.scim_filter.specs.declared.terms.TextAttribute.TheVariants as tests;
 
     /// Reads a filter (RFC 7644 section 3.4.2.2). `Unsupported` comes where the text spells none:
     /// also where it is above 2,048 bytes, or its parentheses are more than 32 deep.
@@ -88,6 +94,46 @@ impl Filter {
             rest = more;
         }
         reader.finish(alloc)
+    }
+
+    /// The filter `userName eq` with this name.
+    pub fn eq_user_name(alloc: Global, name: &UserName) -> Result<Filter, AllocError>
+        ensures { IfOk result (λ f. f ≡ name_filter tests.UserName name.now) }
+    {
+        let text = FilterText::from_string(String::from_str(alloc, name.as_str())?);
+        Ok(Filter::of_test(Test::Text(TextAttribute::UserName, TextOperator::Equal, text)))
+    }
+
+    /// The filter `displayName eq` with this name.
+    pub fn eq_display_name(alloc: Global, name: &GroupName) -> Result<Filter, AllocError>
+        ensures { IfOk result (λ f. f ≡ name_filter tests.DisplayName name.now) }
+    {
+        let text = FilterText::from_string(String::from_str(alloc, name.as_str())?);
+        Ok(Filter::of_test(Test::Text(TextAttribute::DisplayName, TextOperator::Equal, text)))
+    }
+
+    /// The filter's text, with one space where there may be more, lower-case words, and no
+    /// parentheses but those that the filter's meaning asks for.
+    pub fn to_text(&self, alloc: Global) -> Result<String, AllocError>
+        ensures text { IfOk result (λ s. string_bytes s ≡ filter_text self.now) }
+        // Where it keeps the two limits it spells the filter.
+        ensures spells { IfOk result (λ s. length (string_bytes s) ≤ text_limit → nesting self.now ≤ depth_limit
+            → Spells (string_bytes s) self.now) }
+    {
+        let mut out = String::new(alloc);
+        write_filter(alloc, &mut out, &self.root)?;
+        Ok(out)
+    }
+
+    /// The record that the filter names: where it is `userName eq` or `displayName eq` alone, with
+    /// a lawful name.
+    pub fn single_key(&self, alloc: Global) -> Result<Option<RecordName>, AllocError>
+        ensures { IfOk result (λ name. name ≡ single_key self.now) }
+    {
+        match &self.root {
+            Node::Test(test) => test_key(alloc, test),
+            _ => Ok(None),
+        }
     }
 
     /// The filter of one test.
@@ -133,6 +179,47 @@ impl Filter {
         let inner = Box::new(alloc, inner)?;
         Ok(Filter {
             root: Node::Not(inner),
+        })
+    }
+}
+
+/// A copy of a tree.
+fn copy_of(node: &Node) -> Result<Node, AllocError>
+    ensures { IfOk result (λ copy. expression_of copy ≡ expression_of node.now) }
+{
+    match node {
+        Node::Test(test) => Ok(Node::Test(test.clone()?)),
+        Node::And(left, right) => {
+            let alloc = *Box::allocator(left);
+            let left = copy_of(left)?;
+            let right = copy_of(right)?;
+            let left = Box::new(alloc, left)?;
+            let right = Box::new(alloc, right)?;
+            Ok(Node::And(left, right))
+        }
+        Node::Or(left, right) => {
+            let alloc = *Box::allocator(left);
+            let left = copy_of(left)?;
+            let right = copy_of(right)?;
+            let left = Box::new(alloc, left)?;
+            let right = Box::new(alloc, right)?;
+            Ok(Node::Or(left, right))
+        }
+        Node::Not(inner) => {
+            let alloc = *Box::allocator(inner);
+            let inner = copy_of(inner)?;
+            let inner = Box::new(alloc, inner)?;
+            Ok(Node::Not(inner))
+        }
+    }
+}
+
+impl Clone for Filter {
+    ghost is_clone = { λ a b. b ≡ a };
+
+    fn clone(&self) -> Result<Filter, AllocError> {
+        Ok(Filter {
+            root: copy_of(&self.root)?,
         })
     }
 }

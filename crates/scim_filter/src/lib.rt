@@ -4,9 +4,11 @@
 mod filters;
 mod laws;
 mod reader;
+mod single;
 mod terms;
+mod texts;
 mod tokens;
 mod words;
 
 pub use filters::{Filter, FilterFault};
-pub use laws::one_filter;
+pub use laws::{one_filter, text_spells};

@@ -91,7 +91,7 @@ impl Clone for FilterText {
 }
 
 /// One test of a filter, on one attribute.
-#[derive(Debug, Drop)]
+#[derive(Clone, Debug, Drop)]
 pub enum Test {
     Present(Attribute),
     Text(TextAttribute, TextOperator, FilterText),
