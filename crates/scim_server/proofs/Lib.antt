@@ -1,2 +1,3 @@
 pub mod JsonLemmas
+pub mod ReplyLaws
 pub mod ServedLemmas

@@ -1,17 +1,19 @@
 -- From what was read and what became of it to what stood at the reader's front.
-use Rattle.std.proofs.Common.{◌≡◌, ℕ, ◌⊎◌, inl, inr, Bool, List, ◌++◌, Option, Some, Result, Ok, Err, refl, subst, sym}
+use Rattle.std.proofs.Common.{◌≡◌, ℕ, ◌⊎◌, inl, inr, List, ◌++◌, Option, Some, Result, Ok, Err, refl, subst, take}
+use Rattle.httparse.specs.Grammar.{EndsInTarget}
+use Rattle.httparse.specs.Spans.{RequestExceeds}
 use Rattle.scim_resource.specs.Rows.{StoredRecord}
 use Rattle.http_text.specs.declared.fault.ReadFault.{ReadFault}
 use Rattle.http_text.specs.declared.fault.ReadFault.TheVariants.{Malformed, HostMissingOrRepeated, LengthMissing, BodyTooLong, HeadTooLong, TransferCoding, Expectation, EndedEarly, ReadFailed, OutOfMemory, TurnsExhausted}
-use Rattle.http_text.specs.Counts.{Writing}
-use Rattle.http_text.specs.Message.{Message}
-use Rattle.http_text.specs.Judging.{is_head}
-use Rattle.http_text.specs.Requests.{IsStreamFault, Answers, FindsMessage}
+use Rattle.http_text.specs.Counts.{Reading, Writing}
+use Rattle.http_text.specs.Message.{Message, IsRequestMessage, head_limit, field_limit}
+use Rattle.http_text.specs.Judging.{is_head, IsAccepted}
+use Rattle.http_text.specs.Requests.{IsStreamFault, Answers, FindsMessage, AnswersMalformed}
 use Rattle.scim_server.specs.declared.serving.Served.{Served}
 use Rattle.scim_server.specs.Meaning.{request_of}
 use Rattle.scim_server.specs.Replies.{ReplyRecord}
-use Rattle.scim_server.specs.Serving.{AnswersMeaning, GivesUp, Sends, IsSent, Serves}
-use Rattle.scim_server.specs.Known.{IsHindered, MeetsFault, AnswersMessage}
+use Rattle.scim_server.specs.Serving.{AnswersMeaning, GivesUp, Sends, IsSent, Serves, HasRead}
+use Rattle.scim_server.specs.Known.{IsHindered, MeetsFault, ServesKnown}
 
 module _ (faithful : Type 0) (base : List ℕ) (old new : List StoredRecord) (before after : Writing) (served : Served) where
   hindered : (fault : ReadFault) → IsStreamFault fault → Serves faithful base old new before after (Err fault) served
@@ -24,9 +26,9 @@ module _ (faithful : Type 0) (base : List ℕ) (old new : List StoredRecord) (be
   hindered (TransferCoding is_head) h s = absurd h
   hindered (Expectation is_head) h s = absurd h
   hindered EndedEarly h s = absurd h
-  hindered ReadFailed h s = inr (ReadFailed, tt, s.0, s.1)
+  hindered ReadFailed h s = inr (ReadFailed, inl refl, s.0, s.1)
   hindered OutOfMemory h s = inl (s.0.0, record { reply_is = s.0.1; rows = λ _. s.1 }, s.0.2)
-  hindered TurnsExhausted h s = inr (TurnsExhausted, tt, s.0, s.1)
+  hindered TurnsExhausted h s = inr (TurnsExhausted, inr refl, s.0, s.1)
 
   meets : (fault answered : ReadFault) → (answered ≡ fault) ⊎ IsStreamFault answered
       → Serves faithful base old new before after (Err answered) served
@@ -35,7 +37,7 @@ module _ (faithful : Type 0) (base : List ℕ) (old new : List StoredRecord) (be
   meets fault answered (inr stream) s = inr (hindered answered stream s)
 
   -- where this fault or one of the stream is what was read
-  pub meets_fault : (fault : ReadFault) (r : Result Message ReadFault) → Answers fault r → Serves faithful base old new before after r served
+  meets_fault : (fault : ReadFault) (r : Result Message ReadFault) → Answers fault r → Serves faithful base old new before after r served
       → MeetsFault base old new before after served fault ⊎ IsHindered faithful old new before after served
   meets_fault fault (Ok m) h s = absurd h
   meets_fault fault (Err answered) h s = meets fault answered h s
@@ -51,11 +53,44 @@ module _ (faithful : Type 0) (base : List ℕ) (old new : List StoredRecord) (be
   left_too (inl a) c = inl (a, c)
   left_too (inr b) c = inr b
 
-  -- where a message stands at the front
-  pub answers_message : (remaining left : Option (List ℕ)) (r : Result Message ReadFault) → FindsMessage remaining left r
-      → Serves faithful base old new before after r served → AnswersMessage faithful base old new before after served remaining left
-  answers_message remaining left (Ok found) h s bytes rest m at is accepted =
+  message : (remaining left : Option (List ℕ)) (r : Result Message ReadFault) → FindsMessage remaining left r
+      → Serves faithful base old new before after r served
+      → (bytes rest : List ℕ) (m : Message) → remaining ≡ Some (bytes ++ rest) → IsRequestMessage bytes m → IsAccepted m
+      → (Sends before after (AnswersMeaning faithful base old new (is_head m.head) (request_of m)) served × (left ≡ Some rest))
+      ⊎ IsHindered faithful old new before after served
+  message remaining left (Ok found) h s bytes rest m at is accepted =
       let found_is = h bytes rest m at is accepted in
       let t : Serves faithful base old new before after (Ok m) served = subst (λ k. Serves faithful base old new before after (Ok k) served) found_is.0 s in
       left_too (answered m t.0 t.1 t.2) found_is.1
-  answers_message remaining left (Err fault) h s bytes rest m at is accepted = inr (hindered fault (h bytes rest m at is accepted) s)
+  message remaining left (Err fault) h s bytes rest m at is accepted = inr (hindered fault (h bytes rest m at is accepted) s)
+
+  -- what may come of a malformed head
+  malformed : (all : List ℕ) (r : Result Message ReadFault) → AnswersMalformed all r → Serves faithful base old new before after r served
+      → MeetsFault base old new before after served Malformed
+      ⊎ ((EndsInTarget (take head_limit all) ⊎ RequestExceeds field_limit all) × MeetsFault base old new before after served HeadTooLong)
+      ⊎ (EndsInTarget all × MeetsFault base old new before after served EndedEarly)
+      ⊎ IsHindered faithful old new before after served
+  malformed all (Ok m) h s = absurd h
+  malformed all (Err Malformed) h s = inl s
+  malformed all (Err (HostMissingOrRepeated is_head)) h s = absurd h
+  malformed all (Err (LengthMissing is_head)) h s = absurd h
+  malformed all (Err (BodyTooLong is_head)) h s = absurd h
+  malformed all (Err HeadTooLong) h s = inr (inl (h, s))
+  malformed all (Err (TransferCoding is_head)) h s = absurd h
+  malformed all (Err (Expectation is_head)) h s = absurd h
+  malformed all (Err EndedEarly) h s = inr (inr (inl (h, s)))
+  malformed all (Err ReadFailed) h s = inr (inr (inr (hindered ReadFailed tt s)))
+  malformed all (Err OutOfMemory) h s = inr (inr (inr (hindered OutOfMemory tt s)))
+  malformed all (Err TurnsExhausted) h s = inr (inr (inr (hindered TurnsExhausted tt s)))
+
+  -- whatever stands at the front
+  pub serves_known : (reading_old reading_new : Reading) (r : Result Message ReadFault) → HasRead reading_old reading_new r
+      → Serves faithful base old new before after r served
+      → ServesKnown faithful base old new before after served reading_old.remaining reading_new.remaining
+  serves_known reading_old reading_new r read s = record {
+    message = message reading_old.remaining reading_new.remaining r read.found s;
+    refused_head = λ front rest head fault at is judged. meets_fault fault r (read.refused_head front rest head fault at is judged) s;
+    long = λ bytes rest at long. meets_fault HeadTooLong r (read.long bytes rest at long) s;
+    part = λ bytes at part. meets_fault EndedEarly r (read.ended bytes at part) s;
+    malformed = λ bytes rest at within never. malformed (bytes ++ rest) r (read.malformed bytes rest at within never) s;
+  }

@@ -4,57 +4,49 @@ use Rattle.httparse.specs.Grammar.{NeverHasRequest, EndsInTarget}
 use Rattle.httparse.specs.Spans.{RequestExceeds}
 use Rattle.scim_resource.specs.Rows.{StoredRecord}
 use Rattle.http_text.specs.declared.fault.ReadFault.{ReadFault}
-use Rattle.http_text.specs.declared.fault.ReadFault.TheVariants.{Malformed, HeadTooLong, EndedEarly}
+use Rattle.http_text.specs.declared.fault.ReadFault.TheVariants.{Malformed, HeadTooLong, EndedEarly, ReadFailed, TurnsExhausted}
 use Rattle.http_text.specs.Counts.{Writing}
 use Rattle.http_text.specs.Message.{Head, Message, IsRequestHead, IsRequestMessage, head_limit, field_limit}
 use Rattle.http_text.specs.Judging.{judge_head, is_head, IsAccepted}
-use Rattle.http_text.specs.Requests.{IsStreamFault, IsPartOfHead, IsPartOfBody, IsLongPart, HasLongSection}
+use Rattle.http_text.specs.Requests.{IsPartOfHead, IsPartOfBody, IsLongPart, HasLongSection}
 use Rattle.scim_server.specs.declared.serving.Served.{Served}
 use Rattle.scim_server.specs.Meaning.{request_of}
 use Rattle.scim_server.specs.Reactions.{reaction_to}
 use Rattle.scim_server.specs.Serving.{AnswersMeaning, GivesUp, Sends, IsSilent, Reacts}
 
+-- the reader failed, or gave no whole request in all its turns
+abbrev pub IsReaderFault : ReadFault → Type 0
+IsReaderFault fault = (fault ≡ ReadFailed) ⊎ (fault ≡ TurnsExhausted)
+
 -- the store failed or memory was wanting, and the fixed text was sent; or the reader failed, and nothing was
 abbrev pub IsHindered : (faithful : Type 0) → (old new : List StoredRecord) → (before after : Writing) → Served → Type 0
 IsHindered faithful old new before after served =
     Sends before after (GivesUp faithful old new) served
-    ⊎ ((fault : ReadFault) × IsStreamFault fault × IsSilent before after fault served × (new ≡ old))
+    ⊎ ((fault : ReadFault) × IsReaderFault fault × IsSilent before after fault served × (new ≡ old))
 
 -- the reaction to a fault of reading, and the rows as they were
 abbrev pub MeetsFault : List ℕ → (old new : List StoredRecord) → (before after : Writing) → Served → ReadFault → Type 0
 MeetsFault base old new before after served fault = Reacts base before after fault (reaction_to fault) served × (new ≡ old)
 
-module _ (faithful : Type 0) (base : List ℕ) (old new : List StoredRecord) (before after : Writing) (served : Served) where
+-- What is served where the reader's bytes are known
+pub record ServesKnown (faithful : Type 0) (base : List ℕ) (old new : List StoredRecord) (before after : Writing) (served : Served) (remaining left : Option (List ℕ)) : Type 0 where
   -- an accepted message at the front is answered, and what follows it is left
-  abbrev pub AnswersMessage : (remaining left : Option (List ℕ)) → Type 0
-  AnswersMessage remaining left =
-      (bytes rest : List ℕ) (m : Message) → remaining ≡ Some (bytes ++ rest) → IsRequestMessage bytes m → IsAccepted m
+  pub message : (bytes rest : List ℕ) (m : Message) → remaining ≡ Some (bytes ++ rest) → IsRequestMessage bytes m → IsAccepted m
       → (Sends before after (AnswersMeaning faithful base old new (is_head m.head) (request_of m)) served × (left ≡ Some rest))
       ⊎ IsHindered faithful old new before after served
-
   -- a refused head at the front is refused, whatever follows
-  abbrev pub RefusesHead : (remaining : Option (List ℕ)) → Type 0
-  RefusesHead remaining =
-      (front rest : List ℕ) (head : Head) (fault : ReadFault) → remaining ≡ Some (front ++ rest) → IsRequestHead front head
-      → judge_head head ≡ Err fault → MeetsFault base old new before after served fault ⊎ IsHindered faithful old new before after served
-
+  pub refused_head : (front rest : List ℕ) (head : Head) (fault : ReadFault) → remaining ≡ Some (front ++ rest) → IsRequestHead front head
+      → judge_head head ≡ Err fault
+      → MeetsFault base old new before after served fault ⊎ IsHindered faithful old new before after served
   -- a head past a limit is refused
-  abbrev pub RefusesLong : (remaining : Option (List ℕ)) → Type 0
-  RefusesLong remaining =
-      (bytes rest : List ℕ) → remaining ≡ Some (bytes ++ rest) → IsLongPart bytes ⊎ HasLongSection bytes
+  pub long : (bytes rest : List ℕ) → remaining ≡ Some (bytes ++ rest) → IsLongPart bytes ⊎ HasLongSection bytes
       → MeetsFault base old new before after served HeadTooLong ⊎ IsHindered faithful old new before after served
-
   -- a part of a request alone is no request
-  abbrev pub LeavesPart : (remaining : Option (List ℕ)) → Type 0
-  LeavesPart remaining =
-      (bytes : List ℕ) → remaining ≡ Some bytes → IsPartOfHead bytes ⊎ IsPartOfBody bytes
+  pub part : (bytes : List ℕ) → remaining ≡ Some bytes → IsPartOfHead bytes ⊎ IsPartOfBody bytes
       → MeetsFault base old new before after served EndedEarly ⊎ IsHindered faithful old new before after served
-
   -- what no bytes make a head is malformed; in a target that may be noticed at its end, and among the field lines past
   -- the limit not at all
-  abbrev pub RefusesMalformed : (remaining : Option (List ℕ)) → Type 0
-  RefusesMalformed remaining =
-      (bytes rest : List ℕ) → remaining ≡ Some (bytes ++ rest) → length bytes ≤ head_limit → NeverHasRequest bytes
+  pub malformed : (bytes rest : List ℕ) → remaining ≡ Some (bytes ++ rest) → length bytes ≤ head_limit → NeverHasRequest bytes
       → MeetsFault base old new before after served Malformed
       ⊎ ((EndsInTarget (take head_limit (bytes ++ rest)) ⊎ RequestExceeds field_limit (bytes ++ rest)) × MeetsFault base old new before after served HeadTooLong)
       ⊎ (EndsInTarget (bytes ++ rest) × MeetsFault base old new before after served EndedEarly)

@@ -1,4 +1,5 @@
 pub mod Known
+pub mod Laws
 pub mod Meaning
 pub mod Media
 pub mod Reactions

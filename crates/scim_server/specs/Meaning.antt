@@ -1,10 +1,11 @@
 -- What an accepted message asks for, or the refusal that it meets first.
-use Rattle.std.specs.Prelude.{◌≡◌, ℕ, Bool, true, false, List, Option, Some, None, Result, Ok, Err, if◌then◌else◌, codes, ⊤}
+use Rattle.std.specs.Prelude.{◌≡◌, ℕ, List, Option, Some, None, Result, Ok, Err, if◌then◌else◌, codes, ⊤}
 use Rattle.std.specs.Str.{bytes_eq, is_utf8}
 use Rattle.serde_json.specs.Data.{Data}
 use Rattle.serde_json.specs.Read.{read}
 use Rattle.serde_json.specs.View.{view}
 use Rattle.serde_json.specs.declared.value.Value.{Value}
+use Rattle.scim_key.specs.Outcome.{◌>>=◌}
 use Rattle.scim_key.specs.declared.records.Kind.{Kind}
 use Rattle.scim_resource.specs.declared.contents.Content.{Content}
 use Rattle.scim_resource.specs.declared.faults.ReadFault.{ReadFault}
@@ -38,20 +39,22 @@ content_read (Err fault) = Err (refusal_of fault)
 
 abbrev pub content_from : Kind → Option Data → Result Content Refusal
 content_from kind None = Err UnreadableBody
-content_from kind (Some data_) = content_read (read_content kind data_)
+content_from kind (Some json) = content_read (read_content kind json)
 
 -- the content that a body has
 abbrev pub content_of : Kind → List ℕ → Result Content Refusal
 content_of kind body = content_from kind (json_of body)
 
-abbrev pub creation_of : Result Content Refusal → Result Request Refusal
-creation_of (Ok content) = Ok (Create content)
-creation_of (Err refusal) = Err refusal
+-- a media type that isn't served is refused
+abbrev pub type_accepted : Message → Result (Unit {0}) Refusal
+type_accepted m = if is_type_served (values (codes "content-type") m.head.fields) then Ok tt else Err MediaType
 
--- POST on a collection: the media type, then the body
+-- POST on a collection: the media type is looked at before the body
 abbrev pub create_request : Kind → Message → Result Request Refusal
-create_request kind m =
-    if is_type_served (values (codes "content-type") m.head.fields) then creation_of (content_of kind m.body) else Err MediaType
+create_request kind m = do
+  _ ← type_accepted m
+  content ← content_of kind m.body
+  Ok (Create content)
 
 -- the methods that are served on a collection
 abbrev pub collection_request : Kind → Message → Result Request Refusal

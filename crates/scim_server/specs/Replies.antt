@@ -1,5 +1,5 @@
 -- Answers as responses.
-use Rattle.std.specs.Prelude.{ℕ, ◌<◌, ◌≤◌, Bool, true, false, List, [], ◌∷◌, Option, Some, None, if◌then◌else◌, ◌&&◌, nat_le, nat_lt, length, codes}
+use Rattle.std.specs.Prelude.{ℕ, Bool, true, false, List, [], ◌∷◌, Option, Some, None, if◌then◌else◌, ◌&&◌, nat_le, nat_lt, length, codes}
 use Rattle.std.specs.Fmt.{decimal}
 use Rattle.std.specs.List.{flat_map}
 use Rattle.scim_resource.specs.Contents.{content_kind}
@@ -44,9 +44,9 @@ value_if false value = None
 -- the field lines of a response: the body's length, the URI and the tag of the resource that it shows, and whether it
 -- was created, which its URI tells once more
 abbrev pub lines_of : List ℕ → Option (List ℕ) → Option (List ℕ) → Bool → List Line
-lines_of length_ location tag created =
+lines_of body_length location tag created =
     (codes "Connection", Some (codes "close"))
-    ∷ (codes "Content-Length", Some length_)
+    ∷ (codes "Content-Length", Some body_length)
     ∷ (codes "Content-Location", location)
     ∷ (codes "Content-Type", Some (codes "application/scim+json"))
     ∷ (codes "ETag", tag)

@@ -118,17 +118,14 @@ fn fields_of<'a>(
         ≡ spec.written_lines (spec.lines_of length.now (option_map (λ t. t.now) location.entry)
         (option_map (λ t. t.now) tag.entry) created)) }
 {
+    let created_at = if created { location } else { None };
     let mut fields = Vec::new(alloc);
     push_line(&mut fields, "Connection", Some(b"close"))?;
     push_line(&mut fields, "Content-Length", Some(length))?;
     push_line(&mut fields, "Content-Location", location)?;
     push_line(&mut fields, "Content-Type", Some(b"application/scim+json"))?;
     push_line(&mut fields, "ETag", tag)?;
-    push_line(
-        &mut fields,
-        "Location",
-        if created { location } else { None },
-    )?;
+    push_line(&mut fields, "Location", created_at)?;
     Ok(fields)
 }
 

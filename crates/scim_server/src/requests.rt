@@ -56,11 +56,20 @@ fn on_collection(alloc: Global, kind: Kind, incoming: &Incoming) -> Result<Reque
 fn create(alloc: Global, kind: Kind, incoming: &Incoming) -> Result<Request, MeaningFault>
     ensures { Tells result (spec.create_request kind incoming.now) }
 {
-    if !is_type_served(incoming) {
-        return Err(MeaningFault::Refused(Refusal::MediaType));
-    }
+    accept_type(incoming)?;
     let content = content_of(alloc, kind, incoming.body())?;
     Ok(Request::Create { content })
+}
+
+/// Refuses a media type that isn't served.
+fn accept_type(incoming: &Incoming) -> Result<(), MeaningFault>
+    ensures { Tells result (spec.type_accepted incoming.now) }
+{
+    if is_type_served(incoming) {
+        Ok(())
+    } else {
+        Err(MeaningFault::Refused(Refusal::MediaType))
+    }
 }
 
 /// The content that a body has.

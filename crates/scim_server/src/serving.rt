@@ -9,7 +9,7 @@ ghost use Rattle.provider_core.specs.Stores.{IsQuiet, IsExcusedProvider};
 ghost use Rattle.scim_server.specs.Meaning.{request_of};
 ghost use Rattle.scim_server.specs.Replies.{fixed_reply};
 ghost use Rattle.scim_server.specs.Serving as spec;
-ghost use Rattle.scim_server.specs.Known as known;
+ghost use Rattle.scim_server.specs.Known.{ServesKnown};
 
 use crate::reactions::{Reaction, reaction_to};
 use crate::replies::{Reply, fixed_response};
@@ -45,19 +45,13 @@ pub fn serve<R: Registry, I: Read, O: Write>(
 ) -> Served
     // What was read, and what became of it.
     ensures served { (r : Result Message ReadFault) × spec.HasRead reader.old reader.new r
-        × spec.Serves (R.is_faithful provider.new) base.now (R.rows provider.old) (R.rows provider.new) writer.old writer.new r result }
+        × spec.Serves (R.is_faithful provider.new) base.now (R.rows provider.old)
+        (R.rows provider.new) writer.old writer.new r result }
 
     // The same, from what stands at the reader's front.
-    ensures message { known.AnswersMessage (R.is_faithful provider.new) base.now (R.rows provider.old) (R.rows provider.new) writer.old writer.new result
+    ensures known { ServesKnown (R.is_faithful provider.new) base.now (R.rows provider.old)
+        (R.rows provider.new) writer.old writer.new result
         reader.old.remaining reader.new.remaining }
-    ensures refused_head { known.RefusesHead (R.is_faithful provider.new) base.now (R.rows provider.old) (R.rows provider.new) writer.old writer.new result
-        reader.old.remaining }
-    ensures long { known.RefusesLong (R.is_faithful provider.new) base.now (R.rows provider.old) (R.rows provider.new) writer.old writer.new result
-        reader.old.remaining }
-    ensures part { known.LeavesPart (R.is_faithful provider.new) base.now (R.rows provider.old) (R.rows provider.new) writer.old writer.new result
-        reader.old.remaining }
-    ensures malformed { known.RefusesMalformed (R.is_faithful provider.new) base.now (R.rows provider.old) (R.rows provider.new) writer.old writer.new result
-        reader.old.remaining }
 
     // What the store and the writer count.
     ensures quiet { IsQuiet R.is_faithful R.faults provider.old provider.new }
@@ -78,7 +72,8 @@ fn serve_message<R: Registry, O: Write>(
     incoming: &Incoming,
     writer: &mut Output<O>,
 ) -> Served
-    ensures served { spec.Serves (R.is_faithful provider.new) base.now (R.rows provider.old) (R.rows provider.new) writer.old writer.new (Ok incoming.now) result }
+    ensures served { spec.Serves (R.is_faithful provider.new) base.now (R.rows provider.old)
+        (R.rows provider.new) writer.old writer.new (Ok incoming.now) result }
     ensures quiet { IsQuiet R.is_faithful R.faults provider.old provider.new }
     ensures writes { R.writes provider.new ≤ R.writes provider.old + 1 }
     ensures turns { CountsTurns writer.old.calls writer.new.calls }
@@ -96,7 +91,8 @@ fn serve_fault<O: Write>(
     fault: ReadFault,
     writer: &mut Output<O>,
 ) -> Served
-    ensures served { spec.Reacts base.now writer.old writer.new fault (reaction_to fault) result }
+    ensures served { spec.Reacts base.now writer.old writer.new fault (reaction_to fault)
+        result }
     ensures turns { CountsTurns writer.old.calls writer.new.calls }
 {
     match reaction_to(fault) {
@@ -117,7 +113,8 @@ fn refuse<O: Write>(
     leaves_body_out: bool,
     writer: &mut Output<O>,
 ) -> Served
-    ensures sent { spec.Sends writer.old writer.new (spec.AnswersFault base.now leaves_body_out refusal) result }
+    ensures sent { spec.Sends writer.old writer.new
+        (spec.AnswersFault base.now leaves_body_out refusal) result }
     ensures turns { CountsTurns writer.old.calls writer.new.calls }
 {
     match refusal_reply(alloc, base, refusal, leaves_body_out) {
@@ -133,11 +130,15 @@ fn reply_to<R: Registry>(
     base: &Base,
     incoming: &Incoming,
 ) -> Result<Reply, ProviderFault>
-    ensures reply { IfOk result (spec.AnswersMeaning (R.is_faithful provider.new) base.now (R.rows provider.old) (R.rows provider.new) (judging.is_head incoming.now.head) (request_of incoming.now)) }
-    ensures same { R.is_faithful provider.new → OnErr result (R.rows provider.new ≡ R.rows provider.old) }
+    ensures reply { IfOk result (spec.AnswersMeaning (R.is_faithful provider.new) base.now
+        (R.rows provider.old) (R.rows provider.new) (judging.is_head incoming.now.head)
+        (request_of incoming.now)) }
+    ensures same { R.is_faithful provider.new
+        → OnErr result (R.rows provider.new ≡ R.rows provider.old) }
     ensures quiet { IsQuiet R.is_faithful R.faults provider.old provider.new }
     ensures writes { R.writes provider.new ≤ R.writes provider.old + 1 }
-    ensures cause { IfErr result (IsExcusedProvider (R.faults provider.old) (R.faults provider.new)) }
+    ensures cause { IfErr result
+        (IsExcusedProvider (R.faults provider.old) (R.faults provider.new)) }
 {
     let leaves_body_out = is_head(incoming);
     match meaning(alloc, incoming) {
@@ -166,11 +167,14 @@ fn carry_out<R: Registry>(
     request: &Request,
     leaves_body_out: bool,
 ) -> Result<Reply, ProviderFault>
-    ensures reply { IfOk result (spec.AnswersRequest (R.is_faithful provider.new) base.now (R.rows provider.old) (R.rows provider.new) leaves_body_out request.now) }
-    ensures same { R.is_faithful provider.new → OnErr result (R.rows provider.new ≡ R.rows provider.old) }
+    ensures reply { IfOk result (spec.AnswersRequest (R.is_faithful provider.new) base.now
+        (R.rows provider.old) (R.rows provider.new) leaves_body_out request.now) }
+    ensures same { R.is_faithful provider.new
+        → OnErr result (R.rows provider.new ≡ R.rows provider.old) }
     ensures quiet { IsQuiet R.is_faithful R.faults provider.old provider.new }
     ensures writes { R.writes provider.new ≤ R.writes provider.old + 1 }
-    ensures cause { IfErr result (IsExcusedProvider (R.faults provider.old) (R.faults provider.new)) }
+    ensures cause { IfErr result
+        (IsExcusedProvider (R.faults provider.old) (R.faults provider.new)) }
 {
     let pending = provider.prepare(alloc, request)?;
     let reply = Reply::of(alloc, pending.answer(), base, leaves_body_out)?;
@@ -185,7 +189,8 @@ fn refusal_reply(
     refusal: Refusal,
     leaves_body_out: bool,
 ) -> Result<Reply, AllocError>
-    ensures { IfOk result (λ reply. reply ≡ spec.refusal_reply base.now leaves_body_out refusal) }
+    ensures { IfOk result
+        (λ reply. reply ≡ spec.refusal_reply base.now leaves_body_out refusal) }
 {
     let answer = Answer::Error(ErrorResponse::of(alloc, refusal)?);
     Reply::of(alloc, &answer, base, leaves_body_out)
@@ -193,7 +198,8 @@ fn refusal_reply(
 
 /// Sends a response.
 fn sent<O: Write>(writer: &mut Output<O>, status: u16, text: &[u8]) -> Served
-    ensures sent { spec.IsSent writer.old writer.new (record { status = status; text = text.now }) result }
+    ensures sent { spec.IsSent writer.old writer.new
+        (record { status = status; text = text.now }) result }
     ensures turns { CountsTurns writer.old.calls writer.new.calls }
 {
     match send(writer, text) {
