@@ -3,7 +3,7 @@ use Rattle.std.proofs.Common.{◌≡◌, ℕ, suc, ◌+◌, List, [], ◌∷◌,
 use Rattle.std.proofs.lemmas.Bool.{and_parts, false_from_ne_true}
 use Rattle.std.specs.Str.{bytes_eq}
 use Rattle.csv.specs.Machine.{Read, next_record}
-use Rattle.csv.specs.Reading.{AreRecords, Reached, RowStep, default_config}
+use Rattle.csv.specs.Reading.{AreRecords, FlexibleStep, Reached, RowStep, default_config}
 use Rattle.csv.specs.Records.{Row, field_at, fields_of}
 use Rattle.csv.specs.declared.iter.ByteRecordsIntoIter.{ByteRecordsIntoIter}
 use Rattle.csv.proofs.ReadFacts.{rows-end, rows-more}
@@ -64,9 +64,10 @@ no_record s xs (r ∷ rest) (t, ys, reached, end) e = absurd (cc (reached.1, e))
 -- a step of the iterator that gives a record, and one that gives none
 pub steps_on : (s : State) (xs : List ℕ) (a b : ByteRecordsIntoIter (Bor (List ℕ))) (fields : Row)
     → IsAt s xs a → RowStep (λ (bytes : Bor (List ℕ)). Some bytes.now) a.rdr b.rdr b.left (Some (Ok fields))
+    → FlexibleStep a.rdr b.rdr (Some (Ok fields))
     → (p : Read) × (next_record default_config s [] [] xs ≡ Some p) × (fields_of fields ≡ p.0) × IsAt p.1 p.2 b
 unfolding Reached
-steps_on s xs a b fields at step =
+steps_on s xs a b fields at step flexible =
     let more = rows-more (λ (bytes : Bor (List ℕ)). Some bytes.now) a.rdr b.rdr (fields_of fields) default_config s xs xs [] at.config at.source (sym at.stands, refl) step.0 in (
       more.2.0,
       more.2.1,
@@ -78,6 +79,7 @@ steps_on s xs a b fields at step =
         config = step.0.2 ∙ at.config;
         source = more.1 ∙ ap Some (sym more.2.3.1);
         stands = sym more.2.3.0;
+        flexible = flexible ∙ at.flexible;
       },
     )
 

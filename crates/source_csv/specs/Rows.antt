@@ -4,6 +4,7 @@ use Rattle.std.specs.Bool.{beq}
 use Rattle.std.specs.Cmp.Lexicographic.{pointwise, slice_cmp}
 use Rattle.std.specs.Ordering.{nat_cmp, is_lt}
 use Rattle.std.specs.Str.{bytes_eq}
+use Rattle.scim_key.specs.Names.{IsGroupName, IsUserName}
 use Rattle.scim_key.specs.Revisions.{RevisionValue, IsRevision}
 
 -- how many bytes a user's number, given name, family name and mail have at most
@@ -20,8 +21,9 @@ pub record UserFields : Type 0 where
   pub mail : List ℕ
   pub active : Bool
 
--- what every row of a user keeps, beside its login's being a `UserName`
+-- what every row of a user keeps
 pub record IsUserRow (row : UserFields) : Type 0 where
+  pub login : IsUserName row.login
   pub revision : IsRevision row.revision
   pub number : length row.number ≤ value_limit
   pub given : length row.given ≤ value_limit
@@ -56,8 +58,9 @@ pub record GroupFields : Type 0 where
   pub revision : RevisionValue
   pub members : List (List ℕ)
 
--- what every row of a group keeps, beside its name's being a `GroupName`
+-- what every row of a group keeps
 pub record IsGroupRow (row : GroupFields) : Type 0 where
+  pub name : IsGroupName row.name
   pub revision : IsRevision row.revision
   pub few : length row.members ≤ member_limit
   pub rising : are_rising row.members ≡ true

@@ -1,6 +1,7 @@
 //! The fields of a record.
 ghost use Rattle.std.specs.Prelude.{◌≡◌, ◌≤◌, Ok, Err, IfOk, MatchResult, string_bytes, string_len};
 ghost use Rattle.csv.specs.Records.{fields_of};
+ghost use Rattle.scim_key.specs.Names.{IsGroupName, IsUserName};
 ghost use Rattle.scim_key.specs.Revisions.{IsRevision};
 ghost use Rattle.std.specs.Char.{is_ascii_digit};
 ghost use Rattle.std.specs.List.{list_all};
@@ -33,7 +34,8 @@ pub(crate) fn field(texts: &StringRecord, place: usize) -> &str
 /// The name of a user.
 #[tactic(auto, unfolding(crate::specs::Fields::read_login))]
 pub(crate) fn login_of(alloc: Global, text: &str) -> Result<UserName, Refusal>
-    ensures { Reads result (read_login text.now) }
+    ensures exact { Reads result (read_login text.now) }
+    ensures lawful { IfOk result (λ login. IsUserName login) }
 {
     match UserName::read(alloc, text) {
         Ok(login) => Ok(login),
@@ -45,7 +47,8 @@ pub(crate) fn login_of(alloc: Global, text: &str) -> Result<UserName, Refusal>
 /// The name of a group.
 #[tactic(auto, unfolding(crate::specs::Fields::read_group_name))]
 pub(crate) fn group_name_of(alloc: Global, text: &str) -> Result<GroupName, Refusal>
-    ensures { Reads result (read_group_name text.now) }
+    ensures exact { Reads result (read_group_name text.now) }
+    ensures lawful { IfOk result (λ name. IsGroupName name) }
 {
     match GroupName::read(alloc, text) {
         Ok(name) => Ok(name),

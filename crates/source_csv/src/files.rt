@@ -1,8 +1,9 @@
 //! Files of the source.
-ghost use Rattle.std.specs.Prelude.{◌≡◌, List, MatchResult};
+ghost use Rattle.std.specs.Prelude.{◌≡◌, IfErr, IfOk, IsErr, List, MatchResult, Ok, true};
 ghost use Rattle.std.specs.List.{enumerate_from, list_all};
+ghost use Rattle.std.specs.Result.{ForErr};
 ghost use Rattle.std.specs.Str.{bytes_eq};
-ghost use Rattle.csv.specs.Reading.{strip_bom};
+ghost use Rattle.csv.specs.Reading.{error_kind, stops_reader, strip_bom};
 ghost use Rattle.csv.specs.Records.{fields_of};
 ghost use Rattle.csv.specs.declared.parser.State.TheVariants.{StartRecord};
 ghost use Rattle.scim_key.specs.Outcome.{Gives};
@@ -48,7 +49,8 @@ impl SourceRows {
     pub fn into_vec(self) -> Vec<Result<Row, RowFault>>
         ensures { result.items ≡ self }
     {
-        self.rows
+        let SourceRows { rows } = self;
+        rows
     }
 }
 
@@ -135,13 +137,23 @@ fn records_of(alloc: Global, bytes: &[u8]) -> ByteRecordsIntoIter<&[u8]>
         .into_byte_records()
 }
 
+/// The record that the reader gave. Where it gave none, memory was wanting: over bytes in memory, with
+/// records of any number of fields, no other error is left.
+fn record_of(given: Result<ByteRecord, csv::Error>) -> Result<ByteRecord, SourceFault>
+    requires { ForErr given (λ error. stops_reader (error_kind error) ≡ true) }
+    ensures ok { IfOk result (λ raw. given ≡ Ok raw) }
+    ensures err { IfErr result (λ fault. (fault ≡ SourceFault.Memory) × IsErr given) }
+{
+    Ok(given?)
+}
+
 /// Reads a file of this kind.
 fn read_rows(alloc: Global, kind: Kind, bytes: &[u8]) -> Result<SourceRows, SourceFault>
     ensures { (records : List Record) → AreRecordsOf bytes.now records → Gives SourceFault.Memory result (rows_of kind records) }
 {
     let mut records = records_of(alloc, bytes);
     let header = match records.next() {
-        Some(header) => header?,
+        Some(header) => record_of(header)?,
         None => return Err(SourceFault::Header),
     };
     if !is_header(kind, &header) {
@@ -149,7 +161,8 @@ fn read_rows(alloc: Global, kind: Kind, bytes: &[u8]) -> Result<SourceRows, Sour
     }
     let mut rows = Vec::new(alloc);
     for fields in records {
-        rows.push(row_at(alloc, kind, rows.len() + 1, fields?)?)?;
+        let raw = record_of(fields)?;
+        rows.push(row_at(alloc, kind, rows.len() + 1, raw)?)?;
     }
     Ok(SourceRows { rows })
 }

@@ -2,6 +2,7 @@
 ghost use Rattle.std.specs.Prelude.{◌≡◌, ◌≤◌, ◌↔◌, IfOk, IsTrue, MatchResult, Ok, Err, true, length};
 ghost use Rattle.std.specs.Cmp.Lexicographic.{pointwise};
 ghost use Rattle.std.specs.Str.{bytes_eq};
+ghost use Rattle.scim_key.specs.Names.{IsGroupName};
 ghost use Rattle.scim_key.specs.Revisions.{IsRevision};
 ghost use Rattle.csv.specs.Records.{fields_of};
 ghost use Rattle.source_csv.specs.Fields.{Reads, ReadsBy, field, read_group, read_group_fields, read_keys, read_member, read_members};
@@ -128,7 +129,8 @@ fn same_keys(a: &[Key], b: &[Key]) -> bool
 impl GroupRow {
     /// The group's name, as the source spells it.
     pub fn name(&self) -> &GroupName
-        ensures { result.now ≡ self.now.name }
+        ensures value { result.now ≡ self.now.name }
+        ensures lawful { IsGroupName self.now.name }
     {
         &self.name
     }

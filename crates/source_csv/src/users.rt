@@ -2,6 +2,7 @@
 ghost use Rattle.std.specs.Prelude.{◌≡◌, ◌==◌, ◌≤◌, ◌↔◌, IsTrue, length};
 ghost use Rattle.std.specs.Str.{bytes_eq};
 ghost use Rattle.csv.specs.Records.{fields_of};
+ghost use Rattle.scim_key.specs.Names.{IsUserName};
 ghost use Rattle.scim_key.specs.Revisions.{IsRevision};
 ghost use Rattle.source_csv.specs.Rows.{same_user, same_values, value_limit};
 ghost use Rattle.source_csv.specs.Fields.{Reads, field, read_user, read_user_fields};
@@ -73,7 +74,8 @@ fn same_text(a: &str, b: &str) -> bool
 impl UserRow {
     /// The user's name, as the source spells it.
     pub fn login(&self) -> &UserName
-        ensures { result.now ≡ self.now.login }
+        ensures value { result.now ≡ self.now.login }
+        ensures lawful { IsUserName self.now.login }
     {
         &self.login
     }

@@ -18,8 +18,9 @@ returns-in-None c records are =
 pub returns-then-not-is_header : goal.returns-then-not-is_header
 returns-then-not-is_header c records are =
     let at = c.records_of-records.ensures in
-    let step = rw (c.in-Some.is, c.in_ok-header-in-Some.was) at ((c.next.ensures.steps at.left at.trim).0 at.ready) in
-    let (p, next, same, on) = steps_on StartRecord (strip_bom c.args.bytes.now) c.records_of-records.result c.next.new.self c.in_ok-header-in-Some.header at step in
+    let step = rw (c.in-Some.is, c.in_ok-header-in-Some.ensures.ok) at ((c.next.ensures.steps at.left at.trim).0 at.ready) in
+    let flexible = rw (c.in-Some.is, c.in_ok-header-in-Some.ensures.ok) at ((c.next.ensures.steps at.left at.trim).3) in
+    let (p, next, same, on) = steps_on StartRecord (strip_bom c.args.bytes.now) c.records_of-records.result c.next.new.self c.in_ok-header-in-Some.header at step flexible in
     let (rest, first, more) = first_record StartRecord (strip_bom c.args.bytes.now) p records are next in
     let other : same_record (fields_of c.in_ok-header-in-Some.header) (header_of c.args.kind) ≡ false = sym c.is_header.ensures ∙ c.if-not-is_header.true in
     inr (rw (first, ← same, other) refl)
@@ -27,8 +28,9 @@ returns-then-not-is_header c records are =
 pub loop-fields-init : goal.loop-fields-init
 loop-fields-init c =
     let at = c.records_of-records.ensures in
-    let step = rw (c.in-Some.is, c.in_ok-header-in-Some.was) at ((c.next.ensures.steps at.left at.trim).0 at.ready) in
-    let (p, next, same, on) = steps_on StartRecord (strip_bom c.args.bytes.now) c.records_of-records.result c.next.new.self c.in_ok-header-in-Some.header at step in
+    let step = rw (c.in-Some.is, c.in_ok-header-in-Some.ensures.ok) at ((c.next.ensures.steps at.left at.trim).0 at.ready) in
+    let flexible = rw (c.in-Some.is, c.in_ok-header-in-Some.ensures.ok) at ((c.next.ensures.steps at.left at.trim).3) in
+    let (p, next, same, on) = steps_on StartRecord (strip_bom c.args.bytes.now) c.records_of-records.result c.next.new.self c.in_ok-header-in-Some.header at step flexible in
     let lawful : same_record (fields_of c.in_ok-header-in-Some.header) (header_of c.args.kind) ≡ true = sym c.is_header.ensures ∙ c.if-not-is_header.false in (
       p.1,
       p.2,
@@ -41,8 +43,9 @@ loop-fields-init c =
 pub loop-fields-preserved : goal.loop-fields-preserved
 loop-fields-preserved c =
     let (state, rest, at, all) = c.loop-fields.invariant in
-    let step = rw (c.in-Some-fields.is, c.in_ok-fields.was) at ((c.next-in-loop-fields.ensures.steps at.left at.trim).0 at.ready) in
-    let (p, next, same, on) = steps_on state rest c.loop-fields.fields-iterator c.next-in-loop-fields.new.self c.in_ok-fields.field-0 at step in
+    let step = rw (c.in-Some-fields.is, c.in_ok-raw.ensures.ok) at ((c.next-in-loop-fields.ensures.steps at.left at.trim).0 at.ready) in
+    let flexible = rw (c.in-Some-fields.is, c.in_ok-raw.ensures.ok) at ((c.next-in-loop-fields.ensures.steps at.left at.trim).3) in
+    let (p, next, same, on) = steps_on state rest c.loop-fields.fields-iterator c.next-in-loop-fields.new.self c.in_ok-raw.raw at step flexible in
     let good : is_ok c.push.result ≡ true = search rules in
     let items = rw good at c.push.ensures.items in
     let row = rw (c.len.ensures, c.loop-fields.rows.ok.0, same) at c.in_ok-row_at.ensures in (
