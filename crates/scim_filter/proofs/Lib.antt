@@ -1,3 +1,4 @@
+pub mod Comparisons
 pub mod Consumed
 pub mod Cuts
 pub mod Grammatical

@@ -1,8 +1,10 @@
 pub mod Codes
+pub mod Comparing
 pub mod Expressions
 pub mod Grammar
 pub mod Lexing
 pub mod Machine
+pub mod Matching
 pub mod Names
 pub mod Texts
 pub mod Tokens

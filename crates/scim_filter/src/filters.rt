@@ -3,12 +3,14 @@ ghost use Rattle.std.specs.Prelude.{◌≡◌, ◌≤◌, IfOk, length, string_b
 ghost use Rattle.scim_key.specs.Outcome.{Gives};
 ghost use Rattle.scim_filter.specs.Expressions.{Expression, Only, Both, Either, Negated, expression_of};
 
+use crate::matching::satisfies;
 use crate::reader::Reader;
 use crate::single::test_key;
 use crate::terms::{FilterText, Test, TextAttribute, TextOperator};
 use crate::texts::write_filter;
 use crate::tokens::token_at;
 use scim_key::{GroupName, RecordName, UserName};
+use scim_resource::Stored;
 use std::alloc::{AllocError, AllocFailed, Global};
 use std::marker::Model;
 use thiserror::Error;
@@ -75,6 +77,7 @@ impl Filter {
     ghost use Rattle.scim_filter.specs.Grammar.{Spells, text_limit, depth_limit};
     ghost use Rattle.scim_filter.specs.Texts.{filter_text, nesting};
     ghost use Rattle.scim_filter.specs.Names.{name_filter, single_key};
+    ghost use Rattle.scim_filter.specs.Matching as meaning;
     ghost use Rattle.scim_filter.specs.declared.terms.TextAttribute.TheVariants as tests;
 
     /// Reads a filter (RFC 7644 section 3.4.2.2). `Unsupported` comes where the text spells none:
@@ -123,6 +126,14 @@ impl Filter {
         let mut out = String::new(alloc);
         write_filter(alloc, &mut out, &self.root)?;
         Ok(out)
+    }
+
+    /// Whether a row of the provider satisfies the filter (RFC 7644 section 3.4.2.2). It takes no
+    /// memory. An attribute that the type of resource lacks is absent.
+    pub fn matches(&self, row: &Stored) -> bool
+        ensures { result ≡ meaning.satisfies self.now row.now }
+    {
+        satisfies(&self.root, row)
     }
 
     /// The record that the filter names: where it is `userName eq` or `displayName eq` alone, with

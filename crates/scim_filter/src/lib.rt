@@ -1,8 +1,10 @@
 //! Filters (RFC 7644 section 3.4.2.2): what they are, how a text spells them, and what they mean.
 #![tactic(auto)]
 
+mod comparing;
 mod filters;
 mod laws;
+mod matching;
 mod reader;
 mod single;
 mod terms;

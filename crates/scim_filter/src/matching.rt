@@ -1,0 +1,230 @@
+//! What a filter means on a row. It takes no memory: an id and a version are written into
+//! buffers of fixed size.
+ghost use Rattle.std.specs.Prelude.{◌≡◌, ◌≤◌, [], ◌∷◌, length, nat_lt};
+ghost use Rattle.scim_key.specs.Identifiers.{id_text, id_bytes, last_number};
+ghost use Rattle.scim_version.specs.Tags.{version_tag};
+ghost use Rattle.scim_filter.specs.Expressions.{expression_of};
+ghost use Rattle.scim_filter.specs.Matching as spec;
+
+use crate::comparing::compares;
+use crate::filters::Node;
+use crate::terms::{Attribute, FlagAttribute, FlagOperator, Test, TextAttribute, TextOperator};
+use arrayvec::ArrayString;
+use itoa::Buffer;
+use scim_resource::{Content, Stored, User};
+use uuid::Uuid;
+
+/// A text that is compared with all values of an attribute.
+#[derive(Clone, Copy)]
+struct Question<'a> {
+    exact: bool,
+    operator: TextOperator,
+    given: &'a str,
+}
+
+impl Question<'_> {
+    /// Whether a text compares so.
+    #[tactic(auto, unfolding(crate::specs::Matching::some_compares))]
+    fn of_one(&self, text: &str) -> bool
+        ensures { result ≡ spec.some_compares self.now.exact self.now.operator self.now.given.now (text.now ∷ []) }
+    {
+        compares(self.exact, self.operator, text, self.given)
+    }
+
+    #[tactic(auto, unfolding(crate::specs::Matching::some_compares))]
+    fn of_none(&self) -> bool
+        ensures { result ≡ spec.some_compares self.now.exact self.now.operator self.now.given.now [] }
+    {
+        false
+    }
+}
+
+/// The UUID of the n-th resource.
+fn uuid_of(number: u32) -> Uuid
+    ensures { result ≡ id_bytes number }
+{
+    let [a, b, c, d] = number.to_be_bytes();
+    Uuid::from_bytes([0x5c, 0x1a, 0, 0, 0, 0, 0x80, 0, 0x80, 0, 0, 0, a, b, c, d])
+}
+
+/// Whether the id of the n-th resource compares so.
+fn asks_id(question: &Question, number: u32) -> bool
+    requires { number ≤ last_number }
+    ensures { result ≡ spec.some_compares question.now.exact question.now.operator question.now.given.now
+        (id_text number ∷ []) }
+{
+    let mut buffer = Uuid::encode_buffer();
+    let spelled = uuid_of(number).hyphenated().encode_lower(&mut buffer);
+    question.of_one(spelled)
+}
+
+/// Whether the entity tag of a version compares so.
+fn asks_version(question: &Question, version: u64) -> bool
+    ensures { result ≡ spec.some_compares question.now.exact question.now.operator question.now.given.now
+        (version_tag version ∷ []) }
+{
+    let mut digits = Buffer::new();
+    let mut tag = ArrayString::<42>::new();
+    tag.push_str("\"");
+    tag.push_str(digits.format(version));
+    tag.push_str("\"");
+    question.of_one(tag.as_str())
+}
+
+fn asks_user(question: &Question, attribute: TextAttribute, user: &User) -> bool
+    ensures { result ≡ spec.some_compares question.now.exact question.now.operator question.now.given.now
+        (spec.user_texts attribute user.now) }
+{
+    match attribute {
+        TextAttribute::UserName => question.of_one(user.user_name().as_str()),
+        _ => question.of_none(),
+    }
+}
+
+fn asks_content(question: &Question, attribute: TextAttribute, content: &Content) -> bool
+    ensures { result ≡ spec.some_compares question.now.exact question.now.operator question.now.given.now
+        (spec.content_texts attribute content.now) }
+{
+    match content {
+        Content::User(user) => asks_user(question, attribute, user),
+    }
+}
+
+/// Whether some value of the attribute compares so.
+fn asks_row(question: &Question, attribute: TextAttribute, row: &Stored) -> bool
+    ensures { result ≡ spec.some_compares question.now.exact question.now.operator question.now.given.now
+        (spec.texts_of attribute row.now) }
+{
+    match attribute {
+        TextAttribute::Id => asks_id(question, row.number()),
+        TextAttribute::Version => asks_version(question, row.version()),
+        _ => asks_content(question, attribute, row.content()),
+    }
+}
+
+fn is_exact(attribute: TextAttribute) -> bool
+    ensures { result ≡ spec.is_exact attribute }
+{
+    match attribute {
+        TextAttribute::Id | TextAttribute::ExternalId | TextAttribute::Version => true,
+        _ => false,
+    }
+}
+
+fn some_compares(
+    attribute: TextAttribute,
+    operator: TextOperator,
+    given: &str,
+    row: &Stored,
+) -> bool
+    ensures { result ≡ spec.some_compares (spec.is_exact attribute) operator given.now (spec.texts_of attribute row.now) }
+{
+    let question = Question {
+        exact: is_exact(attribute),
+        operator,
+        given,
+    };
+    asks_row(&question, attribute, row)
+}
+
+fn text_holds(attribute: TextAttribute, operator: TextOperator, given: &str, row: &Stored) -> bool
+    ensures { result ≡ spec.text_holds operator (spec.is_exact attribute) given.now (spec.texts_of attribute row.now) }
+{
+    match operator {
+        TextOperator::NotEqual => !some_compares(attribute, TextOperator::Equal, given, row),
+        _ => some_compares(attribute, operator, given, row),
+    }
+}
+
+#[tactic(auto, unfolding(crate::specs::Matching::some_is))]
+fn is_flag(value: bool, flag: bool) -> bool
+    ensures { result ≡ spec.some_is value (flag ∷ []) }
+{
+    value == flag
+}
+
+#[tactic(auto, unfolding(crate::specs::Matching::some_is))]
+fn some_is(attribute: FlagAttribute, value: bool, content: &Content) -> bool
+    ensures { result ≡ spec.some_is value (spec.content_flags attribute content.now) }
+{
+    match (attribute, content) {
+        (FlagAttribute::Active, Content::User(user)) => is_flag(value, user.is_active()),
+        _ => false,
+    }
+}
+
+fn flag_holds(attribute: FlagAttribute, operator: FlagOperator, value: bool, row: &Stored) -> bool
+    ensures { result ≡ spec.flag_holds operator value (spec.content_flags attribute row.now.content) }
+{
+    let is = some_is(attribute, value, row.content());
+    match operator {
+        FlagOperator::Is => is,
+        FlagOperator::IsNot => !is,
+    }
+}
+
+fn has_user_text(attribute: TextAttribute, user: &User) -> bool
+    ensures { result ≡ nat_lt 0 (length (spec.user_texts attribute user.now)) }
+{
+    let _user = user;
+    matches!(attribute, TextAttribute::UserName)
+}
+
+fn has_content_text(attribute: TextAttribute, content: &Content) -> bool
+    ensures { result ≡ nat_lt 0 (length (spec.content_texts attribute content.now)) }
+{
+    match content {
+        Content::User(user) => has_user_text(attribute, user),
+    }
+}
+
+fn has_text(attribute: TextAttribute, row: &Stored) -> bool
+    ensures { result ≡ nat_lt 0 (length (spec.texts_of attribute row.now)) }
+{
+    match attribute {
+        TextAttribute::Id | TextAttribute::Version => true,
+        _ => has_content_text(attribute, row.content()),
+    }
+}
+
+fn has_flag(attribute: FlagAttribute, content: &Content) -> bool
+    ensures { result ≡ nat_lt 0 (length (spec.content_flags attribute content.now)) }
+{
+    match (attribute, content) {
+        (FlagAttribute::Active, Content::User(_)) => true,
+        _ => false,
+    }
+}
+
+fn is_present(attribute: Attribute, row: &Stored) -> bool
+    ensures { result ≡ spec.is_present attribute row.now }
+{
+    match attribute {
+        Attribute::OfText(attribute) => has_text(attribute, row),
+        Attribute::OfFlag(attribute) => has_flag(attribute, row.content()),
+    }
+}
+
+fn test_holds(test: &Test, row: &Stored) -> bool
+    ensures { result ≡ spec.test_holds test.now row.now }
+{
+    match test {
+        Test::Present(attribute) => is_present(*attribute, row),
+        Test::Text(attribute, operator, given) => {
+            text_holds(*attribute, *operator, given.as_str(), row)
+        }
+        Test::Flag(attribute, operator, value) => flag_holds(*attribute, *operator, *value, row),
+    }
+}
+
+/// Whether the row satisfies the filter with this tree.
+pub(crate) fn satisfies(node: &Node, row: &Stored) -> bool
+    ensures { result ≡ spec.satisfies (expression_of node.now) row.now }
+{
+    match node {
+        Node::Test(test) => test_holds(test, row),
+        Node::And(left, right) => satisfies(left, row) && satisfies(right, row),
+        Node::Or(left, right) => satisfies(left, row) || satisfies(right, row),
+        Node::Not(inner) => !satisfies(inner, row),
+    }
+}
