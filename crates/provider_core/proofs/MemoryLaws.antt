@@ -1,5 +1,5 @@
 -- What the numbers and the index of a registry in memory tell of its rows.
-use Rattle.std.proofs.Common.{◌≡◌, ◌≢◌, ℕ, zero, suc, ◌+◌, ◌-◌, ◌<◌, ◌≤◌, Bool, true, false, ◌&&◌, List, [], ◌∷◌, ◌++◌, Option, Some, None, length, cond, drop, take, nat_lt, refl, sym, ap, subst, ◌∙◌, arith, rules, tests, length-append, inl, inr, ◌⊎◌}
+use Rattle.std.proofs.Common.{◌≡◌, ◌≢◌, ◌==◌, ℕ, zero, suc, ◌+◌, ◌-◌, ◌<◌, ◌≤◌, Bool, true, false, ◌&&◌, List, [], ◌∷◌, ◌++◌, Option, Some, None, length, cond, drop, take, nat_lt, refl, sym, ap, subst, ◌∙◌, arith, rules, tests, length-append, inl, inr, ◌⊎◌}
 use Rattle.std.specs.Prelude.{slice_get, slice_set}
 use Rattle.std.specs.List.{find, filter}
 use Rattle.std.specs.Option.{option_map, option_or}
@@ -9,6 +9,7 @@ use Rattle.std.proofs.Math.ListN.{length-set}
 use Rattle.std.specs.BTreeMap.{BTreeMap, get, Updates}
 use Rattle.std.proofs.lemmas.Bool.{cases_eq, cases_lt, false_from_ne_true}
 use Rattle.std.proofs.lemmas.List.{drop_all}
+use Rattle.std.proofs.lemmas.Option.{slice_get_within}
 use Rattle.std.proofs.lemmas.List.Folds.{find-append}
 use Rattle.std.proofs.lemmas.Map.Text.{is_eq-slice_cmp}
 use Rattle.std.proofs.lemmas.Slice.Eq.{bytes_eq-Decides}
@@ -19,8 +20,9 @@ use Rattle.scim_key.specs.declared.records.Kind.TheVariants.{User, Group}
 use Rattle.scim_key.specs.declared.records.RecordName.{RecordName}
 use Rattle.scim_resource.specs.Contents.{content_name}
 use Rattle.scim_resource.specs.Rows.{StoredRecord}
-use Rattle.provider_core.specs.Rows.{same_kind, same_record, is_named, row_named, row_with_id, is_after, page_after}
+use Rattle.provider_core.specs.Rows.{same_record, is_named, row_named, row_with_id, is_after, page_after, has_number, row_numbered, with_row, same_kind}
 use Rattle.provider_core.specs.Stores.{HoldsNumber}
+use Rattle.provider_core.proofs.RowLaws.{same_record-eq, same_record-sym, numbers_same, find-passes}
 use Rattle.provider_core.specs.Memory.{name_cmp, IsNumberedFrom, IsIndexed}
 
 -- ---- names
@@ -33,21 +35,6 @@ is_eq-parts Group Group x y = is_eq-slice_cmp x y
 
 is_eq-name_cmp : (a b : RecordName) → is_eq (name_cmp a b) ≡ same_record a b
 is_eq-name_cmp a b = is_eq-parts a.kind b.kind a.key b.key
-
-same_parts : (k l : Kind) (x y : List ℕ) → (same_kind k l && bytes_eq x y) ≡ true → (k ≡ l) × (x ≡ y)
-same_parts User User x y same = (refl, (bytes_eq-Decides x y).0 same)
-same_parts User Group x y same = absurd (cc)
-same_parts Group User x y same = absurd (cc)
-same_parts Group Group x y same = (refl, (bytes_eq-Decides x y).0 same)
-
-abbrev name_of : Kind → List ℕ → RecordName
-name_of kind key = record { kind = kind; key = key }
-
-name_eq : (a b : RecordName) → a.kind ≡ b.kind → a.key ≡ b.key → a ≡ b
-name_eq a b kinds keys = ap (λ kind. name_of kind a.key) kinds ∙ ap (λ key. name_of b.kind key) keys
-
-same_record-eq : (a b : RecordName) → same_record a b ≡ true → a ≡ b
-same_record-eq a b same = let parts = same_parts a.kind b.kind a.key b.key same in name_eq a b parts.0 parts.1
 
 -- ---- rows by number
 
@@ -166,22 +153,6 @@ joined-cases false true o row same free = absurd (cc)
 joined-cases false false None row same free = refl
 joined-cases false false (Some r) row same free = refl
 
-both_true : (b c : Bool) → (b ≡ true → c ≡ true) → (c ≡ true → b ≡ true) → b ≡ c
-both_true true true to from = refl
-both_true true false to from = sym (to refl)
-both_true false true to from = from refl
-both_true false false to from = refl
-
-turned : (a b : RecordName) → same_record a b ≡ true → same_record b a ≡ true
-turned a b same =
-    let e = same_record-eq a b same in
-    let P : RecordName → Type 0 = λ x. same_record x a ≡ true in
-    let Q : RecordName → Type 0 = λ x. same_record a x ≡ true in
-    subst P e (subst Q (sym e) same)
-
-same_record-sym : (a b : RecordName) → same_record a b ≡ same_record b a
-same_record-sym a b = both_true (same_record a b) (same_record b a) (turned a b) (turned b a)
-
 name-append : (rows : List StoredRecord) (row : StoredRecord) (q : RecordName) → row_named (content_name row.content) rows ≡ None
     → number_of (row_named q (rows ++ row ∷ [])) ≡ cond (same_record (content_name row.content) q) (Some row.number) (number_of (row_named q rows))
 name-append rows row q free =
@@ -238,9 +209,40 @@ name-set p (r ∷ rs) zero held row there same number =
     rw e (set-here (p row) (p held) held row (find p rs) same number)
 name-set p (r ∷ rs) (suc i) held row there same number = set-later (p r) r _ _ (name-set p rs i held row there same number)
 
+-- a row with a number that is there takes the place of that number
+with_row-set : (n : ℕ) (rows : List StoredRecord) (row : StoredRecord) → IsNumberedFrom n rows → n ≤ row.number → with_row row rows ≡ slice_set rows (row.number - n) row
+with_row-set n [] row numbered low = refl
+with_row-set n (r ∷ rs) row numbered low = here (cases_eq n row.number) (with_row-set (suc n) rs row numbered.1)
+  where
+    here : (n ≡ row.number) ⊎ (n ≢ row.number) → (suc n ≤ row.number → with_row row rs ≡ slice_set rs (row.number - suc n) row) → with_row row (r ∷ rs) ≡ slice_set (r ∷ rs) (row.number - n) row
+    here (inl same) ih =
+        let tested : (r.number == row.number) ≡ true = rw numbered.0 (search (rules, tests)) in
+        let first : row.number - n ≡ 0 = omega arith in
+        rw (tested, first) refl
+    here (inr apart) ih =
+        let tested : (r.number == row.number) ≡ false = rw numbered.0 (search (rules, tests)) in
+        let next : row.number - n ≡ suc (row.number - suc n) = omega arith in
+        rw (tested, next) (ap (λ xs. r ∷ xs) (ih (omega arith)))
+
+-- the row that an update replaces
+held-at : (rows : List StoredRecord) (row : StoredRecord) (held : StoredRecord) → IsNumberedFrom 1 rows → row_numbered row.number rows ≡ Some held
+    → (held.number ≡ row.number) × (1 ≤ row.number) × (slice_get rows (row.number - 1) ≡ Some held)
+held-at rows row held numbered there =
+    let same = numbers_same held.number row.number (find-passes (has_number row.number) rows held there) in
+    let at = found-at (has_number row.number) 1 rows held numbered there in
+    (same, omega (arith, at.0), ap (λ n. slice_get rows (n - 1)) (sym same) ∙ at.1)
+
+pub update-within : (rows : List StoredRecord) (row : StoredRecord) → IsNumberedFrom 1 rows → HoldsNumber rows row → row.number - 1 < length rows
+update-within rows row numbered holds = slice_get_within rows (row.number - 1) holds.held (held-at rows row holds.held numbered holds.there).2
+
+pub update-sets : (rows : List StoredRecord) (row : StoredRecord) → IsNumberedFrom 1 rows → HoldsNumber rows row → slice_set rows (row.number - 1) row ≡ with_row row rows
+update-sets rows row numbered holds = sym (with_row-set 1 rows row numbered (held-at rows row holds.held numbered holds.there).1)
+
 pub indexed-update : (numbers : BTreeMap RecordName ℕ) (rows : List StoredRecord) (row : StoredRecord) → IsIndexed numbers rows → HoldsNumber rows row → IsIndexed numbers (slice_set rows (row.number - 1) row)
-indexed-update numbers rows row indexed holds = record {
-  within = rw (length-set rows (row.number - 1) row) indexed.within;
-  numbered = numbered-set 1 rows (row.number - 1) holds.held row indexed.numbered holds.there holds.number;
-  found = λ q. indexed.found q ∙ sym (name-set (is_named q) rows (row.number - 1) holds.held row holds.there (ap (λ name. same_record q name) (sym holds.name)) holds.number);
-}
+indexed-update numbers rows row indexed holds =
+    let at = held-at rows row holds.held indexed.numbered holds.there in
+    record {
+      within = rw (length-set rows (row.number - 1) row) indexed.within;
+      numbered = numbered-set 1 rows (row.number - 1) holds.held row indexed.numbered at.2 at.0;
+      found = λ q. indexed.found q ∙ sym (name-set (is_named q) rows (row.number - 1) holds.held row at.2 (ap (λ name. same_record q name) (sym holds.name)) at.0);
+    }

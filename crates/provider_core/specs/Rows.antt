@@ -1,12 +1,12 @@
 -- The rows of a provider, in order of creation, and how one of them is found.
-use Rattle.std.specs.Prelude.{ℕ, Bool, true, false, ◌&&◌, List, Option, take, nat_lt}
+use Rattle.std.specs.Prelude.{ℕ, Bool, true, false, ◌&&◌, ◌==◌, List, [], ◌∷◌, Option, Some, None, take, nat_lt, if◌then◌else◌}
 use Rattle.std.specs.List.{find, filter}
 use Rattle.std.specs.Str.{bytes_eq}
 use Rattle.scim_key.specs.declared.records.Kind.{Kind}
 use Rattle.scim_key.specs.declared.records.Kind.TheVariants.{User, Group}
 use Rattle.scim_key.specs.declared.records.RecordName.{RecordName}
 use Rattle.scim_key.specs.Identifiers.{id_text}
-use Rattle.scim_resource.specs.Contents.{content_name}
+use Rattle.scim_resource.specs.Contents.{content_kind, content_name}
 use Rattle.scim_resource.specs.Rows.{StoredRecord}
 
 abbrev pub same_kind : Kind → Kind → Bool
@@ -35,9 +35,30 @@ has_id id row = bytes_eq id (id_text row.number)
 abbrev pub row_with_id : List ℕ → List StoredRecord → Option StoredRecord
 row_with_id id rows = find (has_id id) rows
 
+-- the row, if it is of this type
+abbrev pub if_of_kind : Kind → Option StoredRecord → Option StoredRecord
+if_of_kind kind None = None
+if_of_kind kind (Some row) = if same_kind kind (content_kind row.content) then Some row else None
+
+-- the resource of this type with this id, if there is one
+abbrev pub resource : Kind → List ℕ → List StoredRecord → Option StoredRecord
+resource kind id rows = if_of_kind kind (row_with_id id rows)
+
 -- at most `limit` rows, in order, from the first with a number above `after`
 abbrev pub is_after : ℕ → StoredRecord → Bool
 is_after after row = nat_lt after row.number
 
 abbrev pub page_after : ℕ → ℕ → List StoredRecord → List StoredRecord
 page_after after limit rows = take limit (filter (is_after after) rows)
+
+-- the row with this number, if there is one
+abbrev pub has_number : ℕ → StoredRecord → Bool
+has_number number row = row.number == number
+
+abbrev pub row_numbered : ℕ → List StoredRecord → Option StoredRecord
+row_numbered number rows = find (has_number number) rows
+
+-- the rows with this one in the place of the row with its number
+abbrev pub with_row : StoredRecord → List StoredRecord → List StoredRecord
+with_row row [] = []
+with_row row (r ∷ rs) = if has_number row.number r then row ∷ rs else r ∷ with_row row rs

@@ -1,7 +1,8 @@
 -- The counts that a store keeps of its faults and writes.
-use Rattle.std.specs.Prelude.{◌≡◌, ◌⊎◌, ℕ, ◌-◌, ◌^◌, ◌<◌, ◌≤◌, List, Some, slice_get}
+use Rattle.std.specs.Prelude.{◌≡◌, ◌⊎◌, ℕ, ◌-◌, ◌^◌, ◌<◌, ◌≤◌, List, Some}
 use Rattle.scim_resource.specs.Contents.{content_name}
 use Rattle.scim_resource.specs.Rows.{StoredRecord}
+use Rattle.provider_core.specs.Rows.{row_numbered}
 use Rattle.provider_core.specs.declared.registry.RegistryFault.{RegistryFault}
 use Rattle.provider_core.specs.declared.registry.RegistryFault.TheVariants as registry
 use Rattle.provider_core.specs.declared.provider.ProviderFault.{ProviderFault}
@@ -25,11 +26,10 @@ pub record IsQuiet {S : Type 0} (is_faithful : S → Type 0) (faults : S → ℕ
   pub was : is_faithful new → is_faithful old
   pub counts : faults old ≤ faults new
 
--- a row with this number and this name is there
+-- a row with this number is there, and is of the same record
 pub record HoldsNumber (rows : List StoredRecord) (row : StoredRecord) : Type 0 where
   pub held : StoredRecord
-  pub there : slice_get rows (row.number - 1) ≡ Some held
-  pub number : held.number ≡ row.number
+  pub there : row_numbered row.number rows ≡ Some held
   pub name : content_name held.content ≡ content_name row.content
 
 -- the provider's fault at a fault of its registry

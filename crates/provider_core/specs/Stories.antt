@@ -1,17 +1,24 @@
 -- The provider's table with the whole story of each resource: all contents that it ever held.
-use Rattle.std.specs.Prelude.{◌≡◌, ℕ, suc, Bool, true, false, List, [], ◌∷◌, ◌++◌, Option, Some, None, length, nat_le}
+use Rattle.std.specs.Prelude.{◌≡◌, ℕ, zero, suc, ◌-◌, ◌&&◌, Bool, true, false, List, [], ◌∷◌, ◌++◌, Option, Some, None, length, nat_le, if◌then◌else◌}
 use Rattle.std.specs.List.{find, AllByRecursion}
+use Rattle.std.specs.Str.{bytes_eq}
+use Rattle.scim_key.specs.Identifiers.{id_text}
+use Rattle.scim_key.specs.declared.records.Kind.{Kind}
 use Rattle.scim_key.specs.declared.records.RecordName.{RecordName}
+use Rattle.scim_version.specs.Tags.{version_tag}
+use Rattle.scim_version.specs.Conditions.{holds_match, holds_none_match}
+use Rattle.scim_version.specs.declared.conditions.Condition.{Condition}
 use Rattle.scim_resource.specs.declared.contents.Content.{Content}
-use Rattle.scim_resource.specs.Contents.{content_name}
-use Rattle.scim_resource.specs.Rows.{StoredRecord, shown}
+use Rattle.scim_resource.specs.Contents.{content_kind, content_name}
+use Rattle.scim_resource.specs.Rows.{StoredRecord, shown, last_version}
 use Rattle.scim_message.specs.declared.messages.Request.{Request}
-use Rattle.scim_message.specs.declared.messages.Request.TheVariants.{Create}
+use Rattle.scim_message.specs.declared.messages.Request.TheVariants.{Create, Retrieve, Replace}
 use Rattle.scim_message.specs.declared.messages.Answer.{Answer}
-use Rattle.scim_message.specs.declared.messages.Answer.TheVariants.{Created, Error}
-use Rattle.scim_message.specs.declared.refusals.Refusal.TheVariants.{NameTaken, LimitReached}
+use Rattle.scim_message.specs.declared.messages.Answer.TheVariants.{Created, Found, Replaced, NotModified, Error}
+use Rattle.scim_message.specs.declared.refusals.Refusal.{Refusal}
+use Rattle.scim_message.specs.declared.refusals.Refusal.TheVariants.{NameTaken, LimitReached, NoSuchResource, NameFixed, OtherVersion}
 use Rattle.scim_message.specs.Refusals.{error_of}
-use Rattle.provider_core.specs.Rows.{same_record}
+use Rattle.provider_core.specs.Rows.{same_kind, same_record}
 use Rattle.provider_core.specs.Outcomes.{outcome, changed_rows, most_resources}
 
 -- A record's entry: what it held before, in order, and what it holds. All of this is its story, which is never empty
@@ -27,6 +34,10 @@ story e = e.earlier ++ e.held ∷ []
 abbrev pub first_entry : Content → Entry
 first_entry content = record { name = content_name content; earlier = []; held = content }
 
+-- the entry whose story goes on with this content
+abbrev pub renewed : Entry → Content → Entry
+renewed e content = record { name = e.name; earlier = story e; held = content }
+
 -- an entry's row: its place makes its number, and its story's length its version
 abbrev pub row_of : ℕ → Entry → StoredRecord
 row_of number e = record { number = number; version = suc (length e.earlier); content = e.held }
@@ -38,23 +49,88 @@ rows_from number (e ∷ es) = row_of number e ∷ rows_from (suc number) es
 abbrev pub rows_of : List Entry → List StoredRecord
 rows_of es = rows_from 1 es
 
+-- ---- how an entry is found
+
 -- whether an entry is of this record
 abbrev pub is_entry_of : RecordName → Entry → Bool
 is_entry_of name e = same_record name e.name
+
+-- an entry with its number
+pub record Numbered : Type 0 where
+  pub number : ℕ
+  pub entry : Entry
+
+abbrev pub numbered_from : ℕ → List Entry → List Numbered
+numbered_from number [] = []
+numbered_from number (e ∷ es) = record { number = number; entry = e } ∷ numbered_from (suc number) es
+
+abbrev pub has_entry_id : List ℕ → Numbered → Bool
+has_entry_id id n = bytes_eq id (id_text n.number)
+
+abbrev pub if_entry_of_kind : Kind → Option Numbered → Option Numbered
+if_entry_of_kind kind None = None
+if_entry_of_kind kind (Some n) = if same_kind kind n.entry.name.kind then Some n else None
+
+-- the entry of this type with this id, if there is one
+abbrev pub entry_with_id : Kind → List ℕ → List Entry → Option Numbered
+entry_with_id kind id es = if_entry_of_kind kind (find (has_entry_id id) (numbered_from 1 es))
+
+-- the entries where the story at this place, counted from 0, goes on with this content
+abbrev pub renew_at : ℕ → Content → List Entry → List Entry
+renew_at place content [] = []
+renew_at zero content (e ∷ es) = renewed e content ∷ es
+renew_at (suc place) content (e ∷ es) = e ∷ renew_at place content es
+
+-- ---- what a request does
 
 -- what becomes of the table at a request, and what is answered
 pub record Step : Type 0 where
   pub entries : List Entry
   pub answer : Answer
 
+-- the table stays
+abbrev pub replied_on : List Entry → Answer → Step
+replied_on es answer = record { entries = es; answer = answer }
+
+abbrev pub refused_on : List Entry → Refusal → Step
+refused_on es refusal = replied_on es (Error (error_of refusal))
+
 abbrev pub creating_entry : (taken : Option Entry) → (full : Bool) → List Entry → Content → Step
-creating_entry (Some e) full es content = record { entries = es; answer = Error (error_of NameTaken) }
-creating_entry None true es content = record { entries = es; answer = Error (error_of LimitReached) }
+creating_entry (Some e) full es content = refused_on es NameTaken
+creating_entry None true es content = refused_on es LimitReached
 creating_entry None false es content = record { entries = es ++ first_entry content ∷ []; answer = Created (shown (row_of (suc (length es)) (first_entry content))) }
+
+-- by whether the name is the same, the story is as long as it can be, and both conditions hold
+abbrev pub writing_entry : (same_name : Bool) → (at_last : Bool) → (holds : Bool) → Numbered → List Entry → Content → Step
+writing_entry false at_last holds n es content = refused_on es NameFixed
+writing_entry true true holds n es content = refused_on es LimitReached
+writing_entry true false false n es content = refused_on es OtherVersion
+writing_entry true false true n es content = record { entries = renew_at (n.number - 1) content es; answer = Replaced (shown (row_of n.number (renewed n.entry content))) }
+
+abbrev pub replacing_entry : Option Numbered → List Entry → Content → Condition → Condition → Step
+replacing_entry None es content if_match if_none_match = refused_on es NoSuchResource
+replacing_entry (Some n) es content if_match if_none_match =
+    writing_entry (same_record n.entry.name (content_name content)) (nat_le last_version (length (story n.entry)))
+    (holds_match if_match (Some (length (story n.entry))) && holds_none_match if_none_match (Some (length (story n.entry)))) n es content
+
+-- by whether `If-Match` holds, and whether `If-None-Match` does
+abbrev pub reading_entry : (matches : Bool) → (fresh : Bool) → Numbered → List Entry → Step
+reading_entry false fresh n es = refused_on es OtherVersion
+reading_entry true false n es = replied_on es (NotModified n.entry.name.kind (id_text n.number) (version_tag (length (story n.entry))))
+reading_entry true true n es = replied_on es (Found (shown (row_of n.number n.entry)))
+
+abbrev pub retrieving_entry : Option Numbered → List Entry → Condition → Condition → Step
+retrieving_entry None es if_match if_none_match = refused_on es NoSuchResource
+retrieving_entry (Some n) es if_match if_none_match =
+    reading_entry (holds_match if_match (Some (length (story n.entry)))) (holds_none_match if_none_match (Some (length (story n.entry)))) n es
 
 -- What the provider does at a request, on entries
 abbrev pub step : List Entry → Request → Step
 step es (Create content) = creating_entry (find (is_entry_of (content_name content)) es) (nat_le most_resources (length es)) es content
+step es (Retrieve kind id if_match if_none_match) = retrieving_entry (entry_with_id kind id es) es if_match if_none_match
+step es (Replace id content if_match if_none_match) = replacing_entry (entry_with_id (content_kind content) id es) es content if_match if_none_match
+
+-- ---- laws
 
 -- each entry's contents are of its record
 abbrev pub IsTable : List Entry → Type 0
@@ -68,3 +144,22 @@ pub record Agrees (es : List Entry) (request : Request) : Type 0 where
 
 abbrev pub RowsFollowStories : Type 0
 RowsFollowStories = (es : List Entry) (request : Request) → IsTable es → Agrees es request
+
+-- an entry goes on: its name stays, and its story is a prefix of the later one
+pub record GoesOn (e later : Entry) : Type 0 where
+  pub name : later.name ≡ e.name
+  pub more : List Content
+  pub story : story later ≡ story e ++ more
+
+-- every entry goes on at its place
+abbrev pub AllGoOn : List Entry → List Entry → Type 0
+AllGoOn [] later = Unit {0}
+AllGoOn (e ∷ es) [] = ⊥
+AllGoOn (e ∷ es) (f ∷ fs) = GoesOn e f × AllGoOn es fs
+
+abbrev pub StoriesGrow : Type 0
+StoriesGrow = (es : List Entry) (request : Request) → AllGoOn es (step es request).entries
+
+-- the version of an entry's row is the length of its story
+abbrev pub VersionsCount : Type 0
+VersionsCount = (number : ℕ) (e : Entry) → (row_of number e).version ≡ length (story e)

@@ -1,5 +1,5 @@
 //! Laws of the provider.
-ghost use Rattle.provider_core.specs.Stories.{RowsFollowStories};
+ghost use Rattle.provider_core.specs.Stories.{RowsFollowStories, StoriesGrow, VersionsCount};
 ghost use Rattle.provider_core.specs.MemoryFaults.{OnlyMemoryWants};
 
 /// Rows with a version counter answer and change as the table of whole stories does.
@@ -10,4 +10,10 @@ pub fn rows_follow_stories()
 /// Over a registry in memory a request meets no store fault: what gets no answer wants memory.
 pub fn memory_never_faults()
     ensures { OnlyMemoryWants }
+{}
+
+/// A request adds contents to stories at most, and a version is the length of its story.
+pub fn stories_only_grow()
+    ensures grow { StoriesGrow }
+    ensures counted { VersionsCount }
 {}

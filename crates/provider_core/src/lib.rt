@@ -3,11 +3,12 @@
 
 mod laws;
 mod memory;
+mod outcomes;
 mod pending;
 mod provider;
 mod registry;
 
-pub use laws::{memory_never_faults, rows_follow_stories};
+pub use laws::{memory_never_faults, rows_follow_stories, stories_only_grow};
 pub use memory::MemoryRegistry;
 pub use pending::{Change, Pending};
 pub use provider::{Provider, ProviderFault};

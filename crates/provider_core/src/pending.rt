@@ -10,6 +10,8 @@ pub enum Change {
     Unchanged,
     /// A row joins.
     Insert(Stored),
+    /// A row takes the place of the one with its number.
+    Update(Stored),
 }
 
 /// The answer to a request, and the change that goes with it and isn't made yet.

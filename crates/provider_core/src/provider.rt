@@ -1,13 +1,17 @@
 //! The provider over a registry.
-ghost use Rattle.std.specs.Prelude.{◌≡◌, ◌<◌, ◌≤◌, ◌+◌, None, false, IfOk, IfErr, OnOk, OnErr};
-ghost use Rattle.provider_core.specs.Outcomes.{outcome, refused, creating, changed_rows, IsOutcome};
+ghost use Rattle.std.specs.Prelude.{◌≡◌, ◌≤◌, ◌+◌, IfOk, IfErr, OnOk, OnErr};
+ghost use Rattle.provider_core.specs.Outcomes.{outcome, changed_rows, IsOutcome};
+ghost use Rattle.provider_core.specs.Rows.{resource};
 ghost use Rattle.provider_core.specs.Stores.{IsExcusedProvider, IsQuiet};
 ghost use Rattle.provider_core.specs.declared.provider.ProviderFault.TheVariants as provider_faults;
 
+use crate::outcomes::{insertion, is_of_kind, refusal, replacement, retrieval};
 use crate::pending::{Change, Pending};
 use crate::registry::{Registry, RegistryFault};
-use scim_message::{Answer, ErrorResponse, Refusal, Request};
-use scim_resource::{Content, Shown, Stored};
+use scim_key::{Kind, ResourceId};
+use scim_message::{Answer, Refusal, Request};
+use scim_resource::{Content, Stored};
+use scim_version::Condition;
 use std::alloc::{AllocError, Global};
 use std::marker::Model;
 use thiserror::Error;
@@ -54,29 +58,6 @@ impl<R: Registry> Model for Provider<R> {
     ghost view = { λ p. p.registry };
 }
 
-/// What is pending where a request is refused.
-fn refusal(alloc: Global, refusal: Refusal) -> Result<Pending, AllocError>
-    ensures { IfOk result (λ pending. pending ≡ refused refusal) }
-{
-    Ok(Pending {
-        change: Change::Unchanged,
-        answer: Answer::Error(ErrorResponse::of(alloc, refusal)?),
-    })
-}
-
-/// What is pending where a content becomes a new row, `count` of them being there.
-fn insertion(alloc: Global, count: u32, content: &Content) -> Result<Pending, AllocError>
-    requires { count < 1_000_000 }
-    ensures { IfOk result (λ pending. pending ≡ creating None false count content.now) }
-{
-    let row = Stored::new(count + 1, 1, content.clone()?);
-    let shown = Shown::of(alloc, &row)?;
-    Ok(Pending {
-        change: Change::Insert(row),
-        answer: Answer::Created(shown),
-    })
-}
-
 impl<R: Registry> Provider<R> {
     /// A provider over the rows of a registry.
     pub fn new(registry: R) -> Provider<R>
@@ -95,7 +76,8 @@ impl<R: Registry> Provider<R> {
 
     /// Forms the answer to a request and the change that goes with it. It changes nothing.
     pub fn prepare(&mut self, alloc: Global, request: &Request) -> Result<Pending, ProviderFault>
-        ensures ok { R.is_faithful self.new → IfOk result (λ pending. pending ≡ outcome (R.rows self.old) request.now) }
+        ensures ok { R.is_faithful self.new →
+            IfOk result (λ pending. pending ≡ outcome (R.rows self.old) request.now) }
         ensures same { R.is_faithful self.new → R.rows self.new ≡ R.rows self.old }
         ensures quiet { IsQuiet R.is_faithful R.faults self.old self.new }
         ensures unwritten { R.writes self.new ≡ R.writes self.old }
@@ -103,11 +85,24 @@ impl<R: Registry> Provider<R> {
     {
         match request {
             Request::Create { content } => self.prepare_create(alloc, content),
+            Request::Retrieve {
+                kind,
+                id,
+                if_match,
+                if_none_match,
+            } => self.prepare_retrieve(alloc, *kind, id, if_match, if_none_match),
+            Request::Replace {
+                id,
+                content,
+                if_match,
+                if_none_match,
+            } => self.prepare_replace(alloc, id, content, if_match, if_none_match),
         }
     }
 
     fn prepare_create(&mut self, alloc: Global, content: &Content) -> Result<Pending, ProviderFault>
-        ensures ok { R.is_faithful self.new → IfOk result (λ pending. pending ≡ outcome (R.rows self.old) (Request.Create content.now)) }
+        ensures ok { R.is_faithful self.new →
+            IfOk result (λ pending. pending ≡ outcome (R.rows self.old) (Request.Create content.now)) }
         ensures same { R.is_faithful self.new → R.rows self.new ≡ R.rows self.old }
         ensures quiet { IsQuiet R.is_faithful R.faults self.old self.new }
         ensures unwritten { R.writes self.new ≡ R.writes self.old }
@@ -124,12 +119,74 @@ impl<R: Registry> Provider<R> {
         Ok(insertion(alloc, count, content)?)
     }
 
+    /// The row of this type with this id, if there is one.
+    fn resource(&mut self, kind: Kind, id: &ResourceId) -> Result<Option<Stored>, ProviderFault>
+        ensures ok { R.is_faithful self.new →
+            IfOk result (λ row. row ≡ resource kind id.now (R.rows self.old)) }
+        ensures same { R.is_faithful self.new → R.rows self.new ≡ R.rows self.old }
+        ensures quiet { IsQuiet R.is_faithful R.faults self.old self.new }
+        ensures unwritten { R.writes self.new ≡ R.writes self.old }
+        ensures cause { IfErr result (IsExcusedProvider (R.faults self.old) (R.faults self.new)) }
+    {
+        match self.registry.by_id(id)? {
+            Some(row) if is_of_kind(&row, kind) => Ok(Some(row)),
+            _ => Ok(None),
+        }
+    }
+
+    fn prepare_retrieve(
+        &mut self,
+        alloc: Global,
+        kind: Kind,
+        id: &ResourceId,
+        if_match: &Condition,
+        if_none_match: &Condition,
+    ) -> Result<Pending, ProviderFault>
+        ensures ok { R.is_faithful self.new →
+            IfOk result
+            (λ pending. pending
+            ≡ outcome (R.rows self.old) (Request.Retrieve kind id.now if_match.now if_none_match.now)) }
+        ensures same { R.is_faithful self.new → R.rows self.new ≡ R.rows self.old }
+        ensures quiet { IsQuiet R.is_faithful R.faults self.old self.new }
+        ensures unwritten { R.writes self.new ≡ R.writes self.old }
+        ensures cause { IfErr result (IsExcusedProvider (R.faults self.old) (R.faults self.new)) }
+    {
+        match self.resource(kind, id)? {
+            Some(row) => Ok(retrieval(alloc, &row, if_match, if_none_match)?),
+            None => Ok(refusal(alloc, Refusal::NoSuchResource)?),
+        }
+    }
+
+    fn prepare_replace(
+        &mut self,
+        alloc: Global,
+        id: &ResourceId,
+        content: &Content,
+        if_match: &Condition,
+        if_none_match: &Condition,
+    ) -> Result<Pending, ProviderFault>
+        ensures ok { R.is_faithful self.new →
+            IfOk result
+            (λ pending. pending
+            ≡ outcome (R.rows self.old) (Request.Replace id.now content.now if_match.now if_none_match.now)) }
+        ensures same { R.is_faithful self.new → R.rows self.new ≡ R.rows self.old }
+        ensures quiet { IsQuiet R.is_faithful R.faults self.old self.new }
+        ensures unwritten { R.writes self.new ≡ R.writes self.old }
+        ensures cause { IfErr result (IsExcusedProvider (R.faults self.old) (R.faults self.new)) }
+    {
+        match self.resource(content.kind(), id)? {
+            Some(row) => Ok(replacement(alloc, &row, content, if_match, if_none_match)?),
+            None => Ok(refusal(alloc, Refusal::NoSuchResource)?),
+        }
+    }
+
     /// Makes the change of what was prepared on the rows that now stand, and gives the answer.
     /// It writes once at most, and takes no memory of its own.
     pub fn commit(&mut self, pending: Pending) -> Result<Answer, ProviderFault>
         requires { R.is_faithful self.old → IsOutcome (R.rows self.old) pending }
         ensures answer { IfOk result (λ answer. answer ≡ pending.answer) }
-        ensures ok { R.is_faithful self.new → OnOk result (R.rows self.new ≡ changed_rows (R.rows self.old) pending.change) }
+        ensures ok { R.is_faithful self.new →
+            OnOk result (R.rows self.new ≡ changed_rows (R.rows self.old) pending.change) }
         ensures err { R.is_faithful self.new → OnErr result (R.rows self.new ≡ R.rows self.old) }
         ensures quiet { IsQuiet R.is_faithful R.faults self.old self.new }
         ensures written { R.writes self.new ≤ R.writes self.old + 1 }
@@ -139,14 +196,19 @@ impl<R: Registry> Provider<R> {
         match change {
             Change::Unchanged => {}
             Change::Insert(row) => self.registry.insert(row)?,
+            Change::Update(row) => self.registry.update(&row)?,
         }
         Ok(answer)
     }
 
     /// Answers a request and makes its change.
     pub fn answer(&mut self, alloc: Global, request: &Request) -> Result<Answer, ProviderFault>
-        ensures answer { R.is_faithful self.new → IfOk result (λ answer. answer ≡ (outcome (R.rows self.old) request.now).answer) }
-        ensures ok { R.is_faithful self.new → OnOk result (R.rows self.new ≡ changed_rows (R.rows self.old) (outcome (R.rows self.old) request.now).change) }
+        ensures answer { R.is_faithful self.new →
+            IfOk result (λ answer. answer ≡ (outcome (R.rows self.old) request.now).answer) }
+        ensures ok { R.is_faithful self.new →
+            OnOk result
+            (R.rows self.new
+            ≡ changed_rows (R.rows self.old) (outcome (R.rows self.old) request.now).change) }
         ensures err { R.is_faithful self.new → OnErr result (R.rows self.new ≡ R.rows self.old) }
         ensures quiet { IsQuiet R.is_faithful R.faults self.old self.new }
         ensures written { R.writes self.new ≤ R.writes self.old + 1 }

@@ -1,9 +1,8 @@
 //! What a provider asks of the store of its rows.
-ghost use Rattle.std.specs.Prelude.{◌≡◌, ℕ, ◌+◌, ◌-◌, ◌≤◌, List, [], ◌∷◌, ◌++◌, length, IfOk, OnOk, OnErr, IfErr, None, Some, option_map, slice_get, slice_set};
+ghost use Rattle.std.specs.Prelude.{◌≡◌, ℕ, ◌+◌, ◌≤◌, List, [], ◌∷◌, ◌++◌, length, IfOk, OnOk, OnErr, IfErr, None};
 ghost use Rattle.scim_resource.specs.Rows.{StoredRecord};
 ghost use Rattle.scim_resource.specs.Contents.{content_name};
-ghost use Rattle.provider_core.specs.Rows.{row_named, row_with_id, page_after};
-ghost use Rattle.provider_core.specs.Outcomes.{most_resources};
+ghost use Rattle.provider_core.specs.Rows.{row_named, row_with_id, page_after, with_row};
 ghost use Rattle.provider_core.specs.Stores.{HasRisen, IsExcused, IsQuiet, HoldsNumber};
 
 use scim_key::{RecordName, ResourceId};
@@ -100,7 +99,7 @@ pub trait Registry {
     /// Puts a row in the place of the one with its number, which has its name too.
     fn update(&mut self, row: &Stored) -> Result<(), RegistryFault>
         requires there { is_faithful self.old → HoldsNumber (rows self.old) row.now }
-        ensures ok { is_faithful self.new → OnOk result (rows self.new ≡ slice_set (rows self.old) (row.now.number - 1) row.now) }
+        ensures ok { is_faithful self.new → OnOk result (rows self.new ≡ with_row row.now (rows self.old)) }
         ensures same { is_faithful self.new → OnErr result (rows self.new ≡ rows self.old) }
         ensures quiet { IsQuiet is_faithful faults self.old self.new }
         ensures written { writes self.new ≤ writes self.old + 1 }

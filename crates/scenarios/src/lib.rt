@@ -4,11 +4,15 @@
 #[cfg(test)]
 mod creating;
 #[cfg(test)]
+mod grouping;
+#[cfg(test)]
 mod names;
 #[cfg(test)]
 mod refusing;
 #[cfg(test)]
 mod registries;
+#[cfg(test)]
+mod replacing;
 #[cfg(test)]
 mod streams;
 #[cfg(test)]

@@ -8,3 +8,4 @@ pub mod Quotes
 pub mod Spelling
 pub mod Stepwise
 pub mod Strings
+pub mod Values

@@ -1,12 +1,14 @@
 -- What a filter means on a row of the provider.
-use Rattle.std.specs.Prelude.{ℕ, List, [], ◌∷◌, length, Bool, true, false, not, ◌&&◌, ◌||◌, nat_lt}
-use Rattle.std.specs.List.{list_any}
+use Rattle.std.specs.Prelude.{ℕ, List, [], ◌∷◌, length, map, Bool, true, false, not, ◌&&◌, ◌||◌, nat_lt}
+use Rattle.std.specs.List.{list_any, filter_map}
+use Rattle.std.specs.Option.{option_to_list}
 use Rattle.scim_key.specs.Identifiers.{id_text}
 use Rattle.scim_version.specs.Tags.{version_tag}
 use Rattle.scim_resource.specs.Users.{UserRecord}
+use Rattle.scim_resource.specs.Groups.{GroupRecord}
 use Rattle.scim_resource.specs.Rows.{StoredRecord}
 use Rattle.scim_resource.specs.declared.contents.Content.{Content}
-use Rattle.scim_resource.specs.declared.contents.Content.TheVariants.{User}
+use Rattle.scim_resource.specs.declared.contents.Content.TheVariants.{User, Group}
 use Rattle.scim_filter.specs.Comparing.{folded, compares}
 use Rattle.scim_filter.specs.Expressions.{Expression, Only, Both, Either, Negated}
 use Rattle.scim_filter.specs.declared.terms.TextAttribute.{TextAttribute}
@@ -26,17 +28,30 @@ use Rattle.scim_filter.specs.declared.terms.Test.TheVariants as tests
 abbrev pub user_texts : TextAttribute → UserRecord → List (List ℕ)
 user_texts UserName u = u.user_name ∷ []
 user_texts DisplayName u = []
-user_texts GivenName u = []
-user_texts FamilyName u = []
-user_texts EmailValue u = []
-user_texts EmailType u = []
+user_texts GivenName u = option_to_list u.given_name
+user_texts FamilyName u = option_to_list u.family_name
+user_texts EmailValue u = map (λ e. e.value) u.emails
+user_texts EmailType u = filter_map (λ e. e.type_text) u.emails
 user_texts Member u = []
 user_texts Id u = []
-user_texts ExternalId u = []
+user_texts ExternalId u = option_to_list u.external_id
 user_texts Version u = []
+
+abbrev pub group_texts : TextAttribute → GroupRecord → List (List ℕ)
+group_texts UserName g = []
+group_texts DisplayName g = g.display_name ∷ []
+group_texts GivenName g = []
+group_texts FamilyName g = []
+group_texts EmailValue g = []
+group_texts EmailType g = []
+group_texts Member g = g.members
+group_texts Id g = []
+group_texts ExternalId g = option_to_list g.external_id
+group_texts Version g = []
 
 abbrev pub content_texts : TextAttribute → Content → List (List ℕ)
 content_texts a (User u) = user_texts a u
+content_texts a (Group g) = group_texts a g
 
 -- the id and the version are the row's
 abbrev pub texts_of : TextAttribute → StoredRecord → List (List ℕ)
@@ -53,7 +68,9 @@ texts_of Version s = version_tag s.version ∷ []
 
 abbrev pub content_flags : FlagAttribute → Content → List Bool
 content_flags Active (User u) = u.active ∷ []
-content_flags EmailPrimary (User u) = []
+content_flags Active (Group g) = []
+content_flags EmailPrimary (User u) = map (λ e. e.primary) u.emails
+content_flags EmailPrimary (Group g) = []
 
 -- whether an attribute is compared byte for byte, or with letters lowered
 abbrev pub is_exact : TextAttribute → Bool

@@ -1,6 +1,8 @@
 //! What a filter means on a row. It takes no memory: an id and a version are written into
 //! buffers of fixed size.
-ghost use Rattle.std.specs.Prelude.{◌≡◌, ◌≤◌, [], ◌∷◌, length, nat_lt};
+ghost use Rattle.std.specs.Prelude.{◌≡◌, ◌≤◌, [], ◌∷◌, map, length, nat_lt};
+ghost use Rattle.std.specs.List.{filter_map};
+ghost use Rattle.std.specs.Option.{option_to_list, option_copied};
 ghost use Rattle.scim_key.specs.Identifiers.{id_text, id_bytes, last_number};
 ghost use Rattle.scim_version.specs.Tags.{version_tag};
 ghost use Rattle.scim_filter.specs.Expressions.{expression_of};
@@ -11,7 +13,7 @@ use crate::filters::Node;
 use crate::terms::{Attribute, FlagAttribute, FlagOperator, Test, TextAttribute, TextOperator};
 use arrayvec::ArrayString;
 use itoa::Buffer;
-use scim_resource::{Content, Stored, User};
+use scim_resource::{Content, Email, Group, Stored, Text, User};
 use uuid::Uuid;
 
 /// A text that is compared with all values of an attribute.
@@ -35,6 +37,51 @@ impl Question<'_> {
     fn of_none(&self) -> bool
         ensures { result ≡ spec.some_compares self.now.exact self.now.operator self.now.given.now [] }
     {
+        false
+    }
+
+    fn of_option(&self, text: Option<&Text>) -> bool
+        ensures { result ≡ spec.some_compares self.now.exact self.now.operator self.now.given.now
+            (option_to_list (option_copied text.entry)) }
+    {
+        match text {
+            Some(text) => self.of_one(text.as_str()),
+            None => self.of_none(),
+        }
+    }
+
+    fn of_texts(&self, texts: &[Text]) -> bool
+        ensures { result ≡ spec.some_compares self.now.exact self.now.operator self.now.given.now texts.now }
+    {
+        for text in texts {
+            if self.of_one(text.as_str()) {
+                return true;
+            }
+        }
+        false
+    }
+
+    fn of_emails(&self, emails: &[Email]) -> bool
+        ensures { result ≡ spec.some_compares self.now.exact self.now.operator self.now.given.now
+            (map (λ e. e.value) emails.now) }
+    {
+        for email in emails {
+            if self.of_one(email.value.as_str()) {
+                return true;
+            }
+        }
+        false
+    }
+
+    fn of_email_types(&self, emails: &[Email]) -> bool
+        ensures { result ≡ spec.some_compares self.now.exact self.now.operator self.now.given.now
+            (filter_map (λ e. e.type_text) emails.now) }
+    {
+        for email in emails {
+            if self.of_option(email.type_text.as_ref()) {
+                return true;
+            }
+        }
         false
     }
 }
@@ -77,6 +124,23 @@ fn asks_user(question: &Question, attribute: TextAttribute, user: &User) -> bool
 {
     match attribute {
         TextAttribute::UserName => question.of_one(user.user_name().as_str()),
+        TextAttribute::GivenName => question.of_option(user.given_name()),
+        TextAttribute::FamilyName => question.of_option(user.family_name()),
+        TextAttribute::EmailValue => question.of_emails(user.emails()),
+        TextAttribute::EmailType => question.of_email_types(user.emails()),
+        TextAttribute::ExternalId => question.of_option(user.external_id()),
+        _ => question.of_none(),
+    }
+}
+
+fn asks_group(question: &Question, attribute: TextAttribute, group: &Group) -> bool
+    ensures { result ≡ spec.some_compares question.now.exact question.now.operator question.now.given.now
+        (spec.group_texts attribute group.now) }
+{
+    match attribute {
+        TextAttribute::DisplayName => question.of_one(group.display_name().as_str()),
+        TextAttribute::Member => question.of_texts(group.members()),
+        TextAttribute::ExternalId => question.of_option(group.external_id()),
         _ => question.of_none(),
     }
 }
@@ -87,6 +151,7 @@ fn asks_content(question: &Question, attribute: TextAttribute, content: &Content
 {
     match content {
         Content::User(user) => asks_user(question, attribute, user),
+        Content::Group(group) => asks_group(question, attribute, group),
     }
 }
 
@@ -143,12 +208,24 @@ fn is_flag(value: bool, flag: bool) -> bool
     value == flag
 }
 
+fn is_some_primary(value: bool, emails: &[Email]) -> bool
+    ensures { result ≡ spec.some_is value (map (λ e. e.primary) emails.now) }
+{
+    for email in emails {
+        if is_flag(value, email.primary) {
+            return true;
+        }
+    }
+    false
+}
+
 #[tactic(auto, unfolding(crate::specs::Matching::some_is))]
 fn some_is(attribute: FlagAttribute, value: bool, content: &Content) -> bool
     ensures { result ≡ spec.some_is value (spec.content_flags attribute content.now) }
 {
     match (attribute, content) {
         (FlagAttribute::Active, Content::User(user)) => is_flag(value, user.is_active()),
+        (FlagAttribute::EmailPrimary, Content::User(user)) => is_some_primary(value, user.emails()),
         _ => false,
     }
 }
@@ -166,8 +243,37 @@ fn flag_holds(attribute: FlagAttribute, operator: FlagOperator, value: bool, row
 fn has_user_text(attribute: TextAttribute, user: &User) -> bool
     ensures { result ≡ nat_lt 0 (length (spec.user_texts attribute user.now)) }
 {
-    let _user = user;
-    matches!(attribute, TextAttribute::UserName)
+    match attribute {
+        TextAttribute::UserName => true,
+        TextAttribute::GivenName => user.given_name().is_some(),
+        TextAttribute::FamilyName => user.family_name().is_some(),
+        TextAttribute::EmailValue => !user.emails().is_empty(),
+        TextAttribute::EmailType => has_email_type(user.emails()),
+        TextAttribute::ExternalId => user.external_id().is_some(),
+        _ => false,
+    }
+}
+
+fn has_email_type(emails: &[Email]) -> bool
+    ensures { result ≡ nat_lt 0 (length (filter_map (λ e. e.type_text) emails.now)) }
+{
+    for email in emails {
+        if email.type_text.is_some() {
+            return true;
+        }
+    }
+    false
+}
+
+fn has_group_text(attribute: TextAttribute, group: &Group) -> bool
+    ensures { result ≡ nat_lt 0 (length (spec.group_texts attribute group.now)) }
+{
+    match attribute {
+        TextAttribute::DisplayName => true,
+        TextAttribute::Member => !group.members().is_empty(),
+        TextAttribute::ExternalId => group.external_id().is_some(),
+        _ => false,
+    }
 }
 
 fn has_content_text(attribute: TextAttribute, content: &Content) -> bool
@@ -175,6 +281,7 @@ fn has_content_text(attribute: TextAttribute, content: &Content) -> bool
 {
     match content {
         Content::User(user) => has_user_text(attribute, user),
+        Content::Group(group) => has_group_text(attribute, group),
     }
 }
 
@@ -192,6 +299,7 @@ fn has_flag(attribute: FlagAttribute, content: &Content) -> bool
 {
     match (attribute, content) {
         (FlagAttribute::Active, Content::User(_)) => true,
+        (FlagAttribute::EmailPrimary, Content::User(user)) => !user.emails().is_empty(),
         _ => false,
     }
 }

@@ -9,7 +9,7 @@ use Rattle.std.specs.Str.{str_to_ascii_lowercase}
 use Rattle.serde_json.specs.Data.{Num, unsigned, negative, float, Data, null, boolean, number, string, array, object, Items, no_items, item, Members, no_members, member, put, depth, members_depth}
 use Rattle.serde_json.specs.Written.{has_float, items_have_float, members_have_float}
 use Rattle.serde_json.specs.Find.{is_float}
-use Rattle.scim_json.specs.Attributes.{same_name, named, clash, clashes, any_clashes}
+use Rattle.scim_json.specs.Attributes.{same_name, named, has_name, repeats}
 use Rattle.scim_json.specs.Plain.{IsWhole, IsBelow, IsPlain, ItemsArePlain, MembersArePlain}
 use Rattle.scim_json.specs.Writing.{Part, member_if, members_from, put_if}
 
@@ -32,15 +32,6 @@ is_apart name (p ∷ ps) = not (same_name name p.0) && is_apart name ps
 abbrev pub are_apart : List Part → Bool
 are_apart [] = true
 are_apart (p ∷ ps) = is_apart p.0 ps && are_apart ps
-
-abbrev pub is_clear : List ℕ → List Part → Bool
-is_clear name [] = true
-is_clear name (p ∷ ps) = not (clash name p.0) && is_clear name ps
-
--- no name of the first clashes with one of the second
-abbrev pub are_clear : List Part → List Part → Bool
-are_clear [] qs = true
-are_clear (p ∷ ps) qs = is_clear p.0 qs && are_clear ps qs
 
 -- the value of the first part with this name, in any case
 abbrev pub part_named : List ℕ → List Part → Option Data
@@ -108,30 +99,30 @@ named-members_from name ((k, Some d) ∷ ps) h =
     let both = and_parts (is_apart k ps) _ h in
     ap (cond (same_name k name) (Some d)) (named-members_from name ps both.1)
 
-clashes-members_from : (name : List ℕ) (ps : List Part) → is_clear name ps ≡ true → clashes name (members_from ps) ≡ false
-unfolding clashes
-clashes-members_from name [] h = refl
-clashes-members_from name ((k, None) ∷ ps) h = clashes-members_from name ps (and_parts (not (clash name k)) _ h).1
-clashes-members_from name ((k, Some d) ∷ ps) h =
-    let both = and_parts (not (clash name k)) _ h in
-    neither (clash name k) both.0 (clashes-members_from name ps both.1)
-  where
-    neither : (a : Bool) → {b : Bool} → not a ≡ true → b ≡ false → (a || b) ≡ false
-    neither true h g = cc
-    neither false h g = g
-
 nor : (a b : Bool) → a ≡ false → b ≡ false → (a || b) ≡ false
 nor true b h g = h
 nor false b h g = g
 
--- an object whose names don't clash repeats none
-pub any_clashes-members_from : (ps qs : List Part) → are_clear ps qs ≡ true → any_clashes (members_from ps) (members_from qs) ≡ false
-unfolding any_clashes
-any_clashes-members_from [] qs h = refl
-any_clashes-members_from ((k, None) ∷ ps) qs h = any_clashes-members_from ps qs (and_parts (is_clear k qs) _ h).1
-any_clashes-members_from ((k, Some d) ∷ ps) qs h =
-    let both = and_parts (is_clear k qs) _ h in
-    nor (clashes k (members_from qs)) _ (clashes-members_from k qs both.0) (any_clashes-members_from ps qs both.1)
+no : (b : Bool) → not b ≡ true → b ≡ false
+no true h = sym h
+no false h = refl
+
+has_name-members_from : (name : List ℕ) (ps : List Part) → is_apart name ps ≡ true → has_name name (members_from ps) ≡ false
+unfolding has_name
+has_name-members_from name [] h = refl
+has_name-members_from name ((k, None) ∷ ps) h = has_name-members_from name ps (and_parts (not (same_name name k)) _ h).1
+has_name-members_from name ((k, Some d) ∷ ps) h =
+    let both = and_parts (not (same_name name k)) _ h in
+    nor (same_name name k) _ (no (same_name name k) both.0) (has_name-members_from name ps both.1)
+
+-- an object of parts whose names are apart repeats none
+pub repeats-members_from : (ps : List Part) → are_apart ps ≡ true → repeats (members_from ps) ≡ false
+unfolding repeats
+repeats-members_from [] h = refl
+repeats-members_from ((k, None) ∷ ps) h = repeats-members_from ps (and_parts (is_apart k ps) _ h).1
+repeats-members_from ((k, Some d) ∷ ps) h =
+    let both = and_parts (is_apart k ps) _ h in
+    nor (has_name k (members_from ps)) _ (has_name-members_from k ps both.0) (repeats-members_from ps both.1)
 
 -- ---- plain data
 

@@ -1,7 +1,7 @@
 -- Finding an attribute in an object. Names are compared with ASCII letters lowered.
-use Rattle.std.specs.Prelude.{ℕ, List, length, Bool, true, false, not, ◌&&◌, ◌||◌, ◌==◌, Option, None, Some, if◌then◌else◌, bytes_eq}
+use Rattle.std.specs.Prelude.{ℕ, List, length, Bool, true, false, ◌||◌, ◌==◌, Option, None, Some, if◌then◌else◌, bytes_eq}
 use Rattle.std.specs.Str.{str_to_ascii_lowercase}
-use Rattle.serde_json.specs.Data.{Data, null, boolean, number, string, array, object, Members, no_members, member}
+use Rattle.serde_json.specs.Data.{Data, null, boolean, number, string, array, object, Items, no_items, item, Members, no_members, member}
 
 abbrev pub same_name : List ℕ → List ℕ → Bool
 same_name a b = bytes_eq (str_to_ascii_lowercase a) (str_to_ascii_lowercase b)
@@ -28,21 +28,16 @@ present (Some d) = if is_empty d then None else Some d
 abbrev pub attribute : List ℕ → Members → Option Data
 attribute name ms = present (named name ms)
 
--- the two differ in bytes and are equal in lowered letters
-abbrev pub clash : List ℕ → List ℕ → Bool
-clash a b = not (bytes_eq a b) && same_name a b
+-- some name of the object is this one, in any case
+unfoldable pub has_name : List ℕ → Members → Bool
+has_name name no_members = false
+has_name name (member k d ms) = same_name name k || has_name name ms
 
-unfoldable pub clashes : List ℕ → Members → Bool
-clashes name no_members = false
-clashes name (member k d ms) = clash name k || clashes name ms
-
-unfoldable pub any_clashes : Members → Members → Bool
-any_clashes no_members among = false
-any_clashes (member k d ms) among = clashes k among || any_clashes ms among
-
--- two names of the object differ in bytes and are equal in lowered letters
-abbrev pub repeats : Members → Bool
-repeats ms = any_clashes ms ms
+-- Two names of the object are equal in lowered letters. (No name comes twice byte for byte in a value that was read, so
+-- they differ in bytes.)
+unfoldable pub repeats : Members → Bool
+repeats no_members = false
+repeats (member k d ms) = has_name k ms || repeats ms
 
 -- the value is an object in which a name is repeated so
 abbrev pub value_repeats : Option Data → Bool
@@ -53,3 +48,17 @@ value_repeats (Some (number n)) = false
 value_repeats (Some (string s)) = false
 value_repeats (Some (array ds)) = false
 value_repeats (Some (object ms)) = repeats ms
+
+unfoldable pub items_repeat : Items → Bool
+items_repeat no_items = false
+items_repeat (item d ds) = value_repeats (Some d) || items_repeat ds
+
+-- the value is a list with an object in which a name is repeated so
+abbrev pub list_repeats : Option Data → Bool
+list_repeats None = false
+list_repeats (Some null) = false
+list_repeats (Some (boolean b)) = false
+list_repeats (Some (number n)) = false
+list_repeats (Some (string s)) = false
+list_repeats (Some (array ds)) = items_repeat ds
+list_repeats (Some (object ms)) = false

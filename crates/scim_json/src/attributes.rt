@@ -1,10 +1,12 @@
 //! Finding an attribute in an object. Names are compared with ASCII letters lowered (RFC 7643,
 //! section 2.1).
-ghost use Rattle.std.specs.Prelude.{◌≡◌, option_map};
-ghost use Rattle.serde_json.specs.View.{view, members_view};
+ghost use Rattle.std.specs.Prelude.{◌≡◌, IfOk, option_map};
+ghost use Rattle.serde_json.specs.View.{view, items_view, members_view};
 ghost use Rattle.scim_json.specs.Attributes as spec;
 
 use serde_json::{Map, Value};
+use std::alloc::{AllocError, Global};
+use std::collections::BTreeSet;
 
 /// The attribute with this name in any case. `null` and the empty text count as absent.
 pub fn attribute<'v>(members: &'v Map<String, Value>, name: &str) -> Option<&'v Value>
@@ -47,35 +49,20 @@ fn is_empty(value: &Value) -> bool
     }
 }
 
-/// Whether two names of the object differ in bytes and are equal in lowered letters.
-#[tactic(auto, unfolding(crate::specs::Attributes::any_clashes))]
-pub fn repeats(members: &Map<String, Value>) -> bool
-    ensures { result ≡ spec.repeats (members_view members.now.entries) }
+/// Whether two names of the object are equal in lowered letters.
+#[tactic(auto, unfolding(crate::specs::Attributes::repeats))]
+pub fn repeats(alloc: Global, members: &Map<String, Value>) -> Result<bool, AllocError>
+    ensures { IfOk result (λ b. b ≡ spec.repeats (members_view members.now.entries)) }
 {
+    let mut seen = BTreeSet::new(alloc);
     for (key, _) in members {
-        if clashes(key.as_str(), members) {
-            return true;
+        let mut lowered = key.clone()?;
+        lowered.make_ascii_lowercase();
+        if !seen.insert(lowered)? {
+            return Ok(true);
         }
     }
-    false
-}
-
-#[tactic(auto, unfolding(crate::specs::Attributes::clashes))]
-fn clashes(name: &str, members: &Map<String, Value>) -> bool
-    ensures { result ≡ spec.clashes name.now (members_view members.now.entries) }
-{
-    for (key, _) in members {
-        if clash(name, key.as_str()) {
-            return true;
-        }
-    }
-    false
-}
-
-fn clash(a: &str, b: &str) -> bool
-    ensures { result ≡ spec.clash a.now b.now }
-{
-    a != b && same_name(a, b)
+    Ok(false)
 }
 
 /// Whether the names are equal in lowered letters.
@@ -86,11 +73,35 @@ pub fn same_name(a: &str, b: &str) -> bool
 }
 
 /// Whether the value is an object in which a name is repeated so.
-pub fn value_repeats(value: Option<&Value>) -> bool
-    ensures { result ≡ spec.value_repeats (option_map (λ v. view v.now) value.entry) }
+pub fn value_repeats(alloc: Global, value: Option<&Value>) -> Result<bool, AllocError>
+    ensures { IfOk result (λ b. b
+        ≡ spec.value_repeats (option_map (λ v. view v.now) value.entry)) }
 {
     match value {
-        Some(Value::Object(members)) => repeats(members),
-        _ => false,
+        Some(Value::Object(members)) => repeats(alloc, members),
+        _ => Ok(false),
     }
+}
+
+/// Whether the value is a list with an object in which a name is repeated so.
+pub fn list_repeats(alloc: Global, value: Option<&Value>) -> Result<bool, AllocError>
+    ensures { IfOk result (λ b. b
+        ≡ spec.list_repeats (option_map (λ v. view v.now) value.entry)) }
+{
+    match value {
+        Some(Value::Array(items)) => items_repeat(alloc, items.as_slice()),
+        _ => Ok(false),
+    }
+}
+
+#[tactic(auto, unfolding(crate::specs::Attributes::items_repeat))]
+fn items_repeat(alloc: Global, items: &[Value]) -> Result<bool, AllocError>
+    ensures { IfOk result (λ b. b ≡ spec.items_repeat (items_view items.now)) }
+{
+    for item in items {
+        if value_repeats(alloc, Some(item))? {
+            return Ok(true);
+        }
+    }
+    Ok(false)
 }

@@ -7,7 +7,7 @@ mod laws;
 mod values;
 mod writing;
 
-pub use attributes::{attribute, repeats, same_name, value_repeats};
+pub use attributes::{attribute, list_repeats, repeats, same_name, value_repeats};
 pub use laws::plain_text_reads_back;
 pub use values::{ValueFault, flag_or, items_in, members_in, text_within, whole_in};
 pub use writing::{compact, put_if};

@@ -1,5 +1,5 @@
 -- What the writers make is the data that their definitions name, and it holds no float.
-use Rattle.std.proofs.Common.{◌≡◌, ℕ, Bool, false, List, Option, Some, None, Result, Ok, Err, IfOk, option_map, codes, BTreeMap, String, Global, refl, ap, ◌∙◌}
+use Rattle.std.proofs.Common.{◌≡◌, ℕ, false, List, Option, Some, None, option_map, codes, BTreeMap, String, Global, refl, ap, ◌∙◌}
 use Rattle.std.specs.Fmt.{decimal}
 use Rattle.serde_json.specs.Data.{Data, string, array, object, no_items, item, Members, no_members}
 use Rattle.serde_json.specs.View.{view, members_view}
@@ -8,10 +8,6 @@ use Rattle.serde_json.specs.declared.value.Value.{Value, Object}
 use Rattle.serde_json.proofs.Views.{view-Object}
 use Rattle.scim_json.specs.Writing.{put_if}
 use Rattle.scim_json.proofs.Parts.{put_all, put_all-rising}
-use Rattle.scim_resource.specs.Rows.{ShownRecord}
-use Rattle.scim_resource.specs.Writing.{user_data, meta_data, shown_data}
-use Rattle.scim_resource.specs.declared.contents.Content.{Content}
-use Rattle.scim_resource.specs.declared.contents.Content.TheVariants.{User}
 use Rattle.scim_message.specs.Bodies.{error_message, error_parts, error_data}
 use Rattle.scim_message.specs.Refusals.{ErrorRecord}
 
@@ -36,25 +32,3 @@ no_float (Some t) (Some d) status = refl
 
 pub error_has_no_float : (e : ErrorRecord) → has_float (error_data e) ≡ false
 error_has_no_float e = no_float e.scim_type e.detail e.status
-
-meta_has_no_float : (base id : List ℕ) (version : Option (List ℕ)) (c : Content) → has_float (meta_data base (record { id = id; version = version; content = c })) ≡ false
-unfolding meta_data
-meta_has_no_float base id None c = refl
-meta_has_no_float base id (Some v) c = refl
-
-user_has_no_float : (id meta : Data) (name : List ℕ) (active : Bool) (revision : Option ℕ) → has_float id ≡ false → has_float meta ≡ false
-    → has_float (user_data (Some id) (Some meta) (record { user_name = name; active = active; revision = revision })) ≡ false
-unfolding user_data
-user_has_no_float id meta name active None i m = rw (i, m)
-user_has_no_float id meta name active (Some r) i m = rw (i, m)
-
-shown_whole : (base id : List ℕ) (version : Option (List ℕ)) (c : Content) → has_float (shown_data base (record { id = id; version = version; content = c })) ≡ false
-shown_whole base id version (User u) =
-    user_has_no_float (string id) (meta_data base (record { id = id; version = version; content = User u })) u.user_name u.active u.revision refl (meta_has_no_float base id version (User u))
-
-pub shown_has_no_float : (base : List ℕ) (s : ShownRecord) → has_float (shown_data base s) ≡ false
-shown_has_no_float base s = shown_whole base s.id s.version s.content
-
-pub shown_is_whole : {E : Type 0} (base : List ℕ) (s : ShownRecord) (r : Result Value E) → IfOk r (λ value. view value ≡ shown_data base s) → IfOk r (λ value. has_float (view value) ≡ false)
-shown_is_whole base s (Ok value) is = rw is (shown_has_no_float base s)
-shown_is_whole base s (Err e) is = tt

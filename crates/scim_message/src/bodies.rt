@@ -1,5 +1,5 @@
 //! The bodies of answers.
-ghost use Rattle.std.specs.Prelude.{◌≡◌, false, IfOk, option_map, string_bytes};
+ghost use Rattle.std.specs.Prelude.{◌≡◌, false, IfOk, IfSome, option_map, string_bytes};
 ghost use Rattle.serde_json.specs.Data.{array, item, no_items, string};
 ghost use Rattle.serde_json.specs.View.{view};
 ghost use Rattle.serde_json.specs.Written.{has_float};
@@ -12,20 +12,26 @@ use scim_key::Base;
 use serde_json::{Map, Value};
 use std::alloc::{AllocError, Global};
 
-/// The body of an answer by a service at this base.
+/// The body of an answer by a service at this base. Where nothing was modified it is empty.
 pub fn body_of(alloc: Global, answer: &Answer, base: &Base) -> Result<Vec<u8>, AllocError>
     ensures { IfOk result (λ body. body.items ≡ body_text base.now answer.now) }
 {
-    compact(alloc, &body_value(alloc, answer, base)?)
+    match body_value(alloc, answer, base)? {
+        Some(value) => compact(alloc, &value),
+        None => Ok(Vec::new(alloc)),
+    }
 }
 
-fn body_value(alloc: Global, answer: &Answer, base: &Base) -> Result<Value, AllocError>
-    ensures value { IfOk result (λ value. view value ≡ body_data base.now answer.now) }
-    ensures whole { IfOk result (λ value. has_float (view value) ≡ false) }
+fn body_value(alloc: Global, answer: &Answer, base: &Base) -> Result<Option<Value>, AllocError>
+    ensures value { IfOk result (λ value. option_map view value ≡ body_data base.now answer.now) }
+    ensures whole { IfOk result (λ value. IfSome value (λ v. has_float (view v) ≡ false)) }
 {
     match answer {
-        Answer::Created(shown) => shown.to_value(alloc, base),
-        Answer::Error(error) => error_value(alloc, error),
+        Answer::Created(shown) | Answer::Found(shown) | Answer::Replaced(shown) => {
+            Ok(Some(shown.to_value(alloc, base)?))
+        }
+        Answer::NotModified { .. } => Ok(None),
+        Answer::Error(error) => Ok(Some(error_value(alloc, error)?)),
     }
 }
 

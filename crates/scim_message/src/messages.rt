@@ -3,13 +3,31 @@ ghost use Rattle.std.specs.Prelude.{◌≡◌};
 ghost use Rattle.scim_message.specs.Messages.{answer_status};
 
 use crate::refusals::ErrorResponse;
+use scim_key::{Kind, ResourceId};
 use scim_resource::{Content, Shown};
+use scim_version::{Condition, EntityTag};
 
 /// What a client asks of the provider.
 #[derive(Debug, Drop)]
 pub enum Request {
     /// A new resource (section 3.3).
-    Create { content: Content },
+    Create {
+        content: Content,
+    },
+    /// The resource of this type with this id (section 3.4.1).
+    Retrieve {
+        kind: Kind,
+        id: ResourceId,
+        if_match: Condition,
+        if_none_match: Condition,
+    },
+    /// Another content for the resource with this id (section 3.5.1).
+    Replace {
+        id: ResourceId,
+        content: Content,
+        if_match: Condition,
+        if_none_match: Condition,
+    },
 }
 
 /// What the provider answers.
@@ -17,6 +35,16 @@ pub enum Request {
 pub enum Answer {
     /// The new resource.
     Created(Shown),
+    /// The resource that was asked for.
+    Found(Shown),
+    /// The resource with its other content.
+    Replaced(Shown),
+    /// The resource has a version that the client knows (RFC 7232 section 4.1).
+    NotModified {
+        kind: Kind,
+        id: ResourceId,
+        version: EntityTag,
+    },
     /// Why there is none.
     Error(ErrorResponse),
 }
@@ -28,6 +56,8 @@ impl Answer {
     {
         match self {
             Answer::Created(_) => 201,
+            Answer::Found(_) | Answer::Replaced(_) => 200,
+            Answer::NotModified { .. } => 304,
             Answer::Error(error) => error.status(),
         }
     }

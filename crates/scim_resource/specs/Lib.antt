@@ -1,8 +1,11 @@
 pub mod Contents
+pub mod Emails
 pub mod Faults
+pub mod Groups
 pub mod Locations
 pub mod Reading
 pub mod Rows
 pub mod Schemas
+pub mod Texts
 pub mod Users
 pub mod Writing

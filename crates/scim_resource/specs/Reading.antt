@@ -1,18 +1,22 @@
 -- Reading a resource from JSON.
-use Rattle.std.specs.Prelude.{ℕ, Bool, true, false, List, Option, None, Some, Result, Ok, Err, ◌&&◌, ◌||◌, if◌then◌else◌, is_none, codes}
-use Rattle.scim_key.specs.Names.{user_name_fault}
+use Rattle.std.specs.Prelude.{ℕ, Bool, true, false, List, [], ◌∷◌, ◌++◌, Option, None, Some, Result, Ok, Err, ◌&&◌, ◌||◌, if◌then◌else◌, is_none, codes}
+use Rattle.scim_key.specs.Names.{user_name_fault, group_name_fault}
 use Rattle.scim_key.specs.Outcome.{◌>>=◌}
 use Rattle.scim_key.specs.Revisions.{RevisionValue, is_revision}
 use Rattle.scim_key.specs.declared.records.Kind.{Kind}
 use Rattle.scim_key.specs.declared.records.Kind.TheVariants as kinds
 use Rattle.serde_json.specs.Data.{Data, null, boolean, number, string, array, object, Items, no_items, item, Members}
-use Rattle.scim_json.specs.Attributes.{same_name, attribute, repeats, value_repeats}
-use Rattle.scim_json.specs.Values.{flag_or, whole_in, members_in}
+use Rattle.scim_json.specs.Attributes.{same_name, attribute, repeats, value_repeats, list_repeats}
+use Rattle.scim_json.specs.Values.{flag_or, whole_in, items_in, members_in}
 use Rattle.scim_json.specs.declared.values.ValueFault.{ValueFault}
-use Rattle.scim_resource.specs.Schemas.{core_user, source_extension}
+use Rattle.scim_resource.specs.Emails.{are_few}
+use Rattle.scim_resource.specs.Groups.{GroupRecord, is_among, are_few_members}
+use Rattle.scim_resource.specs.Schemas.{core_user, core_group, source_extension}
+use Rattle.scim_resource.specs.Texts.{is_short_text}
 use Rattle.scim_resource.specs.Users.{UserRecord}
 use Rattle.scim_resource.specs.declared.contents.Content.{Content}
-use Rattle.scim_resource.specs.declared.contents.Content.TheVariants.{User}
+use Rattle.scim_resource.specs.declared.contents.Content.TheVariants.{User, Group}
+use Rattle.scim_resource.specs.declared.emails.Email.{Email}
 use Rattle.scim_resource.specs.declared.faults.ReadFault.{ReadFault}
 use Rattle.scim_resource.specs.declared.faults.ReadFault.TheVariants.{InvalidSyntax, InvalidValue}
 
@@ -83,23 +87,129 @@ source_revision (Some ms) = checked (whole_in (attribute (codes "revision") ms))
 abbrev pub revision_in : Option Data → Result (Option RevisionValue) ReadFault
 revision_in extension = checked (members_in extension) >>= source_revision
 
+-- a text of 1 to 256 bytes
+abbrev pub text_in : Option Data → Result (Option (List ℕ)) ReadFault
+text_in None = Ok None
+text_in (Some null) = Err InvalidValue
+text_in (Some (boolean b)) = Err InvalidValue
+text_in (Some (number n)) = Err InvalidValue
+text_in (Some (string s)) = if is_short_text s then Ok (Some s) else Err InvalidValue
+text_in (Some (array ds)) = Err InvalidValue
+text_in (Some (object ms)) = Err InvalidValue
+
+-- an attribute of an object that may be absent
+abbrev pub part_of : List ℕ → Option Members → Option Data
+part_of name None = None
+part_of name (Some ms) = attribute name ms
+
+-- ---- emails
+
+abbrev pub email_with : Members → Option (List ℕ) → Result (Option Email) ReadFault
+email_with ms None = Ok None
+email_with ms (Some value) =
+    text_in (attribute (codes "type") ms) >>= (λ type_text.
+    checked (flag_or false (attribute (codes "primary") ms)) >>= (λ primary.
+    Ok (Some (record { value = value; type_text = type_text; primary = primary }))))
+
+-- an email, or none where it has no value
+unfoldable pub email_of : Members → Result (Option Email) ReadFault
+email_of ms = text_in (attribute (codes "value") ms) >>= email_with ms
+
+-- a `null` is disregarded
+abbrev pub email_in : Data → Result (Option Email) ReadFault
+email_in null = Ok None
+email_in (boolean b) = Err InvalidValue
+email_in (number n) = Err InvalidValue
+email_in (string s) = Err InvalidValue
+email_in (array ds) = Err InvalidValue
+email_in (object ms) = email_of ms
+
+abbrev pub with_email : Option Email → List Email → List Email
+with_email None es = es
+with_email (Some e) es = e ∷ es
+
+unfoldable pub emails_of : Items → Result (List Email) ReadFault
+emails_of no_items = Ok []
+emails_of (item d ds) = email_in d >>= (λ e. emails_of ds >>= (λ es. Ok (with_email e es)))
+
+abbrev pub few_emails : List Email → Result (List Email) ReadFault
+few_emails es = if are_few es then Ok es else Err InvalidValue
+
+-- the emails that have a value, in their order: at most ten, of which one at most is primary
+abbrev pub emails_in : Option Data → Result (List Email) ReadFault
+emails_in value = (checked (items_in value) >>= emails_of) >>= few_emails
+
+-- ---- the whole
+
 abbrev pub if_listed : {X : Type 0} → Bool → Result X ReadFault → Result X ReadFault
 if_listed true answer = answer
 if_listed false answer = Err InvalidValue
 
+-- a lawful name of a group
+abbrev pub display_name_in : Option Data → Result (List ℕ) ReadFault
+display_name_in None = Err InvalidValue
+display_name_in (Some null) = Err InvalidValue
+display_name_in (Some (boolean b)) = Err InvalidValue
+display_name_in (Some (number n)) = Err InvalidValue
+display_name_in (Some (string s)) = if is_none (group_name_fault s) then Ok s else Err InvalidValue
+display_name_in (Some (array ds)) = Err InvalidValue
+display_name_in (Some (object ms)) = Err InvalidValue
+
+-- the value of a member, or none; a `null` is disregarded
+abbrev pub member_in : Data → Result (Option (List ℕ)) ReadFault
+member_in null = Ok None
+member_in (boolean b) = Err InvalidValue
+member_in (number n) = Err InvalidValue
+member_in (string s) = Err InvalidValue
+member_in (array ds) = Err InvalidValue
+member_in (object ms) = text_in (attribute (codes "value") ms)
+
+-- a value that is there already isn't kept again
+abbrev pub with_member : List (List ℕ) → Option (List ℕ) → List (List ℕ)
+with_member vs None = vs
+with_member vs (Some v) = if is_among v vs then vs else vs ++ v ∷ []
+
+-- these values and then those of a list, each kept once at its first place
+unfoldable pub members_after : List (List ℕ) → Items → Result (List (List ℕ)) ReadFault
+members_after vs no_items = Ok vs
+members_after vs (item d ds) = member_in d >>= (λ v. members_after (with_member vs v) ds)
+
+abbrev pub few_members : List (List ℕ) → Result (List (List ℕ)) ReadFault
+few_members vs = if are_few_members vs then Ok vs else Err InvalidValue
+
+-- the values of a group's members, each kept once at its first place: at most 400
+abbrev pub group_members_in : Option Data → Result (List (List ℕ)) ReadFault
+group_members_in value = (checked (items_in value) >>= members_after []) >>= few_members
+
 unfoldable pub user_fields : Members → Result UserRecord ReadFault
 user_fields ms =
     if_listed (lists_schema core_user (attribute (codes "schemas") ms))
-    (user_name_in (attribute (codes "userName") ms) >>= (λ name.
+    (user_name_in (attribute (codes "userName") ms) >>= (λ user_name.
+    text_in (attribute (codes "externalId") ms) >>= (λ external_id.
+    checked (members_in (attribute (codes "name") ms)) >>= (λ name.
+    text_in (part_of (codes "givenName") name) >>= (λ given_name.
+    text_in (part_of (codes "familyName") name) >>= (λ family_name.
+    emails_in (attribute (codes "emails") ms) >>= (λ emails.
     checked (flag_or true (attribute (codes "active") ms)) >>= (λ active.
     revision_in (attribute source_extension ms) >>= (λ revision.
-    Ok (record { user_name = name; active = active; revision = revision })))))
+    Ok (record { user_name = user_name; external_id = external_id; given_name = given_name; family_name = family_name; emails = emails; active = active; revision = revision }))))))))))
+
+unfoldable pub group_fields : Members → Result GroupRecord ReadFault
+group_fields ms =
+    if_listed (lists_schema core_group (attribute (codes "schemas") ms))
+    (display_name_in (attribute (codes "displayName") ms) >>= (λ display_name.
+    text_in (attribute (codes "externalId") ms) >>= (λ external_id.
+    group_members_in (attribute (codes "members") ms) >>= (λ values.
+    revision_in (attribute source_extension ms) >>= (λ revision.
+    Ok (record { display_name = display_name; external_id = external_id; members = values; revision = revision }))))))
 
 -- ---- resources
 
 -- in one of the objects that are looked into a name is repeated
 unfoldable pub user_repeats : Members → Bool
-user_repeats ms = repeats ms || value_repeats (attribute source_extension ms)
+user_repeats ms =
+    repeats ms || value_repeats (attribute source_extension ms) || value_repeats (attribute (codes "name") ms)
+    || list_repeats (attribute (codes "emails") ms)
 
 abbrev pub unless_repeated : {X : Type 0} → Bool → Result X ReadFault → Result X ReadFault
 unless_repeated true answer = Err InvalidSyntax
@@ -113,7 +223,17 @@ read_user (string s) = Err InvalidSyntax
 read_user (array ds) = Err InvalidSyntax
 read_user (object ms) = unless_repeated (user_repeats ms) (user_fields ms)
 
--- Groups aren't read yet.
+unfoldable pub group_repeats : Members → Bool
+group_repeats ms = repeats ms || value_repeats (attribute source_extension ms) || list_repeats (attribute (codes "members") ms)
+
+abbrev pub read_group : Data → Result GroupRecord ReadFault
+read_group null = Err InvalidSyntax
+read_group (boolean b) = Err InvalidSyntax
+read_group (number n) = Err InvalidSyntax
+read_group (string s) = Err InvalidSyntax
+read_group (array ds) = Err InvalidSyntax
+read_group (object ms) = unless_repeated (group_repeats ms) (group_fields ms)
+
 unfoldable pub read_content : Kind → Data → Result Content ReadFault
 read_content kinds.User d = read_user d >>= (λ u. Ok (User u))
-read_content kinds.Group d = Err InvalidValue
+read_content kinds.Group d = read_group d >>= (λ g. Ok (Group g))

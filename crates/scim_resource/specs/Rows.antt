@@ -1,5 +1,5 @@
 -- A row of the provider, and a resource as an answer shows it.
-use Rattle.std.specs.Prelude.{◌≡◌, ℕ, ◌≤◌, List, Option, Some, None, IfSome}
+use Rattle.std.specs.Prelude.{ℕ, ◌≤◌, List, Option, Some, IfSome}
 use Rattle.std.specs.Str.{IsUtf8}
 use Rattle.scim_key.specs.Identifiers.{id_text, last_number}
 use Rattle.scim_version.specs.Tags.{version_tag}

@@ -5,6 +5,10 @@ use Rattle.std.specs.Prelude.{ℕ, List, codes}
 unfoldable pub core_user : List ℕ
 core_user = codes "urn:ietf:params:scim:schemas:core:2.0:User"
 
+-- the core schema of groups (RFC 7643 section 4.2)
+unfoldable pub core_group : List ℕ
+core_group = codes "urn:ietf:params:scim:schemas:core:2.0:Group"
+
 -- the extension with the source's revision
 unfoldable pub source_extension : List ℕ
 source_extension = codes "urn:example:params:scim:schemas:extension:source:1.0"

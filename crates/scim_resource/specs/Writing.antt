@@ -1,15 +1,18 @@
 -- Writing a resource as JSON.
-use Rattle.std.specs.Prelude.{ℕ, Bool, List, [], ◌∷◌, Option, None, Some, option_map, codes}
+use Rattle.std.specs.Prelude.{ℕ, Bool, true, false, List, [], ◌∷◌, Option, None, Some, option_map, map, codes}
 use Rattle.scim_key.specs.Revisions.{RevisionValue}
-use Rattle.serde_json.specs.Data.{unsigned, Data, boolean, number, string, array, object, Items, no_items, item, Members, no_members, member}
+use Rattle.serde_json.specs.Data.{unsigned, Data, boolean, number, string, array, object, Items, no_items, item, no_members, member}
+use Rattle.serde_json.specs.View.{items_of}
 use Rattle.scim_json.specs.Writing.{Part, members_from}
 use Rattle.scim_resource.specs.Contents.{content_kind}
+use Rattle.scim_resource.specs.Groups.{GroupRecord}
 use Rattle.scim_resource.specs.Locations.{location_text, type_name}
 use Rattle.scim_resource.specs.Rows.{ShownRecord}
-use Rattle.scim_resource.specs.Schemas.{core_user, source_extension}
+use Rattle.scim_resource.specs.Schemas.{core_user, core_group, source_extension}
 use Rattle.scim_resource.specs.Users.{UserRecord}
 use Rattle.scim_resource.specs.declared.contents.Content.{Content}
-use Rattle.scim_resource.specs.declared.contents.Content.TheVariants.{User}
+use Rattle.scim_resource.specs.declared.contents.Content.TheVariants.{User, Group}
+use Rattle.scim_resource.specs.declared.emails.Email.{Email}
 
 -- the source extension, where there is a revision
 abbrev pub source_data : Option RevisionValue → Option Data
@@ -17,17 +20,47 @@ source_data None = None
 source_data (Some r) = Some (object (member (codes "revision") (number (unsigned r)) no_members))
 
 -- the core URN, then the source URN where there is a revision
-abbrev pub user_schemas : Option RevisionValue → Items
-user_schemas None = item (string core_user) no_items
-user_schemas (Some r) = item (string core_user) (item (string source_extension) no_items)
+abbrev pub schemas_data : List ℕ → Option RevisionValue → Items
+schemas_data core None = item (string core) no_items
+schemas_data core (Some r) = item (string core) (item (string source_extension) no_items)
+
+-- the parts of a name
+abbrev pub name_parts : Option (List ℕ) → Option (List ℕ) → List Part
+name_parts given family = (codes "familyName", option_map string family) ∷ (codes "givenName", option_map string given) ∷ []
+
+-- a name, where it has a part
+abbrev pub name_data : Option (List ℕ) → Option (List ℕ) → Option Data
+name_data None None = None
+name_data None (Some family) = Some (object (members_from (name_parts None (Some family))))
+name_data (Some given) family = Some (object (members_from (name_parts (Some given) family)))
+
+-- `primary` only where it is true
+abbrev pub primary_data : Bool → Option Data
+primary_data true = Some (boolean true)
+primary_data false = None
+
+abbrev pub email_parts : Email → List Part
+email_parts e =
+    (codes "primary", primary_data e.primary) ∷ (codes "type", option_map string e.type_text) ∷ (codes "value", Some (string e.value)) ∷ []
+
+unfoldable pub email_data : Email → Data
+email_data e = object (members_from (email_parts e))
+
+-- the emails, where there are any
+abbrev pub emails_data : List Email → Option Data
+emails_data [] = None
+emails_data (e ∷ es) = Some (array (items_of (map email_data (e ∷ es))))
 
 -- a user's attributes in byte order, beside an id and `meta`
 abbrev pub user_parts : Option Data → Option Data → UserRecord → List Part
 user_parts id meta u =
     (codes "active", Some (boolean u.active))
+    ∷ (codes "emails", emails_data u.emails)
+    ∷ (codes "externalId", option_map string u.external_id)
     ∷ (codes "id", id)
     ∷ (codes "meta", meta)
-    ∷ (codes "schemas", Some (array (user_schemas u.revision)))
+    ∷ (codes "name", name_data u.given_name u.family_name)
+    ∷ (codes "schemas", Some (array (schemas_data core_user u.revision)))
     ∷ (source_extension, source_data u.revision)
     ∷ (codes "userName", Some (string u.user_name))
     ∷ []
@@ -35,8 +68,32 @@ user_parts id meta u =
 unfoldable pub user_data : Option Data → Option Data → UserRecord → Data
 user_data id meta u = object (members_from (user_parts id meta u))
 
+unfoldable pub member_data : List ℕ → Data
+member_data value = object (member (codes "value") (string value) no_members)
+
+-- the members, where there are any
+abbrev pub group_members_data : List (List ℕ) → Option Data
+group_members_data [] = None
+group_members_data (v ∷ vs) = Some (array (items_of (map member_data (v ∷ vs))))
+
+-- a group's attributes in byte order, beside an id and `meta`
+abbrev pub group_parts : Option Data → Option Data → GroupRecord → List Part
+group_parts id meta g =
+    (codes "displayName", Some (string g.display_name))
+    ∷ (codes "externalId", option_map string g.external_id)
+    ∷ (codes "id", id)
+    ∷ (codes "members", group_members_data g.members)
+    ∷ (codes "meta", meta)
+    ∷ (codes "schemas", Some (array (schemas_data core_group g.revision)))
+    ∷ (source_extension, source_data g.revision)
+    ∷ []
+
+unfoldable pub group_data : Option Data → Option Data → GroupRecord → Data
+group_data id meta g = object (members_from (group_parts id meta g))
+
 abbrev pub resource_data : Option Data → Option Data → Content → Data
 resource_data id meta (User u) = user_data id meta u
+resource_data id meta (Group g) = group_data id meta g
 
 -- what is stored of a resource
 abbrev pub content_data : Content → Data

@@ -2,6 +2,7 @@
 ghost use Rattle.std.specs.Prelude.{◌≡◌, ◌↔◌, IfOk, IsTrue};
 ghost use Rattle.scim_resource.specs.Contents.{content_kind, content_name, spelled_name};
 
+use crate::groups::Group;
 use crate::users::User;
 use scim_key::{Kind, RecordName};
 use std::alloc::{AllocError, Global};
@@ -10,6 +11,7 @@ use std::alloc::{AllocError, Global};
 #[derive(Debug, Drop)]
 pub enum Content {
     User(User),
+    Group(Group),
 }
 
 impl Content {
@@ -19,15 +21,17 @@ impl Content {
     {
         match self {
             Content::User(_) => Kind::User,
+            Content::Group(_) => Kind::Group,
         }
     }
 
-    /// The name as it is spelled: a user's `userName`.
+    /// The name as it is spelled: a user's `userName`, a group's `displayName`.
     pub fn spelled_name(&self) -> &str
         ensures { result.now ≡ spelled_name self.now }
     {
         match self {
             Content::User(user) => user.user_name().as_str(),
+            Content::Group(group) => group.display_name().as_str(),
         }
     }
 
@@ -40,6 +44,10 @@ impl Content {
                 kind: Kind::User,
                 key: user.user_name().key(alloc)?,
             }),
+            Content::Group(group) => Ok(RecordName {
+                kind: Kind::Group,
+                key: group.display_name().key(alloc)?,
+            }),
         }
     }
 
@@ -49,6 +57,10 @@ impl Content {
     {
         match (self, other) {
             (Content::User(one), Content::User(two)) => one.user_name().same_key(two.user_name()),
+            (Content::Group(one), Content::Group(two)) => {
+                one.display_name().same_key(two.display_name())
+            }
+            _ => false,
         }
     }
 }
@@ -59,6 +71,7 @@ impl Clone for Content {
     fn clone(&self) -> Result<Content, AllocError> {
         match self {
             Content::User(user) => Ok(Content::User(user.clone()?)),
+            Content::Group(group) => Ok(Content::Group(group.clone()?)),
         }
     }
 }

@@ -5,7 +5,7 @@ ghost use Rattle.scim_resource.specs.Faults.{fault_of_name};
 
 use scim_json::ValueFault;
 use scim_key::NameFault;
-use std::alloc::AllocError;
+use std::alloc::{AllocError, AllocFailed};
 use thiserror::Error;
 
 /// Why a value isn't read as a resource. `InvalidSyntax` goes before `InvalidValue`.
@@ -25,6 +25,14 @@ impl From<AllocError> for ReadFault {
     ghost from_gives = { λ _ fault. fault ≡ Memory };
 
     fn from(_: AllocError) -> ReadFault {
+        ReadFault::Memory
+    }
+}
+
+impl<T: Drop> From<AllocFailed<T>> for ReadFault {
+    ghost from_gives = { λ _ fault. fault ≡ Memory };
+
+    fn from(_: AllocFailed<T>) -> ReadFault {
         ReadFault::Memory
     }
 }

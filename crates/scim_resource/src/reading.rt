@@ -1,30 +1,38 @@
 //! Reading a resource from JSON (RFC 7643 section 2).
-ghost use Rattle.std.specs.Prelude.{◌≡◌, IfOk, option_map};
+ghost use Rattle.std.specs.Prelude.{◌≡◌, IfOk, IfSome, option_map};
 ghost use Rattle.scim_key.specs.Names.{IsUserName};
-ghost use Rattle.scim_key.specs.Outcome.{Gives};
+ghost use Rattle.scim_key.specs.Outcome.{Gives, GivesBy};
 ghost use Rattle.serde_json.specs.View.{view, items_view, members_view};
+ghost use Rattle.scim_resource.specs.Emails.{AreEmails, IsEmail, IsEmailList};
+ghost use Rattle.scim_resource.specs.Texts.{IsTextIf};
 ghost use Rattle.scim_resource.specs.Users.{IsSourceRevision};
 ghost use Rattle.scim_resource.specs.Reading as spec;
 
 use crate::contents::Content;
+use crate::emails::{Email, Emails};
 use crate::faults::ReadFault;
+use crate::group_reading::read_group;
 use crate::schemas::{core_user, source_extension};
+use crate::texts::{Text, is_short_text};
 use crate::users::User;
-use scim_json::{attribute, flag_or, members_in, repeats, same_name, value_repeats, whole_in};
+use scim_json::{
+    attribute, flag_or, items_in, list_repeats, members_in, repeats, same_name, value_repeats,
+    whole_in,
+};
 use scim_key::{Kind, Revision, UserName};
 use serde_json::{Map, Value};
-use std::alloc::Global;
+use std::alloc::{AllocError, Global};
 
 impl Content {
     /// Reads what a resource of this type contains. Unknown attributes, `id` and `meta` are
-    /// disregarded. Groups aren't read yet: they are `InvalidValue`.
+    /// disregarded.
     #[tactic(auto, unfolding(crate::specs::Reading::read_content))]
     pub fn read(alloc: Global, value: &Value, kind: Kind) -> Result<Content, ReadFault>
         ensures { Gives ReadFault.Memory result (spec.read_content kind (view value.now)) }
     {
         match kind {
             Kind::User => Ok(Content::User(read_user(alloc, value)?)),
-            Kind::Group => Err(ReadFault::InvalidValue),
+            Kind::Group => Ok(Content::Group(read_group(alloc, value)?)),
         }
     }
 }
@@ -35,17 +43,23 @@ fn read_user(alloc: Global, value: &Value) -> Result<User, ReadFault>
     let Value::Object(members) = value else {
         return Err(ReadFault::InvalidSyntax);
     };
-    if user_repeats(members) {
+    if user_repeats(alloc, members)? {
         return Err(ReadFault::InvalidSyntax);
     }
     user_fields(alloc, members)
 }
 
+/// Whether a name is repeated in one of the objects that are looked into.
 #[tactic(auto, unfolding(crate::specs::Reading::user_repeats))]
-fn user_repeats(members: &Map<String, Value>) -> bool
-    ensures { result ≡ spec.user_repeats (members_view members.now.entries) }
+fn user_repeats(alloc: Global, members: &Map<String, Value>) -> Result<bool, AllocError>
+    ensures { IfOk result (λ b. b ≡ spec.user_repeats (members_view members.now.entries)) }
 {
-    repeats(members) || value_repeats(attribute(members, source_extension()))
+    Ok(
+        repeats(alloc, members)?
+            || value_repeats(alloc, attribute(members, source_extension()))?
+            || value_repeats(alloc, attribute(members, "name"))?
+            || list_repeats(alloc, attribute(members, "emails"))?,
+    )
 }
 
 #[tactic(auto, unfolding(crate::specs::Reading::user_fields))]
@@ -57,13 +71,109 @@ fn user_fields(alloc: Global, members: &Map<String, Value>) -> Result<User, Read
         return Err(ReadFault::InvalidValue);
     }
     let user_name = user_name_in(alloc, attribute(members, "userName"))?;
+    let external_id = text_in(alloc, attribute(members, "externalId"))?;
+    let name = members_in(attribute(members, "name"))?;
+    let given_name = text_in(alloc, part_of(name, "givenName"))?;
+    let family_name = text_in(alloc, part_of(name, "familyName"))?;
+    let emails = emails_in(alloc, attribute(members, "emails"))?;
     let active = flag_or(attribute(members, "active"), true)?;
     let revision = revision_in(attribute(members, source_extension()))?;
-    Ok(User::new(user_name, active, revision))
+    Ok(
+        User::new(alloc, user_name, active, revision)
+            .with_external_id(external_id)
+            .with_name(given_name, family_name)
+            .with_emails(emails),
+    )
+}
+
+/// An attribute of an object that may be absent.
+fn part_of<'v>(members: Option<&'v Map<String, Value>>, name: &str) -> Option<&'v Value>
+    ensures { option_map (λ v. view v.now) result
+        ≡ spec.part_of name.now (option_map (λ m. members_view m.now.entries) members.entry) }
+{
+    match members {
+        Some(members) => attribute(members, name),
+        None => None,
+    }
+}
+
+/// A text of 1 to 256 bytes.
+pub(crate) fn text_in(alloc: Global, value: Option<&Value>) -> Result<Option<Text>, ReadFault>
+    ensures given { Gives ReadFault.Memory result
+        (spec.text_in (option_map (λ v. view v.now) value.entry)) }
+    ensures lawful { IfOk result IsTextIf }
+{
+    match value {
+        None => Ok(None),
+        Some(Value::String(text)) => if is_short_text(text.as_str()) {
+            Ok(Text::from_string(text.clone()?))
+        } else {
+            Err(ReadFault::InvalidValue)
+        },
+        Some(_) => Err(ReadFault::InvalidValue),
+    }
+}
+
+/// The emails that have a value, in their order.
+fn emails_in(alloc: Global, value: Option<&Value>) -> Result<Emails, ReadFault>
+    ensures given { Gives ReadFault.Memory result
+        (spec.emails_in (option_map (λ v. view v.now) value.entry)) }
+    ensures lawful { IfOk result IsEmailList }
+{
+    let emails = emails_of(alloc, items_in(value)?)?;
+    match Emails::from_vec(emails) {
+        Some(emails) => Ok(emails),
+        None => Err(ReadFault::InvalidValue),
+    }
+}
+
+#[tactic(auto, unfolding(crate::specs::Reading::emails_of))]
+fn emails_of(alloc: Global, items: &[Value]) -> Result<Vec<Email>, ReadFault>
+    ensures given { GivesBy (λ emails. emails.items) ReadFault.Memory result
+        (spec.emails_of (items_view items.now)) }
+    ensures lawful { IfOk result (λ emails. AreEmails emails.items) }
+{
+    let mut emails = Vec::new(alloc);
+    for item in items {
+        if let Some(email) = email_in(alloc, item)? {
+            emails.push(email)?;
+        }
+    }
+    Ok(emails)
+}
+
+fn email_in(alloc: Global, item: &Value) -> Result<Option<Email>, ReadFault>
+    ensures given { Gives ReadFault.Memory result (spec.email_in (view item.now)) }
+    ensures lawful { IfOk result (λ email. IfSome email IsEmail) }
+{
+    match item {
+        Value::Null => Ok(None),
+        Value::Object(members) => email_of(alloc, members),
+        _ => Err(ReadFault::InvalidValue),
+    }
+}
+
+/// An email, or none where it has no value.
+#[tactic(auto, unfolding(crate::specs::Reading::email_of))]
+fn email_of(alloc: Global, members: &Map<String, Value>) -> Result<Option<Email>, ReadFault>
+    ensures given { Gives ReadFault.Memory result
+        (spec.email_of (members_view members.now.entries)) }
+    ensures lawful { IfOk result (λ email. IfSome email IsEmail) }
+{
+    let Some(value) = text_in(alloc, attribute(members, "value"))? else {
+        return Ok(None);
+    };
+    let type_text = text_in(alloc, attribute(members, "type"))?;
+    let primary = flag_or(attribute(members, "primary"), false)?;
+    Ok(Some(Email {
+        value,
+        type_text,
+        primary,
+    }))
 }
 
 /// Whether the value is a list of texts, one of which is this URN in any case.
-fn lists_schema(value: Option<&Value>, urn: &str) -> bool
+pub(crate) fn lists_schema(value: Option<&Value>, urn: &str) -> bool
     ensures { result ≡ spec.lists_schema urn.now (option_map (λ v. view v.now) value.entry) }
 {
     match value {
@@ -115,7 +225,7 @@ fn user_name_in(alloc: Global, value: Option<&Value>) -> Result<UserName, ReadFa
 }
 
 /// The revision in the source extension, where there is one.
-fn revision_in(extension: Option<&Value>) -> Result<Option<Revision>, ReadFault>
+pub(crate) fn revision_in(extension: Option<&Value>) -> Result<Option<Revision>, ReadFault>
     ensures given { result
         ≡ spec.revision_in (option_map (λ v. view v.now) extension.entry) }
     ensures lawful { IfOk result IsSourceRevision }

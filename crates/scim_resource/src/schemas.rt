@@ -10,6 +10,14 @@ pub(crate) fn core_user() -> &'static str
     "urn:ietf:params:scim:schemas:core:2.0:User"
 }
 
+/// The core schema of groups (RFC 7643 section 4.2).
+#[tactic(auto, unfolding(crate::specs::Schemas::core_group))]
+pub(crate) fn core_group() -> &'static str
+    ensures { result.now ≡ spec.core_group }
+{
+    "urn:ietf:params:scim:schemas:core:2.0:Group"
+}
+
 /// The extension with the source's revision.
 #[tactic(auto, unfolding(crate::specs::Schemas::source_extension))]
 pub(crate) fn source_extension() -> &'static str

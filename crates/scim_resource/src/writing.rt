@@ -1,5 +1,6 @@
 //! Writing a resource as JSON.
-ghost use Rattle.std.specs.Prelude.{◌≡◌, false, IfOk, OnOk, option_map, string_bytes};
+ghost use Rattle.std.specs.Prelude.{◌≡◌, false, IfOk, OnOk, map, option_map, string_bytes};
+ghost use Rattle.std.specs.Option.{option_copied};
 ghost use Rattle.serde_json.specs.Data.{array, string};
 ghost use Rattle.serde_json.specs.View.{view};
 ghost use Rattle.serde_json.specs.Written.{has_float};
@@ -8,9 +9,12 @@ ghost use Rattle.scim_resource.specs.Users.{IsUser};
 ghost use Rattle.scim_resource.specs.Writing as spec;
 
 use crate::contents::Content;
+use crate::emails::Email;
+use crate::group_writing::group_value;
 use crate::locations::{location, type_name};
 use crate::rows::Shown;
 use crate::schemas::{core_user, source_extension};
+use crate::texts::Text;
 use crate::users::User;
 use scim_json::put_if;
 use scim_key::{Base, Revision};
@@ -64,6 +68,7 @@ fn resource_value(
 {
     match content {
         Content::User(user) => user_value(alloc, user, id, meta),
+        Content::Group(group) => group_value(alloc, group, id, meta),
     }
 }
 
@@ -79,13 +84,19 @@ fn user_value(
 {
     let name = Value::try_from_str(alloc, user.user_name().as_str())?;
     let source = source_value(alloc, user.revision())?;
-    let schemas = user_schemas(alloc, user.revision())?;
+    let schemas = schemas_value(alloc, core_user(), user.revision())?;
+    let parts = name_value(alloc, user.given_name(), user.family_name())?;
+    let external_id = text_value(alloc, user.external_id())?;
+    let emails = emails_value(alloc, user.emails())?;
     let mut members = Map::new(alloc);
     put_if(&mut members, alloc, "userName", Some(name))?;
     put_if(&mut members, alloc, source_extension(), source)?;
     put_if(&mut members, alloc, "schemas", Some(schemas))?;
+    put_if(&mut members, alloc, "name", parts)?;
     put_if(&mut members, alloc, "meta", meta)?;
     put_if(&mut members, alloc, "id", id)?;
+    put_if(&mut members, alloc, "externalId", external_id)?;
+    put_if(&mut members, alloc, "emails", emails)?;
     put_if(
         &mut members,
         alloc,
@@ -95,8 +106,84 @@ fn user_value(
     Ok(Value::Object(members))
 }
 
+pub(crate) fn text_value(alloc: Global, text: Option<&Text>) -> Result<Option<Value>, AllocError>
+    ensures { IfOk result (λ value. option_map view value
+        ≡ option_map string (option_copied text.entry)) }
+{
+    match text {
+        None => Ok(None),
+        Some(text) => Ok(Some(Value::try_from_str(alloc, text.as_str())?)),
+    }
+}
+
+/// A name, where it has a part.
+fn name_value(
+    alloc: Global,
+    given_name: Option<&Text>,
+    family_name: Option<&Text>,
+) -> Result<Option<Value>, AllocError>
+    ensures { IfOk result (λ value. option_map view value
+        ≡ spec.name_data (option_copied given_name.entry) (option_copied family_name.entry)) }
+{
+    if given_name.is_none() && family_name.is_none() {
+        return Ok(None);
+    }
+    let given = text_value(alloc, given_name)?;
+    let family = text_value(alloc, family_name)?;
+    let mut members = Map::new(alloc);
+    put_if(&mut members, alloc, "givenName", given)?;
+    put_if(&mut members, alloc, "familyName", family)?;
+    Ok(Some(Value::Object(members)))
+}
+
+/// The emails, where there are any.
+fn emails_value(alloc: Global, emails: &[Email]) -> Result<Option<Value>, AllocError>
+    ensures { IfOk result (λ value. option_map view value ≡ spec.emails_data emails.now) }
+{
+    if emails.is_empty() {
+        return Ok(None);
+    }
+    Ok(Some(Value::Array(email_values(alloc, emails)?)))
+}
+
+fn email_values(alloc: Global, emails: &[Email]) -> Result<Vec<Value>, AllocError>
+    ensures { IfOk result (λ values. map view values.items ≡ map spec.email_data emails.now) }
+{
+    let mut values = Vec::with_capacity(alloc, emails.len())?;
+    for email in emails {
+        values.push(email_value(alloc, email)?)?;
+    }
+    Ok(values)
+}
+
+fn email_value(alloc: Global, email: &Email) -> Result<Value, AllocError>
+    ensures { IfOk result (λ value. view value ≡ spec.email_data email.now) }
+{
+    let text = Value::try_from_str(alloc, email.value.as_str())?;
+    let type_text = text_value(alloc, email.type_text.as_ref())?;
+    let mut members = Map::new(alloc);
+    put_if(&mut members, alloc, "value", Some(text))?;
+    put_if(&mut members, alloc, "type", type_text)?;
+    put_if(&mut members, alloc, "primary", primary_value(email.primary))?;
+    Ok(Value::Object(members))
+}
+
+/// `primary` only where it is true.
+fn primary_value(primary: bool) -> Option<Value>
+    ensures { option_map view result ≡ spec.primary_data primary }
+{
+    if primary {
+        Some(Value::Bool(true))
+    } else {
+        None
+    }
+}
+
 /// The source extension, where there is a revision.
-fn source_value(alloc: Global, revision: Option<Revision>) -> Result<Option<Value>, AllocError>
+pub(crate) fn source_value(
+    alloc: Global,
+    revision: Option<Revision>,
+) -> Result<Option<Value>, AllocError>
     ensures { IfOk result (λ value. option_map view value ≡ spec.source_data revision) }
 {
     match revision {
@@ -110,11 +197,16 @@ fn source_value(alloc: Global, revision: Option<Revision>) -> Result<Option<Valu
     }
 }
 
-fn user_schemas(alloc: Global, revision: Option<Revision>) -> Result<Value, AllocError>
-    ensures { IfOk result (λ value. view value ≡ array (spec.user_schemas revision)) }
+/// The core URN, then the source URN where there is a revision.
+pub(crate) fn schemas_value(
+    alloc: Global,
+    core: &str,
+    revision: Option<Revision>,
+) -> Result<Value, AllocError>
+    ensures { IfOk result (λ value. view value ≡ array (spec.schemas_data core.now revision)) }
 {
     let mut items = Vec::new(alloc);
-    items.push(Value::try_from_str(alloc, core_user())?)?;
+    items.push(Value::try_from_str(alloc, core)?)?;
     if revision.is_some() {
         items.push(Value::try_from_str(alloc, source_extension())?)?;
     }

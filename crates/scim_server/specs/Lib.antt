@@ -5,4 +5,5 @@ pub mod Media
 pub mod Reactions
 pub mod Replies
 pub mod Routes
+pub mod Segments
 pub mod Serving

@@ -1,5 +1,6 @@
 -- What an accepted message asks for, or the refusal that it meets first.
-use Rattle.std.specs.Prelude.{◌≡◌, ℕ, List, Option, Some, None, Result, Ok, Err, if◌then◌else◌, codes, ⊤}
+use Rattle.std.specs.Prelude.{◌≡◌, ℕ, List, [], ◌∷◌, Option, Some, None, Result, Ok, Err, if◌then◌else◌, codes, ⊤}
+use Rattle.std.specs.List.{join_by}
 use Rattle.std.specs.Str.{bytes_eq, is_utf8}
 use Rattle.serde_json.specs.Data.{Data}
 use Rattle.serde_json.specs.Read.{read}
@@ -7,17 +8,21 @@ use Rattle.serde_json.specs.View.{view}
 use Rattle.serde_json.specs.declared.value.Value.{Value}
 use Rattle.scim_key.specs.Outcome.{◌>>=◌}
 use Rattle.scim_key.specs.declared.records.Kind.{Kind}
+use Rattle.scim_version.specs.declared.tags.TagFault.{TagFault}
+use Rattle.scim_version.specs.declared.conditions.Condition.{Condition}
+use Rattle.scim_version.specs.declared.conditions.Condition.TheVariants.{Always}
+use Rattle.scim_version.specs.Conditions.{condition_of}
 use Rattle.scim_resource.specs.declared.contents.Content.{Content}
 use Rattle.scim_resource.specs.declared.faults.ReadFault.{ReadFault}
 use Rattle.scim_resource.specs.declared.faults.ReadFault.TheVariants.{InvalidSyntax, InvalidValue, Memory}
 use Rattle.scim_resource.specs.Reading.{read_content}
 use Rattle.scim_message.specs.declared.messages.Request.{Request}
-use Rattle.scim_message.specs.declared.messages.Request.TheVariants.{Create}
+use Rattle.scim_message.specs.declared.messages.Request.TheVariants.{Create, Retrieve, Replace}
 use Rattle.scim_message.specs.declared.refusals.Refusal.{Refusal}
 use Rattle.scim_message.specs.declared.refusals.Refusal.TheVariants.{NoSuchPath, MethodNotSupported, MediaType, UnreadableBody, ValueNotAllowed}
 use Rattle.http_text.specs.Message.{Message, method_of, target_of, values}
 use Rattle.scim_server.specs.declared.routes.Route.{Route}
-use Rattle.scim_server.specs.declared.routes.Route.TheVariants.{Collection}
+use Rattle.scim_server.specs.declared.routes.Route.TheVariants.{Collection, Resource}
 use Rattle.scim_server.specs.declared.requests.MeaningFault.{MeaningFault}
 use Rattle.scim_server.specs.declared.requests.MeaningFault.TheVariants.{Refused, OutOfMemory}
 use Rattle.scim_server.specs.Routes.{path_of, route_of}
@@ -49,11 +54,49 @@ content_of kind body = content_from kind (json_of body)
 abbrev pub type_accepted : Message → Result (Unit {0}) Refusal
 type_accepted m = if is_type_served (values (codes "content-type") m.head.fields) then Ok tt else Err MediaType
 
--- POST on a collection: the media type is looked at before the body
+-- ---- conditions
+
+-- the values of all lines of a field, joined by commas in their order
+abbrev pub joined : List (List ℕ) → List ℕ
+joined values_ = join_by (λ value. value) (codes ",") values_
+
+-- a text that spells no condition is a value that isn't allowed
+abbrev pub condition_read : Result Condition TagFault → Result Condition Refusal
+condition_read (Ok condition) = Ok condition
+condition_read (Err fault) = Err ValueNotAllowed
+
+-- the condition that a text spells
+abbrev pub condition_text : List ℕ → Result Condition Refusal
+condition_text text = condition_read (condition_of text)
+
+-- the condition that the lines of a field spell; where there is no line, all is well
+abbrev pub condition_in : List (List ℕ) → Result Condition Refusal
+condition_in [] = Ok Always
+condition_in (first ∷ others) = condition_text (joined (first ∷ others))
+
+-- the condition of the field with this name
+abbrev pub condition_named : List ℕ → Message → Result Condition Refusal
+condition_named name m = condition_in (values name m.head.fields)
+
+-- `If-Match` and `If-None-Match`
+abbrev pub conditions_of : Message → Result (Condition × Condition) Refusal
+conditions_of m = do
+  if_match ← condition_named (codes "if-match") m
+  if_none_match ← condition_named (codes "if-none-match") m
+  Ok (if_match, if_none_match)
+
+-- ---- requests
+
+-- the content that a message sends: the media type is looked at before the body
+abbrev pub content_sent : Kind → Message → Result Content Refusal
+content_sent kind m = do
+  _ ← type_accepted m
+  content_of kind m.body
+
+-- POST on a collection
 abbrev pub create_request : Kind → Message → Result Request Refusal
 create_request kind m = do
-  _ ← type_accepted m
-  content ← content_of kind m.body
+  content ← content_sent kind m
   Ok (Create content)
 
 -- the methods that are served on a collection
@@ -61,11 +104,32 @@ abbrev pub collection_request : Kind → Message → Result Request Refusal
 collection_request kind m =
     if bytes_eq (method_of m.head.start) (codes "POST") then create_request kind m else Err MethodNotSupported
 
+-- GET on one resource
+abbrev pub retrieve_request : Kind → List ℕ → Message → Result Request Refusal
+retrieve_request kind id m = do
+  conditions ← conditions_of m
+  Ok (Retrieve kind id conditions.0 conditions.1)
+
+-- PUT on one resource: the body is looked at before the conditions
+abbrev pub replace_request : Kind → List ℕ → Message → Result Request Refusal
+replace_request kind id m = do
+  content ← content_sent kind m
+  conditions ← conditions_of m
+  Ok (Replace id content conditions.0 conditions.1)
+
+-- the methods that are served on one resource
+abbrev pub resource_request : Kind → List ℕ → Message → Result Request Refusal
+resource_request kind id m =
+    if bytes_eq (method_of m.head.start) (codes "GET") then retrieve_request kind id m
+    else if bytes_eq (method_of m.head.start) (codes "PUT") then replace_request kind id m
+    else Err MethodNotSupported
+
 abbrev pub routed_request : Option Route → Message → Result Request Refusal
 routed_request None m = Err NoSuchPath
 routed_request (Some (Collection kind)) m = collection_request kind m
+routed_request (Some (Resource kind id)) m = resource_request kind id m
 
--- What a message asks for, or the first refusal: the path, the method, the media type, the body
+-- What a message asks for, or the first refusal: the path, the method, the media type, the body, the conditions
 abbrev pub request_of : Message → Result Request Refusal
 request_of m = routed_request (route_of (path_of (target_of m.head.start))) m
 

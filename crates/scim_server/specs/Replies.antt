@@ -5,7 +5,7 @@ use Rattle.std.specs.List.{flat_map}
 use Rattle.scim_resource.specs.Contents.{content_kind}
 use Rattle.scim_resource.specs.Locations.{location_text}
 use Rattle.scim_message.specs.declared.messages.Answer.{Answer}
-use Rattle.scim_message.specs.declared.messages.Answer.TheVariants.{Created, Error}
+use Rattle.scim_message.specs.declared.messages.Answer.TheVariants.{Created, Found, Replaced, NotModified, Error}
 use Rattle.scim_message.specs.Messages.{answer_status}
 use Rattle.http_text.specs.Message.{NamedValue}
 use Rattle.http_text.specs.Response.{response_text}
@@ -22,39 +22,65 @@ line_with name (Some value) = (name, value) ∷ []
 abbrev pub written_lines : List Line → List NamedValue
 written_lines lines = flat_map (λ (line : Line). line_with line.0 line.1) lines
 
--- the URI of the one resource that an answer shows
+-- the URI of the one resource that an answer shows or speaks of
 abbrev pub shown_location : List ℕ → Answer → Option (List ℕ)
 shown_location base (Created shown) = Some (location_text base (content_kind shown.content) shown.id)
+shown_location base (Found shown) = Some (location_text base (content_kind shown.content) shown.id)
+shown_location base (Replaced shown) = Some (location_text base (content_kind shown.content) shown.id)
+shown_location base (NotModified kind id version) = Some (location_text base kind id)
 shown_location base (Error error) = None
 
 -- the entity tag of that resource, where it is known
 abbrev pub shown_tag : Answer → Option (List ℕ)
 shown_tag (Created shown) = shown.version
+shown_tag (Found shown) = shown.version
+shown_tag (Replaced shown) = shown.version
+shown_tag (NotModified kind id version) = Some version
 shown_tag (Error error) = None
 
 -- whether that resource was created
 abbrev pub is_created : Answer → Bool
 is_created (Created shown) = true
+is_created (Found shown) = false
+is_created (Replaced shown) = false
+is_created (NotModified kind id version) = false
 is_created (Error error) = false
+
+-- whether the answer has a body: all but 304
+abbrev pub has_body : Answer → Bool
+has_body (Created shown) = true
+has_body (Found shown) = true
+has_body (Replaced shown) = true
+has_body (NotModified kind id version) = false
+has_body (Error error) = true
 
 abbrev pub value_if : Bool → Option (List ℕ) → Option (List ℕ)
 value_if true value = value
 value_if false value = None
 
--- the field lines of a response: the body's length, the URI and the tag of the resource that it shows, and whether it
--- was created, which its URI tells once more
-abbrev pub lines_of : List ℕ → Option (List ℕ) → Option (List ℕ) → Bool → List Line
-lines_of body_length location tag created =
+-- the length of the body, where the answer has one
+abbrev pub stated_length : List ℕ → Answer → Option (List ℕ)
+stated_length base answer = value_if (has_body answer) (Some (decimal (length (body_text base answer))))
+
+-- the media type stands beside the length
+abbrev pub stated_type : Option (List ℕ) → Option (List ℕ)
+stated_type None = None
+stated_type (Some length_) = Some (codes "application/scim+json")
+
+-- the field lines of a response: the body's length, where there is a body, the URI and the tag of the resource that it
+-- shows, and whether it was created, which its URI tells once more
+abbrev pub lines_of : Option (List ℕ) → Option (List ℕ) → Option (List ℕ) → Bool → List Line
+lines_of length_ location tag created =
     (codes "Connection", Some (codes "close"))
-    ∷ (codes "Content-Length", Some body_length)
+    ∷ (codes "Content-Length", length_)
     ∷ (codes "Content-Location", location)
-    ∷ (codes "Content-Type", Some (codes "application/scim+json"))
+    ∷ (codes "Content-Type", stated_type length_)
     ∷ (codes "ETag", tag)
     ∷ (codes "Location", value_if created location)
     ∷ []
 
 abbrev pub answer_lines : List ℕ → Answer → List Line
-answer_lines base answer = lines_of (decimal (length (body_text base answer))) (shown_location base answer) (shown_tag answer) (is_created answer)
+answer_lines base answer = lines_of (stated_length base answer) (shown_location base answer) (shown_tag answer) (is_created answer)
 
 -- the status code of an answer; a number that is none is written as 500
 abbrev pub written_status : Answer → ℕ

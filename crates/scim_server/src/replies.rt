@@ -8,7 +8,7 @@ use http_text::{FieldLine, StatusCode, write_response};
 use itoa::Buffer;
 use scim_key::Base;
 use scim_message::{Answer, body_of};
-use scim_resource::location;
+use scim_resource::{Shown, location};
 use std::alloc::{AllocError, Global};
 use std::marker::Model;
 
@@ -97,7 +97,11 @@ fn text_of(
     let length = buffer.format(body.len());
     let fields = fields_of(
         alloc,
-        length.as_bytes(),
+        if has_body(answer) {
+            Some(length.as_bytes())
+        } else {
+            None
+        },
         bytes_of(&location),
         tag_of(answer),
         is_created(answer),
@@ -109,24 +113,36 @@ fn text_of(
 /// The field lines of a response.
 fn fields_of<'a>(
     alloc: Global,
-    length: &'a [u8],
+    length: Option<&'a [u8]>,
     location: Option<&'a [u8]>,
     tag: Option<&'a [u8]>,
     created: bool,
 ) -> Result<Vec<FieldLine<'a>>, AllocError>
     ensures { IfOk result (λ fields. map named_value fields.items
-        ≡ spec.written_lines (spec.lines_of length.now (option_map (λ t. t.now) location.entry)
+        ≡ spec.written_lines (spec.lines_of (option_map (λ t. t.now) length.entry) (option_map (λ t. t.now) location.entry)
         (option_map (λ t. t.now) tag.entry) created)) }
 {
+    let media_type = stated_type(length);
     let created_at = if created { location } else { None };
     let mut fields = Vec::new(alloc);
     push_line(&mut fields, "Connection", Some(b"close"))?;
-    push_line(&mut fields, "Content-Length", Some(length))?;
+    push_line(&mut fields, "Content-Length", length)?;
     push_line(&mut fields, "Content-Location", location)?;
-    push_line(&mut fields, "Content-Type", Some(b"application/scim+json"))?;
+    push_line(&mut fields, "Content-Type", media_type)?;
     push_line(&mut fields, "ETag", tag)?;
     push_line(&mut fields, "Location", created_at)?;
     Ok(fields)
+}
+
+/// The media type of a body that is there.
+fn stated_type(length: Option<&[u8]>) -> Option<&'static [u8]>
+    ensures { option_map (λ t. t.now) result
+        ≡ spec.stated_type (option_map (λ t. t.now) length.entry) }
+{
+    match length {
+        Some(_) => Some(b"application/scim+json"),
+        None => None,
+    }
 }
 
 /// Adds a field line where it has a value.
@@ -144,18 +160,17 @@ fn push_line<'a>(
     Ok(())
 }
 
-/// The URI of the one resource that an answer shows.
+/// The URI of the one resource that an answer shows or speaks of.
 fn location_of(alloc: Global, answer: &Answer, base: &Base) -> Result<Option<String>, AllocError>
     ensures { IfOk result
         (λ text. option_map string_bytes text ≡ spec.shown_location base.now answer.now) }
 {
     match answer {
-        Answer::Created(shown) => Ok(Some(location(
-            alloc,
-            base,
-            shown.content().kind(),
-            shown.id(),
-        )?)),
+        Answer::Created(shown) | Answer::Found(shown) | Answer::Replaced(shown) => {
+            let text = location(alloc, base, shown.content().kind(), shown.id())?;
+            Ok(Some(text))
+        }
+        Answer::NotModified { kind, id, .. } => Ok(Some(location(alloc, base, *kind, id)?)),
         Answer::Error(_) => Ok(None),
     }
 }
@@ -174,11 +189,18 @@ fn tag_of(answer: &Answer) -> Option<&[u8]>
     ensures { option_map (λ t. t.now) result ≡ spec.shown_tag answer.now }
 {
     match answer {
-        Answer::Created(shown) => match shown.version() {
-            Some(tag) => Some(tag.text()),
-            None => None,
-        },
+        Answer::Created(shown) | Answer::Found(shown) | Answer::Replaced(shown) => tag_text(shown),
+        Answer::NotModified { version, .. } => Some(version.text()),
         Answer::Error(_) => None,
+    }
+}
+
+fn tag_text(shown: &Shown) -> Option<&[u8]>
+    ensures { option_map (λ t. t.now) result ≡ shown.now.version }
+{
+    match shown.version() {
+        Some(tag) => Some(tag.text()),
+        None => None,
     }
 }
 
@@ -187,6 +209,13 @@ fn is_created(answer: &Answer) -> bool
     ensures { result ≡ spec.is_created answer.now }
 {
     matches!(answer, Answer::Created(_))
+}
+
+/// Whether the answer has a body: all but 304.
+fn has_body(answer: &Answer) -> bool
+    ensures { result ≡ spec.has_body answer.now }
+{
+    !matches!(answer, Answer::NotModified { .. })
 }
 
 fn unless_left_out(leaves_body_out: bool, body: &[u8]) -> &[u8]

@@ -1,21 +1,22 @@
 //! What an accepted message asks for (RFC 7644 section 3).
 ghost use Rattle.std.specs.Prelude.{◌≡◌};
-ghost use Rattle.scim_server.specs.declared.requests.MeaningFault.TheVariants.{Refused};
+ghost use Rattle.scim_server.specs.declared.requests.MeaningFault.TheVariants.{Refused, OutOfMemory};
 ghost use Rattle.scim_server.specs.Meaning as spec;
 ghost use Rattle.scim_server.specs.Meaning.{Tells};
 
+use crate::conditions::conditions_of;
 use crate::media::is_type_served;
 use crate::routes::{Route, route_of};
 use http_text::Incoming;
-use scim_key::Kind;
+use scim_key::{Kind, ResourceId};
 use scim_message::{Refusal, Request};
 use scim_resource::{Content, ReadFault};
 use serde_json::Value;
-use std::alloc::Global;
+use std::alloc::{AllocError, Global};
 use thiserror::Error;
 
 /// Why a message asks for nothing that is served. The path is looked at first, then the method,
-/// the media type and the body.
+/// the media type, the body and the conditions.
 #[derive(Clone, Copy, Debug, PartialEq, Eq, Error)]
 pub enum MeaningFault {
     /// The first refusal that the message meets.
@@ -33,12 +34,21 @@ impl From<Refusal> for MeaningFault {
     }
 }
 
+impl From<AllocError> for MeaningFault {
+    ghost from_gives = { λ _ fault. fault ≡ OutOfMemory };
+
+    fn from(_: AllocError) -> MeaningFault {
+        MeaningFault::OutOfMemory
+    }
+}
+
 /// What an accepted message asks for.
 pub fn meaning(alloc: Global, incoming: &Incoming) -> Result<Request, MeaningFault>
     ensures { Tells result (spec.request_of incoming.now) }
 {
-    match route_of(incoming.target()) {
+    match route_of(alloc, incoming.target())? {
         Some(Route::Collection(kind)) => on_collection(alloc, kind, incoming),
+        Some(Route::Resource(kind, id)) => on_resource(alloc, kind, id, incoming),
         None => Err(MeaningFault::Refused(Refusal::NoSuchPath)),
     }
 }
@@ -56,9 +66,68 @@ fn on_collection(alloc: Global, kind: Kind, incoming: &Incoming) -> Result<Reque
 fn create(alloc: Global, kind: Kind, incoming: &Incoming) -> Result<Request, MeaningFault>
     ensures { Tells result (spec.create_request kind incoming.now) }
 {
+    Ok(Request::Create {
+        content: content_sent(alloc, kind, incoming)?,
+    })
+}
+
+/// What a message to one resource asks for.
+fn on_resource(
+    alloc: Global,
+    kind: Kind,
+    id: ResourceId,
+    incoming: &Incoming,
+) -> Result<Request, MeaningFault>
+    ensures { Tells result (spec.resource_request kind id incoming.now) }
+{
+    match incoming.method() {
+        b"GET" => retrieve(alloc, kind, id, incoming),
+        b"PUT" => replace(alloc, kind, id, incoming),
+        _ => Err(MeaningFault::Refused(Refusal::MethodNotSupported)),
+    }
+}
+
+fn retrieve(
+    alloc: Global,
+    kind: Kind,
+    id: ResourceId,
+    incoming: &Incoming,
+) -> Result<Request, MeaningFault>
+    ensures { Tells result (spec.retrieve_request kind id incoming.now) }
+{
+    let (if_match, if_none_match) = conditions_of(alloc, incoming)?;
+    Ok(Request::Retrieve {
+        kind,
+        id,
+        if_match,
+        if_none_match,
+    })
+}
+
+fn replace(
+    alloc: Global,
+    kind: Kind,
+    id: ResourceId,
+    incoming: &Incoming,
+) -> Result<Request, MeaningFault>
+    ensures { Tells result (spec.replace_request kind id incoming.now) }
+{
+    let content = content_sent(alloc, kind, incoming)?;
+    let (if_match, if_none_match) = conditions_of(alloc, incoming)?;
+    Ok(Request::Replace {
+        id,
+        content,
+        if_match,
+        if_none_match,
+    })
+}
+
+/// The content that a message sends.
+fn content_sent(alloc: Global, kind: Kind, incoming: &Incoming) -> Result<Content, MeaningFault>
+    ensures { Tells result (spec.content_sent kind incoming.now) }
+{
     accept_type(incoming)?;
-    let content = content_of(alloc, kind, incoming.body())?;
-    Ok(Request::Create { content })
+    content_of(alloc, kind, incoming.body())
 }
 
 /// Refuses a media type that isn't served.

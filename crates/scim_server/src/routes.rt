@@ -1,14 +1,20 @@
 //! What a request's target names.
-ghost use Rattle.std.specs.Prelude.{◌≡◌, ◌==◌, position};
+ghost use Rattle.std.specs.Prelude.{◌≡◌, ◌==◌, IfOk, Some, position};
+ghost use Rattle.std.specs.Option.{option_map};
 ghost use Rattle.scim_server.specs.Routes as spec;
+ghost use Rattle.scim_server.specs.Segments.{id_of};
 
-use scim_key::Kind;
+use crate::segments::id_of;
+use scim_key::{Kind, ResourceId};
+use std::alloc::{AllocError, Global};
 
 /// What a path names.
-#[derive(Clone, Copy, Debug)]
+#[derive(Debug, Drop)]
 pub(crate) enum Route {
     /// All resources of a type.
     Collection(Kind),
+    /// The resource of a type with an id.
+    Resource(Kind, ResourceId),
 }
 
 /// Where the first `?` of a target stands.
@@ -29,12 +35,60 @@ fn path_of(target: &[u8]) -> &[u8]
 }
 
 /// What a target names, where that is served.
-pub(crate) fn route_of(target: &[u8]) -> Option<Route>
-    ensures { result ≡ spec.route_of (spec.path_of target.now) }
+pub(crate) fn route_of(alloc: Global, target: &[u8]) -> Result<Option<Route>, AllocError>
+    ensures { IfOk result (λ route. route ≡ spec.route_of (spec.path_of target.now)) }
 {
-    if path_of(target) == b"/v2/Users".as_slice() {
-        Some(Route::Collection(Kind::User))
-    } else {
-        None
+    let path = path_of(target);
+    match route_in(alloc, Kind::User, path)? {
+        Some(route) => Ok(Some(route)),
+        None => route_in(alloc, Kind::Group, path),
+    }
+}
+
+/// A collection, or one resource in it.
+fn route_in(alloc: Global, kind: Kind, path: &[u8]) -> Result<Option<Route>, AllocError>
+    ensures { IfOk result (λ route. route ≡ spec.route_in kind path.now) }
+{
+    match after(collection_path(kind), path) {
+        Some(rest) => route_from(alloc, kind, rest),
+        None => Ok(None),
+    }
+}
+
+/// The path of a collection.
+fn collection_path(kind: Kind) -> &'static [u8]
+    ensures { result.now ≡ spec.collection_path kind }
+{
+    match kind {
+        Kind::User => b"/v2/Users",
+        Kind::Group => b"/v2/Groups",
+    }
+}
+
+/// What stands behind a prefix.
+fn after<'a>(prefix: &[u8], text: &'a [u8]) -> Option<&'a [u8]>
+    ensures { option_map (λ t. t.now) result ≡ spec.after prefix.now text.now }
+{
+    text.strip_prefix(prefix)
+}
+
+/// What a collection's path and this rest name: nothing stands there, or a `/` and one segment.
+fn route_from(alloc: Global, kind: Kind, rest: &[u8]) -> Result<Option<Route>, AllocError>
+    ensures { IfOk result (λ route. route ≡ spec.route_from kind (Some rest.now)) }
+{
+    match rest {
+        [] => Ok(Some(Route::Collection(kind))),
+        [b'/', segment @ ..] => resource_route(alloc, kind, segment),
+        _ => Ok(None),
+    }
+}
+
+/// The resource whose id a segment spells.
+fn resource_route(alloc: Global, kind: Kind, segment: &[u8]) -> Result<Option<Route>, AllocError>
+    ensures { IfOk result (λ route. route ≡ spec.resource_route kind (id_of segment.now)) }
+{
+    match id_of(alloc, segment)? {
+        Some(id) => Ok(Some(Route::Resource(kind, id))),
+        None => Ok(None),
     }
 }

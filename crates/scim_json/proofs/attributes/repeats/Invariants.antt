@@ -1,7 +1,8 @@
-use Rattle.std.proofs.Common.{◌≡◌}
+use Rattle.std.proofs.Common.{◌≡◌, ◌||◌}
 use Rattle.serde_json.specs.View.{members_view}
 use Rattle.scim_json.specs.Attributes as spec
+use Rattle.scim_json.proofs.RepeatedNames.{meets}
 use Rattle.scim_json.proofs.attributes.repeats.Given as goal
 
 abbrev pub invariant-loop-key : goal.invariant-loop-key
-invariant-loop-key l = spec.any_clashes (members_view l.key-iterator) (members_view l.members.entries) ≡ spec.repeats (members_view l.members.entries)
+invariant-loop-key l = (meets l.seen (members_view l.key-iterator) || spec.repeats (members_view l.key-iterator)) ≡ spec.repeats (members_view l.members.entries)

@@ -1,11 +1,25 @@
-use Rattle.std.proofs.Common.{sym, ap, subst, List}
+use Rattle.std.proofs.Common.{◌∙◌, sym, ap, subst, arith, List}
 use Rattle.scim_resource.specs.Rows.{StoredRecord}
+use Rattle.provider_core.specs.Rows.{with_row}
 use Rattle.provider_core.specs.Stores.{HoldsNumber}
-use Rattle.provider_core.proofs.MemoryLaws.{indexed-update}
+use Rattle.provider_core.proofs.MemoryLaws.{update-within, update-sets, indexed-update}
 use Rattle.provider_core.proofs.memory.MemoryRegistryRegistry.update.Goals as goal
+
+pub index_mut-requires : goal.index_mut-requires
+index_mut-requires c =
+    let P : List StoredRecord → Type 0 = λ rows. HoldsNumber rows c.args.row.now in
+    let there = subst P (sym (ap (λ v. v.rows) c.self.view_is)) (c.requires.there tt) in
+    rw c.number.ensures.value (omega (arith, update-within c.self.inside.rows.items c.args.row.now c.self.invariant.numbered there, c.self.inside.rows.ok))
 
 pub invariant_of-self : goal.invariant_of-self
 invariant_of-self c =
     let P : List StoredRecord → Type 0 = λ rows. HoldsNumber rows c.args.row.now in
     rw (c.in_ok-self-inside.ensures.cases, c.number.ensures.value)
     (indexed-update c.self.inside.numbers c.self.inside.rows.items c.args.row.now c.self.invariant (subst P (sym (ap (λ v. v.rows) c.self.view_is)) (c.requires.there tt)))
+
+pub returns-clause-ok : goal.returns-clause-ok
+returns-clause-ok c = λ _.
+    let P : List StoredRecord → Type 0 = λ rows. HoldsNumber rows c.args.row.now in
+    let there = subst P (sym (ap (λ v. v.rows) c.self.view_is)) (c.requires.there tt) in
+    rw (c.in_ok-self-inside.ensures.cases, c.number.ensures.value)
+    (update-sets c.self.inside.rows.items c.args.row.now c.self.invariant.numbered there ∙ ap (λ v. with_row c.args.row.now v.rows) c.self.view_is)

@@ -1,0 +1,113 @@
+//! What a request would answer and change, by the row that it speaks of.
+ghost use Rattle.std.specs.Prelude.{◌≡◌, ◌<◌, None, Some, false, IfOk};
+ghost use Rattle.scim_resource.specs.Contents.{content_kind, content_name};
+ghost use Rattle.provider_core.specs.Rows.{same_kind, same_record};
+ghost use Rattle.provider_core.specs.Outcomes.{refused, creating, retrieving, replacing, not_modified};
+
+use crate::pending::{Change, Pending};
+use scim_key::Kind;
+use scim_message::{Answer, ErrorResponse, Refusal};
+use scim_resource::{Content, Shown, Stored};
+use scim_version::{Condition, EntityTag};
+use std::alloc::{AllocError, Global};
+
+/// What is pending where a request is refused.
+pub(crate) fn refusal(alloc: Global, refusal: Refusal) -> Result<Pending, AllocError>
+    ensures { IfOk result (λ pending. pending ≡ refused refusal) }
+{
+    Ok(Pending {
+        change: Change::Unchanged,
+        answer: Answer::Error(ErrorResponse::of(alloc, refusal)?),
+    })
+}
+
+/// What is pending where a content becomes a new row, `count` of them being there.
+pub(crate) fn insertion(alloc: Global, count: u32, content: &Content) -> Result<Pending, AllocError>
+    requires { count < 1_000_000 }
+    ensures { IfOk result (λ pending. pending ≡ creating None false count content.now) }
+{
+    let row = Stored::new(count + 1, 1, content.clone()?);
+    let shown = Shown::of(alloc, &row)?;
+    Ok(Pending {
+        change: Change::Insert(row),
+        answer: Answer::Created(shown),
+    })
+}
+
+/// Whether the row is of this type of resource.
+pub(crate) fn is_of_kind(row: &Stored, kind: Kind) -> bool
+    ensures { result ≡ same_kind kind (content_kind row.now.content) }
+{
+    row.content().kind() == kind
+}
+
+/// Whether the content is of the row's record.
+fn keeps_name(row: &Stored, content: &Content) -> bool
+    ensures { result ≡ same_record (content_name row.now.content) (content_name content.now) }
+{
+    row.content().has_name_of(content)
+}
+
+/// What is pending where a content replaces that of a row, if both conditions hold.
+pub(crate) fn replacement(
+    alloc: Global,
+    row: &Stored,
+    content: &Content,
+    if_match: &Condition,
+    if_none_match: &Condition,
+) -> Result<Pending, AllocError>
+    ensures { IfOk result
+        (λ pending. pending ≡ replacing (Some row.now) content.now if_match.now if_none_match.now) }
+{
+    let version = row.version();
+    if !keeps_name(row, content) {
+        return refusal(alloc, Refusal::NameFixed);
+    }
+    if version >= 9_007_199_254_740_991 {
+        return refusal(alloc, Refusal::LimitReached);
+    }
+    if !(if_match.holds_match(Some(version)) && if_none_match.holds_none_match(Some(version))) {
+        return refusal(alloc, Refusal::OtherVersion);
+    }
+    let next = Stored::new(row.number(), version + 1, content.clone()?);
+    let shown = Shown::of(alloc, &next)?;
+    Ok(Pending {
+        change: Change::Update(next),
+        answer: Answer::Replaced(shown),
+    })
+}
+
+fn unmodified(alloc: Global, row: &Stored) -> Result<Answer, AllocError>
+    ensures { IfOk result (λ answer. answer ≡ not_modified row.now) }
+{
+    Ok(Answer::NotModified {
+        kind: row.content().kind(),
+        id: row.id(alloc)?,
+        version: EntityTag::of_counter(alloc, row.version())?,
+    })
+}
+
+/// What is pending where a row is asked for, if `If-Match` holds and `If-None-Match` does.
+pub(crate) fn retrieval(
+    alloc: Global,
+    row: &Stored,
+    if_match: &Condition,
+    if_none_match: &Condition,
+) -> Result<Pending, AllocError>
+    ensures { IfOk result
+        (λ pending. pending ≡ retrieving (Some row.now) if_match.now if_none_match.now) }
+{
+    let version = Some(row.version());
+    if !if_match.holds_match(version) {
+        return refusal(alloc, Refusal::OtherVersion);
+    }
+    let answer = if if_none_match.holds_none_match(version) {
+        Answer::Found(Shown::of(alloc, row)?)
+    } else {
+        unmodified(alloc, row)?
+    };
+    Ok(Pending {
+        change: Change::Unchanged,
+        answer,
+    })
+}

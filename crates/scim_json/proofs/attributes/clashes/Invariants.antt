@@ -1,7 +1,0 @@
-use Rattle.std.proofs.Common.{◌≡◌}
-use Rattle.serde_json.specs.View.{members_view}
-use Rattle.scim_json.specs.Attributes as spec
-use Rattle.scim_json.proofs.attributes.clashes.Given as goal
-
-abbrev pub invariant-loop-key : goal.invariant-loop-key
-invariant-loop-key l = spec.clashes l.name (members_view l.key-iterator) ≡ spec.clashes l.name (members_view l.members.entries)

@@ -1,0 +1,314 @@
+-- A user that is written is plain, and is read back as itself.
+use Rattle.std.proofs.Common.{◌≡◌, ℕ, suc, ◌^◌, ◌<◌, ◌≤◌, ◌==◌, List, [], ◌∷◌, length, Bool, true, false, nat_le, Option, Some, None, Ok, option_map, map, codes, refl, ap, ◌∙◌, arith}
+use Rattle.std.proofs.lemmas.Bool.{and_parts, ne_eqb}
+use Rattle.std.proofs.lemmas.Bool.Decides.{nat_tests}
+use Rattle.scim_key.specs.Names.{user_name_fault, IsUserName}
+use Rattle.scim_key.specs.Revisions.{RevisionValue, is_revision, last_revision}
+use Rattle.serde_json.specs.Data.{Data, boolean, string, array, Members, depth, items_depth}
+use Rattle.serde_json.specs.View.{items_of}
+use Rattle.scim_key.specs.Outcome.{◌>>=◌}
+use Rattle.scim_json.specs.Attributes.{named, has_name, attribute, present, repeats, value_repeats, items_repeat, list_repeats}
+use Rattle.scim_json.specs.Values.{flag_or, members_in}
+use Rattle.scim_json.specs.Plain.{IsPlain, ItemsArePlain}
+use Rattle.scim_json.specs.Writing.{members_from}
+use Rattle.scim_json.proofs.Parts.{are_rising, are_apart, part_named, named-members_from, repeats-members_from, IsPlainIf, ArePlainIf, MembersArePlain-members_from, depth_if, AreWithin, members_depth-members_from}
+use Rattle.scim_resource.specs.Emails.{IsEmail, AreEmails, IsEmailList, are_few}
+use Rattle.scim_resource.specs.Reading.{lists_schema, all_texts, some_text, user_name_in, text_in, part_of, email_of, email_in, emails_of, emails_in, few_emails, revision_in, user_fields, user_repeats, read_user, unless_repeated}
+use Rattle.scim_resource.specs.Schemas.{core_user, source_extension}
+use Rattle.scim_resource.specs.Texts.{IsText, IsTextIf, is_short_text}
+use Rattle.scim_resource.specs.Users.{UserRecord, IsUser, IsSourceRevision}
+use Rattle.scim_resource.specs.declared.emails.Email.{Email}
+use Rattle.scim_resource.specs.Writing.{name_parts, name_data, primary_data, email_parts, email_data, emails_data, source_data, schemas_data, user_parts, user_data}
+
+-- ---- the names of a user's parts
+
+rising : (id meta : Option Data) (u : UserRecord) → are_rising (user_parts id meta u) ≡ true
+unfolding source_extension
+rising id meta u = refl
+
+apart : (id meta : Option Data) (u : UserRecord) → are_apart (user_parts id meta u) ≡ true
+unfolding source_extension
+apart id meta u = refl
+
+-- ---- the parts of a user that are found
+
+abbrev members : Option Data → Option Data → UserRecord → Members
+members id meta u = members_from (user_parts id meta u)
+
+found : (name : List ℕ) (id meta : Option Data) (u : UserRecord) → attribute name (members id meta u) ≡ present (part_named name (user_parts id meta u))
+found name id meta u = ap present (named-members_from name (user_parts id meta u) (apart id meta u))
+
+schemas_part : (id meta : Option Data) (u : UserRecord) → part_named (codes "schemas") (user_parts id meta u) ≡ Some (array (schemas_data core_user u.revision))
+schemas_part id meta u = refl
+
+user_name_part : (id meta : Option Data) (u : UserRecord) → part_named (codes "userName") (user_parts id meta u) ≡ Some (string u.user_name)
+unfolding source_extension
+user_name_part id meta u = refl
+
+external_id_part : (id meta : Option Data) (u : UserRecord) → part_named (codes "externalId") (user_parts id meta u) ≡ option_map string u.external_id
+external_id_part id meta u = refl
+
+name_part : (id meta : Option Data) (u : UserRecord) → part_named (codes "name") (user_parts id meta u) ≡ name_data u.given_name u.family_name
+name_part id meta u = refl
+
+emails_part : (id meta : Option Data) (u : UserRecord) → part_named (codes "emails") (user_parts id meta u) ≡ emails_data u.emails
+emails_part id meta u = refl
+
+active_part : (id meta : Option Data) (u : UserRecord) → part_named (codes "active") (user_parts id meta u) ≡ Some (boolean u.active)
+active_part id meta u = refl
+
+source_part : (id meta : Option Data) (u : UserRecord) → part_named source_extension (user_parts id meta u) ≡ source_data u.revision
+unfolding source_extension
+source_part id meta u = refl
+
+-- ---- what they are read as
+
+not_empty : (name : List ℕ) → IsUserName name → (length name == 0) ≡ false
+unfolding user_name_fault
+not_empty [] h = cc
+not_empty (x ∷ xs) h = ne_eqb (suc (length xs)) 0 (λ e. omega arith)
+
+name_present : (name : List ℕ) → IsUserName name → present (Some (string name)) ≡ Some (string name)
+name_present name h = rw (not_empty name h)
+
+some_bytes : (text : List ℕ) → IsText text → (length text == 0) ≡ false
+unfolding is_short_text
+some_bytes [] h = cc
+some_bytes (x ∷ xs) h = ne_eqb (suc (length xs)) 0 (λ e. omega arith)
+
+pub text_present : (o : Option (List ℕ)) → IsTextIf o → present (option_map string o) ≡ option_map string o
+text_present None h = refl
+text_present (Some text) h = rw (some_bytes text h)
+
+name_data_present : (given family : Option (List ℕ)) → present (name_data given family) ≡ name_data given family
+name_data_present None None = refl
+name_data_present None (Some f) = refl
+name_data_present (Some g) f = refl
+
+emails_present : (es : List Email) → present (emails_data es) ≡ emails_data es
+emails_present [] = refl
+emails_present (e ∷ es) = refl
+
+pub source_present : (r : Option RevisionValue) → present (source_data r) ≡ source_data r
+source_present None = refl
+source_present (Some r) = refl
+
+schemas_listed : (r : Option RevisionValue) → lists_schema core_user (Some (array (schemas_data core_user r))) ≡ true
+unfolding core_user source_extension all_texts some_text
+schemas_listed None = refl
+schemas_listed (Some r) = refl
+
+name_read : (name : List ℕ) → IsUserName name → user_name_in (Some (string name)) ≡ Ok name
+name_read name h = rw h
+
+pub text_read : (o : Option (List ℕ)) → IsTextIf o → text_in (option_map string o) ≡ Ok o
+text_read None h = refl
+text_read (Some text) h = rw h
+
+pub source_read : (r : Option RevisionValue) → IsSourceRevision r → revision_in (source_data r) ≡ Ok r
+unfolding named
+source_read None h = refl
+source_read (Some r) h = rw h
+
+-- the members of a name, where it has a part
+abbrev name_members : Option (List ℕ) → Option (List ℕ) → Option Members
+name_members None None = None
+name_members None (Some f) = Some (members_from (name_parts None (Some f)))
+name_members (Some g) f = Some (members_from (name_parts (Some g) f))
+
+name_members_read : (given family : Option (List ℕ)) → members_in (name_data given family) ≡ Ok (name_members given family)
+name_members_read None None = refl
+name_members_read None (Some f) = refl
+name_members_read (Some g) f = refl
+
+given_found : (given family : Option (List ℕ)) → IsTextIf given → part_of (codes "givenName") (name_members given family) ≡ option_map string given
+given_found None None h = refl
+given_found None (Some f) h = ap present (named-members_from (codes "givenName") (name_parts None (Some f)) refl)
+given_found (Some g) f h = ap present (named-members_from (codes "givenName") (name_parts (Some g) f) refl) ∙ text_present (Some g) h
+
+family_found : (given family : Option (List ℕ)) → IsTextIf family → part_of (codes "familyName") (name_members given family) ≡ option_map string family
+family_found None None h = refl
+family_found None (Some f) h = ap present (named-members_from (codes "familyName") (name_parts None (Some f)) refl) ∙ text_present (Some f) h
+family_found (Some g) f h = ap present (named-members_from (codes "familyName") (name_parts (Some g) f) refl) ∙ text_present f h
+
+primary_present : (p : Bool) → present (primary_data p) ≡ primary_data p
+primary_present true = refl
+primary_present false = refl
+
+primary_read : (p : Bool) → flag_or false (primary_data p) ≡ Ok p
+primary_read true = refl
+primary_read false = refl
+
+email_part : (name : List ℕ) (e : Email) → attribute name (members_from (email_parts e)) ≡ present (part_named name (email_parts e))
+email_part name e = ap present (named-members_from name (email_parts e) refl)
+
+members_read : (ms : Members) (e : Email) → IsEmail e → attribute (codes "value") ms ≡ Some (string e.value) → attribute (codes "type") ms ≡ option_map string e.type_text
+    → attribute (codes "primary") ms ≡ primary_data e.primary → email_of ms ≡ Ok (Some e)
+unfolding email_of
+members_read ms e h value kind primary =
+    rw (value, text_read (Some e.value) h.value, kind, text_read e.type_text h.type_text, primary, primary_read e.primary)
+
+email_read : (e : Email) → IsEmail e → email_in (email_data e) ≡ Ok (Some e)
+unfolding email_data
+email_read e h =
+    members_read (members_from (email_parts e)) e h (email_part (codes "value") e ∙ text_present (Some e.value) h.value)
+    (email_part (codes "type") e ∙ text_present e.type_text h.type_text) (email_part (codes "primary") e ∙ primary_present e.primary)
+
+emails_of_read : (es : List Email) → AreEmails es → emails_of (items_of (map email_data es)) ≡ Ok es
+unfolding emails_of
+emails_of_read [] h = refl
+emails_of_read (e ∷ es) h = rw (email_read e h.0, emails_of_read es h.1)
+
+few_read : (es : List Email) → are_few es ≡ true → few_emails es ≡ Ok es
+few_read es h = rw h
+
+emails_read : (es : List Email) → IsEmailList es → emails_in (emails_data es) ≡ Ok es
+unfolding emails_of
+emails_read [] h = few_read [] h.few
+emails_read (e ∷ es) h = ap (λ o. o >>= few_emails) (emails_of_read (e ∷ es) h.each) ∙ few_read (e ∷ es) h.few
+
+-- an object with these attributes is read as this user
+pub record Shows (ms : Members) (u : UserRecord) : Type 0 where
+  pub schemas : attribute (codes "schemas") ms ≡ Some (array (schemas_data core_user u.revision))
+  pub user_name : attribute (codes "userName") ms ≡ Some (string u.user_name)
+  pub external_id : attribute (codes "externalId") ms ≡ option_map string u.external_id
+  pub name : attribute (codes "name") ms ≡ name_data u.given_name u.family_name
+  pub emails : attribute (codes "emails") ms ≡ emails_data u.emails
+  pub active : attribute (codes "active") ms ≡ Some (boolean u.active)
+  pub source : attribute source_extension ms ≡ source_data u.revision
+
+fields_read : (ms : Members) (u : UserRecord) → IsUser u → Shows ms u → user_fields ms ≡ Ok u
+unfolding user_fields
+fields_read ms u h s =
+    rw (s.schemas, schemas_listed u.revision, s.user_name, name_read u.user_name h.user_name, s.external_id, text_read u.external_id h.external_id, s.name, name_members_read u.given_name u.family_name, given_found u.given_name u.family_name h.given_name, text_read u.given_name h.given_name, family_found u.given_name u.family_name h.family_name, text_read u.family_name h.family_name, s.emails, emails_read u.emails h.emails, s.active, s.source, source_read u.revision h.revision)
+
+pub source_repeats : (r : Option RevisionValue) → value_repeats (source_data r) ≡ false
+unfolding repeats has_name
+source_repeats None = refl
+source_repeats (Some r) = refl
+
+name_repeats : (given family : Option (List ℕ)) → value_repeats (name_data given family) ≡ false
+name_repeats None None = refl
+name_repeats None (Some f) = repeats-members_from (name_parts None (Some f)) refl
+name_repeats (Some g) f = repeats-members_from (name_parts (Some g) f) refl
+
+email_repeats : (e : Email) → value_repeats (Some (email_data e)) ≡ false
+unfolding email_data
+email_repeats e = repeats-members_from (email_parts e) refl
+
+items_repeat_none : (es : List Email) → items_repeat (items_of (map email_data es)) ≡ false
+unfolding items_repeat
+items_repeat_none [] = refl
+items_repeat_none (e ∷ es) = rw (email_repeats e) (items_repeat_none es)
+
+emails_repeat : (es : List Email) → list_repeats (emails_data es) ≡ false
+emails_repeat [] = refl
+emails_repeat (e ∷ es) = items_repeat_none (e ∷ es)
+
+repeats_none : (ms : Members) (u : UserRecord) → repeats ms ≡ false → Shows ms u → user_repeats ms ≡ false
+unfolding user_repeats
+repeats_none ms u clear s =
+    rw (clear, s.source, source_repeats u.revision, s.name, name_repeats u.given_name u.family_name, s.emails, emails_repeat u.emails)
+
+pub user_data_read : (id meta : Option Data) (u : UserRecord) → IsUser u → read_user (user_data id meta u) ≡ Ok u
+unfolding user_data
+user_data_read id meta u h =
+    let ms = members id meta u in
+    let shows : Shows ms u = record {
+      schemas = found (codes "schemas") id meta u ∙ ap present (schemas_part id meta u);
+      user_name = found (codes "userName") id meta u ∙ ap present (user_name_part id meta u) ∙ name_present u.user_name h.user_name;
+      external_id = found (codes "externalId") id meta u ∙ ap present (external_id_part id meta u) ∙ text_present u.external_id h.external_id;
+      name = found (codes "name") id meta u ∙ ap present (name_part id meta u) ∙ name_data_present u.given_name u.family_name;
+      emails = found (codes "emails") id meta u ∙ ap present (emails_part id meta u) ∙ emails_present u.emails;
+      active = found (codes "active") id meta u ∙ ap present (active_part id meta u);
+      source = found source_extension id meta u ∙ ap present (source_part id meta u) ∙ source_present u.revision;
+    } in
+    let clear = repeats-members_from (user_parts id meta u) (apart id meta u) in
+    ap (λ b. unless_repeated b (user_fields ms)) (repeats_none ms u clear shows) ∙ fields_read ms u h shows
+
+-- ---- plain data
+
+revision_fits : (r : RevisionValue) → is_revision r ≡ true → r < 2 ^ 64
+unfolding is_revision
+revision_fits r h = let both = and_parts (nat_le 1 r) (nat_le r last_revision) h in grind (arith, nat_tests)
+
+pub source_plain : (r : Option RevisionValue) → IsSourceRevision r → IsPlainIf (source_data r)
+source_plain None h = tt
+source_plain (Some r) h = (tt, revision_fits r h, tt)
+
+pub schemas_plain : (core : List ℕ) (r : Option RevisionValue) → IsPlain (array (schemas_data core r))
+schemas_plain core None = (tt, tt)
+schemas_plain core (Some r) = (tt, (tt, tt))
+
+pub text_plain : (o : Option (List ℕ)) → IsPlainIf (option_map string o)
+text_plain None = tt
+text_plain (Some text) = tt
+
+name_plain : (given family : Option (List ℕ)) → IsPlainIf (name_data given family)
+name_plain None None = tt
+name_plain None (Some f) = MembersArePlain-members_from (name_parts None (Some f)) refl (tt, (tt, tt))
+name_plain (Some g) f = MembersArePlain-members_from (name_parts (Some g) f) refl (text_plain f, (tt, tt))
+
+primary_plain : (p : Bool) → IsPlainIf (primary_data p)
+primary_plain true = tt
+primary_plain false = tt
+
+email_plain : (e : Email) → IsPlain (email_data e)
+unfolding email_data
+email_plain e = MembersArePlain-members_from (email_parts e) refl (primary_plain e.primary, (text_plain e.type_text, (tt, tt)))
+
+email_items_plain : (es : List Email) → ItemsArePlain (items_of (map email_data es))
+email_items_plain [] = tt
+email_items_plain (e ∷ es) = (email_plain e, email_items_plain es)
+
+emails_plain : (es : List Email) → IsPlainIf (emails_data es)
+emails_plain [] = tt
+emails_plain (e ∷ es) = email_items_plain (e ∷ es)
+
+parts_plain : (id meta : Option Data) (u : UserRecord) → IsUser u → IsPlainIf id → IsPlainIf meta → ArePlainIf (user_parts id meta u)
+parts_plain id meta u h i m =
+    (tt, (emails_plain u.emails, (text_plain u.external_id, (i, (m, (name_plain u.given_name u.family_name, (schemas_plain core_user u.revision, (source_plain u.revision h.revision, (tt, tt)))))))))
+
+pub user_data_plain : (id meta : Option Data) (u : UserRecord) → IsUser u → IsPlainIf id → IsPlainIf meta → IsPlain (user_data id meta u)
+unfolding user_data
+user_data_plain id meta u h i m = MembersArePlain-members_from (user_parts id meta u) (rising id meta u) (parts_plain id meta u h i m)
+
+pub source_depth : (r : Option RevisionValue) → depth_if (source_data r) ≤ 2
+source_depth None = omega arith
+source_depth (Some r) = omega arith
+
+pub schemas_depth : (core : List ℕ) (r : Option RevisionValue) → depth (array (schemas_data core r)) ≤ 2
+schemas_depth core None = omega arith
+schemas_depth core (Some r) = omega arith
+
+pub text_depth : (o : Option (List ℕ)) → depth_if (option_map string o) ≤ 0
+text_depth None = omega arith
+text_depth (Some text) = omega arith
+
+name_depth : (given family : Option (List ℕ)) → depth_if (name_data given family) ≤ 1
+name_depth None None = omega arith
+name_depth None (Some f) = omega (arith, members_depth-members_from 0 (name_parts None (Some f)) (omega arith, (omega arith, tt)))
+name_depth (Some g) f = omega (arith, members_depth-members_from 0 (name_parts (Some g) f) (text_depth f, (omega arith, tt)))
+
+primary_depth : (p : Bool) → depth_if (primary_data p) ≤ 0
+primary_depth true = omega arith
+primary_depth false = omega arith
+
+email_depth : (e : Email) → depth (email_data e) ≤ 1
+unfolding email_data
+email_depth e = omega (arith, members_depth-members_from 0 (email_parts e) (primary_depth e.primary, (text_depth e.type_text, (omega arith, tt))))
+
+email_items_depth : (es : List Email) → items_depth (items_of (map email_data es)) ≤ 1
+email_items_depth [] = omega arith
+email_items_depth (e ∷ es) = omega (arith, email_depth e, email_items_depth es)
+
+emails_depth : (es : List Email) → depth_if (emails_data es) ≤ 2
+emails_depth [] = omega arith
+emails_depth (e ∷ es) = omega (arith, email_items_depth (e ∷ es))
+
+pub user_data_depth : (id meta : Option Data) (u : UserRecord) → depth_if id ≤ 2 → depth_if meta ≤ 2 → depth (user_data id meta u) ≤ 3
+unfolding user_data
+user_data_depth id meta u i m =
+    let within : AreWithin 2 (user_parts id meta u) =
+    (omega arith, (emails_depth u.emails, (omega (arith, text_depth u.external_id), (i, (m, (omega (arith, name_depth u.given_name u.family_name), (schemas_depth core_user u.revision, (source_depth u.revision, (omega arith, tt))))))))) in
+    omega (arith, members_depth-members_from 2 (user_parts id meta u) within)

@@ -1,0 +1,119 @@
+//! Reading a group from JSON (RFC 7643 section 4.2).
+ghost use Rattle.std.specs.Prelude.{◌≡◌, [], true, IfOk, IfSome, OnOk, option_map};
+ghost use Rattle.scim_key.specs.Names.{IsGroupName};
+ghost use Rattle.scim_key.specs.Outcome.{Gives, GivesBy};
+ghost use Rattle.serde_json.specs.View.{view, items_view, members_view};
+ghost use Rattle.scim_resource.specs.Groups.{AreTexts, IsMemberList, are_distinct};
+ghost use Rattle.scim_resource.specs.Texts.{IsTextIf};
+ghost use Rattle.scim_resource.specs.Reading as spec;
+
+use crate::faults::ReadFault;
+use crate::groups::{Group, Members, is_among};
+use crate::reading::{lists_schema, revision_in, text_in};
+use crate::schemas::{core_group, source_extension};
+use crate::texts::Text;
+use scim_json::{attribute, items_in, list_repeats, repeats, value_repeats};
+use scim_key::GroupName;
+use serde_json::{Map, Value};
+use std::alloc::{AllocError, Global};
+
+pub(crate) fn read_group(alloc: Global, value: &Value) -> Result<Group, ReadFault>
+    ensures { Gives ReadFault.Memory result (spec.read_group (view value.now)) }
+{
+    let Value::Object(members) = value else {
+        return Err(ReadFault::InvalidSyntax);
+    };
+    if group_repeats(alloc, members)? {
+        return Err(ReadFault::InvalidSyntax);
+    }
+    group_fields(alloc, members)
+}
+
+/// Whether a name is repeated in one of the objects that are looked into.
+#[tactic(auto, unfolding(crate::specs::Reading::group_repeats))]
+fn group_repeats(alloc: Global, members: &Map<String, Value>) -> Result<bool, AllocError>
+    ensures { IfOk result (λ b. b ≡ spec.group_repeats (members_view members.now.entries)) }
+{
+    Ok(
+        repeats(alloc, members)?
+            || value_repeats(alloc, attribute(members, source_extension()))?
+            || list_repeats(alloc, attribute(members, "members"))?,
+    )
+}
+
+#[tactic(auto, unfolding(crate::specs::Reading::group_fields))]
+fn group_fields(alloc: Global, members: &Map<String, Value>) -> Result<Group, ReadFault>
+    ensures { Gives ReadFault.Memory result
+        (spec.group_fields (members_view members.now.entries)) }
+{
+    if !lists_schema(attribute(members, "schemas"), core_group()) {
+        return Err(ReadFault::InvalidValue);
+    }
+    let display_name = display_name_in(alloc, attribute(members, "displayName"))?;
+    let external_id = text_in(alloc, attribute(members, "externalId"))?;
+    let values = group_members_in(alloc, attribute(members, "members"))?;
+    let revision = revision_in(attribute(members, source_extension()))?;
+    Ok(Group::new(display_name, values, revision).with_external_id(external_id))
+}
+
+fn display_name_in(alloc: Global, value: Option<&Value>) -> Result<GroupName, ReadFault>
+    ensures given { Gives ReadFault.Memory result
+        (spec.display_name_in (option_map (λ v. view v.now) value.entry)) }
+    ensures lawful { IfOk result IsGroupName }
+{
+    match value {
+        Some(Value::String(text)) => Ok(GroupName::read(alloc, text.as_str())?),
+        _ => Err(ReadFault::InvalidValue),
+    }
+}
+
+/// The values of the members, each kept once at its first place.
+fn group_members_in(alloc: Global, value: Option<&Value>) -> Result<Members, ReadFault>
+    ensures given { Gives ReadFault.Memory result
+        (spec.group_members_in (option_map (λ v. view v.now) value.entry)) }
+    ensures lawful { IfOk result IsMemberList }
+{
+    let values = members_of(alloc, items_in(value)?)?;
+    match Members::from_vec(values) {
+        Some(members) => Ok(members),
+        None => Err(ReadFault::InvalidValue),
+    }
+}
+
+#[tactic(auto, unfolding(crate::specs::Reading::members_after))]
+fn members_of(alloc: Global, items: &[Value]) -> Result<Vec<Text>, ReadFault>
+    ensures given { GivesBy (λ values. values.items) ReadFault.Memory result
+        (spec.members_after [] (items_view items.now)) }
+    ensures lawful { IfOk result (λ values. AreTexts values.items) }
+    ensures distinct { IfOk result (λ values. are_distinct values.items ≡ true) }
+{
+    let mut values = Vec::new(alloc);
+    for item in items {
+        let value = member_in(alloc, item)?;
+        keep(&mut values, value)?;
+    }
+    Ok(values)
+}
+
+/// Keeps a value that isn't there yet.
+fn keep(values: &mut Vec<Text>, value: Option<Text>) -> Result<(), AllocError>
+    requires { IsTextIf value }
+    ensures kept { OnOk result (values.new.items ≡ spec.with_member values.old.items value) }
+{
+    match value {
+        Some(value) if !is_among(&value, values.as_slice()) => Ok(values.push(value)?),
+        _ => Ok(()),
+    }
+}
+
+/// The value of a member, or none.
+fn member_in(alloc: Global, item: &Value) -> Result<Option<Text>, ReadFault>
+    ensures given { Gives ReadFault.Memory result (spec.member_in (view item.now)) }
+    ensures lawful { IfOk result IsTextIf }
+{
+    match item {
+        Value::Null => Ok(None),
+        Value::Object(members) => text_in(alloc, attribute(members, "value")),
+        _ => Err(ReadFault::InvalidValue),
+    }
+}
