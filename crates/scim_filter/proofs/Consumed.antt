@@ -1,23 +1,13 @@
 -- What the reader reads, the grammar spells: each state says what the tokens so far are.
-use Rattle.std.proofs.Common.{◌≡◌, ℕ, suc, zero, ◌+◌, ◌<◌, ◌≤◌, List, [], ◌∷◌, ◌++◌, Bool, true, false, cond, not, length, Option, Some, None, refl, sym, ap, ◌∙◌, subst, arith, nat_lt, append_assoc, append-nil}
+use Rattle.std.proofs.Common.{◌≡◌, ℕ, suc, zero, ◌+◌, List, [], ◌∷◌, ◌++◌, Bool, true, false, not, length, Option, Some, None, refl, sym, ap, ◌∙◌, subst, arith, nat_lt, append_assoc, append-nil}
 use Rattle.std.specs.Prelude.{option_map}
-use Rattle.std.specs.Option.{option_and_then}
 use Rattle.std.proofs.lemmas.Bool.Decides.{nat_tests}
-use Rattle.scim_filter.specs.Expressions.{Expression, Only, Both, Either, Negated}
-use Rattle.scim_filter.specs.Grammar.{spaces, as_text, depth_limit, IsTest, presence, text_test, flag_test, IsItem, negation, group, test, IsAll, item, and, IsFilter, all, or, IsText, whole}
-use Rattle.scim_filter.specs.Machine as machine
-use Rattle.scim_filter.specs.Machine.{State, start, level_start, at_place, with_item, item_taken, test_taken, join, opened, closed, negated_if, whole_of, after_or, after_gap, open_at, close_at, word_before_item, word_before_operator, word_before_value, word_after_item, word_at_place, text_at_place, step, finish, finished_at, run, flag_operator}
-use Rattle.scim_filter.specs.declared.terms.Attribute.{Attribute}
-use Rattle.scim_filter.specs.declared.terms.Attribute.TheVariants.{OfText, OfFlag}
-use Rattle.scim_filter.specs.declared.terms.TextOperator.{TextOperator}
-use Rattle.scim_filter.specs.declared.terms.TextOperator.TheVariants.{Equal, NotEqual, Contains, StartsWith, EndsWith}
-use Rattle.scim_filter.specs.declared.terms.FlagOperator.{FlagOperator}
-use Rattle.scim_filter.specs.declared.terms.FlagOperator.TheVariants.{Is, IsNot}
-use Rattle.scim_filter.specs.declared.terms.Test.{Test}
-use Rattle.scim_filter.specs.declared.words.Word.{Word}
-use Rattle.scim_filter.specs.declared.words.Word.TheVariants.{Not, And, Or, Present, Compare, Truth, Name}
+use Rattle.scim_filter.specs.Expressions.{Expression, Both, Either, Negated}
+use Rattle.scim_filter.specs.Grammar.{spaces, depth_limit, IsItem, negation, group, IsAll, item, and, IsFilter, all, or}
+use Rattle.scim_filter.specs.Machine.{State, level_start, with_item, join, negated_if, whole_of}
+use Rattle.scim_filter.specs.declared.words.Word.TheVariants.{Not, And, Or, Compare, Name}
 use Rattle.scim_filter.specs.declared.tokens.Token.{Token}
-use Rattle.scim_filter.specs.declared.tokens.Token.TheVariants.{Gap, Open, Close, Plain, Quoted}
+use Rattle.scim_filter.specs.declared.tokens.Token.TheVariants.{Gap, Open, Close, Plain}
 use Rattle.scim_filter.specs.declared.reader.Place.{Place}
 use Rattle.scim_filter.specs.declared.reader.Place.TheVariants.{BeforeItem, BeforeOpen, AfterName, BeforeOperator, AfterOperator, BeforeValue, AfterItem, AfterConnective}
 use Rattle.scim_filter.specs.declared.reader.Level.{Level}

@@ -1,17 +1,15 @@
 -- What the grammar spells, the reader reads.
-use Rattle.std.proofs.Common.{◌≡◌, ℕ, suc, zero, ◌+◌, ◌<◌, ◌≤◌, List, [], ◌∷◌, ◌++◌, Bool, true, false, not, length, Option, Some, None, refl, sym, ap, ◌∙◌, arith, nat_lt, append_assoc}
-use Rattle.std.specs.Prelude.{option_map}
+use Rattle.std.proofs.Common.{◌≡◌, ℕ, suc, ◌+◌, List, [], ◌∷◌, ◌++◌, Bool, true, false, not, length, Option, Some, None, refl, ap, ◌∙◌, arith, nat_lt, append_assoc}
 use Rattle.std.proofs.lemmas.Bool.Decides.{nat_tests}
-use Rattle.scim_filter.specs.Expressions.{Expression, Only, Both, Either, Negated}
-use Rattle.scim_filter.specs.Grammar.{spaces, as_text, depth_limit, IsTest, presence, text_test, flag_test, IsItem, negation, group, test, IsAll, item, and, IsFilter, all, or, IsText, whole}
-use Rattle.scim_filter.specs.Machine.{State, start, level_start, at_place, with_item, item_taken, join, opened, closed, negated_if, whole_of, after_or, step, run, flag_operator}
-use Rattle.scim_filter.specs.declared.terms.FlagOperator.{FlagOperator}
+use Rattle.scim_filter.specs.Expressions.{Expression, Only, Both, Either}
+use Rattle.scim_filter.specs.Grammar.{spaces, depth_limit, IsTest, presence, text_test, flag_test, IsItem, negation, group, test, IsAll, item, and, IsFilter, all, or, IsText, whole}
+use Rattle.scim_filter.specs.Machine.{State, start, level_start, with_item, join, negated_if, run}
 use Rattle.scim_filter.specs.declared.terms.FlagOperator.TheVariants.{Is, IsNot}
 use Rattle.scim_filter.specs.declared.terms.Test.{Test}
-use Rattle.scim_filter.specs.declared.words.Word.TheVariants.{Not, And, Or, Present, Compare, Truth, Name}
+use Rattle.scim_filter.specs.declared.words.Word.TheVariants.{Not, And, Or}
 use Rattle.scim_filter.specs.declared.tokens.Token.{Token}
-use Rattle.scim_filter.specs.declared.tokens.Token.TheVariants.{Gap, Open, Close, Plain, Quoted}
-use Rattle.scim_filter.specs.declared.reader.Place.TheVariants.{BeforeItem, BeforeOpen, AfterItem, AfterConnective}
+use Rattle.scim_filter.specs.declared.tokens.Token.TheVariants.{Gap, Open, Close, Plain}
+use Rattle.scim_filter.specs.declared.reader.Place.TheVariants.{BeforeItem, AfterItem}
 use Rattle.scim_filter.specs.declared.reader.Level.{Level}
 
 -- what was read since a parenthesis was opened

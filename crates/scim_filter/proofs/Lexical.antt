@@ -1,6 +1,6 @@
 -- The token at the front of a text, as the code reads it, is the first of the tokens that the text consists of.
-use Rattle.std.proofs.Common.{◌≡◌, ℕ, suc, zero, ◌+◌, ◌-◌, ◌<◌, ◌≤◌, List, [], ◌∷◌, ◌++◌, Bool, true, false, cond, not, length, take, drop, Option, Some, None, refl, sym, ap, ◌∙◌, subst, arith, one-add, add-one, get_or, length-append, length-drop, append_assoc, append-nil}
-use Rattle.std.specs.Prelude.{option_map, Result, Ok, Err, ◌==◌, ◌&&◌, ◌||◌, nat_le}
+use Rattle.std.proofs.Common.{◌≡◌, ℕ, suc, zero, ◌+◌, ◌-◌, ◌<◌, ◌≤◌, List, [], ◌∷◌, ◌++◌, Bool, true, false, cond, length, take, drop, Option, Some, None, refl, sym, ap, ◌∙◌, subst, arith, one-add, add-one, get_or, length-append, length-drop, append_assoc}
+use Rattle.std.specs.Prelude.{option_map, Result, Ok, Err, ◌==◌, ◌&&◌}
 use Rattle.std.specs.List.{list_all, prefix_len}
 use Rattle.std.proofs.lemmas.List.{take_at, drop_at, take-append-drop}
 use Rattle.std.proofs.lemmas.Bool.Decides.{nat_tests}
@@ -8,7 +8,7 @@ use Rattle.serde_json.specs.Data.{Data, null, boolean, number, string, array, ob
 use Rattle.serde_json.specs.Read.{read}
 use Rattle.scim_key.specs.Outcome.{◌>>=◌}
 use Rattle.scim_filter.specs.Words.{word_named, joining_word, comparing_word, attribute_word, text_attribute_named, flag_attribute_named}
-use Rattle.scim_filter.specs.Tokens.{is_space, is_word_byte, quote_at, IsGap, IsWord, IsString, IsToken, runs_on, EndsBefore, Consists, nothing, token}
+use Rattle.scim_filter.specs.Tokens.{is_space, is_word_byte, quote_at, IsGap, IsWord, IsString, IsToken, EndsBefore, Consists, nothing, token}
 use Rattle.scim_filter.specs.Lexing.{or_unsupported, string_in, text_of, word_at, gap_at, quoted_to, quoted_at, token_at}
 use Rattle.scim_filter.specs.declared.words.Word.{Word}
 use Rattle.scim_filter.specs.declared.tokens.Token.{Token}

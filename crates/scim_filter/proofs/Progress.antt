@@ -1,17 +1,17 @@
 -- Reading token by token: what is left of the text decides as all of it does.
-use Rattle.std.proofs.Common.{◌≡◌, ℕ, ◌<◌, ◌≤◌, List, [], ◌∷◌, Bool, true, false, length, Option, Some, None, refl, sym, ap, ◌∙◌, subst, inl, inr, arith}
+use Rattle.std.proofs.Common.{◌≡◌, ℕ, ◌<◌, ◌≤◌, List, [], ◌∷◌, length, Option, Some, None, refl, sym, ap, ◌∙◌, subst, inl, inr, arith}
 use Rattle.std.specs.Prelude.{Result, Ok, Err, IfOk, ◌⊎◌}
 use Rattle.scim_key.specs.Outcome.{Gives}
 use Rattle.std.specs.Option.{option_and_then}
 use Rattle.scim_filter.specs.Expressions.{Expression}
-use Rattle.scim_filter.specs.Grammar.{text_limit, IsText, Spells}
+use Rattle.scim_filter.specs.Grammar.{text_limit, Spells}
 use Rattle.scim_filter.specs.Tokens.{Consists, nothing}
 use Rattle.scim_filter.specs.Lexing.{or_unsupported, token_at}
 use Rattle.scim_filter.specs.Machine.{State, start, step, finish, run}
 use Rattle.scim_filter.specs.declared.tokens.Token.{Token}
 use Rattle.scim_filter.specs.declared.filters.FilterFault.{FilterFault}
-use Rattle.scim_filter.specs.declared.filters.FilterFault.TheVariants.{Unsupported, Memory}
-use Rattle.scim_filter.proofs.Lexical.{Leads, leads, First, first_token, nothing_left, ok_same, one_way}
+use Rattle.scim_filter.specs.declared.filters.FilterFault.TheVariants.{Memory}
+use Rattle.scim_filter.proofs.Lexical.{Leads, leads, first_token, nothing_left, ok_same, one_way}
 use Rattle.scim_filter.proofs.Grammatical.{reads_text}
 use Rattle.scim_filter.proofs.Stepwise.{text_spelled_by}
 

@@ -1,15 +1,13 @@
 -- The text that is written for a filter spells it.
-use Rattle.std.proofs.Common.{◌≡◌, ℕ, suc, zero, max, ◌+◌, ◌<◌, ◌≤◌, List, [], ◌∷◌, ◌++◌, Bool, true, false, length, Option, Some, None, refl, sym, ap, ◌∙◌, subst, arith, append_assoc, append-nil}
+use Rattle.std.proofs.Common.{◌≡◌, ℕ, suc, zero, ◌≤◌, List, [], ◌∷◌, ◌++◌, Bool, true, false, length, refl, sym, subst, arith, append_assoc, append-nil}
 use Rattle.std.specs.Prelude.{codes}
 use Rattle.json.specs.Print.{quoted}
 use Rattle.scim_filter.specs.Expressions.{Expression, Only, Both, Either, Negated}
 use Rattle.scim_filter.specs.Words.{word_named, joining_word, comparing_word, attribute_word, text_attribute_named, flag_attribute_named}
-use Rattle.scim_filter.specs.Tokens.{IsWord, IsToken, EndsBefore, runs_on, Consists, nothing, token}
-use Rattle.scim_filter.specs.Grammar.{as_text, text_limit, depth_limit, IsTest, presence, text_test, flag_test, IsItem, negation, group, test, IsAll, item, and, IsFilter, all, or, IsText, whole, Spells}
+use Rattle.scim_filter.specs.Tokens.{IsWord, EndsBefore, runs_on, Consists, nothing, token}
+use Rattle.scim_filter.specs.Grammar.{as_text, text_limit, depth_limit, IsTest, presence, text_test, flag_test, IsItem, negation, group, test, IsAll, item, and, IsFilter, all, or, whole, Spells}
 use Rattle.scim_filter.specs.Texts.{text_attribute_name, flag_attribute_name, attribute_name, operator_name, truth_name, test_text, is_either, is_joined, in_parentheses_if, filter_text, deeper_if, nesting}
-use Rattle.scim_filter.specs.declared.terms.TextAttribute.{TextAttribute}
 use Rattle.scim_filter.specs.declared.terms.TextAttribute.TheVariants.{UserName, DisplayName, GivenName, FamilyName, EmailValue, EmailType, Member, Id, ExternalId, Version}
-use Rattle.scim_filter.specs.declared.terms.FlagAttribute.{FlagAttribute}
 use Rattle.scim_filter.specs.declared.terms.FlagAttribute.TheVariants.{Active, EmailPrimary}
 use Rattle.scim_filter.specs.declared.terms.Attribute.{Attribute}
 use Rattle.scim_filter.specs.declared.terms.Attribute.TheVariants.{OfText, OfFlag}

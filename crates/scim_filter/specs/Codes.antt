@@ -1,12 +1,11 @@
 -- How the logic stores an expression: as the list of its parts, each operand before what joins it.
-use Rattle.std.specs.Prelude.{◌≡◌, ℕ, List, [], ◌∷◌, ◌++◌, Bool, true, false, cond, ◌==◌, refl}
+use Rattle.std.specs.Prelude.{◌≡◌, ℕ, List, [], ◌∷◌, ◌++◌, true, false, cond, ◌==◌, refl}
 use Rattle.std.proofs.Common.{ap, sym, ◌∙◌, append_assoc, append-nil}
 use Rattle.std.specs.Coded.{Coded, code_by, coded×, coded_ℕ, coded_list}
 use Rattle.scim_filter.specs.declared.terms.TextAttribute.{TextAttribute}
 use Rattle.scim_filter.specs.declared.terms.TextAttribute.TheVariants.{UserName, DisplayName, GivenName, FamilyName, EmailValue, EmailType, Member, Id, ExternalId, Version}
 use Rattle.scim_filter.specs.declared.terms.FlagAttribute.{FlagAttribute}
 use Rattle.scim_filter.specs.declared.terms.FlagAttribute.TheVariants.{Active, EmailPrimary}
-use Rattle.scim_filter.specs.declared.terms.Attribute.{Attribute}
 use Rattle.scim_filter.specs.declared.terms.Attribute.TheVariants.{OfText, OfFlag}
 use Rattle.scim_filter.specs.declared.terms.TextOperator.{TextOperator}
 use Rattle.scim_filter.specs.declared.terms.TextOperator.TheVariants.{Equal, NotEqual, Contains, StartsWith, EndsWith}

@@ -1,12 +1,11 @@
 -- One token from the front of a text, as the code reads it.
-use Rattle.std.specs.Prelude.{ℕ, suc, ◌+◌, List, [], ◌∷◌, take, drop, false, Option, Some, None, option_map, Result, Ok, Err, ◌==◌, if◌then◌else◌}
+use Rattle.std.specs.Prelude.{ℕ, ◌+◌, List, [], ◌∷◌, take, drop, false, Option, Some, None, option_map, Result, Ok, Err, ◌==◌, if◌then◌else◌}
 use Rattle.std.specs.List.{prefix_len}
 use Rattle.serde_json.specs.Data.{Data, null, boolean, number, string, array, object}
 use Rattle.serde_json.specs.Read.{read}
 use Rattle.scim_key.specs.Outcome.{◌>>=◌}
 use Rattle.scim_filter.specs.Words.{word_named}
 use Rattle.scim_filter.specs.Tokens.{is_space, is_word_byte, quote_at}
-use Rattle.scim_filter.specs.declared.words.Word.{Word}
 use Rattle.scim_filter.specs.declared.tokens.Token.{Token}
 use Rattle.scim_filter.specs.declared.tokens.Token.TheVariants.{Gap, Open, Close, Plain, Quoted}
 use Rattle.scim_filter.specs.declared.filters.FilterFault.{FilterFault}

@@ -1,9 +1,7 @@
 -- The reader's steps over tokens, as the code makes them.
-use Rattle.std.specs.Prelude.{ℕ, List, [], ◌∷◌, length, Bool, true, false, Option, Some, None, option_map, Result, Ok, Err, nat_lt, if◌then◌else◌, reverse}
+use Rattle.std.specs.Prelude.{ℕ, List, [], ◌∷◌, length, Bool, true, false, Option, Some, None, option_map, nat_lt, if◌then◌else◌, reverse}
 use Rattle.std.specs.Option.{option_and_then}
-use Rattle.scim_key.specs.Outcome.{◌>>=◌}
 use Rattle.scim_filter.specs.Expressions.{Expression, Only, Both, Either, Negated}
-use Rattle.scim_filter.specs.Lexing.{or_unsupported}
 use Rattle.scim_filter.specs.Grammar.{depth_limit}
 use Rattle.scim_filter.specs.declared.terms.Attribute.{Attribute}
 use Rattle.scim_filter.specs.declared.terms.Attribute.TheVariants.{OfText, OfFlag}
@@ -17,8 +15,6 @@ use Rattle.scim_filter.specs.declared.words.Word.{Word}
 use Rattle.scim_filter.specs.declared.words.Word.TheVariants.{Not, And, Or, Present, Compare, Truth, Name}
 use Rattle.scim_filter.specs.declared.tokens.Token.{Token}
 use Rattle.scim_filter.specs.declared.tokens.Token.TheVariants.{Gap, Open, Close, Plain, Quoted}
-use Rattle.scim_filter.specs.declared.filters.FilterFault.{FilterFault}
-use Rattle.scim_filter.specs.declared.filters.FilterFault.TheVariants.{Unsupported}
 use Rattle.scim_filter.specs.declared.reader.Place.{Place}
 use Rattle.scim_filter.specs.declared.reader.Place.TheVariants.{BeforeItem, BeforeOpen, AfterName, BeforeOperator, AfterOperator, BeforeValue, AfterItem, AfterConnective}
 use Rattle.scim_filter.specs.declared.reader.Level.{Level}

@@ -1,5 +1,5 @@
 -- The text that is written for a filter.
-use Rattle.std.specs.Prelude.{ℕ, suc, max, List, [], ◌∷◌, ◌++◌, Bool, true, false, codes}
+use Rattle.std.specs.Prelude.{ℕ, suc, max, List, ◌++◌, Bool, true, false, codes}
 use Rattle.json.specs.Print.{quoted}
 use Rattle.scim_filter.specs.Expressions.{Expression, Only, Both, Either, Negated}
 use Rattle.scim_filter.specs.Grammar.{as_text}

@@ -5,7 +5,6 @@ use Rattle.scim_filter.specs.declared.terms.TextAttribute.{TextAttribute}
 use Rattle.scim_filter.specs.declared.terms.TextAttribute.TheVariants.{UserName, DisplayName, GivenName, FamilyName, EmailValue, EmailType, Member, Id, ExternalId, Version}
 use Rattle.scim_filter.specs.declared.terms.FlagAttribute.{FlagAttribute}
 use Rattle.scim_filter.specs.declared.terms.FlagAttribute.TheVariants.{Active, EmailPrimary}
-use Rattle.scim_filter.specs.declared.terms.Attribute.{Attribute}
 use Rattle.scim_filter.specs.declared.terms.Attribute.TheVariants.{OfText, OfFlag}
 use Rattle.scim_filter.specs.declared.terms.TextOperator.TheVariants.{Equal, NotEqual, Contains, StartsWith, EndsWith}
 use Rattle.scim_filter.specs.declared.words.Word.{Word}

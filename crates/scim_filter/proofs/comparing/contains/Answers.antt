@@ -1,4 +1,4 @@
-use Rattle.std.proofs.Common.{◌≡◌, ◌∙◌, Bool, true, false, drop, sym, ap}
+use Rattle.std.proofs.Common.{◌≡◌, ◌∙◌, drop, sym, ap}
 use Rattle.std.proofs.lemmas.List.{take_rest, at_drop_all}
 use Rattle.scim_filter.specs.Comparing.{folded, begins_with, contains}
 use Rattle.scim_filter.proofs.Comparisons.{contains-here, contains-on, contains-end}

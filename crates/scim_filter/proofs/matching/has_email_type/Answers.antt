@@ -1,4 +1,4 @@
-use Rattle.std.proofs.Common.{◌≡◌, ◌∙◌, ℕ, List, [], ◌∷◌, Bool, true, false, length, map, nat_lt, sym, ap}
+use Rattle.std.proofs.Common.{◌∙◌, List, length, nat_lt, sym, ap}
 use Rattle.std.specs.List.{filter_map}
 use Rattle.std.specs.Option.{is_some}
 use Rattle.scim_resource.specs.declared.emails.Email.{Email}

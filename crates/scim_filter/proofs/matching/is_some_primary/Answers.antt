@@ -1,4 +1,4 @@
-use Rattle.std.proofs.Common.{◌≡◌, ◌∙◌, ℕ, List, [], ◌∷◌, Bool, true, false, length, map, nat_lt, sym, ap}
+use Rattle.std.proofs.Common.{◌∙◌, List, [], ◌∷◌, map, sym, ap}
 use Rattle.scim_filter.specs.Matching.{some_is}
 use Rattle.scim_resource.specs.declared.emails.Email.{Email}
 use Rattle.scim_filter.proofs.Values.{asks_flags, yes_here, no_here, no_more}

@@ -1,7 +1,6 @@
-use Rattle.std.proofs.Common.{◌≡◌, ◌<◌, ◌∙◌, ap, arith, sym, inr}
+use Rattle.std.proofs.Common.{◌≡◌, ◌∙◌, ap, arith, sym, inr}
 use Rattle.std.specs.List.{prefix_len}
 use Rattle.scim_filter.specs.Tokens.{is_word_byte}
-use Rattle.scim_filter.specs.Lexing.{word_at}
 use Rattle.scim_filter.proofs.Cuts.{word_byte_last}
 use Rattle.scim_filter.proofs.Lexical.{no_word_at}
 use Rattle.scim_filter.proofs.tokens.word_at.Goals as goal

@@ -1,9 +1,7 @@
-use Rattle.std.proofs.Common.{◌≡◌, ◌<◌, ◌∙◌, List, ℕ, [], ap, sym, subst, length, arith, rules, Some, None, Option}
-use Rattle.std.specs.Prelude.{Result, Ok, Err}
+use Rattle.std.proofs.Common.{◌≡◌, ◌<◌, List, ℕ, [], subst, length, arith, rules}
 use Rattle.std.proofs.lemmas.Result.{err_from_is_err_and}
 use Rattle.std.proofs.lemmas.Bool.Decides.{nat_tests}
-use Rattle.scim_filter.specs.Lexing.{token_at}
-use Rattle.scim_filter.specs.Machine.{State, state_of, step, finish}
+use Rattle.scim_filter.specs.Machine.{State, state_of, finish}
 use Rattle.scim_filter.proofs.Lexical.{Shorter, shorter}
 use Rattle.scim_filter.proofs.Progress.{Keeps, keeps_start, keeps_step, no_token, no_step, spelled_at_end, only_at_end, fault_gives, none_unsupported, some_supported, found_at_end, given_at_end, nothing_there}
 use Rattle.scim_filter.proofs.filters.Filter.read.Goals as goal

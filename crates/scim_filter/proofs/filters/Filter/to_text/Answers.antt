@@ -1,4 +1,4 @@
-use Rattle.std.proofs.Common.{◌≡◌, ◌++◌, ◌∙◌, List, ℕ, [], ap, rules}
+use Rattle.std.proofs.Common.{◌≡◌, rules}
 use Rattle.std.specs.Prelude.{string_bytes}
 use Rattle.scim_filter.specs.Texts.{filter_text}
 use Rattle.scim_filter.proofs.Spelling.{text_spells}

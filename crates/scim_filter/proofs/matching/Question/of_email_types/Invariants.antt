@@ -1,4 +1,4 @@
-use Rattle.std.proofs.Common.{◌≡◌, drop, map}
+use Rattle.std.proofs.Common.{◌≡◌, drop}
 use Rattle.std.specs.List.{filter_map}
 use Rattle.scim_resource.specs.declared.emails.Email.{Email}
 use Rattle.scim_filter.specs.Matching.{some_compares}

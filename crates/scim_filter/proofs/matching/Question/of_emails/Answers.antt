@@ -1,10 +1,8 @@
-use Rattle.std.proofs.Common.{◌≡◌, ◌∙◌, ℕ, List, [], ◌∷◌, Bool, true, false, map, sym, ap}
-use Rattle.std.specs.List.{filter_map}
-use Rattle.std.specs.Option.{option_to_list}
+use Rattle.std.proofs.Common.{◌∙◌, ℕ, List, [], ◌∷◌, Bool, map, sym, ap}
 use Rattle.scim_resource.specs.declared.emails.Email.{Email}
 use Rattle.scim_filter.specs.Matching.{some_compares}
 use Rattle.scim_filter.specs.declared.terms.TextOperator.{TextOperator}
-use Rattle.scim_filter.proofs.Values.{asks_texts, asks_mapped, asks_filtered, yes_here, no_here, no_more}
+use Rattle.scim_filter.proofs.Values.{asks_mapped, yes_here, no_here, no_more}
 use Rattle.scim_filter.proofs.matching.Question.of_emails.Goals as goal
 
 pub returns-then-of_one : goal.returns-then-of_one

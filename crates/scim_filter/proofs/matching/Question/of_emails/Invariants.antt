@@ -1,5 +1,4 @@
 use Rattle.std.proofs.Common.{◌≡◌, drop, map}
-use Rattle.std.specs.List.{filter_map}
 use Rattle.scim_resource.specs.declared.emails.Email.{Email}
 use Rattle.scim_filter.specs.Matching.{some_compares}
 use Rattle.scim_filter.proofs.matching.Question.of_emails.Given as goal

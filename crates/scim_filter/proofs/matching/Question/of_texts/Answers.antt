@@ -1,10 +1,7 @@
-use Rattle.std.proofs.Common.{◌≡◌, ◌∙◌, ℕ, List, [], ◌∷◌, Bool, true, false, map, sym, ap}
-use Rattle.std.specs.List.{filter_map}
-use Rattle.std.specs.Option.{option_to_list}
-use Rattle.scim_resource.specs.declared.emails.Email.{Email}
+use Rattle.std.proofs.Common.{◌∙◌, ℕ, List, [], ◌∷◌, Bool, sym, ap}
 use Rattle.scim_filter.specs.Matching.{some_compares}
 use Rattle.scim_filter.specs.declared.terms.TextOperator.{TextOperator}
-use Rattle.scim_filter.proofs.Values.{asks_texts, asks_mapped, asks_filtered, yes_here, no_here, no_more}
+use Rattle.scim_filter.proofs.Values.{asks_texts, yes_here, no_here, no_more}
 use Rattle.scim_filter.proofs.matching.Question.of_texts.Goals as goal
 
 pub returns-then-of_one : goal.returns-then-of_one

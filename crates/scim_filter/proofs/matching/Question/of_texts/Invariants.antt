@@ -1,6 +1,4 @@
-use Rattle.std.proofs.Common.{◌≡◌, drop, map}
-use Rattle.std.specs.List.{filter_map}
-use Rattle.scim_resource.specs.declared.emails.Email.{Email}
+use Rattle.std.proofs.Common.{◌≡◌, drop}
 use Rattle.scim_filter.specs.Matching.{some_compares}
 use Rattle.scim_filter.proofs.matching.Question.of_texts.Given as goal
 
