@@ -1,3 +1,4 @@
 pub mod RowLaws
 pub mod StoryLaws
 pub mod MemoryLaws
+pub mod Gathering

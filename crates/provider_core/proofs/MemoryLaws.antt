@@ -20,10 +20,10 @@ use Rattle.scim_key.specs.declared.records.Kind.TheVariants.{User, Group}
 use Rattle.scim_key.specs.declared.records.RecordName.{RecordName}
 use Rattle.scim_resource.specs.Contents.{content_name}
 use Rattle.scim_resource.specs.Rows.{StoredRecord}
-use Rattle.provider_core.specs.Rows.{same_record, is_named, row_named, row_with_id, is_after, page_after, has_number, row_numbered, with_row, same_kind}
+use Rattle.provider_core.specs.Rows.{same_record, is_named, row_named, row_with_id, is_after, page_after, has_number, row_numbered, with_row, same_kind, IsNumberedFrom}
 use Rattle.provider_core.specs.Stores.{HoldsNumber}
 use Rattle.provider_core.proofs.RowLaws.{same_record-eq, same_record-sym, numbers_same, find-passes}
-use Rattle.provider_core.specs.Memory.{name_cmp, IsNumberedFrom, IsIndexed}
+use Rattle.provider_core.specs.Memory.{name_cmp, IsIndexed}
 
 -- ---- names
 

@@ -14,7 +14,7 @@ use Rattle.scim_resource.specs.declared.contents.Content.{Content}
 use Rattle.scim_resource.specs.Contents.{content_kind, content_name}
 use Rattle.scim_resource.specs.Rows.{StoredRecord}
 use Rattle.scim_message.specs.declared.messages.Request.{Request}
-use Rattle.scim_message.specs.declared.messages.Request.TheVariants.{Create, Retrieve, Replace}
+use Rattle.scim_message.specs.declared.messages.Request.TheVariants.{Create, Retrieve, Search, Replace}
 use Rattle.provider_core.specs.Rows.{same_kind, same_record, has_id, row_with_id, if_of_kind, resource, row_numbered}
 use Rattle.provider_core.specs.Outcomes.{outcome, creating, reading, retrieving, writing, replacing, next_row, IsOutcome, Outcome}
 use Rattle.provider_core.specs.Stores.{HoldsNumber}
@@ -133,6 +133,7 @@ replacing_updates rows (Some held) content if_match if_none_match row there is =
 updates : (rows : List StoredRecord) (request : Request) (row : StoredRecord) → (outcome rows request).change ≡ Update row → HoldsNumber rows row
 updates rows (Create content) row is = absurd (create_updates _ _ _ content row is)
 updates rows (Retrieve kind id if_match if_none_match) row is = absurd (retrieving_updates _ if_match if_none_match row is)
+updates rows (Search kind wanted start count) row is = absurd (cc)
 updates rows (Replace id content if_match if_none_match) row is =
     replacing_updates rows (resource (content_kind content) id rows) content if_match if_none_match row (resource-numbered (content_kind content) id rows) is
 

@@ -1,7 +1,7 @@
 -- Rows with a version counter answer and change as the table of whole stories does, and stories only grow.
-use Rattle.std.proofs.Common.{◌≡◌, ℕ, zero, suc, ◌+◌, ◌-◌, ◌==◌, ◌&&◌, Bool, true, false, List, [], ◌∷◌, ◌++◌, Option, Some, None, length, is_some, nat_le, cond, refl, sym, ap, subst, ◌∙◌, arith, rules, tests, length-append}
+use Rattle.std.proofs.Common.{◌≡◌, ℕ, zero, suc, ◌+◌, ◌-◌, ◌==◌, ◌&&◌, Bool, true, false, List, [], ◌∷◌, ◌++◌, Option, Some, None, map, length, is_some, nat_le, cond, refl, sym, ap, subst, ◌∙◌, arith, rules, tests, length-append}
 use Rattle.std.specs.Prelude.{slice_get}
-use Rattle.std.specs.List.{find, AllByRecursion}
+use Rattle.std.specs.List.{find, filter, AllByRecursion}
 use Rattle.std.specs.Option.{option_map}
 use Rattle.std.specs.Str.{bytes_eq}
 use Rattle.std.proofs.lemmas.List.{append-nil}
@@ -12,12 +12,15 @@ use Rattle.scim_version.specs.Conditions.{holds_match, holds_none_match}
 use Rattle.scim_version.specs.declared.conditions.Condition.{Condition}
 use Rattle.scim_resource.specs.declared.contents.Content.{Content}
 use Rattle.scim_resource.specs.Contents.{content_kind, content_name}
-use Rattle.scim_resource.specs.Rows.{StoredRecord, last_version}
+use Rattle.scim_resource.specs.Rows.{StoredRecord, ShownRecord, shown, last_version}
 use Rattle.scim_message.specs.declared.messages.Request.{Request}
-use Rattle.scim_message.specs.declared.messages.Request.TheVariants.{Create, Retrieve, Replace}
+use Rattle.scim_message.specs.declared.messages.Request.TheVariants.{Create, Retrieve, Search, Replace}
+use Rattle.scim_message.specs.declared.messages.Answer.TheVariants as answers
+use Rattle.scim_filter.specs.Expressions.{Expression}
 use Rattle.provider_core.specs.Rows.{same_kind, same_record, is_named, has_id, row_with_id, resource, with_row}
+use Rattle.provider_core.specs.Searches.{is_wanted, is_hit, listing}
 use Rattle.provider_core.specs.Outcomes.{Outcome, outcome, creating, reading, retrieving, writing, replacing, next_row, changed_rows, most_resources}
-use Rattle.provider_core.specs.Stories.{Entry, story, row_of, rows_from, rows_of, is_entry_of, first_entry, renewed, Numbered, numbered_from, has_entry_id, entry_with_id, renew_at, Step, creating_entry, writing_entry, replacing_entry, reading_entry, retrieving_entry, step, IsTable, RowsFollowStories, GoesOn, AllGoOn, StoriesGrow}
+use Rattle.provider_core.specs.Stories.{Entry, story, row_of, rows_from, rows_of, is_entry_of, first_entry, renewed, Numbered, numbered_from, has_entry_id, entry_with_id, is_entry_hit, renew_at, Step, creating_entry, writing_entry, replacing_entry, reading_entry, retrieving_entry, step, IsTable, RowsFollowStories, GoesOn, AllGoOn, StoriesGrow}
 use Rattle.provider_core.proofs.RowLaws.{same_record-eq}
 
 -- an outcome on the rows of a table, and a step on the table, that say the same
@@ -158,6 +161,27 @@ retrieve_same row (Some n) es if_match if_none_match meets table =
     let P : ℕ → Type 0 = λ v. Same es (retrieving (Some (row_at n)) if_match if_none_match) (reading_entry (holds_match if_match (Some v)) (holds_none_match if_none_match (Some v)) n es) in
     rw meets.same (subst P (counted n.entry) (reading_same _ _ n es (meets.spoken_of n refl) table))
 
+-- ---- Search
+
+abbrev shown_at : Numbered → ShownRecord
+shown_at n = shown (row_at n)
+
+kept-both : (a b : Bool) (n : Numbered) (rows : List StoredRecord) (entries : List Numbered) → a ≡ b → map shown rows ≡ map shown_at entries
+    → map shown (cond a (row_at n ∷ rows) rows) ≡ map shown_at (cond b (n ∷ entries) entries)
+kept-both true true n rows entries test same = ap (λ rest. shown_at n ∷ rest) same
+kept-both true false n rows entries test same = absurd (cc)
+kept-both false true n rows entries test same = absurd (cc)
+kept-both false false n rows entries test same = same
+
+-- a filter finds the same in the rows and in the table
+found-same : (kind : Kind) (wanted : Option Expression) (k : ℕ) (es : List Entry) → IsTable es
+    → map shown (filter (is_hit kind wanted) (rows_from k es)) ≡ map shown_at (filter (is_entry_hit kind wanted) (numbered_from k es))
+found-same kind wanted k [] table = refl
+found-same kind wanted k (e ∷ es) table =
+    let kinds : content_kind e.held ≡ e.name.kind = ap (λ name. name.kind) table.0 in
+    kept-both (is_hit kind wanted (row_of k e)) (is_entry_hit kind wanted (record { number = k; entry = e })) (record { number = k; entry = e }) _ _
+    (ap (λ other. same_kind kind other && is_wanted wanted (row_of k e)) kinds) (found-same kind wanted (suc k) es table.1)
+
 -- ---- Replace
 
 renewed-row : (k number : ℕ) (e f : Entry) (content : Content) → number ≡ k → f ≡ e → next_row (row_of number e) content ≡ row_of k (renewed f content)
@@ -214,6 +238,8 @@ same es (Create content) table =
     let P : ℕ → Type 0 = λ count. Same es (outcome (rows_of es) (Create content)) (creating_entry (find (is_entry_of (content_name content)) es) (nat_le most_resources count) es content) in
     subst P (length-rows_from 1 es) (create_same _ _ (nat_le most_resources (length (rows_of es))) es content (same_taken (content_name content) 1 es table) table)
 same es (Retrieve kind id if_match if_none_match) table = retrieve_same _ _ es if_match if_none_match (resource-meets kind id es table) table
+same es (Search kind wanted start count) table =
+    record { answer = ap (λ resources. answers.List (listing start count resources)) (found-same kind wanted 1 es table); rows = refl; table = table }
 same es (Replace id content if_match if_none_match) table = replace_same _ _ es content if_match if_none_match (resource-meets (content_kind content) id es table) table
 
 pub rows_follow_stories : RowsFollowStories
@@ -264,4 +290,5 @@ replacing_grows (Some n) es content if_match if_none_match = writing_grows _ _ _
 pub stories_only_grow : StoriesGrow
 stories_only_grow es (Create content) = creating_grows _ _ es content
 stories_only_grow es (Retrieve kind id if_match if_none_match) = retrieving_grows _ es if_match if_none_match
+stories_only_grow es (Search kind wanted start count) = all-stay es
 stories_only_grow es (Replace id content if_match if_none_match) = replacing_grows _ es content if_match if_none_match

@@ -1,4 +1,6 @@
 pub mod Rows
+pub mod Searches
+pub mod Gathering
 pub mod Outcomes
 pub mod Stories
 pub mod Stores

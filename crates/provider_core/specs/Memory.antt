@@ -1,12 +1,12 @@
 -- The rows of a registry in memory, and the index that finds them by name.
-use Rattle.std.specs.Prelude.{◌≡◌, ℕ, suc, ◌≤◌, List, [], ◌∷◌, length, option_map}
+use Rattle.std.specs.Prelude.{◌≡◌, ℕ, ◌≤◌, List, length, option_map}
 use Rattle.std.specs.BTreeMap.{BTreeMap, get}
 use Rattle.std.specs.declared.cmp.Ordering.{Ordering}
 use Rattle.scim_key.specs.Identifiers.{last_number}
 use Rattle.scim_key.specs.declared.records.RecordName.{RecordName}
 use Rattle.scim_key.specs.contracts.records.RecordNameOrd.TheImpl as names
 use Rattle.scim_resource.specs.Rows.{StoredRecord}
-use Rattle.provider_core.specs.Rows.{row_named}
+use Rattle.provider_core.specs.Rows.{row_named, IsNumberedFrom}
 
 -- the rows in order of creation, and how many writes there were
 pub record MemoryRecord : Type 0 where
@@ -16,11 +16,6 @@ pub record MemoryRecord : Type 0 where
 -- the order of names
 abbrev pub name_cmp : RecordName → RecordName → Ordering
 name_cmp = (names.ghosts).cmp
-
--- each row has the number after that of the row before it
-abbrev pub IsNumberedFrom : ℕ → List StoredRecord → Type 0
-IsNumberedFrom number [] = Unit {0}
-IsNumberedFrom number (row ∷ rows) = (row.number ≡ number) × IsNumberedFrom (suc number) rows
 
 -- The rows are numbered from 1, and the index has for every name the number of its row
 pub record IsIndexed (numbers : BTreeMap RecordName ℕ) (rows : List StoredRecord) : Type 0 where

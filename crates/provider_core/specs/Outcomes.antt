@@ -8,13 +8,15 @@ use Rattle.scim_resource.specs.declared.contents.Content.{Content}
 use Rattle.scim_resource.specs.Contents.{content_kind, content_name}
 use Rattle.scim_resource.specs.Rows.{StoredRecord, shown, last_version}
 use Rattle.scim_message.specs.declared.messages.Request.{Request}
-use Rattle.scim_message.specs.declared.messages.Request.TheVariants.{Create, Retrieve, Replace}
+use Rattle.scim_message.specs.declared.messages.Request.TheVariants.{Create, Retrieve, Search, Replace}
 use Rattle.scim_message.specs.declared.messages.Answer.{Answer}
 use Rattle.scim_message.specs.declared.messages.Answer.TheVariants.{Created, Found, Replaced, NotModified, Error}
+use Rattle.scim_message.specs.declared.messages.Answer.TheVariants as answers
 use Rattle.scim_message.specs.declared.refusals.Refusal.{Refusal}
 use Rattle.scim_message.specs.declared.refusals.Refusal.TheVariants.{NameTaken, LimitReached, NoSuchResource, NameFixed, OtherVersion}
 use Rattle.scim_message.specs.Refusals.{error_of}
 use Rattle.provider_core.specs.Rows.{same_record, row_named, resource, with_row}
+use Rattle.provider_core.specs.Searches.{found, listing}
 use Rattle.provider_core.specs.declared.pending.Change.{Change}
 use Rattle.provider_core.specs.declared.pending.Change.TheVariants.{Unchanged, Insert, Update}
 
@@ -88,6 +90,7 @@ retrieving (Some row) if_match if_none_match = reading (holds_match if_match (So
 abbrev pub outcome : List StoredRecord → Request → Outcome
 outcome rows (Create content) = creating (row_named (content_name content) rows) (nat_le most_resources (length rows)) (length rows) content
 outcome rows (Retrieve kind id if_match if_none_match) = retrieving (resource kind id rows) if_match if_none_match
+outcome rows (Search kind wanted start count) = replied (answers.List (listing start count (found kind wanted rows)))
 outcome rows (Replace id content if_match if_none_match) = replacing (resource (content_kind content) id rows) content if_match if_none_match
 
 -- the rows after a change

@@ -1,5 +1,5 @@
 -- The rows of a provider, in order of creation, and how one of them is found.
-use Rattle.std.specs.Prelude.{ℕ, Bool, true, false, ◌&&◌, ◌==◌, List, [], ◌∷◌, Option, Some, None, take, nat_lt, if◌then◌else◌}
+use Rattle.std.specs.Prelude.{◌≡◌, ℕ, suc, Bool, true, false, ◌&&◌, ◌==◌, List, [], ◌∷◌, Option, Some, None, take, nat_lt, if◌then◌else◌}
 use Rattle.std.specs.List.{find, filter}
 use Rattle.std.specs.Str.{bytes_eq}
 use Rattle.scim_key.specs.declared.records.Kind.{Kind}
@@ -62,3 +62,8 @@ row_numbered number rows = find (has_number number) rows
 abbrev pub with_row : StoredRecord → List StoredRecord → List StoredRecord
 with_row row [] = []
 with_row row (r ∷ rs) = if has_number row.number r then row ∷ rs else r ∷ with_row row rs
+
+-- each row has the number after that of the row before it
+abbrev pub IsNumberedFrom : ℕ → List StoredRecord → Type 0
+IsNumberedFrom number [] = Unit {0}
+IsNumberedFrom number (row ∷ rows) = (row.number ≡ number) × IsNumberedFrom (suc number) rows

@@ -1,6 +1,6 @@
 -- The provider's table with the whole story of each resource: all contents that it ever held.
-use Rattle.std.specs.Prelude.{◌≡◌, ℕ, zero, suc, ◌-◌, ◌&&◌, Bool, true, false, List, [], ◌∷◌, ◌++◌, Option, Some, None, length, nat_le, if◌then◌else◌}
-use Rattle.std.specs.List.{find, AllByRecursion}
+use Rattle.std.specs.Prelude.{◌≡◌, ℕ, zero, suc, ◌-◌, ◌&&◌, Bool, true, false, List, [], ◌∷◌, ◌++◌, Option, Some, None, map, length, nat_le, if◌then◌else◌}
+use Rattle.std.specs.List.{find, filter, AllByRecursion}
 use Rattle.std.specs.Str.{bytes_eq}
 use Rattle.scim_key.specs.Identifiers.{id_text}
 use Rattle.scim_key.specs.declared.records.Kind.{Kind}
@@ -10,15 +10,18 @@ use Rattle.scim_version.specs.Conditions.{holds_match, holds_none_match}
 use Rattle.scim_version.specs.declared.conditions.Condition.{Condition}
 use Rattle.scim_resource.specs.declared.contents.Content.{Content}
 use Rattle.scim_resource.specs.Contents.{content_kind, content_name}
-use Rattle.scim_resource.specs.Rows.{StoredRecord, shown, last_version}
+use Rattle.scim_resource.specs.Rows.{StoredRecord, ShownRecord, shown, last_version}
+use Rattle.scim_filter.specs.Expressions.{Expression}
 use Rattle.scim_message.specs.declared.messages.Request.{Request}
-use Rattle.scim_message.specs.declared.messages.Request.TheVariants.{Create, Retrieve, Replace}
+use Rattle.scim_message.specs.declared.messages.Request.TheVariants.{Create, Retrieve, Search, Replace}
 use Rattle.scim_message.specs.declared.messages.Answer.{Answer}
 use Rattle.scim_message.specs.declared.messages.Answer.TheVariants.{Created, Found, Replaced, NotModified, Error}
+use Rattle.scim_message.specs.declared.messages.Answer.TheVariants as answers
 use Rattle.scim_message.specs.declared.refusals.Refusal.{Refusal}
 use Rattle.scim_message.specs.declared.refusals.Refusal.TheVariants.{NameTaken, LimitReached, NoSuchResource, NameFixed, OtherVersion}
 use Rattle.scim_message.specs.Refusals.{error_of}
 use Rattle.provider_core.specs.Rows.{same_kind, same_record}
+use Rattle.provider_core.specs.Searches.{is_wanted, listing}
 use Rattle.provider_core.specs.Outcomes.{outcome, changed_rows, most_resources}
 
 -- A record's entry: what it held before, in order, and what it holds. All of this is its story, which is never empty
@@ -81,6 +84,13 @@ renew_at place content [] = []
 renew_at zero content (e ∷ es) = renewed e content ∷ es
 renew_at (suc place) content (e ∷ es) = e ∷ renew_at place content es
 
+-- the entries of this type that a filter finds, as they are shown, in their order
+abbrev pub is_entry_hit : Kind → Option Expression → Numbered → Bool
+is_entry_hit kind wanted n = same_kind kind n.entry.name.kind && is_wanted wanted (row_of n.number n.entry)
+
+abbrev pub found_entries : Kind → Option Expression → List Entry → List ShownRecord
+found_entries kind wanted es = map (λ n. shown (row_of n.number n.entry)) (filter (is_entry_hit kind wanted) (numbered_from 1 es))
+
 -- ---- what a request does
 
 -- what becomes of the table at a request, and what is answered
@@ -128,6 +138,7 @@ retrieving_entry (Some n) es if_match if_none_match =
 abbrev pub step : List Entry → Request → Step
 step es (Create content) = creating_entry (find (is_entry_of (content_name content)) es) (nat_le most_resources (length es)) es content
 step es (Retrieve kind id if_match if_none_match) = retrieving_entry (entry_with_id kind id es) es if_match if_none_match
+step es (Search kind wanted start count) = replied_on es (answers.List (listing start count (found_entries kind wanted es)))
 step es (Replace id content if_match if_none_match) = replacing_entry (entry_with_id (content_kind content) id es) es content if_match if_none_match
 
 -- ---- laws

@@ -7,10 +7,11 @@ mod outcomes;
 mod pending;
 mod provider;
 mod registry;
+mod searching;
 
 pub use laws::{memory_never_faults, rows_follow_stories, stories_only_grow};
 pub use memory::MemoryRegistry;
 pub use pending::{Change, Pending};
 pub use provider::{Provider, ProviderFault};
 pub use registry::{Registry, RegistryFault};
-pub use scim_message::{Answer, ErrorResponse, Request};
+pub use scim_message::{Answer, ErrorResponse, ListResponse, Request, Resources};

@@ -1,6 +1,7 @@
 //! The provider over a registry.
-ghost use Rattle.std.specs.Prelude.{◌≡◌, ◌≤◌, ◌+◌, IfOk, IfErr, OnOk, OnErr};
+ghost use Rattle.std.specs.Prelude.{◌≡◌, ◌≤◌, ◌+◌, ◌-◌, ◌^◌, take, drop, length, IfOk, IfErr, OnOk, OnErr};
 ghost use Rattle.provider_core.specs.Outcomes.{outcome, changed_rows, IsOutcome};
+ghost use Rattle.provider_core.specs.Gathering.{GoesThrough};
 ghost use Rattle.provider_core.specs.Rows.{resource};
 ghost use Rattle.provider_core.specs.Stores.{IsExcusedProvider, IsQuiet};
 ghost use Rattle.provider_core.specs.declared.provider.ProviderFault.TheVariants as provider_faults;
@@ -8,6 +9,8 @@ ghost use Rattle.provider_core.specs.declared.provider.ProviderFault.TheVariants
 use crate::outcomes::{insertion, is_of_kind, refusal, replacement, retrieval};
 use crate::pending::{Change, Pending};
 use crate::registry::{Registry, RegistryFault};
+use crate::searching::{Gathered, first_place, page_size};
+use scim_filter::Filter;
 use scim_key::{Kind, ResourceId};
 use scim_message::{Answer, Refusal, Request};
 use scim_resource::{Content, Stored};
@@ -91,6 +94,12 @@ impl<R: Registry> Provider<R> {
                 if_match,
                 if_none_match,
             } => self.prepare_retrieve(alloc, *kind, id, if_match, if_none_match),
+            Request::Search {
+                kind,
+                filter,
+                start,
+                count,
+            } => self.prepare_search(alloc, *kind, filter, *start, *count),
             Request::Replace {
                 id,
                 content,
@@ -155,6 +164,72 @@ impl<R: Registry> Provider<R> {
             Some(row) => Ok(retrieval(alloc, &row, if_match, if_none_match)?),
             None => Ok(refusal(alloc, Refusal::NoSuchResource)?),
         }
+    }
+
+    fn prepare_search(
+        &mut self,
+        alloc: Global,
+        kind: Kind,
+        filter: &Option<Filter>,
+        start: i64,
+        count: Option<i64>,
+    ) -> Result<Pending, ProviderFault>
+        ensures ok { R.is_faithful self.new →
+            IfOk result
+            (λ pending. pending ≡ outcome (R.rows self.old) (Request.Search kind filter.now start count)) }
+        ensures same { R.is_faithful self.new → R.rows self.new ≡ R.rows self.old }
+        ensures quiet { IsQuiet R.is_faithful R.faults self.old self.new }
+        ensures unwritten { R.writes self.new ≡ R.writes self.old }
+        ensures cause { IfErr result (IsExcusedProvider (R.faults self.old) (R.faults self.new)) }
+    {
+        let mut gathered = Gathered::new(alloc, first_place(start), page_size(count));
+        let all = self.registry.count()?;
+        self.gather(kind, filter, all, &mut gathered)?;
+        Ok(gathered.into_pending())
+    }
+
+    /// Looks through all rows, some at a time.
+    fn gather(
+        &mut self,
+        kind: Kind,
+        filter: &Option<Filter>,
+        all: u32,
+        gathered: &mut Gathered,
+    ) -> Result<(), ProviderFault>
+        ensures ok { R.is_faithful self.new → length (R.rows self.old) ≤ all →
+            OnOk result (GoesThrough kind filter.now (R.rows self.old) gathered.old gathered.new) }
+        ensures small { all ≤ 2 ^ 32 - 1 }
+        ensures same { R.is_faithful self.new → R.rows self.new ≡ R.rows self.old }
+        ensures quiet { IsQuiet R.is_faithful R.faults self.old self.new }
+        ensures unwritten { R.writes self.new ≡ R.writes self.old }
+        ensures cause { IfErr result (IsExcusedProvider (R.faults self.old) (R.faults self.new)) }
+    {
+        let mut after = 0;
+        while after < all {
+            self.gather_page(kind, filter, after, gathered)?;
+            after = after.saturating_add(200);
+        }
+        Ok(())
+    }
+
+    /// Looks through at most 200 rows after the first `after`.
+    fn gather_page(
+        &mut self,
+        kind: Kind,
+        filter: &Option<Filter>,
+        after: u32,
+        gathered: &mut Gathered,
+    ) -> Result<(), ProviderFault>
+        ensures ok { R.is_faithful self.new →
+            OnOk result (GoesThrough kind filter.now (take 200 (drop after (R.rows self.old))) gathered.old gathered.new) }
+        ensures same { R.is_faithful self.new → R.rows self.new ≡ R.rows self.old }
+        ensures quiet { IsQuiet R.is_faithful R.faults self.old self.new }
+        ensures unwritten { R.writes self.new ≡ R.writes self.old }
+        ensures cause { IfErr result (IsExcusedProvider (R.faults self.old) (R.faults self.new)) }
+    {
+        let rows = self.registry.scan(after, 200)?;
+        gathered.look_through(kind, filter, &rows)?;
+        Ok(())
     }
 
     fn prepare_replace(

@@ -2,7 +2,7 @@
 ghost use Rattle.std.specs.Prelude.{◌≡◌, ℕ, ◌+◌, ◌≤◌, List, [], ◌∷◌, ◌++◌, length, IfOk, OnOk, OnErr, IfErr, None};
 ghost use Rattle.scim_resource.specs.Rows.{StoredRecord};
 ghost use Rattle.scim_resource.specs.Contents.{content_name};
-ghost use Rattle.provider_core.specs.Rows.{row_named, row_with_id, page_after, with_row};
+ghost use Rattle.provider_core.specs.Rows.{row_named, row_with_id, page_after, with_row, IsNumberedFrom};
 ghost use Rattle.provider_core.specs.Stores.{HasRisen, IsExcused, IsQuiet, HoldsNumber};
 
 use scim_key::{RecordName, ResourceId};
@@ -39,7 +39,7 @@ impl<T: Drop> From<AllocFailed<T>> for RegistryFault {
     }
 }
 
-/// The rows of a provider, in order of creation.
+/// The rows of a provider, in order of creation, numbered from 1.
 ///
 /// What is said of the rows holds while the store is faithful, that is while it returns what was
 /// committed; a registry in memory always is. A fault of the store is counted.
@@ -79,6 +79,7 @@ pub trait Registry {
     /// At most `limit` rows, in order, from the first with a number above `after`.
     fn scan(&mut self, after: u32, limit: usize) -> Result<Vec<Stored>, RegistryFault>
         ensures ok { is_faithful self.new → IfOk result (λ page. page.items ≡ page_after after limit (rows self.old)) }
+        ensures numbered { is_faithful self.new → IsNumberedFrom 1 (rows self.old) }
         ensures same { is_faithful self.new → rows self.new ≡ rows self.old }
         ensures quiet { IsQuiet is_faithful faults self.old self.new }
         ensures unwritten { writes self.new ≡ writes self.old }

@@ -1,14 +1,18 @@
 -- The bodies of answers (RFC 7644 sections 3.1 and 3.12).
-use Rattle.std.specs.Prelude.{ℕ, List, [], ◌∷◌, Option, Some, None, option_map, codes}
+use Rattle.std.specs.Prelude.{ℕ, List, [], ◌∷◌, Option, Some, None, option_map, map, length, codes}
 use Rattle.std.specs.Option.{option_map_or}
 use Rattle.std.specs.Fmt.{decimal}
-use Rattle.serde_json.specs.Data.{Data, string, array, object, no_items, item}
+use Rattle.serde_json.specs.Data.{Data, unsigned, number, string, array, object, Items, no_items, item}
+use Rattle.serde_json.specs.View.{items_of}
 use Rattle.serde_json.specs.Written.{compact_text}
 use Rattle.scim_json.specs.Writing.{Part, members_from}
+use Rattle.scim_resource.specs.Rows.{ShownRecord}
 use Rattle.scim_resource.specs.Writing.{shown_data}
 use Rattle.scim_message.specs.Refusals.{ErrorRecord}
+use Rattle.scim_message.specs.declared.lists.ListResponse.{ListResponse}
 use Rattle.scim_message.specs.declared.messages.Answer.{Answer}
 use Rattle.scim_message.specs.declared.messages.Answer.TheVariants.{Created, Found, Replaced, NotModified, Error}
+use Rattle.scim_message.specs.declared.messages.Answer.TheVariants as answers
 
 -- the URN of an error message
 unfoldable pub error_message : List ℕ
@@ -26,11 +30,33 @@ error_parts e =
 unfoldable pub error_data : ErrorRecord → Data
 error_data e = object (members_from (error_parts e))
 
+-- the URN of a list message (RFC 7644 section 3.4.2)
+unfoldable pub list_message : List ℕ
+list_message = codes "urn:ietf:params:scim:api:messages:2.0:ListResponse"
+
+-- the resources of a page as a service at this base shows them
+abbrev pub page_data : List ℕ → List ShownRecord → Items
+page_data base page = items_of (map (shown_data base) page)
+
+-- the members of a list message in byte order
+abbrev pub list_parts : List ℕ → ListResponse → List Part
+list_parts base list =
+    (codes "Resources", Some (array (page_data base list.resources)))
+    ∷ (codes "itemsPerPage", Some (number (unsigned (length list.resources))))
+    ∷ (codes "schemas", Some (array (item (string list_message) no_items)))
+    ∷ (codes "startIndex", Some (number (unsigned list.start)))
+    ∷ (codes "totalResults", Some (number (unsigned list.total)))
+    ∷ []
+
+unfoldable pub list_data : List ℕ → ListResponse → Data
+list_data base list = object (members_from (list_parts base list))
+
 -- what an answer says, by a service at this base
 abbrev pub body_data : List ℕ → Answer → Option Data
 body_data base (Created shown) = Some (shown_data base shown)
 body_data base (Found shown) = Some (shown_data base shown)
 body_data base (Replaced shown) = Some (shown_data base shown)
+body_data base (answers.List list) = Some (list_data base list)
 body_data base (NotModified kind id version) = None
 body_data base (Error error) = Some (error_data error)
 

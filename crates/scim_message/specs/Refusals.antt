@@ -1,7 +1,11 @@
 -- Refusals as answers: the status, the scimType where there is one, and the detail of each.
-use Rattle.std.specs.Prelude.{ℕ, List, Option, Some, None, codes}
+use Rattle.std.specs.Prelude.{ℕ, ◌≤◌, List, Option, Some, None, codes}
 use Rattle.scim_message.specs.declared.refusals.Refusal.{Refusal}
 use Rattle.scim_message.specs.declared.refusals.Refusal.TheVariants.{UnreadableBody, ValueNotAllowed, FilterNotSupported, NameFixed, NoSuchResource, NameTaken, OtherVersion, MethodNotSupported, LimitReached, Malformed, Host, LengthMissing, BodyTooLong, HeadTooLong, TransferCoding, Expectation, MediaType, NoSuchPath}
+
+-- a status code that says that something is wrong (RFC 9110 section 15)
+abbrev pub IsErrorStatus : ℕ → Type 0
+IsErrorStatus status = (400 ≤ status) × (status ≤ 599)
 
 -- what an error message says (RFC 7644 section 3.12)
 pub record ErrorRecord : Type 0 where

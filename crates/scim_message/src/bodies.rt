@@ -1,14 +1,17 @@
 //! The bodies of answers.
-ghost use Rattle.std.specs.Prelude.{◌≡◌, false, IfOk, IfSome, option_map, string_bytes};
+ghost use Rattle.std.specs.Prelude.{◌≡◌, false, map, IfOk, IfSome, option_map, string_bytes};
 ghost use Rattle.serde_json.specs.Data.{array, item, no_items, string};
-ghost use Rattle.serde_json.specs.View.{view};
-ghost use Rattle.serde_json.specs.Written.{has_float};
-ghost use Rattle.scim_message.specs.Bodies.{body_data, body_text, error_data, error_message};
+ghost use Rattle.serde_json.specs.View.{items_view, view};
+ghost use Rattle.serde_json.specs.Written.{has_float, items_have_float};
+ghost use Rattle.scim_resource.specs.Writing.{shown_data};
+ghost use Rattle.scim_message.specs.Bodies.{body_data, body_text, error_data, error_message, list_data, list_message};
 
+use crate::lists::ListResponse;
 use crate::messages::Answer;
 use crate::refusals::ErrorResponse;
 use scim_json::{compact, put_if};
 use scim_key::Base;
+use scim_resource::Shown;
 use serde_json::{Map, Value};
 use std::alloc::{AllocError, Global};
 
@@ -30,6 +33,7 @@ fn body_value(alloc: Global, answer: &Answer, base: &Base) -> Result<Option<Valu
         Answer::Created(shown) | Answer::Found(shown) | Answer::Replaced(shown) => {
             Ok(Some(shown.to_value(alloc, base)?))
         }
+        Answer::List(list) => Ok(Some(list_value(alloc, list, base)?)),
         Answer::NotModified { .. } => Ok(None),
         Answer::Error(error) => Ok(Some(error_value(alloc, error)?)),
     }
@@ -42,12 +46,51 @@ fn error_schema() -> &'static str
     "urn:ietf:params:scim:api:messages:2.0:Error"
 }
 
-fn error_schemas(alloc: Global) -> Result<Value, AllocError>
-    ensures { IfOk result (λ value. view value ≡ array (item (string error_message) no_items)) }
+#[tactic(auto, unfolding(crate::specs::Bodies::list_message))]
+fn list_schema() -> &'static str
+    ensures { result.now ≡ list_message }
+{
+    "urn:ietf:params:scim:api:messages:2.0:ListResponse"
+}
+
+/// The list with one URN.
+fn schemas_with(alloc: Global, schema: &str) -> Result<Value, AllocError>
+    ensures { IfOk result (λ value. view value ≡ array (item (string schema.now) no_items)) }
 {
     let mut items = Vec::new(alloc);
-    items.push(Value::try_from_str(alloc, error_schema())?)?;
+    items.push(Value::try_from_str(alloc, schema)?)?;
     Ok(Value::Array(items))
+}
+
+fn list_value(alloc: Global, list: &ListResponse, base: &Base) -> Result<Value, AllocError>
+    ensures value { IfOk result (λ value. view value ≡ list_data base.now list.now) }
+    ensures whole { IfOk result (λ value. has_float (view value) ≡ false) }
+{
+    let page = list.resources.as_slice();
+    let resources = Value::Array(shown_values(alloc, page, base)?);
+    let on_page = Value::from(page.len());
+    let schema = schemas_with(alloc, list_schema())?;
+    let start = Value::from(list.start);
+    let total = Value::from(list.total);
+    let mut members = Map::new(alloc);
+    put_if(&mut members, alloc, "totalResults", Some(total))?;
+    put_if(&mut members, alloc, "startIndex", Some(start))?;
+    put_if(&mut members, alloc, "schemas", Some(schema))?;
+    put_if(&mut members, alloc, "itemsPerPage", Some(on_page))?;
+    put_if(&mut members, alloc, "Resources", Some(resources))?;
+    Ok(Value::Object(members))
+}
+
+/// The resources of a page as they are shown.
+fn shown_values(alloc: Global, shown: &[Shown], base: &Base) -> Result<Vec<Value>, AllocError>
+    ensures value { IfOk result (λ values. map view values.items ≡ map (shown_data base.now) shown.now) }
+    ensures whole { IfOk result (λ values. items_have_float (items_view values.items) ≡ false) }
+{
+    let mut values = Vec::with_capacity(alloc, shown.len())?;
+    for resource in shown {
+        values.push(resource.to_value(alloc, base)?)?;
+    }
+    Ok(values)
 }
 
 fn error_value(alloc: Global, error: &ErrorResponse) -> Result<Value, AllocError>
@@ -57,7 +100,7 @@ fn error_value(alloc: Global, error: &ErrorResponse) -> Result<Value, AllocError
     let status = Value::String(error.status().to_string(alloc)?);
     let scim_type = text_value(alloc, error.scim_type())?;
     let detail = text_value(alloc, error.detail())?;
-    let schemas = error_schemas(alloc)?;
+    let schemas = schemas_with(alloc, error_schema())?;
     let mut members = Map::new(alloc);
     put_if(&mut members, alloc, "status", Some(status))?;
     put_if(&mut members, alloc, "scimType", scim_type)?;

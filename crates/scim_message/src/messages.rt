@@ -1,8 +1,10 @@
 //! Requests and answers (RFC 7644 section 3).
-ghost use Rattle.std.specs.Prelude.{◌≡◌};
+ghost use Rattle.std.specs.Prelude.{◌≡◌, ◌≤◌};
 ghost use Rattle.scim_message.specs.Messages.{answer_status};
 
+use crate::lists::ListResponse;
 use crate::refusals::ErrorResponse;
+use scim_filter::Filter;
 use scim_key::{Kind, ResourceId};
 use scim_resource::{Content, Shown};
 use scim_version::{Condition, EntityTag};
@@ -20,6 +22,14 @@ pub enum Request {
         id: ResourceId,
         if_match: Condition,
         if_none_match: Condition,
+    },
+    /// The resources of this type that a filter finds, or all of them, a page at a time (section
+    /// 3.4.2): from the place `start`, counted from 1, `count` resources at most.
+    Search {
+        kind: Kind,
+        filter: Option<Filter>,
+        start: i64,
+        count: Option<i64>,
     },
     /// Another content for the resource with this id (section 3.5.1).
     Replace {
@@ -39,6 +49,8 @@ pub enum Answer {
     Found(Shown),
     /// The resource with its other content.
     Replaced(Shown),
+    /// A page of the resources that were found.
+    List(ListResponse),
     /// The resource has a version that the client knows (RFC 7232 section 4.1).
     NotModified {
         kind: Kind,
@@ -52,11 +64,12 @@ pub enum Answer {
 impl Answer {
     /// The status code of the answer.
     pub fn status(&self) -> u16
-        ensures { result ≡ answer_status self.now }
+        ensures code { result ≡ answer_status self.now }
+        ensures lawful { (200 ≤ result) × (result ≤ 599) }
     {
         match self {
             Answer::Created(_) => 201,
-            Answer::Found(_) | Answer::Replaced(_) => 200,
+            Answer::Found(_) | Answer::Replaced(_) | Answer::List(_) => 200,
             Answer::NotModified { .. } => 304,
             Answer::Error(error) => error.status(),
         }

@@ -1,7 +1,7 @@
 //! Refusals, and the error messages that answer them (RFC 7644 section 3.12).
 ghost use Rattle.std.specs.Prelude.{◌≡◌, IfOk, string_bytes};
 ghost use Rattle.std.specs.Option.{option_map};
-ghost use Rattle.scim_message.specs.Refusals.{refusal_status, refusal_type, refusal_detail, error_of};
+ghost use Rattle.scim_message.specs.Refusals.{refusal_status, refusal_type, refusal_detail, error_of, IsErrorStatus};
 
 use std::alloc::{AllocError, Global};
 use std::marker::Model;
@@ -51,7 +51,8 @@ pub enum Refusal {
 impl Refusal {
     /// The status code that answers it.
     pub fn status(self) -> u16
-        ensures { result ≡ refusal_status self }
+        ensures code { result ≡ refusal_status self }
+        ensures lawful { IsErrorStatus result }
     {
         match self {
             Refusal::UnreadableBody | Refusal::ValueNotAllowed | Refusal::FilterNotSupported => 400,
@@ -110,7 +111,7 @@ impl Refusal {
     }
 }
 
-/// An error message: a status code, and the `scimType` and the detail where it has them.
+/// An error message: a status code from 400 to 599, and the `scimType` and the detail where it has them.
 #[derive(Debug, Drop)]
 pub struct ErrorResponse {
     status: u16,
@@ -121,11 +122,13 @@ pub struct ErrorResponse {
 impl Model for ErrorResponse {
     ghost use Rattle.std.specs.Prelude.{string_bytes};
     ghost use Rattle.std.specs.Option.{option_map};
-    ghost use Rattle.scim_message.specs.Refusals.{ErrorRecord};
+    ghost use Rattle.scim_message.specs.Refusals.{ErrorRecord, IsErrorStatus};
 
     ghost Value = { ErrorRecord };
 
     ghost view = { λ e. record { status = e.status; scim_type = option_map string_bytes e.scim_type; detail = option_map string_bytes e.detail } };
+
+    ghost invariant = { λ e. IsErrorStatus e.status };
 }
 
 fn owned(alloc: Global, text: Option<&str>) -> Result<Option<String>, AllocError>
@@ -151,7 +154,8 @@ impl ErrorResponse {
 
     /// The status code.
     pub fn status(&self) -> u16
-        ensures { result ≡ self.now.status }
+        ensures code { result ≡ self.now.status }
+        ensures lawful { IsErrorStatus result }
     {
         self.status
     }

@@ -1,6 +1,9 @@
 pub mod JsonLemmas
 pub mod ReplyLaws
 pub mod LocationLaws
+pub mod MeaningLaws
+pub mod NumberLemmas
+pub mod SearchLemmas
 pub mod SegmentLaws
 pub mod SegmentLemmas
 pub mod ServedLemmas

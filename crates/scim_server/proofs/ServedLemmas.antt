@@ -3,6 +3,8 @@ use Rattle.std.proofs.Common.{◌≡◌, ℕ, ◌⊎◌, inl, inr, List, ◌++�
 use Rattle.httparse.specs.Grammar.{EndsInTarget}
 use Rattle.httparse.specs.Spans.{RequestExceeds}
 use Rattle.scim_resource.specs.Rows.{StoredRecord}
+use Rattle.scim_message.specs.declared.messages.Request.{Request}
+use Rattle.scim_message.specs.declared.refusals.Refusal.{Refusal}
 use Rattle.http_text.specs.declared.fault.ReadFault.{ReadFault}
 use Rattle.http_text.specs.declared.fault.ReadFault.TheVariants.{Malformed, HostMissingOrRepeated, LengthMissing, BodyTooLong, HeadTooLong, TransferCoding, Expectation, EndedEarly, ReadFailed, OutOfMemory, TurnsExhausted}
 use Rattle.http_text.specs.Counts.{Reading, Writing}
@@ -10,9 +12,10 @@ use Rattle.http_text.specs.Message.{Message, IsRequestMessage, head_limit, field
 use Rattle.http_text.specs.Judging.{is_head, IsAccepted}
 use Rattle.http_text.specs.Requests.{IsStreamFault, Answers, FindsMessage, AnswersMalformed}
 use Rattle.scim_server.specs.declared.serving.Served.{Served}
-use Rattle.scim_server.specs.Meaning.{request_of}
+use Rattle.scim_server.specs.Meaning.{Asks}
+use Rattle.scim_server.proofs.MeaningLaws.{one_meaning}
 use Rattle.scim_server.specs.Replies.{ReplyRecord}
-use Rattle.scim_server.specs.Serving.{AnswersMeaning, GivesUp, Sends, IsSent, Serves, HasRead}
+use Rattle.scim_server.specs.Serving.{AnswersMeaning, AnswersMessage, GivesUp, Sends, IsSent, Serves, HasRead}
 use Rattle.scim_server.specs.Known.{IsHindered, MeetsFault, ServesKnown}
 
 module _ (faithful : Type 0) (base : List ℕ) (old new : List StoredRecord) (before after : Writing) (served : Served) where
@@ -42,12 +45,14 @@ module _ (faithful : Type 0) (base : List ℕ) (old new : List StoredRecord) (be
   meets_fault fault (Ok m) h s = absurd h
   meets_fault fault (Err answered) h s = meets fault answered h s
 
-  answered : (m : Message) (reply : ReplyRecord)
-      → AnswersMeaning faithful base old new (is_head m.head) (request_of m) reply ⊎ GivesUp faithful old new reply
+  answered : (m : Message) (asked : Result Request Refusal) (reply : ReplyRecord) → Asks m asked
+      → AnswersMessage faithful base old new m reply ⊎ GivesUp faithful old new reply
       → IsSent before after reply served
-      → Sends before after (AnswersMeaning faithful base old new (is_head m.head) (request_of m)) served ⊎ IsHindered faithful old new before after served
-  answered m reply (inl a) sent = inl (reply, a, sent)
-  answered m reply (inr g) sent = inr (inl (reply, g, sent))
+      → Sends before after (AnswersMeaning faithful base old new (is_head m.head) asked) served ⊎ IsHindered faithful old new before after served
+  answered m asked reply is (inl a) sent =
+      let same = one_meaning m a.asked asked a.asked_is is in
+      inl (reply, subst (λ k. AnswersMeaning faithful base old new (is_head m.head) k reply) same a.answer, sent)
+  answered m asked reply is (inr g) sent = inr (inl (reply, g, sent))
 
   left_too : {A B C : Type 0} → A ⊎ B → C → (A × C) ⊎ B
   left_too (inl a) c = inl (a, c)
@@ -55,14 +60,15 @@ module _ (faithful : Type 0) (base : List ℕ) (old new : List StoredRecord) (be
 
   message : (remaining left : Option (List ℕ)) (r : Result Message ReadFault) → FindsMessage remaining left r
       → Serves faithful base old new before after r served
-      → (bytes rest : List ℕ) (m : Message) → remaining ≡ Some (bytes ++ rest) → IsRequestMessage bytes m → IsAccepted m
-      → (Sends before after (AnswersMeaning faithful base old new (is_head m.head) (request_of m)) served × (left ≡ Some rest))
+      → (bytes rest : List ℕ) (m : Message) (asked : Result Request Refusal) → remaining ≡ Some (bytes ++ rest) → IsRequestMessage bytes m → IsAccepted m
+      → Asks m asked
+      → (Sends before after (AnswersMeaning faithful base old new (is_head m.head) asked) served × (left ≡ Some rest))
       ⊎ IsHindered faithful old new before after served
-  message remaining left (Ok found) h s bytes rest m at is accepted =
+  message remaining left (Ok found) h s bytes rest m asked at is accepted asks =
       let found_is = h bytes rest m at is accepted in
       let t : Serves faithful base old new before after (Ok m) served = subst (λ k. Serves faithful base old new before after (Ok k) served) found_is.0 s in
-      left_too (answered m t.0 t.1 t.2) found_is.1
-  message remaining left (Err fault) h s bytes rest m at is accepted = inr (hindered fault (h bytes rest m at is accepted) s)
+      left_too (answered m asked t.0 asks t.1 t.2) found_is.1
+  message remaining left (Err fault) h s bytes rest m asked at is accepted asks = inr (hindered fault (h bytes rest m at is accepted) s)
 
   -- what may come of a malformed head
   malformed : (all : List ℕ) (r : Result Message ReadFault) → AnswersMalformed all r → Serves faithful base old new before after r served

@@ -1,8 +1,10 @@
 -- What is served where the reader's bytes are known: from what stands at their front to what is written.
-use Rattle.std.specs.Prelude.{◌≡◌, ℕ, ◌≤◌, ◌⊎◌, List, ◌++◌, Option, Some, Err, length, take}
+use Rattle.std.specs.Prelude.{◌≡◌, ℕ, ◌≤◌, ◌⊎◌, List, ◌++◌, Option, Some, Result, Err, length, take}
 use Rattle.httparse.specs.Grammar.{NeverHasRequest, EndsInTarget}
 use Rattle.httparse.specs.Spans.{RequestExceeds}
 use Rattle.scim_resource.specs.Rows.{StoredRecord}
+use Rattle.scim_message.specs.declared.messages.Request.{Request}
+use Rattle.scim_message.specs.declared.refusals.Refusal.{Refusal}
 use Rattle.http_text.specs.declared.fault.ReadFault.{ReadFault}
 use Rattle.http_text.specs.declared.fault.ReadFault.TheVariants.{Malformed, HeadTooLong, EndedEarly, ReadFailed, TurnsExhausted}
 use Rattle.http_text.specs.Counts.{Writing}
@@ -10,7 +12,7 @@ use Rattle.http_text.specs.Message.{Head, Message, IsRequestHead, IsRequestMessa
 use Rattle.http_text.specs.Judging.{judge_head, is_head, IsAccepted}
 use Rattle.http_text.specs.Requests.{IsPartOfHead, IsPartOfBody, IsLongPart, HasLongSection}
 use Rattle.scim_server.specs.declared.serving.Served.{Served}
-use Rattle.scim_server.specs.Meaning.{request_of}
+use Rattle.scim_server.specs.Meaning.{Asks}
 use Rattle.scim_server.specs.Reactions.{reaction_to}
 use Rattle.scim_server.specs.Serving.{AnswersMeaning, GivesUp, Sends, IsSilent, Reacts}
 
@@ -30,9 +32,10 @@ MeetsFault base old new before after served fault = Reacts base before after fau
 
 -- What is served where the reader's bytes are known
 pub record ServesKnown (faithful : Type 0) (base : List ℕ) (old new : List StoredRecord) (before after : Writing) (served : Served) (remaining left : Option (List ℕ)) : Type 0 where
-  -- an accepted message at the front is answered, and what follows it is left
-  pub message : (bytes rest : List ℕ) (m : Message) → remaining ≡ Some (bytes ++ rest) → IsRequestMessage bytes m → IsAccepted m
-      → (Sends before after (AnswersMeaning faithful base old new (is_head m.head) (request_of m)) served × (left ≡ Some rest))
+  -- what an accepted message at the front asks for is answered, and what follows it is left
+  pub message : (bytes rest : List ℕ) (m : Message) (asked : Result Request Refusal) → remaining ≡ Some (bytes ++ rest) → IsRequestMessage bytes m → IsAccepted m
+      → Asks m asked
+      → (Sends before after (AnswersMeaning faithful base old new (is_head m.head) asked) served × (left ≡ Some rest))
       ⊎ IsHindered faithful old new before after served
   -- a refused head at the front is refused, whatever follows
   pub refused_head : (front rest : List ℕ) (head : Head) (fault : ReadFault) → remaining ≡ Some (front ++ rest) → IsRequestHead front head

@@ -1,23 +1,26 @@
--- Facts about the definitions of replies, of segments and of paths.
-use Rattle.std.specs.Prelude.{◌≡◌, ℕ, ◌<◌, ◌++◌, Bool, false, List, [], ◌∷◌, Some, None, codes}
+-- Facts about the definitions of requests, of replies, of segments and of paths.
+use Rattle.std.specs.Prelude.{◌≡◌, ℕ, ◌<◌, ◌++◌, Bool, false, List, [], ◌∷◌, Some, None, Result, codes}
 use Rattle.std.specs.List.{AllByRecursion}
 use Rattle.std.specs.Str.{IsUtf8}
 use Rattle.scim_key.specs.Identifiers.{IsId}
 use Rattle.scim_key.specs.declared.records.Kind.{Kind}
 use Rattle.scim_key.specs.declared.records.Kind.TheVariants as kinds
 use Rattle.scim_resource.specs.Locations.{escaped, location_text}
-use Rattle.scim_resource.specs.Rows.{StoredRecord}
 use Rattle.scim_message.specs.declared.messages.Answer.TheVariants.{NotModified, Error}
 use Rattle.scim_message.specs.declared.messages.Request.{Request}
 use Rattle.scim_message.specs.declared.refusals.Refusal.{Refusal}
-use Rattle.scim_message.specs.Messages.{answer_status}
-use Rattle.scim_message.specs.Refusals.{ErrorRecord, error_of, refusal_status}
-use Rattle.provider_core.specs.Outcomes.{outcome}
+use Rattle.scim_message.specs.Refusals.{ErrorRecord}
+use Rattle.http_text.specs.Message.{Message}
 use Rattle.http_text.specs.Response.{response_text}
 use Rattle.scim_server.specs.declared.routes.Route.TheVariants.{Resource}
 use Rattle.scim_server.specs.Routes.{route_of}
 use Rattle.scim_server.specs.Segments.{SpellsText, unescaped}
-use Rattle.scim_server.specs.Replies.{written_status, answer_text, fixed_text}
+use Rattle.scim_server.specs.Meaning.{Asks}
+use Rattle.scim_server.specs.Replies.{answer_text, fixed_text}
+
+-- A message asks for one thing, and no text spells two filters, so what is asked is told by the message alone
+abbrev pub OneMeaning : Type 0
+OneMeaning = (m : Message) (one two : Result Request Refusal) → Asks m one → Asks m two → one ≡ two
 
 -- what the fixed text says
 abbrev pub fixed_error : ErrorRecord
@@ -30,11 +33,9 @@ not_modified_text base kind id version =
     ((codes "Connection", codes "close") ∷ (codes "Content-Location", location_text base kind id) ∷ (codes "ETag", version) ∷ [])
     []
 
--- Every answer of the provider, and every refusal, is written with its own status; 304 has nothing but where
--- the resource is and its version; the fixed text is an error message as any other, whatever the base
+-- 304 has nothing but where the resource is and its version; the fixed text is an error message as any other,
+-- whatever the base
 pub record RepliesAreLawful : Type 0 where
-  pub answers : (rows : List StoredRecord) (request : Request) → written_status (outcome rows request).answer ≡ answer_status (outcome rows request).answer
-  pub refusals : (refusal : Refusal) → written_status (Error (error_of refusal)) ≡ refusal_status refusal
   pub not_modified : (base : List ℕ) (leaves_body_out : Bool) (kind : Kind) (id version : List ℕ)
       → answer_text base leaves_body_out (NotModified kind id version) ≡ not_modified_text base kind id version
   pub fixed : (base : List ℕ) → fixed_text ≡ answer_text base false (Error fixed_error)

@@ -25,8 +25,9 @@ use Rattle.scim_server.specs.declared.routes.Route.{Route}
 use Rattle.scim_server.specs.declared.routes.Route.TheVariants.{Collection, Resource}
 use Rattle.scim_server.specs.declared.requests.MeaningFault.{MeaningFault}
 use Rattle.scim_server.specs.declared.requests.MeaningFault.TheVariants.{Refused, OutOfMemory}
-use Rattle.scim_server.specs.Routes.{path_of, route_of}
+use Rattle.scim_server.specs.Routes.{path_of, query_of, route_of}
 use Rattle.scim_server.specs.Media.{is_type_served}
+use Rattle.scim_server.specs.Searches.{IsSearch}
 
 -- a body as JSON: it is UTF-8, and serde_json reads it
 unfoldable pub json_of : List ℕ → Option Data
@@ -99,10 +100,17 @@ create_request kind m = do
   content ← content_sent kind m
   Ok (Create content)
 
+-- A message asks for something outright, or is refused; or it is a search, and its query asks
+pub data Asked : Type 0 where
+  outright : Result Request Refusal → Asked
+  by_query : Kind → (query : List ℕ) → Asked
+
 -- the methods that are served on a collection
-abbrev pub collection_request : Kind → Message → Result Request Refusal
-collection_request kind m =
-    if bytes_eq (method_of m.head.start) (codes "POST") then create_request kind m else Err MethodNotSupported
+abbrev pub collection_asked : Kind → Message → Asked
+collection_asked kind m =
+    if bytes_eq (method_of m.head.start) (codes "POST") then outright (create_request kind m)
+    else if bytes_eq (method_of m.head.start) (codes "GET") then by_query kind (query_of (target_of m.head.start))
+    else outright (Err MethodNotSupported)
 
 -- GET on one resource
 abbrev pub retrieve_request : Kind → List ℕ → Message → Result Request Refusal
@@ -124,14 +132,19 @@ resource_request kind id m =
     else if bytes_eq (method_of m.head.start) (codes "PUT") then replace_request kind id m
     else Err MethodNotSupported
 
-abbrev pub routed_request : Option Route → Message → Result Request Refusal
-routed_request None m = Err NoSuchPath
-routed_request (Some (Collection kind)) m = collection_request kind m
-routed_request (Some (Resource kind id)) m = resource_request kind id m
+abbrev pub routed_asked : Option Route → Message → Asked
+routed_asked None m = outright (Err NoSuchPath)
+routed_asked (Some (Collection kind)) m = collection_asked kind m
+routed_asked (Some (Resource kind id)) m = outright (resource_request kind id m)
 
--- What a message asks for, or the first refusal: the path, the method, the media type, the body, the conditions
-abbrev pub request_of : Message → Result Request Refusal
-request_of m = routed_request (route_of (path_of (target_of m.head.start))) m
+abbrev pub IsAsked : Asked → Result Request Refusal → Type 0
+IsAsked (outright asked) answer = asked ≡ answer
+IsAsked (by_query kind query) answer = IsSearch kind query answer
+
+-- What a message asks for, or the first refusal: the path, the method, the media type, the body, the conditions or the
+-- query
+abbrev pub Asks : Message → Result Request Refusal → Type 0
+Asks m answer = IsAsked (routed_asked (route_of (path_of (target_of m.head.start))) m) answer
 
 -- a body was read as JSON, or refused as none, or memory was wanting
 abbrev pub ReadsJson : Result Value MeaningFault → Option Data → Type 0
@@ -144,3 +157,9 @@ abbrev pub Tells : {X : Type 0} → Result X MeaningFault → Result X Refusal �
 Tells (Ok x) answer = answer ≡ Ok x
 Tells (Err (Refused refusal)) answer = answer ≡ Err refusal
 Tells (Err OutOfMemory) answer = ⊤
+
+-- the same of a relation: what came is what the definition allows, or want of memory
+abbrev pub TellsOf : {X : Type 0} → (Result X Refusal → Type 0) → Result X MeaningFault → Type 0
+TellsOf Allows (Ok x) = Allows (Ok x)
+TellsOf Allows (Err (Refused refusal)) = Allows (Err refusal)
+TellsOf Allows (Err OutOfMemory) = ⊤

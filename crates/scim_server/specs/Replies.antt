@@ -1,11 +1,12 @@
 -- Answers as responses.
-use Rattle.std.specs.Prelude.{ℕ, Bool, true, false, List, [], ◌∷◌, Option, Some, None, if◌then◌else◌, ◌&&◌, nat_le, nat_lt, length, codes}
+use Rattle.std.specs.Prelude.{ℕ, Bool, true, false, List, [], ◌∷◌, Option, Some, None, length, codes}
 use Rattle.std.specs.Fmt.{decimal}
 use Rattle.std.specs.List.{flat_map}
 use Rattle.scim_resource.specs.Contents.{content_kind}
 use Rattle.scim_resource.specs.Locations.{location_text}
 use Rattle.scim_message.specs.declared.messages.Answer.{Answer}
 use Rattle.scim_message.specs.declared.messages.Answer.TheVariants.{Created, Found, Replaced, NotModified, Error}
+use Rattle.scim_message.specs.declared.messages.Answer.TheVariants as answers
 use Rattle.scim_message.specs.Messages.{answer_status}
 use Rattle.http_text.specs.Message.{NamedValue}
 use Rattle.http_text.specs.Response.{response_text}
@@ -27,6 +28,7 @@ abbrev pub shown_location : List ℕ → Answer → Option (List ℕ)
 shown_location base (Created shown) = Some (location_text base (content_kind shown.content) shown.id)
 shown_location base (Found shown) = Some (location_text base (content_kind shown.content) shown.id)
 shown_location base (Replaced shown) = Some (location_text base (content_kind shown.content) shown.id)
+shown_location base (answers.List list) = None
 shown_location base (NotModified kind id version) = Some (location_text base kind id)
 shown_location base (Error error) = None
 
@@ -35,6 +37,7 @@ abbrev pub shown_tag : Answer → Option (List ℕ)
 shown_tag (Created shown) = shown.version
 shown_tag (Found shown) = shown.version
 shown_tag (Replaced shown) = shown.version
+shown_tag (answers.List list) = None
 shown_tag (NotModified kind id version) = Some version
 shown_tag (Error error) = None
 
@@ -43,6 +46,7 @@ abbrev pub is_created : Answer → Bool
 is_created (Created shown) = true
 is_created (Found shown) = false
 is_created (Replaced shown) = false
+is_created (answers.List list) = false
 is_created (NotModified kind id version) = false
 is_created (Error error) = false
 
@@ -51,6 +55,7 @@ abbrev pub has_body : Answer → Bool
 has_body (Created shown) = true
 has_body (Found shown) = true
 has_body (Replaced shown) = true
+has_body (answers.List list) = true
 has_body (NotModified kind id version) = false
 has_body (Error error) = true
 
@@ -82,10 +87,6 @@ lines_of length_ location tag created =
 abbrev pub answer_lines : List ℕ → Answer → List Line
 answer_lines base answer = lines_of (stated_length base answer) (shown_location base answer) (shown_tag answer) (is_created answer)
 
--- the status code of an answer; a number that is none is written as 500
-abbrev pub written_status : Answer → ℕ
-written_status answer = if nat_le 100 (answer_status answer) && nat_lt (answer_status answer) 1000 then answer_status answer else 500
-
 abbrev pub unless_left_out : Bool → List ℕ → List ℕ
 unless_left_out true body = []
 unless_left_out false body = body
@@ -93,7 +94,7 @@ unless_left_out false body = body
 -- The text of an answer. One to HEAD leaves the body out and keeps the head
 abbrev pub answer_text : List ℕ → (leaves_body_out : Bool) → Answer → List ℕ
 answer_text base leaves_body_out answer =
-    response_text (written_status answer) (written_lines (answer_lines base answer)) (unless_left_out leaves_body_out (body_text base answer))
+    response_text (answer_status answer) (written_lines (answer_lines base answer)) (unless_left_out leaves_body_out (body_text base answer))
 
 -- a response as it is sent
 pub record ReplyRecord : Type 0 where
@@ -101,7 +102,7 @@ pub record ReplyRecord : Type 0 where
   pub text : List ℕ
 
 abbrev pub reply_of : List ℕ → (leaves_body_out : Bool) → Answer → ReplyRecord
-reply_of base leaves_body_out answer = record { status = written_status answer; text = answer_text base leaves_body_out answer }
+reply_of base leaves_body_out answer = record { status = answer_status answer; text = answer_text base leaves_body_out answer }
 
 -- The one text that stands for an answer where the store failed or memory was wanting
 unfoldable pub fixed_text : List ℕ

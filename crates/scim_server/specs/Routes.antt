@@ -1,6 +1,6 @@
 -- What a request's target names.
 use Rattle.std.specs.Prelude.{ℕ, List, [], ◌∷◌, Option, Some, None, ◌==◌, if◌then◌else◌, take, drop, length, codes}
-use Rattle.std.specs.List.{before_first}
+use Rattle.std.specs.List.{before_first, after_first}
 use Rattle.std.specs.Str.{bytes_eq}
 use Rattle.scim_key.specs.declared.records.Kind.{Kind}
 use Rattle.scim_key.specs.declared.records.Kind.TheVariants as kinds
@@ -11,6 +11,10 @@ use Rattle.scim_server.specs.declared.routes.Route.TheVariants.{Collection, Reso
 -- the path of a target is what stands before its first `?`
 abbrev pub path_of : List ℕ → List ℕ
 path_of target = before_first (λ byte. byte == 63) target
+
+-- and the query what stands behind it
+abbrev pub query_of : List ℕ → List ℕ
+query_of target = after_first (λ byte. byte == 63) target
 
 -- the path of a collection
 abbrev pub collection_path : Kind → List ℕ

@@ -19,7 +19,7 @@ use Rattle.scim_server.specs.declared.serving.Served.{Served}
 use Rattle.scim_server.specs.declared.serving.Served.TheVariants.{Answered, NoRequest, Lost}
 use Rattle.scim_server.specs.declared.reactions.Reaction.{Reaction}
 use Rattle.scim_server.specs.declared.reactions.Reaction.TheVariants.{Refuse, GiveUp, StaySilent}
-use Rattle.scim_server.specs.Meaning.{request_of}
+use Rattle.scim_server.specs.Meaning.{Asks}
 use Rattle.scim_server.specs.Reactions.{reaction_to}
 use Rattle.scim_server.specs.Replies.{ReplyRecord, reply_of, fixed_reply}
 
@@ -44,10 +44,16 @@ pub record GivesUp (faithful : Type 0) (old new : List StoredRecord) (reply : Re
   pub reply_is : reply ≡ fixed_reply
   pub rows : faithful → new ≡ old
 
--- what a message means is answered so
+-- what is asked is answered so
 abbrev pub AnswersMeaning : (faithful : Type 0) → List ℕ → (old new : List StoredRecord) → Bool → Result Request Refusal → ReplyRecord → Type 0
 AnswersMeaning faithful base old new leaves_body_out (Ok request) reply = AnswersRequest faithful base old new leaves_body_out request reply
 AnswersMeaning faithful base old new leaves_body_out (Err refusal) reply = AnswersRefusal base old new leaves_body_out refusal reply
+
+-- what a message asks for is answered
+pub record AnswersMessage (faithful : Type 0) (base : List ℕ) (old new : List StoredRecord) (m : Message) (reply : ReplyRecord) : Type 0 where
+  pub asked : Result Request Refusal
+  pub asked_is : Asks m asked
+  pub answer : AnswersMeaning faithful base old new (is_head m.head) asked reply
 
 -- a reply was written whole and flushed, or was lost as the writer's counts allow
 abbrev pub IsSent : Writing → Writing → ReplyRecord → Served → Type 0
@@ -81,7 +87,7 @@ Reacts base before after fault StaySilent served = IsSilent before after fault s
 -- a fault has its reaction, and the rows are as they were
 abbrev pub Serves : (faithful : Type 0) → List ℕ → (old new : List StoredRecord) → (before after : Writing) → Result Message ReadFault → Served → Type 0
 Serves faithful base old new before after (Ok m) served =
-    Sends before after (λ reply. AnswersMeaning faithful base old new (is_head m.head) (request_of m) reply ⊎ GivesUp faithful old new reply) served
+    Sends before after (λ reply. AnswersMessage faithful base old new m reply ⊎ GivesUp faithful old new reply) served
 Serves faithful base old new before after (Err fault) served = Reacts base before after fault (reaction_to fault) served × (new ≡ old)
 
 -- what was read, as the reader of requests tells it

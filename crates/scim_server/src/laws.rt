@@ -1,8 +1,13 @@
-//! Laws of the definitions of replies, of segments and of paths.
-ghost use Rattle.scim_server.specs.Laws.{LocationsAreRouted, RepliesAreLawful, SegmentsAreSpelled};
+//! Laws of the definitions of requests, of replies, of segments and of paths.
+ghost use Rattle.scim_server.specs.Laws.{LocationsAreRouted, OneMeaning, RepliesAreLawful, SegmentsAreSpelled};
 
-/// Every answer is written with its own status, and the fixed response is an error message as any
-/// other.
+/// A message asks for one thing.
+pub fn one_meaning()
+    ensures { OneMeaning }
+{}
+
+/// A 304 has nothing but where the resource is and its version, and the fixed response is an error
+/// message as any other.
 pub fn replies_are_lawful()
     ensures { RepliesAreLawful }
 {}

@@ -4,14 +4,17 @@
 mod conditions;
 mod laws;
 mod media;
+mod numbers;
+mod queries;
 mod reactions;
 mod replies;
 mod requests;
 mod routes;
+mod searches;
 mod segments;
 mod serving;
 
-pub use laws::{locations_are_routed, replies_are_lawful, segments_are_spelled};
+pub use laws::{locations_are_routed, one_meaning, replies_are_lawful, segments_are_spelled};
 pub use replies::response_of;
 pub use requests::{MeaningFault, meaning};
 pub use serving::{Served, serve};

@@ -2,6 +2,7 @@
 ghost use Rattle.std.specs.Prelude.{◌≡◌, ◌++◌, map, false, IfOk, OnOk, string_bytes};
 ghost use Rattle.std.specs.Option.{option_map};
 ghost use Rattle.http_text.specs.Response.{named_value};
+ghost use Rattle.scim_message.specs.Messages.{answer_status};
 ghost use Rattle.scim_server.specs.Replies as spec;
 
 use http_text::{FieldLine, StatusCode, write_response};
@@ -38,7 +39,7 @@ impl Reply {
         ensures { IfOk result (λ reply. reply ≡ spec.reply_of base.now leaves_body_out answer.now) }
     {
         Ok(Reply {
-            status: status_of(answer).as_u16(),
+            status: answer.status(),
             text: text_of(alloc, answer, base, leaves_body_out)?,
         })
     }
@@ -74,12 +75,9 @@ pub(crate) fn fixed_response() -> &'static [u8]
 }
 
 fn status_of(answer: &Answer) -> StatusCode
-    ensures { result ≡ spec.written_status answer.now }
+    ensures { result ≡ answer_status answer.now }
 {
-    match StatusCode::from_u16(answer.status()) {
-        Ok(status) => status,
-        Err(_) => StatusCode::INTERNAL_SERVER_ERROR,
-    }
+    StatusCode::from_u16(answer.status()).unwrap()
 }
 
 fn text_of(
@@ -171,7 +169,7 @@ fn location_of(alloc: Global, answer: &Answer, base: &Base) -> Result<Option<Str
             Ok(Some(text))
         }
         Answer::NotModified { kind, id, .. } => Ok(Some(location(alloc, base, *kind, id)?)),
-        Answer::Error(_) => Ok(None),
+        Answer::List(_) | Answer::Error(_) => Ok(None),
     }
 }
 
@@ -191,7 +189,7 @@ fn tag_of(answer: &Answer) -> Option<&[u8]>
     match answer {
         Answer::Created(shown) | Answer::Found(shown) | Answer::Replaced(shown) => tag_text(shown),
         Answer::NotModified { version, .. } => Some(version.text()),
-        Answer::Error(_) => None,
+        Answer::List(_) | Answer::Error(_) => None,
     }
 }
 

@@ -2,11 +2,12 @@
 ghost use Rattle.std.specs.Prelude.{◌≡◌};
 ghost use Rattle.scim_server.specs.declared.requests.MeaningFault.TheVariants.{Refused, OutOfMemory};
 ghost use Rattle.scim_server.specs.Meaning as spec;
-ghost use Rattle.scim_server.specs.Meaning.{Tells};
+ghost use Rattle.scim_server.specs.Meaning.{Tells, TellsOf};
 
 use crate::conditions::conditions_of;
 use crate::media::is_type_served;
-use crate::routes::{Route, route_of};
+use crate::routes::{Route, query_of, route_of};
+use crate::searches::search;
 use http_text::Incoming;
 use scim_key::{Kind, ResourceId};
 use scim_message::{Refusal, Request};
@@ -16,7 +17,7 @@ use std::alloc::{AllocError, Global};
 use thiserror::Error;
 
 /// Why a message asks for nothing that is served. The path is looked at first, then the method,
-/// the media type, the body and the conditions.
+/// the media type, the body, and the conditions or the query.
 #[derive(Clone, Copy, Debug, PartialEq, Eq, Error)]
 pub enum MeaningFault {
     /// The first refusal that the message meets.
@@ -44,7 +45,7 @@ impl From<AllocError> for MeaningFault {
 
 /// What an accepted message asks for.
 pub fn meaning(alloc: Global, incoming: &Incoming) -> Result<Request, MeaningFault>
-    ensures { Tells result (spec.request_of incoming.now) }
+    ensures { TellsOf (spec.Asks incoming.now) result }
 {
     match route_of(alloc, incoming.target())? {
         Some(Route::Collection(kind)) => on_collection(alloc, kind, incoming),
@@ -55,10 +56,11 @@ pub fn meaning(alloc: Global, incoming: &Incoming) -> Result<Request, MeaningFau
 
 /// What a message to a collection asks for.
 fn on_collection(alloc: Global, kind: Kind, incoming: &Incoming) -> Result<Request, MeaningFault>
-    ensures { Tells result (spec.collection_request kind incoming.now) }
+    ensures { TellsOf (spec.IsAsked (spec.collection_asked kind incoming.now)) result }
 {
     match incoming.method() {
         b"POST" => create(alloc, kind, incoming),
+        b"GET" => search(alloc, kind, query_of(incoming.target())),
         _ => Err(MeaningFault::Refused(Refusal::MethodNotSupported)),
     }
 }

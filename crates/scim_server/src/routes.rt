@@ -34,6 +34,16 @@ fn path_of(target: &[u8]) -> &[u8]
     }
 }
 
+/// What stands behind the first `?` of a target.
+pub(crate) fn query_of(target: &[u8]) -> &[u8]
+    ensures { result.now ≡ spec.query_of target.now }
+{
+    match query_mark(target) {
+        Some(mark) => &target[mark + 1..],
+        None => &[],
+    }
+}
+
 /// What a target names, where that is served.
 pub(crate) fn route_of(alloc: Global, target: &[u8]) -> Result<Option<Route>, AllocError>
     ensures { IfOk result (λ route. route ≡ spec.route_of (spec.path_of target.now)) }

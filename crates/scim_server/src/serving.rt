@@ -6,7 +6,6 @@ ghost use Rattle.http_text.specs.Judging as judging;
 ghost use Rattle.http_text.specs.Message.{Message};
 ghost use Rattle.http_text.specs.declared.fault.ReadFault.{ReadFault};
 ghost use Rattle.provider_core.specs.Stores.{IsQuiet, IsExcusedProvider};
-ghost use Rattle.scim_server.specs.Meaning.{request_of};
 ghost use Rattle.scim_server.specs.Replies.{fixed_reply};
 ghost use Rattle.scim_server.specs.Serving as spec;
 ghost use Rattle.scim_server.specs.Known.{ServesKnown};
@@ -130,9 +129,8 @@ fn reply_to<R: Registry>(
     base: &Base,
     incoming: &Incoming,
 ) -> Result<Reply, ProviderFault>
-    ensures reply { IfOk result (spec.AnswersMeaning (R.is_faithful provider.new) base.now
-        (R.rows provider.old) (R.rows provider.new) (judging.is_head incoming.now.head)
-        (request_of incoming.now)) }
+    ensures reply { IfOk result (spec.AnswersMessage (R.is_faithful provider.new) base.now
+        (R.rows provider.old) (R.rows provider.new) incoming.now) }
     ensures same { R.is_faithful provider.new
         → OnErr result (R.rows provider.new ≡ R.rows provider.old) }
     ensures quiet { IsQuiet R.is_faithful R.faults provider.old provider.new }

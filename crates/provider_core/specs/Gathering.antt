@@ -1,0 +1,45 @@
+-- What stands gathered of a search while the rows are looked through: one page beside a count.
+use Rattle.std.specs.Prelude.{◌≡◌, ℕ, ◌≤◌, ◌-◌, ◌^◌, min, List, [], ◌∷◌, ◌++◌, length, Option}
+use Rattle.scim_key.specs.declared.records.Kind.{Kind}
+use Rattle.scim_resource.specs.Rows.{StoredRecord, ShownRecord}
+use Rattle.scim_filter.specs.Expressions.{Expression}
+use Rattle.scim_message.specs.declared.messages.Answer.{Answer}
+use Rattle.scim_message.specs.declared.messages.Answer.TheVariants as answers
+use Rattle.provider_core.specs.Searches.{found, page_from}
+
+pub record Gathered : Type 0 where
+  pub first : ℕ
+  pub size : ℕ
+  pub total : ℕ
+  pub page : List ShownRecord
+
+-- the count stays at the greatest number that it has
+abbrev pub greatest_total : ℕ
+greatest_total = 2 ^ 64 - 1
+
+-- a place, counted from 1
+abbrev pub IsPlace : ℕ → Type 0
+IsPlace first = (1 ≤ first) × (first ≤ greatest_total)
+
+-- what is gathered of these resources, for the page from a place on
+abbrev pub gathered : ℕ → ℕ → List ShownRecord → Gathered
+gathered first size resources = record {
+  first = first;
+  size = size;
+  total = min (length resources) greatest_total;
+  page = page_from first size resources;
+}
+
+-- one more resource was found
+abbrev pub Adds : ShownRecord → Gathered → Gathered → Type 0
+Adds resource old new = (first size : ℕ) (resources : List ShownRecord)
+    → IsPlace first → old ≡ gathered first size resources → new ≡ gathered first size (resources ++ resource ∷ [])
+
+-- where these rows come after others, what was gathered of the others became what is gathered of all
+abbrev pub GoesThrough : Kind → Option Expression → List StoredRecord → Gathered → Gathered → Type 0
+GoesThrough kind wanted rows old new = (first size : ℕ) (before : List StoredRecord)
+    → IsPlace first → old ≡ gathered first size (found kind wanted before) → new ≡ gathered first size (found kind wanted (before ++ rows))
+
+-- the list message with what is gathered
+abbrev pub listed : Gathered → Answer
+listed g = answers.List (record { total = g.total; start = g.first; resources = g.page })

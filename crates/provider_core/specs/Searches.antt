@@ -1,0 +1,49 @@
+-- What a search finds, and which part of it is shown (RFC 7644 sections 3.4.2.2 and 3.4.2.4).
+use Rattle.std.specs.Prelude.{ℕ, ◌-◌, min, max, ℤ, pos, negsuc, Bool, true, ◌&&◌, List, map, length, take, drop, Option, Some, None}
+use Rattle.std.specs.List.{filter}
+use Rattle.scim_key.specs.declared.records.Kind.{Kind}
+use Rattle.scim_resource.specs.Contents.{content_kind}
+use Rattle.scim_resource.specs.Rows.{StoredRecord, ShownRecord, shown}
+use Rattle.scim_filter.specs.Expressions.{Expression}
+use Rattle.scim_filter.specs.Matching.{satisfies}
+use Rattle.scim_message.specs.declared.lists.ListResponse.{ListResponse}
+use Rattle.provider_core.specs.Rows.{same_kind}
+
+-- whether a filter holds of a row; where there is none, all rows are wanted
+abbrev pub is_wanted : Option Expression → StoredRecord → Bool
+is_wanted None row = true
+is_wanted (Some wanted) row = satisfies wanted row
+
+abbrev pub is_hit : Kind → Option Expression → StoredRecord → Bool
+is_hit kind wanted row = same_kind kind (content_kind row.content) && is_wanted wanted row
+
+-- The resources of this type that a filter finds, in order of creation
+abbrev pub found : Kind → Option Expression → List StoredRecord → List ShownRecord
+found kind wanted rows = map shown (filter (is_hit kind wanted) rows)
+
+-- how many resources one list shows at most
+abbrev pub most_listed : ℕ
+most_listed = 200
+
+-- the place of the first that is shown, counted from 1: a start below 1 counts as 1
+abbrev pub first_place : ℤ → ℕ
+first_place (pos n) = max 1 n
+first_place (negsuc n) = 1
+
+-- how many are shown at most: where no count is given, as many as there may be; a count below 0 counts as 0
+abbrev pub page_size : Option ℤ → ℕ
+page_size None = most_listed
+page_size (Some (pos n)) = min n most_listed
+page_size (Some (negsuc n)) = 0
+
+-- those at the places from `first` on, counted from 1, `size` of them at most
+abbrev pub page_from : ℕ → ℕ → List ShownRecord → List ShownRecord
+page_from first size resources = take size (drop (first - 1) resources)
+
+-- The list message of what was found: how many there are, and one page of them
+abbrev pub listing : ℤ → Option ℤ → List ShownRecord → ListResponse
+listing start count resources = record {
+  total = length resources;
+  start = first_place start;
+  resources = page_from (first_place start) (page_size count) resources;
+}

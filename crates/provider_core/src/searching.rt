@@ -1,0 +1,144 @@
+//! What a search finds: how many resources, and the page of them that is shown.
+ghost use Rattle.std.specs.Prelude.{◌≡◌, ◌∷◌, ◌++◌, [], OnOk};
+ghost use Rattle.scim_resource.specs.Rows.{shown};
+ghost use Rattle.provider_core.specs.Searches as spec;
+ghost use Rattle.provider_core.specs.Gathering.{Adds, GoesThrough, IsPlace, gathered, listed};
+ghost use Rattle.provider_core.specs.Outcomes.{replied};
+
+use crate::outcomes::is_of_kind;
+use crate::pending::{Change, Pending};
+use scim_filter::Filter;
+use scim_key::Kind;
+use scim_message::{Answer, ListResponse, Resources};
+use scim_resource::{Shown, Stored};
+use std::alloc::{AllocError, Global};
+use std::marker::Model;
+
+/// The place of the first resource that is shown, counted from 1.
+pub(crate) fn first_place(start: i64) -> u64
+    ensures place { result ≡ spec.first_place start }
+    ensures lawful { IsPlace result }
+{
+    if start < 1 { 1 } else { start as u64 }
+}
+
+/// How many resources are shown at most.
+pub(crate) fn page_size(count: Option<i64>) -> usize
+    ensures { result ≡ spec.page_size count }
+{
+    match count {
+        None => 200,
+        Some(count) if count < 0 => 0,
+        Some(count) => if count < 200 { count as usize } else { 200 }
+    }
+}
+
+/// What stands gathered of a search: one page beside a count.
+#[derive(Debug, Drop)]
+pub(crate) struct Gathered {
+    first: u64,
+    size: usize,
+    total: u64,
+    page: Vec<Shown>,
+}
+
+impl Model for Gathered {
+    ghost use Rattle.provider_core.specs.Gathering as spec;
+
+    ghost Value = { spec.Gathered };
+
+    ghost view = { λ g. record { first = g.first; size = g.size; total = g.total; page = g.page.items } };
+}
+
+impl Gathered {
+    /// Nothing, of a page that begins at this place, counted from 1, and has this size at most.
+    pub(crate) fn new(alloc: Global, first: u64, size: usize) -> Gathered
+        ensures { result ≡ gathered first size [] }
+    {
+        Gathered {
+            first,
+            size,
+            total: 0,
+            page: Vec::new(alloc),
+        }
+    }
+
+    /// Looks through rows for those of a type that a filter finds.
+    pub(crate) fn look_through(
+        &mut self,
+        kind: Kind,
+        filter: &Option<Filter>,
+        rows: &[Stored],
+    ) -> Result<(), AllocError>
+        ensures { OnOk result (GoesThrough kind filter.now rows.now self.old self.new) }
+    {
+        for row in rows {
+            self.look_at(kind, filter, row)?;
+        }
+        Ok(())
+    }
+
+    fn look_at(
+        &mut self,
+        kind: Kind,
+        filter: &Option<Filter>,
+        row: &Stored,
+    ) -> Result<(), AllocError>
+        ensures { OnOk result (GoesThrough kind filter.now (row.now ∷ []) self.old self.new) }
+    {
+        if is_hit(kind, filter, row) {
+            self.add(row)
+        } else {
+            Ok(())
+        }
+    }
+
+    /// Counts a row that was found, and keeps it where it is on the page.
+    fn add(&mut self, row: &Stored) -> Result<(), AllocError>
+        ensures { OnOk result (Adds (shown row.now) self.old self.new) }
+    {
+        self.total = self.total.saturating_add(1);
+        if self.total >= self.first && self.page.len() < self.size {
+            let alloc = *self.page.allocator();
+            self.page.push(Shown::of(alloc, row)?)?;
+        }
+        Ok(())
+    }
+
+    /// The list of what was found. Nothing changes.
+    pub(crate) fn into_pending(self) -> Pending
+        ensures { result ≡ replied (listed self) }
+    {
+        let Gathered {
+            first,
+            total,
+            page,
+            ..
+        } = self;
+        let list = ListResponse {
+            total,
+            start: first,
+            resources: Resources::from_vec(page),
+        };
+        Pending {
+            change: Change::Unchanged,
+            answer: Answer::List(list),
+        }
+    }
+}
+
+/// Whether a row is of this type, and a filter holds of it.
+fn is_hit(kind: Kind, filter: &Option<Filter>, row: &Stored) -> bool
+    ensures { result ≡ spec.is_hit kind filter.now row.now }
+{
+    is_of_kind(row, kind) && is_wanted(filter, row)
+}
+
+fn is_wanted(filter: &Option<Filter>, row: &Stored) -> bool
+    ensures { result ≡ spec.is_wanted filter.now row.now }
+{
+    match filter {
+        Some(filter) => filter.matches(row),
+        None => true,
+    }
+}

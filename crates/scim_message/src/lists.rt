@@ -1,0 +1,53 @@
+//! List messages (RFC 7644 section 3.4.2).
+ghost use Rattle.std.specs.Prelude.{◌≡◌};
+
+use scim_resource::Shown;
+use std::marker::Model;
+
+/// The resources of one page, in their order.
+#[derive(Debug, Drop)]
+pub struct Resources {
+    items: Vec<Shown>,
+}
+
+impl Model for Resources {
+    ghost use Rattle.std.specs.Prelude.{List};
+    ghost use Rattle.scim_resource.specs.Rows.{ShownRecord};
+
+    ghost Value = { List ShownRecord };
+
+    ghost view = { λ r. r.items.items };
+}
+
+impl Resources {
+    /// The page with these resources.
+    pub fn from_vec(items: Vec<Shown>) -> Resources
+        ensures { result ≡ items.items }
+    {
+        Resources { items }
+    }
+
+    /// Gives the list back.
+    pub fn into_vec(self) -> Vec<Shown>
+        ensures { result.items ≡ self }
+    {
+        let Resources { items } = self;
+        items
+    }
+
+    pub fn as_slice(&self) -> &[Shown]
+        ensures { result.now ≡ self.now }
+    {
+        self.items.as_slice()
+    }
+}
+
+/// One page of the resources that a search found.
+#[derive(Debug, Drop)]
+pub struct ListResponse {
+    /// How many were found, on this page or not.
+    pub total: u64,
+    /// The place of the page's first resource among them, counted from 1.
+    pub start: u64,
+    pub resources: Resources,
+}
