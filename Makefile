@@ -1,14 +1,19 @@
 # The two commands of the README, and what a checkout needs from day to day.
 PREFIX ?= /usr/local
 
-.PHONY: answer test build install
+.PHONY: answer map test build install
 
 # the main job on the example: one POST of a user, answered on standard output
 answer: build
 	crates/scimlink/out/scimlink answer < examples/create-user.http
 
+# the images of a small personnel file; one of its records is refused, so the status is 1
+map: build
+	crates/scimlink/out/scimlink map examples/personnel.csv || test $$? = 1
+
 test:
 	rt ci
+	tests/map.sh
 
 build:
 	cd crates/scimlink && rt run -- --version > /dev/null

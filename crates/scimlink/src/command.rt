@@ -12,6 +12,8 @@ use std::rt::Runtime;
 pub enum Choice {
     /// One request from standard input is answered on standard output.
     Answer { base: Base },
+    /// The image of each row of a users file is printed.
+    Map { file: String },
 }
 
 /// The words of the command line. A word that isn't UTF-8 is no lawful one.
@@ -41,17 +43,27 @@ fn command<'a>(alloc: Global) -> Result<Command<'a>, AllocError> {
     let answer = Command::new(alloc, "answer")
         .about("answers one HTTP request from standard input on standard output")
         .arg(base)?;
+    let file = Arg::new(alloc, "FILE")
+        .help("a users file: login,revision,number,given,family,mail,status")
+        .required(true);
+    let map = Command::new(alloc, "map")
+        .about("prints the SCIM user that each row of a users file asks for, a line each")
+        .arg(file)?;
     Command::new(alloc, "scimlink")
         .version("0.1.0")
         .about("SCIM 2.0 provisioning, proved")
         .subcommand_required(true)
-        .subcommand(answer)
+        .subcommand(answer)?
+        .subcommand(map)
 }
 
 fn chosen<R: Runtime + AllocGlobal>(rt: &R, matches: &ArgMatches<'_>) -> Result<Choice, Status> {
     match matches.subcommand() {
         Some(("answer", answer)) => Ok(Choice::Answer {
             base: base(rt, answer)?,
+        }),
+        Some(("map", map)) => Ok(Choice::Map {
+            file: file(rt, map)?,
         }),
         _ => Err(usage(rt, "there is no such subcommand")),
     }
@@ -63,6 +75,11 @@ fn base<R: Runtime + AllocGlobal>(rt: &R, matches: &ArgMatches<'_>) -> Result<Ba
         NameFault::Memory => memory_fault(rt),
         _ => usage(rt, "--base is http://HOST/v2"),
     })
+}
+
+fn file<R: Runtime + AllocGlobal>(rt: &R, matches: &ArgMatches<'_>) -> Result<String, Status> {
+    let text = matches.get_str("FILE").unwrap_or("");
+    String::from_str(rt.alloc(), text).map_err(|_| memory_fault(rt))
 }
 
 /// Prints what clap has to say: help and version are no fault.

@@ -1,8 +1,9 @@
-//! `scimlink`: a SCIM 2.0 provider at one's fingertips.
+//! `scimlink`: a SCIM 2.0 provider, and a source of personnel records, at one's fingertips.
 #![tactic(auto)]
 
 mod answering;
 mod command;
+mod map_users;
 mod status;
 
 use command::{Choice, choose};
@@ -22,6 +23,7 @@ fn run<R: Runtime + AllocGlobal>(rt: &R) -> Status {
     };
     match choose(rt, words.as_slice()) {
         Ok(Choice::Answer { base }) => answering::answer(rt, &base),
+        Ok(Choice::Map { file }) => map_users::map(rt, file.as_str()),
         Err(status) => status,
     }
 }

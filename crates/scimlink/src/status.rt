@@ -7,6 +7,8 @@ ghost use Rattle.scimlink.specs.Statuses.{status_code};
 pub enum Status {
     /// All is done.
     Done,
+    /// A record or the header of a file was refused.
+    Refused,
     /// The command line isn't lawful.
     Usage,
     /// A store, a file, a connection or memory failed.
@@ -20,6 +22,7 @@ impl Status {
     {
         match self {
             Status::Done => 0,
+            Status::Refused => 1,
             Status::Usage => 2,
             Status::Fault => 3,
         }
@@ -39,5 +42,13 @@ pub fn connection_fault(rt: &impl Eprint) -> Status
     ensures { result ≡ Status.Fault }
 {
     let _ = eprintln!(rt; "connection fault");
+    Status::Fault
+}
+
+/// Says on standard error that a file couldn't be read, or standard output not be written.
+pub fn file_fault(rt: &impl Eprint) -> Status
+    ensures { result ≡ Status.Fault }
+{
+    let _ = eprintln!(rt; "file fault");
     Status::Fault
 }
