@@ -4,6 +4,10 @@
 #[cfg(test)]
 mod creating;
 #[cfg(test)]
+mod filter_texts;
+#[cfg(test)]
+mod filters;
+#[cfg(test)]
 mod grouping;
 #[cfg(test)]
 mod names;
@@ -13,6 +17,10 @@ mod refusing;
 mod registries;
 #[cfg(test)]
 mod replacing;
+#[cfg(test)]
+mod searching;
+#[cfg(test)]
+mod sources;
 #[cfg(test)]
 mod streams;
 #[cfg(test)]

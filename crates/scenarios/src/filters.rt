@@ -1,0 +1,453 @@
+//! What filters hit, and how long and deep they may be (RFC 7644 section 3.4.2.2).
+use scim_filter::{Filter, FilterFault};
+use scim_key::Kind;
+use scim_resource::{Content, Stored};
+use serde_json::Value;
+use std::alloc::Global;
+use std::process::Abort;
+use std::test::Fail;
+
+static ANN: &str = r#"{
+    "schemas": ["urn:ietf:params:scim:schemas:core:2.0:User"],
+    "userName": "ann",
+    "name": {"givenName": "Ann", "familyName": "Lee"},
+    "emails": [
+        {"value": "ann@example.com", "type": "work", "primary": true},
+        {"value": "Ann.Lee@Home.example", "type": "home"}
+    ]
+}"#;
+
+static BOB: &str = r#"{
+    "schemas": ["urn:ietf:params:scim:schemas:core:2.0:User"],
+    "userName": "bob",
+    "emails": [{"value": "bob@example.org"}]
+}"#;
+
+/// The full user of RFC 7643 section 8.2, as far as it is kept.
+static BABS: &str = r#"{
+    "schemas": ["urn:ietf:params:scim:schemas:core:2.0:User"],
+    "externalId": "701984",
+    "userName": "bjensen@example.com",
+    "name": {"familyName": "Jensen", "givenName": "Barbara"},
+    "emails": [
+        {"value": "bjensen@example.com", "type": "work", "primary": true},
+        {"value": "babs@jensen.org", "type": "home"}
+    ],
+    "active": true
+}"#;
+
+static LEAVER: &str = r#"{
+    "schemas": ["urn:ietf:params:scim:schemas:core:2.0:User"],
+    "externalId": "Z-7",
+    "userName": "Zoe",
+    "name": {"familyName": "O'Malley", "givenName": "Zoë"},
+    "active": false
+}"#;
+
+/// The group of RFC 7643 section 8.4, with an `externalId`.
+static GUIDES: &str = r#"{
+    "schemas": ["urn:ietf:params:scim:schemas:core:2.0:Group"],
+    "externalId": "a\"b\\c/d",
+    "displayName": "Tour Guides",
+    "members": [
+        {"value": "2819c223-7f76-453a-919d-413861904646", "display": "Babs Jensen"},
+        {"value": "902c246b-6245-4190-8e05-00816be7344a", "display": "Mandy Pepperidge"}
+    ]
+}"#;
+
+fn content(alloc: Global, body: &str, kind: Kind) -> Result<Content, Fail> {
+    Ok(Content::read(alloc, &Value::from_str(alloc, body)?, kind)?)
+}
+
+/// The rows that the tables speak of, and their words there.
+pub fn rows(alloc: Global) -> Result<Vec<(&'static str, Stored)>, Fail> {
+    let mut rows = Vec::new(alloc);
+    rows.push(("ann", Stored::new(1, 1, content(alloc, ANN, Kind::User)?)))?;
+    rows.push(("bob", Stored::new(2, 12, content(alloc, BOB, Kind::User)?)))?;
+    rows.push(("babs", Stored::new(3, 2, content(alloc, BABS, Kind::User)?)))?;
+    rows.push((
+        "zoe",
+        Stored::new(10, 3, content(alloc, LEAVER, Kind::User)?),
+    ))?;
+    rows.push((
+        "guides",
+        Stored::new(11, 1, content(alloc, GUIDES, Kind::Group)?),
+    ))?;
+    Ok(rows)
+}
+
+/// The words of the rows that a filter hits.
+pub fn hits(
+    alloc: Global,
+    rows: &[(&'static str, Stored)],
+    filter: &Filter,
+) -> Result<String, Fail> {
+    let mut words = String::new(alloc);
+    for (word, row) in rows {
+        if filter.matches(row) {
+            if !words.is_empty() {
+                words.push(' ')?;
+            }
+            words.push_str(word)?;
+        }
+    }
+    Ok(words)
+}
+
+/// Asserts that each filter hits the rows of which the words stand beside it, and so do its copy
+/// and the filter that its text spells.
+fn hit(rt: &impl Abort, alloc: Global, table: &[(&str, &str)]) -> Result<(), Fail> {
+    let rows = rows(alloc)?;
+    for (text, wanted) in table {
+        let Ok(filter) = Filter::read(alloc, text) else {
+            panic!(rt; "{text} is refused");
+        };
+        let written = filter.to_text(alloc)?;
+        let again = Filter::read(alloc, written.as_str())?;
+        for filter in [&filter, &filter.clone()?, &again] {
+            let hits = hits(alloc, rows.as_slice(), filter)?;
+            assert!(rt; hits.as_str() == *wanted, "{text} hits {hits}");
+        }
+    }
+    Ok(())
+}
+
+/// Asserts that each text is refused.
+pub fn refuses(rt: &impl Abort, alloc: Global, texts: &[&str]) {
+    for text in texts {
+        let fault = Filter::read(alloc, text).err();
+        assert_eq!(rt; fault, Some(FilterFault::Unsupported), "{text}");
+    }
+}
+
+/// A text so many times, another, and a third so many times.
+pub fn around(
+    alloc: Global,
+    count: usize,
+    before: &str,
+    within: &str,
+    after: &str,
+) -> Result<String, Fail> {
+    let mut text = String::new(alloc);
+    for _ in 0..count {
+        text.push_str(before)?;
+    }
+    text.push_str(within)?;
+    for _ in 0..count {
+        text.push_str(after)?;
+    }
+    Ok(text)
+}
+
+const EVERYBODY: &str = "ann bob babs zoe guides";
+
+static FIGURES: &[(&str, &str)] = &[
+    (r#"userName eq "bjensen""#, ""),
+    (r#"name.familyName co "O'Malley""#, "zoe"),
+    (r#"userName sw "J""#, ""),
+    (
+        r#"emails co "example.com" or emails.value co "example.org""#,
+        "ann bob babs",
+    ),
+    (
+        r#"userName ne "bob" and (emails co "example.com" or emails.value co "example.org")"#,
+        "ann babs",
+    ),
+    (
+        r#"userName ne "zoe" and not (emails co "example.com" or emails.value co "example.org")"#,
+        "guides",
+    ),
+    (r#"userName eq "ann" and (emails.type eq "work")"#, "ann"),
+    (r#"username Eq "john""#, ""),
+    (r#"Username eq "ann""#, "ann"),
+];
+
+#[test]
+fn the_figures_of_the_standard(rt: HostRuntime) -> Result<(), Fail> {
+    hit(&rt, rt.alloc(), FIGURES)
+}
+
+static OPERATORS: &[(&str, &str)] = &[
+    (r#"userName eq "bob""#, "bob"),
+    (r#"userName eq "bo""#, ""),
+    (r#"userName ne "bob""#, "ann babs zoe guides"),
+    (r#"userName co "o""#, "bob babs zoe"),
+    (r#"userName co "nsen@ex""#, "babs"),
+    (r#"userName co "bobb""#, ""),
+    (r#"userName sw "b""#, "bob babs"),
+    (r#"userName sw "bob""#, "bob"),
+    (r#"userName sw "ob""#, ""),
+    (r#"userName ew "b""#, "bob"),
+    (r#"userName ew "bo""#, ""),
+    (r#"userName ew "xbob""#, ""),
+    (r#"userName pr"#, "ann bob babs zoe"),
+];
+
+#[test]
+fn the_operators(rt: HostRuntime) -> Result<(), Fail> {
+    hit(&rt, rt.alloc(), OPERATORS)
+}
+
+static EMPTY_TEXTS: &[(&str, &str)] = &[
+    (r#"userName eq """#, ""),
+    (r#"userName ne """#, EVERYBODY),
+    (r#"userName co """#, "ann bob babs zoe"),
+    (r#"userName sw """#, "ann bob babs zoe"),
+    (r#"name.familyName ew """#, "ann babs zoe"),
+    (r#"members co """#, "guides"),
+];
+
+#[test]
+fn the_empty_text_is_in_each_text(rt: HostRuntime) -> Result<(), Fail> {
+    hit(&rt, rt.alloc(), EMPTY_TEXTS)
+}
+
+static LETTERS: &[(&str, &str)] = &[
+    (r#"USERNAME EQ "BOB""#, "bob"),
+    (r#"userName eq "zoe""#, "zoe"),
+    (r#"Name.FamilyName Sw "LEE""#, "ann"),
+    (r#"NAME.GIVENNAME PR"#, "ann babs zoe"),
+    (r#"displayname eQ "TOUR GUIDES""#, "guides"),
+    (r#"DisplayName cO "r g""#, "guides"),
+    (r#"userName Ew "EXAMPLE.COM""#, "babs"),
+    (r#"userName co "JENSEN@""#, "babs"),
+    (r#"EMAILS.TYPE eq "WORK""#, "ann babs"),
+    (r#"eMails.Value eq "ann.lee@home.EXAMPLE""#, "ann"),
+    (
+        r#"Members.VALUE Eq "2819C223-7F76-453A-919D-413861904646""#,
+        "guides",
+    ),
+    (r#"EXTERNALID nE "z-7""#, EVERYBODY),
+    (r#"ACTIVE EQ True"#, "ann bob babs"),
+    (r#"Emails.Primary eq TRUE"#, "ann babs"),
+    (
+        r#"NOT (userName pr) OR userName eq "ANN" AND Active Eq true"#,
+        "ann guides",
+    ),
+    (r#"name.givenName eq "zoë""#, "zoe"),
+    (r#"name.givenName eq "ZOË""#, ""),
+];
+
+#[test]
+fn letters_count_in_no_name_and_in_few_values(rt: HostRuntime) -> Result<(), Fail> {
+    hit(&rt, rt.alloc(), LETTERS)
+}
+
+static BYTES: &[(&str, &str)] = &[
+    (r#"id eq "5c1a0000-0000-8000-8000-00000000000a""#, "zoe"),
+    (r#"id eq "5C1A0000-0000-8000-8000-00000000000A""#, ""),
+    (r#"id ne "5C1A0000-0000-8000-8000-00000000000A""#, EVERYBODY),
+    (r#"id ew "00b""#, "guides"),
+    (r#"id ew "00B""#, ""),
+    (r#"id sw "5c1a""#, EVERYBODY),
+    (r#"id sw "5C1A""#, ""),
+    (r#"id co "-8000-8000-""#, EVERYBODY),
+    (r#"id pr"#, EVERYBODY),
+    (r#"externalId eq "Z-7""#, "zoe"),
+    (r#"externalId eq "z-7""#, ""),
+    (r#"externalId co "Z""#, "zoe"),
+    (r#"externalId co "z""#, ""),
+    (r#"externalId sw "7019""#, "babs"),
+    (r#"externalId ew "84""#, "babs"),
+    (r#"meta.version eq "\"1\"""#, "ann guides"),
+    (r#"meta.version ne "\"1\"""#, "bob babs zoe"),
+    (r#"meta.version sw "\"1""#, "ann bob guides"),
+    (r#"meta.version ew "2\"""#, "bob babs"),
+    (r#"meta.version eq "1""#, ""),
+    (r#"meta.version eq "W/\"1\"""#, ""),
+    (r#"meta.version pr"#, EVERYBODY),
+];
+
+#[test]
+fn ids_and_versions_are_compared_by_bytes(rt: HostRuntime) -> Result<(), Fail> {
+    hit(&rt, rt.alloc(), BYTES)
+}
+
+static MANY_VALUES: &[(&str, &str)] = &[
+    (r#"emails eq "ann.lee@home.example""#, "ann"),
+    (r#"emails ne "ann.lee@home.example""#, "bob babs zoe guides"),
+    (r#"emails.value ew ".org""#, "bob babs"),
+    (r#"emails pr"#, "ann bob babs"),
+    (r#"emails.value pr"#, "ann bob babs"),
+    (r#"emails.type pr"#, "ann babs"),
+    (r#"emails.type eq "home""#, "ann babs"),
+    (r#"emails.type ne "work""#, "bob zoe guides"),
+    (
+        r#"emails.type eq "work" and emails ew "@home.example""#,
+        "ann",
+    ),
+    (
+        r#"members eq "902c246b-6245-4190-8e05-00816be7344a""#,
+        "guides",
+    ),
+    (r#"members.value sw "2819""#, "guides"),
+    (r#"members co "4646902c""#, ""),
+    (
+        r#"members ne "2819c223-7f76-453a-919d-413861904646""#,
+        "ann bob babs zoe",
+    ),
+    (r#"members pr"#, "guides"),
+];
+
+#[test]
+fn some_value_of_many_is_enough(rt: HostRuntime) -> Result<(), Fail> {
+    hit(&rt, rt.alloc(), MANY_VALUES)
+}
+
+static BOOLEANS: &[(&str, &str)] = &[
+    (r#"active eq true"#, "ann bob babs"),
+    (r#"active eq false"#, "zoe"),
+    (r#"active ne true"#, "zoe guides"),
+    (r#"active ne false"#, "ann bob babs guides"),
+    (r#"active pr"#, "ann bob babs zoe"),
+    (r#"emails.primary eq true"#, "ann babs"),
+    (r#"emails.primary eq false"#, "ann bob babs"),
+    (r#"emails.primary ne true"#, "bob zoe guides"),
+    (r#"emails.primary ne false"#, "zoe guides"),
+    (r#"emails.primary pr"#, "ann bob babs"),
+];
+
+#[test]
+fn booleans_are_equal_or_not(rt: HostRuntime) -> Result<(), Fail> {
+    hit(&rt, rt.alloc(), BOOLEANS)
+}
+
+static ABSENT: &[(&str, &str)] = &[
+    (r#"externalId ne "5""#, EVERYBODY),
+    (r#"not (externalId eq "5")"#, EVERYBODY),
+    (r#"externalId pr"#, "babs zoe guides"),
+    (r#"not (externalId pr)"#, "ann bob"),
+    (r#"displayName pr"#, "guides"),
+    (r#"displayName ne "Tour Guides""#, "ann bob babs zoe"),
+    (r#"displayName eq "ann""#, ""),
+    (r#"userName ne "ann""#, "bob babs zoe guides"),
+    (r#"name.familyName ne "Lee""#, "bob babs zoe guides"),
+    (r#"name.familyName eq """#, ""),
+    (r#"members ne "x""#, EVERYBODY),
+    (r#"not (active eq true)"#, "zoe guides"),
+    (r#"not (active pr)"#, "guides"),
+];
+
+#[test]
+fn what_is_absent_is_equal_to_nothing(rt: HostRuntime) -> Result<(), Fail> {
+    hit(&rt, rt.alloc(), ABSENT)
+}
+
+static CONNECTIVES: &[(&str, &str)] = &[
+    (
+        r#"userName eq "ann" or userName eq "bob" and active eq false"#,
+        "ann",
+    ),
+    (
+        r#"(userName eq "ann" or userName eq "bob") and active eq false"#,
+        "",
+    ),
+    (
+        r#"active eq false and userName eq "bob" or userName eq "ann""#,
+        "ann",
+    ),
+    (
+        r#"active eq false and (userName eq "bob" or userName eq "ann")"#,
+        "",
+    ),
+    (r#"not (userName eq "ann") and active eq true"#, "bob babs"),
+    (
+        r#"not (userName eq "ann" and active eq true)"#,
+        "bob babs zoe guides",
+    ),
+    (r#"not (userName eq "ann") or userName eq "ann""#, EVERYBODY),
+    (r#"userName pr and emails pr and externalId pr"#, "babs"),
+    (
+        r#"displayName pr or active eq false or userName eq "bob""#,
+        "bob zoe guides",
+    ),
+    (r#"not (not (userName eq "ann"))"#, "ann"),
+];
+
+#[test]
+fn and_binds_closer_than_or(rt: HostRuntime) -> Result<(), Fail> {
+    hit(&rt, rt.alloc(), CONNECTIVES)
+}
+
+static SPACES: &[(&str, &str)] = &[
+    (r#"  userName   eq   "bob"  "#, "bob"),
+    (r#"(userName eq "bob")"#, "bob"),
+    (r#"( userName eq "bob" )"#, "bob"),
+    (r#"  ((userName eq "bob"))"#, "bob"),
+    (r#"not(username EQ "ANN")"#, "bob babs zoe guides"),
+    (r#"not  (  userName pr  )  "#, "guides"),
+    (r#"not((userName pr)) or (userName eq "ann")"#, "ann guides"),
+];
+
+#[test]
+fn spaces_may_stand_round_parentheses(rt: HostRuntime) -> Result<(), Fail> {
+    hit(&rt, rt.alloc(), SPACES)
+}
+
+static SPELLED_TEXTS: &[(&str, &str)] = &[
+    (r#"userName eq "\u0062ob""#, "bob"),
+    (r#"userName eq "\u0042\u004FB""#, "bob"),
+    (r#"name.givenName eq "Zo\u00eb""#, "zoe"),
+    (r#"name.givenName eq "\ud83d\ude00""#, ""),
+    (r#"displayName eq "Tour\u0020Guides""#, "guides"),
+    (r#"externalId eq "a\"b\\c\/d""#, "guides"),
+    (r#"externalId ew "\\c/d""#, "guides"),
+    (r#"externalId co "\\\\""#, ""),
+    (
+        r#"userName eq "bob\" or userName pr or userName eq \"""#,
+        "",
+    ),
+    (r#"userName eq "true" or userName eq ") and (""#, ""),
+];
+
+#[test]
+fn texts_are_spelled_as_in_json(rt: HostRuntime) -> Result<(), Fail> {
+    hit(&rt, rt.alloc(), SPELLED_TEXTS)
+}
+
+#[test]
+fn parentheses_are_at_most_32_deep(rt: HostRuntime) -> Result<(), Fail> {
+    let deepest = around(rt.alloc(), 32, "(", "userName pr", ")")?;
+    let opposed = around(rt.alloc(), 32, "not (", "userName pr", ")")?;
+    let mixed = around(rt.alloc(), 16, "( not(", "userName pr", ") )")?;
+    let side_by_side = around(rt.alloc(), 40, "(active pr) and ", "userName pr", "")?;
+    let read = [
+        (deepest.as_str(), "ann bob babs zoe"),
+        (opposed.as_str(), "ann bob babs zoe"),
+        (mixed.as_str(), "ann bob babs zoe"),
+        (side_by_side.as_str(), "ann bob babs zoe"),
+    ];
+    hit(&rt, rt.alloc(), &read)?;
+    let deeper = around(rt.alloc(), 33, "(", "userName pr", ")")?;
+    let opposed = around(rt.alloc(), 33, "not (", "userName pr", ")")?;
+    let later = around(rt.alloc(), 33, "(active pr or ", "userName pr", ")")?;
+    refuses(
+        &rt,
+        rt.alloc(),
+        &[deeper.as_str(), opposed.as_str(), later.as_str()],
+    );
+    Ok(())
+}
+
+#[test]
+fn a_text_has_at_most_2048_bytes(rt: HostRuntime) -> Result<(), Fail> {
+    let longest = around(rt.alloc(), 2037, "", "userName pr", " ")?;
+    let letters = around(rt.alloc(), 2034, "", "userName sw \"", "a")?;
+    let letters = around(rt.alloc(), 1, "", letters.as_str(), "\"")?;
+    let accents = around(rt.alloc(), 1017, "", "userName ne \"", "é")?;
+    let accents = around(rt.alloc(), 1, "", accents.as_str(), "\"")?;
+    let read = [
+        (longest.as_str(), "ann bob babs zoe"),
+        (letters.as_str(), ""),
+        (accents.as_str(), EVERYBODY),
+    ];
+    for (text, _) in &read {
+        assert_eq!(rt; text.len(), 2048);
+    }
+    hit(&rt, rt.alloc(), &read)?;
+    for (text, _) in &read {
+        let longer = around(rt.alloc(), 1, " ", text, "")?;
+        refuses(&rt, rt.alloc(), &[longer.as_str()]);
+    }
+    Ok(())
+}
