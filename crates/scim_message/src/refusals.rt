@@ -112,7 +112,7 @@ impl Refusal {
 }
 
 /// An error message: a status code from 400 to 599, and the `scimType` and the detail where it has them.
-#[derive(Debug, Drop)]
+#[derive(Debug)]
 pub struct ErrorResponse {
     status: u16,
     scim_type: Option<String>,
@@ -129,6 +129,18 @@ impl Model for ErrorResponse {
     ghost view = { λ e. record { status = e.status; scim_type = option_map string_bytes e.scim_type; detail = option_map string_bytes e.detail } };
 
     ghost invariant = { λ e. IsErrorStatus e.status };
+}
+
+/// One call wherever an error message is let go, and not a step for each field: a proof is as long
+/// as the steps that it goes through.
+impl Drop for ErrorResponse {
+    fn drop(self) {
+        let ErrorResponse {
+            status: _,
+            scim_type: _,
+            detail: _,
+        } = self;
+    }
 }
 
 fn owned(alloc: Global, text: Option<&str>) -> Result<Option<String>, AllocError>

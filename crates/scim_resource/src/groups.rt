@@ -103,7 +103,7 @@ fn is_same(one: &Text, other: &Text) -> bool
 }
 
 /// What a group contains.
-#[derive(Debug, Drop)]
+#[derive(Debug)]
 pub struct Group {
     display_name: GroupName,
     external_id: Option<Text>,
@@ -119,6 +119,18 @@ impl Model for Group {
     ghost view = { λ g. record { display_name = g.display_name; external_id = g.external_id; members = g.members; revision = g.revision } };
 
     ghost invariant = { λ g. IsGroup (record { display_name = g.display_name; external_id = g.external_id; members = g.members; revision = g.revision }) };
+}
+
+/// One call wherever a group is let go, as for a user.
+impl Drop for Group {
+    fn drop(self) {
+        let Group {
+            display_name: _,
+            external_id: _,
+            members: _,
+            revision: _,
+        } = self;
+    }
 }
 
 impl Group {
@@ -138,14 +150,12 @@ impl Group {
     }
 
     /// The group with this id at the source, or with none.
-    pub fn with_external_id(self, external_id: Option<Text>) -> Group
+    pub fn with_external_id(mut self, external_id: Option<Text>) -> Group
         requires { IsTextIf external_id }
         ensures { result ≡ record self { external_id = external_id } }
     {
-        Group {
-            external_id,
-            ..self
-        }
+        self.external_id = external_id;
+        self
     }
 
     /// The name as it was spelled.

@@ -12,7 +12,7 @@ use std::marker::Model;
 
 /// A row of the provider: the resource's number in order of creation, from 1 to 1,000,000, its
 /// version, from 1 to 9,007,199,254,740,991, and its content.
-#[derive(Debug, Drop)]
+#[derive(Debug)]
 pub struct Stored {
     number: u32,
     version: u64,
@@ -27,6 +27,17 @@ impl Model for Stored {
     ghost view = { λ s. record { number = s.number; version = s.version; content = s.content } };
 
     ghost invariant = { λ s. IsStored (record { number = s.number; version = s.version; content = s.content }) };
+}
+
+/// One call wherever a row is let go, as for a user.
+impl Drop for Stored {
+    fn drop(self) {
+        let Stored {
+            number: _,
+            version: _,
+            content: _,
+        } = self;
+    }
 }
 
 impl Stored {
@@ -91,7 +102,7 @@ impl Clone for Stored {
 }
 
 /// A resource as an answer shows it: its id, its entity tag where that is known, and its content.
-#[derive(Debug, Drop)]
+#[derive(Debug)]
 pub struct Shown {
     id: ResourceId,
     version: Option<EntityTag>,
@@ -106,6 +117,17 @@ impl Model for Shown {
     ghost view = { λ s. record { id = s.id; version = s.version; content = s.content } };
 
     ghost invariant = { λ s. IsShown (record { id = s.id; version = s.version; content = s.content }) };
+}
+
+/// One call wherever it is let go, as for a user.
+impl Drop for Shown {
+    fn drop(self) {
+        let Shown {
+            id: _,
+            version: _,
+            content: _,
+        } = self;
+    }
 }
 
 impl Shown {

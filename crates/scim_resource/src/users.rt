@@ -13,7 +13,7 @@ use std::alloc::{AllocError, Global};
 use std::marker::Model;
 
 /// What a user contains.
-#[derive(Debug, Drop)]
+#[derive(Debug)]
 pub struct User {
     user_name: UserName,
     external_id: Option<Text>,
@@ -32,6 +32,22 @@ impl Model for User {
     ghost view = { λ u. record { user_name = u.user_name; external_id = u.external_id; given_name = u.given_name; family_name = u.family_name; emails = u.emails; active = u.active; revision = u.revision } };
 
     ghost invariant = { λ u. IsUser (record { user_name = u.user_name; external_id = u.external_id; given_name = u.given_name; family_name = u.family_name; emails = u.emails; active = u.active; revision = u.revision }) };
+}
+
+/// One call wherever a user is let go, and not a step for each field: a proof is as long as the
+/// steps that it goes through.
+impl Drop for User {
+    fn drop(self) {
+        let User {
+            user_name: _,
+            external_id: _,
+            given_name: _,
+            family_name: _,
+            emails: _,
+            active: _,
+            revision: _,
+        } = self;
+    }
 }
 
 impl User {
@@ -53,35 +69,32 @@ impl User {
     }
 
     /// The user with this id at the source, or with none.
-    pub fn with_external_id(self, external_id: Option<Text>) -> User
+    pub fn with_external_id(mut self, external_id: Option<Text>) -> User
         requires { IsTextIf external_id }
         ensures { result ≡ record self { external_id = external_id } }
     {
-        User {
-            external_id,
-            ..self
-        }
+        self.external_id = external_id;
+        self
     }
 
     /// The user with these parts of a name.
-    pub fn with_name(self, given_name: Option<Text>, family_name: Option<Text>) -> User
+    pub fn with_name(mut self, given_name: Option<Text>, family_name: Option<Text>) -> User
         requires given { IsTextIf given_name }
         requires family { IsTextIf family_name }
         ensures { result ≡ record self { given_name = given_name; family_name = family_name } }
     {
-        User {
-            given_name,
-            family_name,
-            ..self
-        }
+        self.given_name = given_name;
+        self.family_name = family_name;
+        self
     }
 
     /// The user with these email addresses.
-    pub fn with_emails(self, emails: Emails) -> User
+    pub fn with_emails(mut self, emails: Emails) -> User
         requires { IsEmailList emails }
         ensures { result ≡ record self { emails = emails } }
     {
-        User { emails, ..self }
+        self.emails = emails;
+        self
     }
 
     /// The name as it was spelled.

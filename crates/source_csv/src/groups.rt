@@ -17,7 +17,7 @@ use std::marker::Model;
 
 /// What the source says of a group at a revision. Its members are the keys of at most 400 users, in
 /// byte order.
-#[derive(Debug, Drop)]
+#[derive(Debug)]
 pub struct GroupRow {
     name: GroupName,
     revision: Revision,
@@ -32,6 +32,17 @@ impl Model for GroupRow {
     ghost view = { λ g. record { name = g.name; revision = g.revision; members = g.members.items } };
 
     ghost invariant = { λ g. IsGroupRow (record { name = g.name; revision = g.revision; members = g.members.items }) };
+}
+
+/// One call wherever a row is let go, as for a user.
+impl Drop for GroupRow {
+    fn drop(self) {
+        let GroupRow {
+            name: _,
+            revision: _,
+            members: _,
+        } = self;
+    }
 }
 
 /// The key of a member's name.

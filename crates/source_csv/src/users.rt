@@ -16,7 +16,7 @@ use std::marker::Model;
 
 /// What the source says of a user at a revision. An empty number, given name, family name or mail is
 /// none; each has at most 256 bytes.
-#[derive(Debug, Drop)]
+#[derive(Debug)]
 pub struct UserRow {
     login: UserName,
     revision: Revision,
@@ -36,6 +36,22 @@ impl Model for UserRow {
     ghost view = { λ u. record { login = u.login; revision = u.revision; number = string_bytes u.number; given = string_bytes u.given; family = string_bytes u.family; mail = string_bytes u.mail; active = u.active } };
 
     ghost invariant = { λ u. IsUserRow (record { login = u.login; revision = u.revision; number = string_bytes u.number; given = string_bytes u.given; family = string_bytes u.family; mail = string_bytes u.mail; active = u.active }) };
+}
+
+/// One call wherever a row is let go, and not a step for each field: a proof is as long as the
+/// steps that it goes through.
+impl Drop for UserRow {
+    fn drop(self) {
+        let UserRow {
+            login: _,
+            revision: _,
+            number: _,
+            given: _,
+            family: _,
+            mail: _,
+            active: _,
+        } = self;
+    }
 }
 
 /// Reads the fields of a record of seven.
