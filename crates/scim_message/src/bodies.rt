@@ -67,16 +67,16 @@ fn list_value(alloc: Global, list: &ListResponse, base: &Base) -> Result<Value, 
     ensures whole { IfOk result (λ value. has_float (view value) ≡ false) }
 {
     let page = list.resources.as_slice();
-    let resources = Value::Array(shown_values(alloc, page, base)?);
-    let on_page = Value::from(page.len());
-    let schema = schemas_with(alloc, list_schema())?;
-    let start = Value::from(list.start);
-    let total = Value::from(list.total);
     let mut members = Map::new(alloc);
+    let total = Value::from(list.total);
     put_if(&mut members, alloc, "totalResults", Some(total))?;
+    let start = Value::from(list.start);
     put_if(&mut members, alloc, "startIndex", Some(start))?;
+    let schema = schemas_with(alloc, list_schema())?;
     put_if(&mut members, alloc, "schemas", Some(schema))?;
+    let on_page = Value::from(page.len());
     put_if(&mut members, alloc, "itemsPerPage", Some(on_page))?;
+    let resources = Value::Array(shown_values(alloc, page, base)?);
     put_if(&mut members, alloc, "Resources", Some(resources))?;
     Ok(Value::Object(members))
 }
@@ -97,14 +97,14 @@ fn error_value(alloc: Global, error: &ErrorResponse) -> Result<Value, AllocError
     ensures value { IfOk result (λ value. view value ≡ error_data error.now) }
     ensures whole { IfOk result (λ value. has_float (view value) ≡ false) }
 {
-    let status = Value::String(error.status().to_string(alloc)?);
-    let scim_type = text_value(alloc, error.scim_type())?;
-    let detail = text_value(alloc, error.detail())?;
-    let schemas = schemas_with(alloc, error_schema())?;
     let mut members = Map::new(alloc);
+    let status = Value::String(error.status().to_string(alloc)?);
     put_if(&mut members, alloc, "status", Some(status))?;
+    let scim_type = text_value(alloc, error.scim_type())?;
     put_if(&mut members, alloc, "scimType", scim_type)?;
+    let schemas = schemas_with(alloc, error_schema())?;
     put_if(&mut members, alloc, "schemas", Some(schemas))?;
+    let detail = text_value(alloc, error.detail())?;
     put_if(&mut members, alloc, "detail", detail)?;
     Ok(Value::Object(members))
 }

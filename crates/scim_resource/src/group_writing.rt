@@ -22,18 +22,18 @@ pub(crate) fn group_value(
         ≡ spec.group_data (option_map view id) (option_map view meta) group.now) }
     ensures lawful { OnOk result (IsGroup group.now) }
 {
-    let name = Value::try_from_str(alloc, group.display_name().as_str())?;
-    let source = source_value(alloc, group.revision())?;
-    let schemas = schemas_value(alloc, core_group(), group.revision())?;
-    let external_id = text_value(alloc, group.external_id())?;
-    let values = group_members_value(alloc, group.members())?;
     let mut members = Map::new(alloc);
+    let source = source_value(alloc, group.revision())?;
     put_if(&mut members, alloc, source_extension(), source)?;
+    let schemas = schemas_value(alloc, core_group(), group.revision())?;
     put_if(&mut members, alloc, "schemas", Some(schemas))?;
     put_if(&mut members, alloc, "meta", meta)?;
+    let values = group_members_value(alloc, group.members())?;
     put_if(&mut members, alloc, "members", values)?;
     put_if(&mut members, alloc, "id", id)?;
+    let external_id = text_value(alloc, group.external_id())?;
     put_if(&mut members, alloc, "externalId", external_id)?;
+    let name = Value::try_from_str(alloc, group.display_name().as_str())?;
     put_if(&mut members, alloc, "displayName", Some(name))?;
     Ok(Value::Object(members))
 }

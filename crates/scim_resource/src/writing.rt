@@ -82,27 +82,23 @@ fn user_value(
         ≡ spec.user_data (option_map view id) (option_map view meta) user.now) }
     ensures lawful { OnOk result (IsUser user.now) }
 {
-    let name = Value::try_from_str(alloc, user.user_name().as_str())?;
-    let source = source_value(alloc, user.revision())?;
-    let schemas = schemas_value(alloc, core_user(), user.revision())?;
-    let parts = name_value(alloc, user.given_name(), user.family_name())?;
-    let external_id = text_value(alloc, user.external_id())?;
-    let emails = emails_value(alloc, user.emails())?;
     let mut members = Map::new(alloc);
+    let name = Value::try_from_str(alloc, user.user_name().as_str())?;
     put_if(&mut members, alloc, "userName", Some(name))?;
+    let source = source_value(alloc, user.revision())?;
     put_if(&mut members, alloc, source_extension(), source)?;
+    let schemas = schemas_value(alloc, core_user(), user.revision())?;
     put_if(&mut members, alloc, "schemas", Some(schemas))?;
+    let parts = name_value(alloc, user.given_name(), user.family_name())?;
     put_if(&mut members, alloc, "name", parts)?;
     put_if(&mut members, alloc, "meta", meta)?;
     put_if(&mut members, alloc, "id", id)?;
+    let external_id = text_value(alloc, user.external_id())?;
     put_if(&mut members, alloc, "externalId", external_id)?;
+    let emails = emails_value(alloc, user.emails())?;
     put_if(&mut members, alloc, "emails", emails)?;
-    put_if(
-        &mut members,
-        alloc,
-        "active",
-        Some(Value::Bool(user.is_active())),
-    )?;
+    let active = Value::Bool(user.is_active());
+    put_if(&mut members, alloc, "active", Some(active))?;
     Ok(Value::Object(members))
 }
 
@@ -128,10 +124,10 @@ fn name_value(
     if given_name.is_none() && family_name.is_none() {
         return Ok(None);
     }
-    let given = text_value(alloc, given_name)?;
-    let family = text_value(alloc, family_name)?;
     let mut members = Map::new(alloc);
+    let given = text_value(alloc, given_name)?;
     put_if(&mut members, alloc, "givenName", given)?;
+    let family = text_value(alloc, family_name)?;
     put_if(&mut members, alloc, "familyName", family)?;
     Ok(Some(Value::Object(members)))
 }
@@ -159,10 +155,10 @@ fn email_values(alloc: Global, emails: &[Email]) -> Result<Vec<Value>, AllocErro
 fn email_value(alloc: Global, email: &Email) -> Result<Value, AllocError>
     ensures { IfOk result (λ value. view value ≡ spec.email_data email.now) }
 {
-    let text = Value::try_from_str(alloc, email.value.as_str())?;
-    let type_text = text_value(alloc, email.type_text.as_ref())?;
     let mut members = Map::new(alloc);
+    let text = Value::try_from_str(alloc, email.value.as_str())?;
     put_if(&mut members, alloc, "value", Some(text))?;
+    let type_text = text_value(alloc, email.type_text.as_ref())?;
     put_if(&mut members, alloc, "type", type_text)?;
     put_if(&mut members, alloc, "primary", primary_value(email.primary))?;
     Ok(Value::Object(members))
@@ -216,12 +212,12 @@ pub(crate) fn schemas_value(
 fn meta_value(alloc: Global, base: &Base, shown: &Shown) -> Result<Value, AllocError>
     ensures { IfOk result (λ value. view value ≡ spec.meta_data base.now shown.now) }
 {
-    let place = Value::String(shown.location(alloc, base)?);
-    let type_name = Value::try_from_str(alloc, type_name(shown.content().kind()))?;
-    let version = version_value(alloc, shown)?;
     let mut members = Map::new(alloc);
+    let version = version_value(alloc, shown)?;
     put_if(&mut members, alloc, "version", version)?;
+    let type_name = Value::try_from_str(alloc, type_name(shown.content().kind()))?;
     put_if(&mut members, alloc, "resourceType", Some(type_name))?;
+    let place = Value::String(shown.location(alloc, base)?);
     put_if(&mut members, alloc, "location", Some(place))?;
     Ok(Value::Object(members))
 }
