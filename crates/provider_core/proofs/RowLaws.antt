@@ -16,8 +16,9 @@ use Rattle.scim_resource.specs.Rows.{StoredRecord}
 use Rattle.scim_message.specs.declared.messages.Request.{Request}
 use Rattle.scim_message.specs.declared.messages.Request.TheVariants.{Create, Retrieve, Search, Replace}
 use Rattle.provider_core.specs.Rows.{same_kind, same_record, has_id, row_with_id, if_of_kind, resource, row_numbered}
-use Rattle.provider_core.specs.Outcomes.{outcome, creating, reading, retrieving, writing, replacing, next_row, IsOutcome, Outcome}
+use Rattle.provider_core.specs.Outcomes.{outcome, creating, reading, retrieving, writing, replacing, next_row, IsChange}
 use Rattle.provider_core.specs.Stores.{HoldsNumber}
+use Rattle.provider_core.specs.declared.pending.Change.{Change}
 use Rattle.provider_core.specs.declared.pending.Change.TheVariants.{Update}
 
 -- ---- names
@@ -137,5 +138,5 @@ updates rows (Search kind wanted start count) row is = absurd (cc)
 updates rows (Replace id content if_match if_none_match) row is =
     replacing_updates rows (resource (content_kind content) id rows) content if_match if_none_match row (resource-numbered (content_kind content) id rows) is
 
-pub updated-there : (rows : List StoredRecord) (pending : Outcome) (row : StoredRecord) → IsOutcome rows pending → pending.change ≡ Update row → HoldsNumber rows row
-updated-there rows pending row outcome_of is = updates rows outcome_of.request row (ap (λ o. o.change) (sym outcome_of.is) ∙ is)
+pub updated-there : (rows : List StoredRecord) (change : Change) (row : StoredRecord) → IsChange rows change → change ≡ Update row → HoldsNumber rows row
+updated-there rows change row change_of is = updates rows change_of.request row (sym change_of.is ∙ is)

@@ -99,6 +99,11 @@ changed_rows rows Unchanged = rows
 changed_rows rows (Insert row) = rows ++ row ∷ []
 changed_rows rows (Update row) = with_row row rows
 
+-- the change of some request on these rows
+pub record IsChange (rows : List StoredRecord) (change : Change) : Type 0 where
+  pub request : Request
+  pub is : change ≡ (outcome rows request).change
+
 -- an outcome of some request on these rows
 pub record IsOutcome (rows : List StoredRecord) (result : Outcome) : Type 0 where
   pub request : Request

@@ -1,9 +1,9 @@
 //! The provider over a registry.
 ghost use Rattle.std.specs.Prelude.{◌≡◌, ◌≤◌, ◌+◌, ◌-◌, ◌^◌, take, drop, length, IfOk, IfErr, OnOk, OnErr};
-ghost use Rattle.provider_core.specs.Outcomes.{outcome, changed_rows, IsOutcome};
+ghost use Rattle.provider_core.specs.Outcomes.{outcome, changed_rows, IsChange, IsOutcome};
 ghost use Rattle.provider_core.specs.Gathering.{GoesThrough};
 ghost use Rattle.provider_core.specs.Rows.{resource};
-ghost use Rattle.provider_core.specs.Stores.{IsExcusedProvider, IsQuiet};
+ghost use Rattle.provider_core.specs.Stores.{IsExcused, IsExcusedProvider, IsQuiet};
 ghost use Rattle.provider_core.specs.declared.provider.ProviderFault.TheVariants as provider_faults;
 
 use crate::outcomes::{insertion, is_of_kind, refusal, replacement, retrieval};
@@ -267,13 +267,25 @@ impl<R: Registry> Provider<R> {
         ensures written { R.writes self.new ≤ R.writes self.old + 1 }
         ensures cause { IfErr result (IsExcusedProvider (R.faults self.old) (R.faults self.new)) }
     {
-        let Pending { change, answer } = pending;
+        self.make(pending.change)?;
+        Ok(pending.answer)
+    }
+
+    /// Makes a change on the rows that now stand.
+    fn make(&mut self, change: Change) -> Result<(), RegistryFault>
+        requires { R.is_faithful self.old → IsChange (R.rows self.old) change }
+        ensures ok { R.is_faithful self.new →
+            OnOk result (R.rows self.new ≡ changed_rows (R.rows self.old) change) }
+        ensures err { R.is_faithful self.new → OnErr result (R.rows self.new ≡ R.rows self.old) }
+        ensures quiet { IsQuiet R.is_faithful R.faults self.old self.new }
+        ensures written { R.writes self.new ≤ R.writes self.old + 1 }
+        ensures cause { IfErr result (IsExcused (R.faults self.old) (R.faults self.new)) }
+    {
         match change {
-            Change::Unchanged => {}
-            Change::Insert(row) => self.registry.insert(row)?,
-            Change::Update(row) => self.registry.update(&row)?,
+            Change::Unchanged => Ok(()),
+            Change::Insert(row) => self.registry.insert(row),
+            Change::Update(row) => self.registry.update(&row),
         }
-        Ok(answer)
     }
 
     /// Answers a request and makes its change.
