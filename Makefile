@@ -14,6 +14,7 @@ map: build
 test:
 	rt ci
 	tests/map.sh
+	tests/edits.py
 
 build:
 	cd crates/scimlink && rt run -- --version > /dev/null
