@@ -1,4 +1,3 @@
-use Rattle.std.proofs.Common.{◌∙◌, sym, ap}
 use Rattle.provider_core.proofs.RowLaws.{updated-there}
 use Rattle.provider_core.proofs.provider.Provider.make.Goals as goal
 
