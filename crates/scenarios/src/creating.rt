@@ -1,5 +1,5 @@
 //! Users are created.
-use crate::support::{BOB_CREATED, CREATE_BOB, asked, empty, exchange, post};
+use crate::support::{BOB_CREATED, CREATE_BOB, answers, asked, empty, ends, exchange, post, tells};
 use provider_core::Registry;
 use scim_server::Served;
 use std::test::Fail;
@@ -20,13 +20,17 @@ fn a_taken_name_is_refused_in_any_case(rt: HostRuntime) -> Result<(), Fail> {
     let body =
         "{\"schemas\":[\"urn:ietf:params:scim:schemas:core:2.0:User\",\"urn:example:params:scim:schemas:extension:source:1.0\"],\"urn:example:params:scim:schemas:extension:source:1.0\":{\"revision\":1},\"userName\":\"BOB\"}";
     let request = post(rt.alloc(), body)?;
-    let (served, written) = exchange(rt.alloc(), &mut provider, request.as_slice())?;
-    assert_eq!(rt; served, Served::Answered { status: 409 });
     let expected =
         b"HTTP/1.1 409 Conflict\r\nConnection: close\r\nContent-Length: 127\r\nContent-Type: application/scim+json\r\n\r\n{\"detail\":\"the name is taken\",\"schemas\":[\"urn:ietf:params:scim:api:messages:2.0:Error\"],\"scimType\":\"uniqueness\",\"status\":\"409\"}";
-    assert!(rt; written.as_slice() == expected.as_slice());
-    let row = provider.close().count()?;
-    assert_eq!(rt; row, 1);
+    answers(
+        &rt,
+        rt.alloc(),
+        &mut provider,
+        request.as_slice(),
+        409,
+        expected,
+    )?;
+    assert_eq!(rt; provider.close().count()?, 1);
     Ok(())
 }
 
@@ -38,27 +42,24 @@ fn two_users_have_two_ids(rt: HostRuntime) -> Result<(), Fail> {
         rt.alloc(),
         "{\"schemas\":[\"urn:ietf:params:scim:schemas:core:2.0:User\"],\"userName\":\"ann\"}",
     )?;
-    let (served, written) = exchange(rt.alloc(), &mut provider, request.as_slice())?;
-    assert_eq!(rt; served, Served::Answered { status: 201 });
-    let text = String::from_utf8(written).map_err(|_| "not a text")?;
-    assert!(rt;
-        text.as_str()
-            .contains("\"id\":\"5c1a0000-0000-8000-8000-000000000002\"")
-    );
-    Ok(())
+    let part = "\"id\":\"5c1a0000-0000-8000-8000-000000000002\"";
+    tells(
+        &rt,
+        rt.alloc(),
+        &mut provider,
+        request.as_slice(),
+        201,
+        part,
+    )
 }
 
 #[test]
 fn a_request_as_curl_writes_it(rt: HostRuntime) -> Result<(), Fail> {
     let request =
         b"POST /v2/Users HTTP/1.1\r\nHost: localhost:8080\r\nUser-Agent: curl/7.88.1\r\nAccept: */*\r\nContent-Type: application/json\r\nContent-Length: 80\r\n\r\n{ \"schemas\": [\"urn:ietf:params:scim:schemas:core:2.0:User\"], \"userName\": \"cid\" }";
-    let (served, written, rows) = asked(rt.alloc(), request)?;
-    assert_eq!(rt; served, Served::Answered { status: 201 });
-    assert_eq!(rt; rows, 1);
     let body =
         "{\"active\":true,\"id\":\"5c1a0000-0000-8000-8000-000000000001\",\"meta\":{\"location\":\"http://localhost:8080/v2/Users/5c1a0000-0000-8000-8000-000000000001\",\"resourceType\":\"User\",\"version\":\"\\\"1\\\"\"},\"schemas\":[\"urn:ietf:params:scim:schemas:core:2.0:User\"],\"userName\":\"cid\"}";
-    assert!(rt; written.as_slice().ends_with(body.as_bytes()));
-    Ok(())
+    ends(&rt, rt.alloc(), &mut empty(rt.alloc()), request, 201, body)
 }
 
 #[test]
@@ -67,12 +68,15 @@ fn a_leaver_is_created_inactive(rt: HostRuntime) -> Result<(), Fail> {
         rt.alloc(),
         "{\"SCHEMAS\":[\"URN:ietf:params:scim:schemas:core:2.0:USER\",null],\"username\":\"Dee\",\"Active\":false,\"id\":\"mine\",\"meta\":7}",
     )?;
-    let (served, written, _) = asked(rt.alloc(), request.as_slice())?;
-    assert_eq!(rt; served, Served::Answered { status: 201 });
-    let text = String::from_utf8(written).map_err(|_| "not a text")?;
-    assert!(rt;
-        text.as_str().contains("{\"active\":false,\"id\":\"5c1a0000-0000-8000-8000-000000000001\"")
-    );
-    assert!(rt; text.as_str().ends_with("\"userName\":\"Dee\"}"));
-    Ok(())
+    let body =
+        "{\"active\":false,\"id\":\"5c1a0000-0000-8000-8000-000000000001\",\"meta\":{\"location\":\"http://localhost:8080/v2/Users/5c1a0000-0000-8000-8000-000000000001\",\"resourceType\":\"User\",\"version\":\"\\\"1\\\"\"},\"schemas\":[\"urn:ietf:params:scim:schemas:core:2.0:User\"],\"userName\":\"Dee\"}";
+    let mut provider = empty(rt.alloc());
+    ends(
+        &rt,
+        rt.alloc(),
+        &mut provider,
+        request.as_slice(),
+        201,
+        body,
+    )
 }

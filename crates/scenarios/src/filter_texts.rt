@@ -419,19 +419,37 @@ fn a_filter_names_no_record_by_a_longer_name(rt: HostRuntime) -> Result<(), Fail
     names(&rt, rt.alloc(), &table)
 }
 
-#[test]
-fn filters_of_one_name(rt: HostRuntime) -> Result<(), Fail> {
-    let rows = rows(rt.alloc())?;
-    let bob = Filter::eq_user_name(rt.alloc(), &UserName::read(rt.alloc(), "bob")?)?;
-    assert!(rt; bob.to_text(rt.alloc())?.as_str() == "userName eq \"bob\"");
-    assert!(rt; record_named(rt.alloc(), &bob)?.as_str() == "user bob");
-    assert!(rt; hits(rt.alloc(), rows.as_slice(), &bob)?.as_str() == "bob");
-    let guides = GroupName::read(rt.alloc(), "TOUR Guides")?;
-    let guides = Filter::eq_display_name(rt.alloc(), &guides)?;
-    assert!(rt; guides.to_text(rt.alloc())?.as_str() == "displayName eq \"TOUR Guides\"");
-    assert!(rt; record_named(rt.alloc(), &guides)?.as_str() == "group tour guides");
-    assert!(rt; hits(rt.alloc(), rows.as_slice(), &guides)?.as_str() == "guides");
+/// Asserts how a filter is written, which record it names and which row it hits.
+fn asks(
+    rt: &impl Abort,
+    alloc: Global,
+    filter: &Filter,
+    text: &str,
+    record: &str,
+    row: &str,
+) -> Result<(), Fail> {
+    assert!(rt; filter.to_text(alloc)?.as_str() == text);
+    assert!(rt; record_named(alloc, filter)?.as_str() == record);
+    let rows = rows(alloc)?;
+    assert!(rt; hits(alloc, rows.as_slice(), filter)?.as_str() == row);
     Ok(())
+}
+
+#[test]
+fn a_filter_of_one_user(rt: HostRuntime) -> Result<(), Fail> {
+    let name = UserName::read(rt.alloc(), "bob")?;
+    let filter = Filter::eq_user_name(rt.alloc(), &name)?;
+    let text = "userName eq \"bob\"";
+    asks(&rt, rt.alloc(), &filter, text, "user bob", "bob")
+}
+
+#[test]
+fn a_filter_of_one_group(rt: HostRuntime) -> Result<(), Fail> {
+    let name = GroupName::read(rt.alloc(), "TOUR Guides")?;
+    let filter = Filter::eq_display_name(rt.alloc(), &name)?;
+    let text = "displayName eq \"TOUR Guides\"";
+    let record = "group tour guides";
+    asks(&rt, rt.alloc(), &filter, text, record, "guides")
 }
 
 #[test]

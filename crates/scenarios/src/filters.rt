@@ -99,16 +99,25 @@ pub fn hits(
 fn hit(rt: &impl Abort, alloc: Global, table: &[(&str, &str)]) -> Result<(), Fail> {
     let rows = rows(alloc)?;
     for (text, wanted) in table {
-        let Ok(filter) = Filter::read(alloc, text) else {
-            panic!(rt; "{text} is refused");
-        };
+        let filter = Filter::read(alloc, text)?;
+        is_hit(rt, alloc, rows.as_slice(), &filter, wanted)?;
+        is_hit(rt, alloc, rows.as_slice(), &filter.clone()?, wanted)?;
         let written = filter.to_text(alloc)?;
         let again = Filter::read(alloc, written.as_str())?;
-        for filter in [&filter, &filter.clone()?, &again] {
-            let hits = hits(alloc, rows.as_slice(), filter)?;
-            assert!(rt; hits.as_str() == *wanted, "{text} hits {hits}");
-        }
+        is_hit(rt, alloc, rows.as_slice(), &again, wanted)?;
     }
+    Ok(())
+}
+
+fn is_hit(
+    rt: &impl Abort,
+    alloc: Global,
+    rows: &[(&'static str, Stored)],
+    filter: &Filter,
+    wanted: &str,
+) -> Result<(), Fail> {
+    let hits = hits(alloc, rows, filter)?;
+    assert!(rt; hits.as_str() == wanted, "{hits} and not {wanted}");
     Ok(())
 }
 
@@ -405,49 +414,56 @@ fn texts_are_spelled_as_in_json(rt: HostRuntime) -> Result<(), Fail> {
     hit(&rt, rt.alloc(), SPELLED_TEXTS)
 }
 
+/// Asserts that a filter in so many parentheses hits every user.
+fn hits_within(
+    rt: &impl Abort,
+    alloc: Global,
+    count: usize,
+    before: &str,
+    after: &str,
+) -> Result<(), Fail> {
+    let text = around(alloc, count, before, "userName pr", after)?;
+    hit(rt, alloc, &[(text.as_str(), "ann bob babs zoe")])
+}
+
 #[test]
 fn parentheses_are_at_most_32_deep(rt: HostRuntime) -> Result<(), Fail> {
-    let deepest = around(rt.alloc(), 32, "(", "userName pr", ")")?;
-    let opposed = around(rt.alloc(), 32, "not (", "userName pr", ")")?;
-    let mixed = around(rt.alloc(), 16, "( not(", "userName pr", ") )")?;
-    let side_by_side = around(rt.alloc(), 40, "(active pr) and ", "userName pr", "")?;
-    let read = [
-        (deepest.as_str(), "ann bob babs zoe"),
-        (opposed.as_str(), "ann bob babs zoe"),
-        (mixed.as_str(), "ann bob babs zoe"),
-        (side_by_side.as_str(), "ann bob babs zoe"),
-    ];
-    hit(&rt, rt.alloc(), &read)?;
-    let deeper = around(rt.alloc(), 33, "(", "userName pr", ")")?;
-    let opposed = around(rt.alloc(), 33, "not (", "userName pr", ")")?;
-    let later = around(rt.alloc(), 33, "(active pr or ", "userName pr", ")")?;
-    refuses(
-        &rt,
-        rt.alloc(),
-        &[deeper.as_str(), opposed.as_str(), later.as_str()],
-    );
+    hits_within(&rt, rt.alloc(), 32, "(", ")")?;
+    hits_within(&rt, rt.alloc(), 32, "not (", ")")?;
+    hits_within(&rt, rt.alloc(), 16, "( not(", ") )")?;
+    hits_within(&rt, rt.alloc(), 40, "(active pr) and ", "")
+}
+
+#[test]
+fn deeper_parentheses_are_refused(rt: HostRuntime) -> Result<(), Fail> {
+    for before in ["(", "not (", "(active pr or "] {
+        let deeper = around(rt.alloc(), 33, before, "userName pr", ")")?;
+        refuses(&rt, rt.alloc(), &[deeper.as_str()]);
+    }
     Ok(())
+}
+
+/// Asserts that a text of 2,048 bytes hits these rows, and is refused with a space more.
+fn is_longest(rt: &impl Abort, alloc: Global, text: &str, wanted: &str) -> Result<(), Fail> {
+    assert_eq!(rt; text.len(), 2048);
+    hit(rt, alloc, &[(text, wanted)])?;
+    let longer = around(alloc, 1, " ", text, "")?;
+    refuses(rt, alloc, &[longer.as_str()]);
+    Ok(())
+}
+
+/// A test whose text has so many letters.
+fn with_letters(alloc: Global, count: usize, test: &str, letter: &str) -> Result<String, Fail> {
+    let open = around(alloc, count, "", test, letter)?;
+    around(alloc, 1, "", open.as_str(), "\"")
 }
 
 #[test]
 fn a_text_has_at_most_2048_bytes(rt: HostRuntime) -> Result<(), Fail> {
-    let longest = around(rt.alloc(), 2037, "", "userName pr", " ")?;
-    let letters = around(rt.alloc(), 2034, "", "userName sw \"", "a")?;
-    let letters = around(rt.alloc(), 1, "", letters.as_str(), "\"")?;
-    let accents = around(rt.alloc(), 1017, "", "userName ne \"", "é")?;
-    let accents = around(rt.alloc(), 1, "", accents.as_str(), "\"")?;
-    let read = [
-        (longest.as_str(), "ann bob babs zoe"),
-        (letters.as_str(), ""),
-        (accents.as_str(), EVERYBODY),
-    ];
-    for (text, _) in &read {
-        assert_eq!(rt; text.len(), 2048);
-    }
-    hit(&rt, rt.alloc(), &read)?;
-    for (text, _) in &read {
-        let longer = around(rt.alloc(), 1, " ", text, "")?;
-        refuses(&rt, rt.alloc(), &[longer.as_str()]);
-    }
-    Ok(())
+    let spaces = around(rt.alloc(), 2037, "", "userName pr", " ")?;
+    is_longest(&rt, rt.alloc(), spaces.as_str(), "ann bob babs zoe")?;
+    let letters = with_letters(rt.alloc(), 2034, "userName sw \"", "a")?;
+    is_longest(&rt, rt.alloc(), letters.as_str(), "")?;
+    let accents = with_letters(rt.alloc(), 1017, "userName ne \"", "é")?;
+    is_longest(&rt, rt.alloc(), accents.as_str(), EVERYBODY)
 }

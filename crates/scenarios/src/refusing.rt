@@ -38,83 +38,72 @@ static VALUE: &str =
 static SYNTAX: &str =
     "{\"detail\":\"the body is not a readable resource\",\"schemas\":[\"urn:ietf:params:scim:api:messages:2.0:Error\"],\"scimType\":\"invalidSyntax\",\"status\":\"400\"}";
 
-#[test]
-fn bodies(rt: HostRuntime) -> Result<(), Fail> {
-    let no_schema = post(rt.alloc(), "{\"schemas\":[],\"userName\":\"x\"}")?;
-    refuses(
-        &rt,
-        rt.alloc(),
-        no_schema.as_slice(),
-        400,
-        "400 Bad Request",
-        VALUE,
-    )?;
-    let cut = post(rt.alloc(), "{\"user")?;
-    refuses(
-        &rt,
-        rt.alloc(),
-        cut.as_slice(),
-        400,
-        "400 Bad Request",
-        SYNTAX,
-    )?;
-    let twice = post(
-        rt.alloc(),
-        "{\"schemas\":[\"urn:ietf:params:scim:schemas:core:2.0:User\"],\"userName\":\"x\",\"USERNAME\":\"y\"}",
-    )?;
-    refuses(
-        &rt,
-        rt.alloc(),
-        twice.as_slice(),
-        400,
-        "400 Bad Request",
-        SYNTAX,
-    )?;
-    let fraction = post(
-        rt.alloc(),
-        "{\"schemas\":[\"urn:ietf:params:scim:schemas:core:2.0:User\"],\"userName\":\"x\",\"urn:example:params:scim:schemas:extension:source:1.0\":{\"revision\":1.0}}",
-    )?;
-    refuses(
-        &rt,
-        rt.alloc(),
-        fraction.as_slice(),
-        400,
-        "400 Bad Request",
-        VALUE,
-    )
+static BAD_VALUES: &[&str] = &[
+    "{\"schemas\":[],\"userName\":\"x\"}",
+    "{\"schemas\":[\"urn:ietf:params:scim:schemas:core:2.0:User\"],\"userName\":\"x\",\"urn:example:params:scim:schemas:extension:source:1.0\":{\"revision\":1.0}}",
+];
+
+static BAD_SYNTAX: &[&str] = &[
+    "{\"user",
+    "{\"schemas\":[\"urn:ietf:params:scim:schemas:core:2.0:User\"],\"userName\":\"x\",\"USERNAME\":\"y\"}",
+];
+
+/// Asserts that a POST of each of these bodies is refused so.
+fn refuses_bodies(
+    rt: &impl Abort,
+    alloc: Global,
+    bodies: &[&str],
+    refusal: &str,
+) -> Result<(), Fail> {
+    for body in bodies {
+        let request = post(alloc, body)?;
+        let asked = request.as_slice();
+        refuses(rt, alloc, asked, 400, "400 Bad Request", refusal)?;
+    }
+    Ok(())
 }
 
 #[test]
-fn paths_and_methods(rt: HostRuntime) -> Result<(), Fail> {
-    let nowhere = message(rt.alloc(), "no such path", 404)?;
-    let things = b"GET /v2/Things HTTP/1.1\r\nHost: h\r\n\r\n";
-    refuses(
-        &rt,
-        rt.alloc(),
-        things,
+fn bodies(rt: HostRuntime) -> Result<(), Fail> {
+    refuses_bodies(&rt, rt.alloc(), BAD_VALUES, VALUE)?;
+    refuses_bodies(&rt, rt.alloc(), BAD_SYNTAX, SYNTAX)
+}
+
+/// A request, and the status line and the detail that it is refused with.
+type Refused = (&'static str, u16, &'static str, &'static str);
+
+fn refuses_all(rt: &impl Abort, alloc: Global, table: &[Refused]) -> Result<(), Fail> {
+    for (request, status, line, detail) in table {
+        let body = message(alloc, detail, *status)?;
+        refuses(rt, alloc, request.as_bytes(), *status, line, body.as_str())?;
+    }
+    Ok(())
+}
+
+static PATHS_AND_METHODS: &[Refused] = &[
+    (
+        "GET /v2/Things HTTP/1.1\r\nHost: h\r\n\r\n",
         404,
         "404 Not Found",
-        nowhere.as_str(),
-    )?;
-    let letters = b"GET /v2/users HTTP/1.1\r\nHost: h\r\n\r\n";
-    refuses(
-        &rt,
-        rt.alloc(),
-        letters,
+        "no such path",
+    ),
+    (
+        "GET /v2/users HTTP/1.1\r\nHost: h\r\n\r\n",
         404,
         "404 Not Found",
-        nowhere.as_str(),
-    )?;
-    let unserved = message(rt.alloc(), "the method is not supported", 501)?;
-    let patch = b"PATCH /v2/Users HTTP/1.1\r\nHost: h\r\n\r\n";
-    refuses(
-        &rt,
-        rt.alloc(),
-        patch,
+        "no such path",
+    ),
+    (
+        "PATCH /v2/Users HTTP/1.1\r\nHost: h\r\n\r\n",
         501,
         "501 Not Implemented",
-        unserved.as_str(),
-    )
+        "the method is not supported",
+    ),
+];
+
+#[test]
+fn paths_and_methods(rt: HostRuntime) -> Result<(), Fail> {
+    refuses_all(&rt, rt.alloc(), PATHS_AND_METHODS)
 }
 
 #[test]
@@ -129,117 +118,94 @@ fn a_head_request_gets_the_head_alone(rt: HostRuntime) -> Result<(), Fail> {
     Ok(())
 }
 
+static MEDIA_TYPES: &[Refused] = &[
+    (
+        "POST /v2/Users HTTP/1.1\r\nHost: h\r\nContent-Type: text/plain\r\nContent-Length: 2\r\n\r\n{}",
+        415,
+        "415 Unsupported Media Type",
+        "the media type is not supported",
+    ),
+    (
+        "POST /v2/Users HTTP/1.1\r\nHost: h\r\nContent-Type: application/json\r\nContent-Type: application/json\r\nContent-Length: 2\r\n\r\n{}",
+        415,
+        "415 Unsupported Media Type",
+        "the media type is not supported",
+    ),
+];
+
 #[test]
 fn media_types(rt: HostRuntime) -> Result<(), Fail> {
-    let foreign = message(rt.alloc(), "the media type is not supported", 415)?;
-    let text =
-        b"POST /v2/Users HTTP/1.1\r\nHost: h\r\nContent-Type: text/plain\r\nContent-Length: 2\r\n\r\n{}";
-    refuses(
-        &rt,
-        rt.alloc(),
-        text,
-        415,
-        "415 Unsupported Media Type",
-        foreign.as_str(),
-    )?;
-    let twice =
-        b"POST /v2/Users HTTP/1.1\r\nHost: h\r\nContent-Type: application/json\r\nContent-Type: application/json\r\nContent-Length: 2\r\n\r\n{}";
-    refuses(
-        &rt,
-        rt.alloc(),
-        twice,
-        415,
-        "415 Unsupported Media Type",
-        foreign.as_str(),
-    )?;
-    let with_parameter =
-        b"POST /v2/Users HTTP/1.1\r\nHost: h\r\nContent-Type: Application/SCIM+json ; charset=utf-8\r\nContent-Length: 2\r\n\r\n{}";
-    refuses(
-        &rt,
-        rt.alloc(),
-        with_parameter,
+    refuses_all(&rt, rt.alloc(), MEDIA_TYPES)
+}
+
+static LAWFUL_TYPES: &[&str] = &[
+    "POST /v2/Users HTTP/1.1\r\nHost: h\r\nContent-Type: Application/SCIM+json ; charset=utf-8\r\nContent-Length: 2\r\n\r\n{}",
+    "POST /v2/Users HTTP/1.0\r\nContent-Length: 2\r\n\r\n{}",
+];
+
+#[test]
+fn a_lawful_type_or_none_leads_to_the_body(rt: HostRuntime) -> Result<(), Fail> {
+    for request in LAWFUL_TYPES {
+        let asked = request.as_bytes();
+        refuses(&rt, rt.alloc(), asked, 400, "400 Bad Request", VALUE)?;
+    }
+    Ok(())
+}
+
+static HEADS: &[Refused] = &[
+    (
+        "POST /v2/Users HTTP/1.1\r\nHost h\r\n\r\n",
         400,
         "400 Bad Request",
-        VALUE,
-    )?;
-    let absent = b"POST /v2/Users HTTP/1.0\r\nContent-Length: 2\r\n\r\n{}";
-    refuses(&rt, rt.alloc(), absent, 400, "400 Bad Request", VALUE)
-}
+        "the request is malformed",
+    ),
+    (
+        "POST /v2/Users HTTP/1.1\r\nHost: h\r\nContent-Length: 1\r\nContent-Length: 1\r\n\r\n",
+        400,
+        "400 Bad Request",
+        "the request is malformed",
+    ),
+    (
+        "POST /v2/Users HTTP/1.1\r\nContent-Length: 32769\r\n\r\n",
+        400,
+        "400 Bad Request",
+        "the Host field is missing or repeated",
+    ),
+    (
+        "GET /v2/Users HTTP/1.0\r\nHost: h\r\nhost: h\r\n\r\n",
+        400,
+        "400 Bad Request",
+        "the Host field is missing or repeated",
+    ),
+    (
+        "PUT /v2/Users HTTP/1.1\r\nHost: h\r\n\r\n",
+        411,
+        "411 Length Required",
+        "the length of the body is missing",
+    ),
+    (
+        "POST /v2/Users HTTP/1.1\r\nHost: h\r\nContent-Length: 32769\r\n\r\n",
+        413,
+        "413 Content Too Large",
+        "the body is too long",
+    ),
+    (
+        "POST /v2/Users HTTP/1.1\r\nHost: h\r\nTransfer-Encoding: chunked\r\n\r\n",
+        501,
+        "501 Not Implemented",
+        "transfer codings are not supported",
+    ),
+    (
+        "POST /v2/Users HTTP/1.1\r\nHost: h\r\nExpect: 100-continue\r\nContent-Length: 2\r\n\r\n",
+        417,
+        "417 Expectation Failed",
+        "expectations are not supported",
+    ),
+];
 
 #[test]
 fn heads(rt: HostRuntime) -> Result<(), Fail> {
-    let malformed = message(rt.alloc(), "the request is malformed", 400)?;
-    refuses(
-        &rt,
-        rt.alloc(),
-        b"POST /v2/Users HTTP/1.1\r\nHost h\r\n\r\n",
-        400,
-        "400 Bad Request",
-        malformed.as_str(),
-    )?;
-    let repeated_length =
-        b"POST /v2/Users HTTP/1.1\r\nHost: h\r\nContent-Length: 1\r\nContent-Length: 1\r\n\r\n";
-    refuses(
-        &rt,
-        rt.alloc(),
-        repeated_length,
-        400,
-        "400 Bad Request",
-        malformed.as_str(),
-    )?;
-    let host = message(rt.alloc(), "the Host field is missing or repeated", 400)?;
-    refuses(
-        &rt,
-        rt.alloc(),
-        b"POST /v2/Users HTTP/1.1\r\nContent-Length: 32769\r\n\r\n",
-        400,
-        "400 Bad Request",
-        host.as_str(),
-    )?;
-    refuses(
-        &rt,
-        rt.alloc(),
-        b"GET /v2/Users HTTP/1.0\r\nHost: h\r\nhost: h\r\n\r\n",
-        400,
-        "400 Bad Request",
-        host.as_str(),
-    )?;
-    let no_length = message(rt.alloc(), "the length of the body is missing", 411)?;
-    refuses(
-        &rt,
-        rt.alloc(),
-        b"PUT /v2/Users HTTP/1.1\r\nHost: h\r\n\r\n",
-        411,
-        "411 Length Required",
-        no_length.as_str(),
-    )?;
-    let long_body = message(rt.alloc(), "the body is too long", 413)?;
-    refuses(
-        &rt,
-        rt.alloc(),
-        b"POST /v2/Users HTTP/1.1\r\nHost: h\r\nContent-Length: 32769\r\n\r\n",
-        413,
-        "413 Content Too Large",
-        long_body.as_str(),
-    )?;
-    let codings = message(rt.alloc(), "transfer codings are not supported", 501)?;
-    refuses(
-        &rt,
-        rt.alloc(),
-        b"POST /v2/Users HTTP/1.1\r\nHost: h\r\nTransfer-Encoding: chunked\r\n\r\n",
-        501,
-        "501 Not Implemented",
-        codings.as_str(),
-    )?;
-    let expectations = message(rt.alloc(), "expectations are not supported", 417)?;
-    refuses(
-        &rt,
-        rt.alloc(),
-        b"POST /v2/Users HTTP/1.1\r\nHost: h\r\nExpect: 100-continue\r\nContent-Length: 2\r\n\r\n",
-        417,
-        "417 Expectation Failed",
-        expectations.as_str(),
-    )
+    refuses_all(&rt, rt.alloc(), HEADS)
 }
 
 #[test]

@@ -1,7 +1,6 @@
 //! Collections are searched, and their resources listed by pages (RFC 7644 section 3.4.2).
-use crate::support::{CREATE_BOB, empty, exchange, post};
+use crate::support::{CREATE_BOB, answers, empty, ends, exchange, post, tells};
 use provider_core::{MemoryRegistry, Provider};
-use scim_server::Served;
 use std::alloc::Global;
 use std::process::Abort;
 use std::test::Fail;
@@ -27,15 +26,9 @@ fn with_users(alloc: Global, users: &[Named]) -> Result<Provider<MemoryRegistry>
     Ok(provider)
 }
 
-/// What is answered to a method on a target.
-fn asked(
-    alloc: Global,
-    provider: &mut Provider<MemoryRegistry>,
-    method: &str,
-    target: &str,
-) -> Result<(Served, Vec<u8>), Fail> {
-    let request = format!(in alloc; "{method} {target} HTTP/1.1\r\nHost: localhost:8080\r\n\r\n")?;
-    exchange(alloc, provider, request.as_bytes())
+/// A request without a body.
+fn request(alloc: Global, method: &str, target: &str) -> Result<String, Fail> {
+    Ok(format!(in alloc; "{method} {target} HTTP/1.1\r\nHost: localhost:8080\r\n\r\n")?)
 }
 
 /// A whole response with a body.
@@ -59,198 +52,246 @@ fn list(
     )?)
 }
 
-/// Asserts that GET of the users with this query is answered by this page.
+/// Asserts that GET of a target is answered by this body.
+fn is_answered(
+    rt: &impl Abort,
+    alloc: Global,
+    provider: &mut Provider<MemoryRegistry>,
+    target: &str,
+    body: &str,
+) -> Result<(), Fail> {
+    let asked = request(alloc, "GET", target)?;
+    let expected = response(alloc, "200 OK", body)?;
+    answers(
+        rt,
+        alloc,
+        provider,
+        asked.as_bytes(),
+        200,
+        expected.as_bytes(),
+    )
+}
+
+/// A resource of a list, and a comma where one stands before it.
+fn shown(alloc: Global, user: &Named, is_first: bool) -> Result<String, Fail> {
+    let (number, name) = user;
+    let comma = if is_first { "" } else { "," };
+    Ok(format!(in alloc;
+        "{comma}{{\"active\":true,\"id\":\"5c1a0000-0000-8000-8000-00000000000{number}\",\"meta\":{{\"location\":\"http://localhost:8080/v2/Users/5c1a0000-0000-8000-8000-00000000000{number}\",\"resourceType\":\"User\",\"version\":\"\\\"1\\\"\"}},\"schemas\":[\"urn:ietf:params:scim:schemas:core:2.0:User\"],\"userName\":\"{name}\"}}"
+    )?)
+}
+
+/// The resources of a page.
+fn page_of(alloc: Global, page: &[Named]) -> Result<String, Fail> {
+    let mut resources = String::new(alloc);
+    for user in page {
+        resources.push_str(shown(alloc, user, resources.is_empty())?.as_str())?;
+    }
+    Ok(resources)
+}
+
+/// What GET of the users with a query finds: a page, its start, and how many there are in all.
+type Found = (&'static str, &'static [Named], u64, u64);
+
 fn finds(
     rt: &impl Abort,
     alloc: Global,
     provider: &mut Provider<MemoryRegistry>,
-    query: &str,
-    page: &[Named],
-    start: u64,
-    total: u64,
+    found: &Found,
 ) -> Result<(), Fail> {
-    let mut resources = String::new(alloc);
-    for (number, name) in page {
-        let shown = format!(in alloc;
-            "{{\"active\":true,\"id\":\"5c1a0000-0000-8000-8000-00000000000{number}\",\"meta\":{{\"location\":\"http://localhost:8080/v2/Users/5c1a0000-0000-8000-8000-00000000000{number}\",\"resourceType\":\"User\",\"version\":\"\\\"1\\\"\"}},\"schemas\":[\"urn:ietf:params:scim:schemas:core:2.0:User\"],\"userName\":\"{name}\"}}"
-        )?;
-        resources.push_str(if resources.is_empty() { "" } else { "," })?;
-        resources.push_str(shown.as_str())?;
-    }
-    let body = list(alloc, resources.as_str(), page.len(), start, total)?;
+    let (query, page, start, total) = found;
+    let resources = page_of(alloc, page)?;
+    let body = list(alloc, resources.as_str(), page.len(), *start, *total)?;
     let target = format!(in alloc; "/v2/Users{query}")?;
-    let (served, written) = asked(alloc, provider, "GET", target.as_str())?;
-    assert_eq!(rt; served, Served::Answered { status: 200 });
-    assert!(rt; written.as_slice() == response(alloc, "200 OK", body.as_str())?.as_bytes());
+    is_answered(rt, alloc, provider, target.as_str(), body.as_str())
+}
+
+/// Asserts that a provider with these users finds all this.
+fn finds_all(rt: &impl Abort, alloc: Global, users: &[Named], table: &[Found]) -> Result<(), Fail> {
+    let mut provider = with_users(alloc, users)?;
+    for found in table {
+        finds(rt, alloc, &mut provider, found)?;
+    }
     Ok(())
 }
 
-/// Asserts that GET of the users with this query is refused.
-fn refuses(
+/// Asserts that GET of the users with these queries is refused.
+fn refuses_all(
     rt: &impl Abort,
     alloc: Global,
-    provider: &mut Provider<MemoryRegistry>,
-    query: &str,
     scim_type: &str,
     detail: &str,
+    queries: &[&str],
 ) -> Result<(), Fail> {
     let body = format!(in alloc;
         "{{\"detail\":\"{detail}\",\"schemas\":[\"urn:ietf:params:scim:api:messages:2.0:Error\"],\"scimType\":\"{scim_type}\",\"status\":\"400\"}}"
     )?;
-    let target = format!(in alloc; "/v2/Users{query}")?;
-    let (served, written) = asked(alloc, provider, "GET", target.as_str())?;
-    assert_eq!(rt; served, Served::Answered { status: 400 });
-    assert!(rt;
-        written.as_slice() == response(alloc, "400 Bad Request", body.as_str())?.as_bytes()
-    );
+    let expected = response(alloc, "400 Bad Request", body.as_str())?;
+    let mut provider = empty(alloc);
+    for query in queries {
+        let asked = format!(in alloc; "GET /v2/Users{query} HTTP/1.1\r\nHost: h\r\n\r\n")?;
+        answers(
+            rt,
+            alloc,
+            &mut provider,
+            asked.as_bytes(),
+            400,
+            expected.as_bytes(),
+        )?;
+    }
     Ok(())
 }
 
-fn refuses_value(
-    rt: &impl Abort,
-    alloc: Global,
-    provider: &mut Provider<MemoryRegistry>,
-    query: &str,
-) -> Result<(), Fail> {
+fn refuses_values(rt: &impl Abort, alloc: Global, queries: &[&str]) -> Result<(), Fail> {
     let detail = "a value is missing or not allowed";
-    refuses(rt, alloc, provider, query, "invalidValue", detail)
+    refuses_all(rt, alloc, "invalidValue", detail, queries)
 }
 
-fn refuses_filter(
-    rt: &impl Abort,
-    alloc: Global,
-    provider: &mut Provider<MemoryRegistry>,
-    query: &str,
-) -> Result<(), Fail> {
+fn refuses_filters(rt: &impl Abort, alloc: Global, queries: &[&str]) -> Result<(), Fail> {
     let detail = "the filter is not supported";
-    refuses(rt, alloc, provider, query, "invalidFilter", detail)
+    refuses_all(rt, alloc, "invalidFilter", detail, queries)
 }
+
+static BOB_SHOWN: &str =
+    "{\"active\":true,\"id\":\"5c1a0000-0000-8000-8000-000000000001\",\"meta\":{\"location\":\"http://localhost:8080/v2/Users/5c1a0000-0000-8000-8000-000000000001\",\"resourceType\":\"User\",\"version\":\"\\\"1\\\"\"},\"schemas\":[\"urn:ietf:params:scim:schemas:core:2.0:User\",\"urn:example:params:scim:schemas:extension:source:1.0\"],\"urn:example:params:scim:schemas:extension:source:1.0\":{\"revision\":1},\"userName\":\"bob\"}";
+
+static FILTERS_OF_BOB: &[&str] = &[
+    "/v2/Users?filter=userName+eq+%22BOB%22",
+    "/v2/Users?filter=userName%20eq%20%22BOB%22",
+];
 
 #[test]
 fn a_name_is_found_in_any_case(rt: HostRuntime) -> Result<(), Fail> {
-    let mut provider = empty(rt.alloc());
-    exchange(rt.alloc(), &mut provider, CREATE_BOB)?;
-    let bob =
-        "{\"active\":true,\"id\":\"5c1a0000-0000-8000-8000-000000000001\",\"meta\":{\"location\":\"http://localhost:8080/v2/Users/5c1a0000-0000-8000-8000-000000000001\",\"resourceType\":\"User\",\"version\":\"\\\"1\\\"\"},\"schemas\":[\"urn:ietf:params:scim:schemas:core:2.0:User\",\"urn:example:params:scim:schemas:extension:source:1.0\"],\"urn:example:params:scim:schemas:extension:source:1.0\":{\"revision\":1},\"userName\":\"bob\"}";
-    let body = list(rt.alloc(), bob, 1, 1, 1)?;
-    assert_eq!(rt; body.len(), 518);
-    let expected = response(rt.alloc(), "200 OK", body.as_str())?;
-    for target in [
-        "/v2/Users?filter=userName+eq+%22BOB%22",
-        "/v2/Users?filter=userName%20eq%20%22BOB%22",
-    ] {
-        let (served, written) = asked(rt.alloc(), &mut provider, "GET", target)?;
-        assert_eq!(rt; served, Served::Answered { status: 200 });
-        assert!(rt; written.as_slice() == expected.as_bytes());
+    let alloc = rt.alloc();
+    let mut provider = empty(alloc);
+    exchange(alloc, &mut provider, CREATE_BOB)?;
+    let body = list(alloc, BOB_SHOWN, 1, 1, 1)?;
+    for target in FILTERS_OF_BOB {
+        is_answered(&rt, alloc, &mut provider, target, body.as_str())?;
     }
-    let nobody = "?filter=userName+eq+%22zed%22";
-    finds(&rt, rt.alloc(), &mut provider, nobody, &[], 1, 0)?;
-    let none = list(rt.alloc(), "", 0, 1, 0)?;
-    assert_eq!(rt; none.len(), 130);
+    let nobody = ("?filter=userName+eq+%22zed%22", &[] as &[Named], 1, 0);
+    finds(&rt, alloc, &mut provider, &nobody)
+}
+
+#[test]
+fn lists_have_their_lengths(rt: HostRuntime) -> Result<(), Fail> {
+    assert_eq!(rt; list(rt.alloc(), BOB_SHOWN, 1, 1, 1)?.len(), 518);
+    assert_eq!(rt; list(rt.alloc(), "", 0, 1, 0)?.len(), 130);
     Ok(())
 }
+
+static PAGES: &[Found] = &[
+    ("", &[ANN, BOB, CID], 1, 3),
+    ("?", &[ANN, BOB, CID], 1, 3),
+    ("?startIndex=0&count=-5", &[], 1, 3),
+    ("?startIndex=-7&count=2", &[ANN, BOB], 1, 3),
+    ("?startIndex=2&count=1", &[BOB], 2, 3),
+    ("?startIndex=9", &[], 9, 3),
+    ("?count=500", &[ANN, BOB, CID], 1, 3),
+];
 
 #[test]
 fn pages_of_a_list(rt: HostRuntime) -> Result<(), Fail> {
-    let alloc = rt.alloc();
-    let mut users = with_users(alloc, &[ANN, BOB, CID])?;
-    finds(&rt, alloc, &mut users, "", &[ANN, BOB, CID], 1, 3)?;
-    finds(&rt, alloc, &mut users, "?", &[ANN, BOB, CID], 1, 3)?;
-    finds(&rt, alloc, &mut users, "?startIndex=0&count=-5", &[], 1, 3)?;
-    finds(
-        &rt,
-        alloc,
-        &mut users,
-        "?startIndex=-7&count=2",
-        &[ANN, BOB],
-        1,
-        3,
-    )?;
-    finds(
-        &rt,
-        alloc,
-        &mut users,
-        "?startIndex=2&count=1",
-        &[BOB],
-        2,
-        3,
-    )?;
-    finds(&rt, alloc, &mut users, "?startIndex=9", &[], 9, 3)?;
-    finds(&rt, alloc, &mut users, "?count=500", &[ANN, BOB, CID], 1, 3)?;
-    refuses_value(&rt, alloc, &mut users, "?count=x")?;
-    refuses_value(&rt, alloc, &mut users, "?count=")?;
-    refuses_value(&rt, alloc, &mut users, "?startIndex=%2B1")?;
-    refuses_value(&rt, alloc, &mut users, "?startIndex=1000000000000000000")
+    finds_all(&rt, rt.alloc(), &[ANN, BOB, CID], PAGES)
 }
+
+static NO_PAGES: &[&str] = &[
+    "?count=x",
+    "?count=",
+    "?startIndex=%2B1",
+    "?startIndex=1000000000000000000",
+    "?startIndex=x&filter=(",
+    "?filter=(&count=1.0",
+];
+
+#[test]
+fn pages_that_are_none(rt: HostRuntime) -> Result<(), Fail> {
+    refuses_values(&rt, rt.alloc(), NO_PAGES)
+}
+
+static PARAMETERS: &[Found] = &[
+    ("?count=1&count=x", &[ANN], 1, 3),
+    ("?Count=x&sortBy=id&&=&c%6Funt=1", &[ANN], 1, 3),
+    ("?filter=userName+sw+%22b%22&filter=%28", &[BOB], 1, 1),
+    (
+        "?filter=not%20%28userName+eq+%22bob%22%29&startIndex=2&count=1",
+        &[CID],
+        2,
+        2,
+    ),
+    (
+        "?filter=userName+eq+%22%FF%22+or+userName+ew+%22D%22",
+        &[CID],
+        1,
+        1,
+    ),
+];
 
 #[test]
 fn parameters_of_a_query(rt: HostRuntime) -> Result<(), Fail> {
-    let alloc = rt.alloc();
-    let mut users = with_users(alloc, &[ANN, BOB, CID])?;
-    finds(&rt, alloc, &mut users, "?count=1&count=x", &[ANN], 1, 3)?;
-    finds(
-        &rt,
-        alloc,
-        &mut users,
-        "?Count=x&sortBy=id&&=&c%6Funt=1",
+    finds_all(&rt, rt.alloc(), &[ANN, BOB, CID], PARAMETERS)
+}
+
+static FILTERS: &[Found] = &[
+    (
+        "?filter=userName+eq+%22ann%22+or+userName+eq+%22bob%22+and+active+eq+false",
         &[ANN],
         1,
-        3,
-    )?;
-    let first = "?filter=userName+sw+%22b%22&filter=%28";
-    finds(&rt, alloc, &mut users, first, &[BOB], 1, 1)?;
-    let second = "?filter=not%20%28userName+eq+%22bob%22%29&startIndex=2&count=1";
-    finds(&rt, alloc, &mut users, second, &[CID], 2, 2)?;
-    let lossy = "?filter=userName+eq+%22%FF%22+or+userName+ew+%22D%22";
-    finds(&rt, alloc, &mut users, lossy, &[CID], 1, 1)?;
-    refuses_value(&rt, alloc, &mut users, "?startIndex=x&filter=(")?;
-    refuses_value(&rt, alloc, &mut users, "?filter=(&count=1.0")?;
-    refuses_filter(&rt, alloc, &mut users, "?startIndex=1&filter=(&count=0")?;
-    refuses_filter(&rt, alloc, &mut users, "?filter")
-}
+        1,
+    ),
+    ("?filter=not(username+EQ+%22ANN%22)", &[BOB], 1, 1),
+    ("?filter=externalId+ne+%225%22", &[ANN, BOB], 1, 2),
+    ("?filter=displayName+pr", &[], 1, 0),
+];
 
 #[test]
 fn filters_of_a_search(rt: HostRuntime) -> Result<(), Fail> {
-    let alloc = rt.alloc();
-    let mut users = with_users(alloc, &[ANN, BOB])?;
-    let strength = "?filter=userName+eq+%22ann%22+or+userName+eq+%22bob%22+and+active+eq+false";
-    finds(&rt, alloc, &mut users, strength, &[ANN], 1, 1)?;
-    let negated = "?filter=not(username+EQ+%22ANN%22)";
-    finds(&rt, alloc, &mut users, negated, &[BOB], 1, 1)?;
-    let absent = "?filter=externalId+ne+%225%22";
-    finds(&rt, alloc, &mut users, absent, &[ANN, BOB], 1, 2)?;
-    finds(&rt, alloc, &mut users, "?filter=displayName+pr", &[], 1, 0)?;
-    refuses_filter(&rt, alloc, &mut users, "?filter=userName+gt+%22a%22")?;
-    let path = "?filter=emails%5Btype+eq+%22work%22%5D";
-    refuses_filter(&rt, alloc, &mut users, path)?;
-    refuses_filter(&rt, alloc, &mut users, "?filter=active+co+%22t%22")?;
-    refuses_filter(&rt, alloc, &mut users, "?filter=")
+    finds_all(&rt, rt.alloc(), &[ANN, BOB], FILTERS)
 }
 
+static NO_FILTERS: &[&str] = &[
+    "?startIndex=1&filter=(&count=0",
+    "?filter",
+    "?filter=",
+    "?filter=userName+gt+%22a%22",
+    "?filter=emails%5Btype+eq+%22work%22%5D",
+    "?filter=active+co+%22t%22",
+];
+
 #[test]
-fn other_types_and_methods(rt: HostRuntime) -> Result<(), Fail> {
-    let mut provider = with_users(rt.alloc(), &[ANN])?;
-    let crew =
-        b"POST /v2/Groups HTTP/1.1\r\nHost: h\r\nContent-Length: 84\r\n\r\n{\"schemas\":[\"urn:ietf:params:scim:schemas:core:2.0:Group\"],\"displayName\":\"crew two\"}";
-    exchange(rt.alloc(), &mut provider, crew)?;
-    finds(&rt, rt.alloc(), &mut provider, "", &[ANN], 1, 1)?;
-    let shown =
-        "{\"displayName\":\"crew two\",\"id\":\"5c1a0000-0000-8000-8000-000000000002\",\"meta\":{\"location\":\"http://localhost:8080/v2/Groups/5c1a0000-0000-8000-8000-000000000002\",\"resourceType\":\"Group\",\"version\":\"\\\"1\\\"\"},\"schemas\":[\"urn:ietf:params:scim:schemas:core:2.0:Group\"]}";
-    let body = list(rt.alloc(), shown, 1, 1, 1)?;
+fn filters_that_are_none(rt: HostRuntime) -> Result<(), Fail> {
+    refuses_filters(&rt, rt.alloc(), NO_FILTERS)
+}
+
+static CREATE_CREW: &[u8] =
+    b"POST /v2/Groups HTTP/1.1\r\nHost: h\r\nContent-Length: 84\r\n\r\n{\"schemas\":[\"urn:ietf:params:scim:schemas:core:2.0:Group\"],\"displayName\":\"crew two\"}";
+
+static CREW_SHOWN: &str =
+    "{\"displayName\":\"crew two\",\"id\":\"5c1a0000-0000-8000-8000-000000000002\",\"meta\":{\"location\":\"http://localhost:8080/v2/Groups/5c1a0000-0000-8000-8000-000000000002\",\"resourceType\":\"Group\",\"version\":\"\\\"1\\\"\"},\"schemas\":[\"urn:ietf:params:scim:schemas:core:2.0:Group\"]}";
+
+#[test]
+fn each_type_has_its_collection(rt: HostRuntime) -> Result<(), Fail> {
+    let alloc = rt.alloc();
+    let mut provider = with_users(alloc, &[ANN])?;
+    exchange(alloc, &mut provider, CREATE_CREW)?;
+    finds(&rt, alloc, &mut provider, &("", &[ANN] as &[Named], 1, 1))?;
+    let body = list(alloc, CREW_SHOWN, 1, 1, 1)?;
     let named = "/v2/Groups?filter=displayName+eq+%22CREW%20two%22";
-    let (_, written) = asked(rt.alloc(), &mut provider, "GET", named)?;
-    assert!(rt; written.as_slice() == response(rt.alloc(), "200 OK", body.as_str())?.as_bytes());
-    let head =
-        b"HTTP/1.1 501 Not Implemented\r\nConnection: close\r\nContent-Length: 113\r\nContent-Type: application/scim+json\r\n\r\n";
-    let (served, written) = asked(rt.alloc(), &mut provider, "HEAD", "/v2/Groups?count=1")?;
-    assert_eq!(rt; served, Served::Answered { status: 501 });
-    assert!(rt; written.as_slice() == head.as_slice());
-    Ok(())
+    is_answered(&rt, alloc, &mut provider, named, body.as_str())
 }
 
+static HEAD_REFUSED: &[u8] =
+    b"HTTP/1.1 501 Not Implemented\r\nConnection: close\r\nContent-Length: 113\r\nContent-Type: application/scim+json\r\n\r\n";
+
 #[test]
-fn a_page_has_200_resources_at_most(rt: HostRuntime) -> Result<(), Fail> {
-    let alloc = rt.alloc();
+fn a_collection_has_no_head(rt: HostRuntime) -> Result<(), Fail> {
+    let mut provider = empty(rt.alloc());
+    let asked = b"HEAD /v2/Groups?count=1 HTTP/1.1\r\nHost: h\r\n\r\n";
+    answers(&rt, rt.alloc(), &mut provider, asked, 501, HEAD_REFUSED)
+}
+
+/// A provider with 201 users.
+fn with_many(alloc: Global) -> Result<Provider<MemoryRegistry>, Fail> {
     let mut provider = empty(alloc);
     for number in 1..=201 {
         let body = format!(in alloc;
@@ -258,18 +299,19 @@ fn a_page_has_200_resources_at_most(rt: HostRuntime) -> Result<(), Fail> {
         )?;
         exchange(alloc, &mut provider, post(alloc, body.as_str())?.as_slice())?;
     }
+    Ok(provider)
+}
+
+#[test]
+fn a_page_has_200_resources_at_most(rt: HostRuntime) -> Result<(), Fail> {
+    let alloc = rt.alloc();
+    let mut provider = with_many(alloc)?;
     for target in ["/v2/Users", "/v2/Users?count=500"] {
-        let (served, written) = asked(alloc, &mut provider, "GET", target)?;
-        assert_eq!(rt; served, Served::Answered { status: 200 });
-        let text = String::from_utf8(written).map_err(|_| "not a text")?;
-        assert!(rt;
-            text.as_str()
-                .contains("\"userName\":\"u200\"}],\"itemsPerPage\":200,")
-        );
-        assert!(rt;
-            text.as_str()
-                .ends_with("\"startIndex\":1,\"totalResults\":201}")
-        );
+        let asked = request(alloc, "GET", target)?;
+        let last = "\"userName\":\"u200\"}],\"itemsPerPage\":200,";
+        tells(&rt, alloc, &mut provider, asked.as_bytes(), 200, last)?;
+        let end = "\"startIndex\":1,\"totalResults\":201}";
+        ends(&rt, alloc, &mut provider, asked.as_bytes(), 200, end)?;
     }
     Ok(())
 }

@@ -3,9 +3,12 @@ use crate::support::FailingWriter;
 use mapping::{WriteFault, row_line, user_content, write_images};
 use scim_key::{Kind, Revision};
 use source_book::{BookFault, Verdict, accept};
-use source_csv::{Row, RowCode, RowFault, SourceFault, SourceRows, read_groups, read_users};
+use source_csv::{
+    GroupRow, Row, RowCode, RowFault, SourceFault, SourceRows, UserRow, read_groups, read_users,
+};
 use std::alloc::Global;
 use std::io::{BufWriter, ErrorKind};
+use std::process::Abort;
 use std::test::Fail;
 
 static USERS: &str = "login,revision,number,given,family,mail,status\n";
@@ -54,63 +57,120 @@ fn refused(place: usize, code: RowCode) -> Option<RowFault> {
     Some(RowFault { place, code })
 }
 
+/// Asserts that the records at these places, from 1 on, are refused so.
+fn are_refused(rt: &impl Abort, records: &[Result<Row, RowFault>], codes: &[(usize, RowCode)]) {
+    for (place, code) in codes {
+        let record = records.get(place.saturating_sub(1));
+        assert_eq!(rt; fault(record), refused(*place, *code));
+    }
+}
+
+/// The user of a record.
+fn user(record: Option<&Result<Row, RowFault>>) -> Result<&UserRow, Fail> {
+    match row(record)? {
+        Row::User(user) => Ok(user),
+        Row::Group(_) => Err(Fail::from("no user")),
+    }
+}
+
+/// The group of a record.
+fn group(record: Option<&Result<Row, RowFault>>) -> Result<&GroupRow, Fail> {
+    match row(record)? {
+        Row::Group(group) => Ok(group),
+        Row::User(_) => Err(Fail::from("no group")),
+    }
+}
+
+static REVISIONS: &[(usize, RowCode)] = &[
+    (1, RowCode::Revision),
+    (2, RowCode::Revision),
+    (3, RowCode::Revision),
+    (6, RowCode::Revision),
+    (7, RowCode::Revision),
+];
+
 #[test]
 fn revisions_have_their_range(rt: HostRuntime) -> Result<(), Fail> {
     let records =
         "ann,0,,,,,active\nann,2000000001,,,,,active\nann,07x,,,,,active\nann,2000000000,,,,,active\nann,000000000000000007,,,,,active\nann,0000000000000000007,,,,,active\nann,,,,,,active\n";
-    let rows = users(rt.alloc(), records)?.into_vec();
+    let rows = users(rt.alloc(), records)?;
+    let rows = rows.as_slice();
     assert_eq!(rt; rows.len(), 7);
-    for place in [1, 2, 3, 6, 7] {
-        assert_eq!(rt;
-            fault(rows.get(place - 1)),
-            refused(place, RowCode::Revision)
-        );
-    }
+    are_refused(&rt, rows, REVISIONS);
     assert_eq!(rt; row(rows.get(3))?.revision().number(), 2_000_000_000);
     assert_eq!(rt; row(rows.get(4))?.revision().number(), 7);
     Ok(())
 }
 
+/// Asserts what becomes of each row after the first of them.
+fn become_of(
+    rt: &impl Abort,
+    records: &[Result<Row, RowFault>],
+    verdicts: &[Result<Verdict, BookFault>],
+) -> Result<(), Fail> {
+    let first = row(records.first())?;
+    for (place, verdict) in verdicts.iter().enumerate() {
+        let next = row(records.get(place))?;
+        assert_eq!(rt; accept(Some(first), next, None), *verdict);
+    }
+    Ok(())
+}
+
+static VERDICTS: &[Result<Verdict, BookFault>] = &[
+    Ok(Verdict::Known),
+    Ok(Verdict::Known),
+    Ok(Verdict::Older),
+    Err(BookFault::Differs),
+    Err(BookFault::Differs),
+];
+
 #[test]
 fn rows_count_by_the_last_of_their_record(rt: HostRuntime) -> Result<(), Fail> {
     let records =
         "ann,2000000000,,,,,active\nann,2000000000,,,,,active\nann,1,,,,,active\nann,2000000000,,,,ann@example.com,active\nANN,2000000000,,,,,active\n";
-    let rows = users(rt.alloc(), records)?.into_vec();
-    let first = row(rows.first())?;
+    let rows = users(rt.alloc(), records)?;
+    become_of(&rt, rows.as_slice(), VERDICTS)
+}
+
+#[test]
+fn a_higher_revision_is_new(rt: HostRuntime) -> Result<(), Fail> {
+    let rows = users(rt.alloc(), "ann,1,,,,,active\nann,2,,,,,active\n")?;
+    become_of(
+        &rt,
+        rows.as_slice(),
+        &[Ok(Verdict::Known), Ok(Verdict::New)],
+    )?;
+    let first = row(rows.as_slice().first())?;
     assert_eq!(rt; accept(None, first, None), Ok(Verdict::New));
-    assert_eq!(rt;
-        accept(Some(first), row(rows.get(1))?, None),
-        Ok(Verdict::Known)
-    );
-    let lower = row(rows.get(2))?;
-    assert_eq!(rt; accept(Some(first), lower, None), Ok(Verdict::Older));
-    assert_eq!(rt; accept(Some(lower), first, None), Ok(Verdict::New));
-    for place in [3, 4] {
-        let other = row(rows.get(place))?;
-        assert_eq!(rt; accept(Some(first), other, None), Err(BookFault::Differs));
-    }
     Ok(())
 }
+
+static FIRST_CODES: &[(usize, RowCode)] = &[
+    (1, RowCode::FieldCount),
+    (2, RowCode::Name),
+    (3, RowCode::Revision),
+    (4, RowCode::Value),
+];
 
 #[test]
 fn records_are_refused_by_the_first_code(rt: HostRuntime) -> Result<(), Fail> {
     let records =
         "a b,0,,,,,active,\na b,0,,,,,gone\nbob,0,,,,,gone\nbob,1,,,,,gone\nbob,1,,,,,left\n";
-    let rows = users(rt.alloc(), records)?.into_vec();
+    let rows = users(rt.alloc(), records)?;
+    let rows = rows.as_slice();
     assert_eq!(rt; rows.len(), 5);
-    assert_eq!(rt; fault(rows.first()), refused(1, RowCode::FieldCount));
-    assert_eq!(rt; fault(rows.get(1)), refused(2, RowCode::Name));
-    assert_eq!(rt; fault(rows.get(2)), refused(3, RowCode::Revision));
-    assert_eq!(rt; fault(rows.get(3)), refused(4, RowCode::Value));
-    let Row::User(last) = row(rows.get(4))? else {
-        return Err(Fail::from("no user"));
-    };
-    assert!(rt; !last.is_active());
+    are_refused(&rt, rows, FIRST_CODES);
+    assert!(rt; !user(rows.get(4))?.is_active());
+    Ok(())
+}
+
+#[test]
+fn records_are_in_utf_8(rt: HostRuntime) -> Result<(), Fail> {
     let mut bytes = format!(in rt.alloc(); "{USERS}a b,0,,,,")?.into_bytes();
     bytes.push(0xff)?;
     bytes.extend_from_slice(b",active\n")?;
-    let rows = read_users(rt.alloc(), bytes.as_slice())?.into_vec();
-    assert_eq!(rt; fault(rows.first()), refused(1, RowCode::NotUtf8));
+    let rows = read_users(rt.alloc(), bytes.as_slice())?;
+    are_refused(&rt, rows.as_slice(), &[(1, RowCode::NotUtf8)]);
     Ok(())
 }
 
@@ -121,9 +181,9 @@ fn values_have_at_most_256_bytes(rt: HostRuntime) -> Result<(), Fail> {
         text.push('m')?;
     }
     let records = format!(in rt.alloc(); "ann,1,{text},,,,active\nann,1,,,,{text}m,active\n")?;
-    let rows = users(rt.alloc(), records.as_str())?.into_vec();
-    row(rows.first())?;
-    assert_eq!(rt; fault(rows.get(1)), refused(2, RowCode::Value));
+    let rows = users(rt.alloc(), records.as_str())?;
+    row(rows.as_slice().first())?;
+    are_refused(&rt, rows.as_slice(), &[(2, RowCode::Value)]);
     Ok(())
 }
 
@@ -149,22 +209,42 @@ fn headers_are_asked(rt: HostRuntime) -> Result<(), Fail> {
     Ok(())
 }
 
+fn is_named(rt: &impl Abort, alloc: Global, row: &Row, key: &str) -> Result<(), Fail> {
+    let name = row.record_name(alloc)?;
+    assert_eq!(rt; name.kind, Kind::User);
+    assert!(rt; name.key.as_str() == key);
+    Ok(())
+}
+
 #[test]
 fn records_are_those_of_csv(rt: HostRuntime) -> Result<(), Fail> {
     let text =
         b"\xef\xbb\xbflogin,revision,number,given,family,mail,status\r\n\r\nann,1,,\"Ann, \"\"A\"\"\",\"Lee\nfield\",,active\rbob,2,,,,,left\n\n\r\ncid,3,,,,,active";
-    let rows = read_users(rt.alloc(), text)?.into_vec();
+    let rows = read_users(rt.alloc(), text)?;
+    let rows = rows.as_slice();
     assert_eq!(rt; rows.len(), 3);
-    let Row::User(ann) = row(rows.first())? else {
-        return Err(Fail::from("no user"));
-    };
+    let ann = user(rows.first())?;
     assert!(rt; ann.given() == "Ann, \"A\"");
     assert!(rt; ann.family() == "Lee\nfield");
     assert!(rt; ann.mail() == "");
     for (place, key) in ["ann", "bob", "cid"].iter().enumerate() {
-        let name = row(rows.get(place))?.record_name(rt.alloc())?;
-        assert_eq!(rt; name.kind, Kind::User);
-        assert!(rt; name.key.as_str() == *key);
+        is_named(&rt, rt.alloc(), row(rows.get(place))?, key)?;
+    }
+    Ok(())
+}
+
+static GROUP_CODES: &[(usize, RowCode)] = &[
+    (1, RowCode::RepeatedMember),
+    (2, RowCode::Name),
+    (5, RowCode::Name),
+    (6, RowCode::Revision),
+];
+
+fn has_members(rt: &impl Abort, group: &GroupRow, keys: &[&str]) -> Result<(), Fail> {
+    assert_eq!(rt; group.members().len(), keys.len());
+    for (place, key) in keys.iter().enumerate() {
+        let member = group.members().get(place).ok_or("no member")?;
+        assert!(rt; member.as_str() == *key);
     }
     Ok(())
 }
@@ -173,26 +253,13 @@ fn records_are_those_of_csv(rt: HostRuntime) -> Result<(), Fail> {
 fn members_are_keys_in_byte_order(rt: HostRuntime) -> Result<(), Fail> {
     let records =
         "crew,1,ann Ann\ncrew,1,ann  bob\ncrew,1,zoe\ncrew,1,bob ANN\n crew,1,ann\ncrew,0,ann ann\ncrew,2,\n";
-    let rows = groups(rt.alloc(), records)?.into_vec();
-    assert_eq!(rt; fault(rows.first()), refused(1, RowCode::RepeatedMember));
-    assert_eq!(rt; fault(rows.get(1)), refused(2, RowCode::Name));
+    let rows = groups(rt.alloc(), records)?;
+    let rows = rows.as_slice();
+    are_refused(&rt, rows, GROUP_CODES);
     let missing = accept(None, row(rows.get(2))?, Some(0));
     assert_eq!(rt; missing, Err(BookFault::NoSuchMember { place: 0 }));
-    let Row::Group(crew) = row(rows.get(3))? else {
-        return Err(Fail::from("no group"));
-    };
-    assert_eq!(rt; crew.members().len(), 2);
-    for (place, key) in ["ann", "bob"].iter().enumerate() {
-        let member = crew.members().get(place).ok_or("no member")?;
-        assert!(rt; member.as_str() == *key);
-    }
-    assert_eq!(rt; fault(rows.get(4)), refused(5, RowCode::Name));
-    assert_eq!(rt; fault(rows.get(5)), refused(6, RowCode::Revision));
-    let Row::Group(empty) = row(rows.get(6))? else {
-        return Err(Fail::from("no group"));
-    };
-    assert!(rt; empty.members().is_empty());
-    Ok(())
+    has_members(&rt, group(rows.get(3))?, &["ann", "bob"])?;
+    has_members(&rt, group(rows.get(6))?, &[])
 }
 
 #[test]
@@ -202,9 +269,9 @@ fn groups_have_at_most_400_members(rt: HostRuntime) -> Result<(), Fail> {
         members.push_str(format!(in rt.alloc(); " m{number}")?.as_str())?;
     }
     let records = format!(in rt.alloc(); "crew,1,{members}\ncrew,1,{members} m401\n")?;
-    let rows = groups(rt.alloc(), records.as_str())?.into_vec();
-    row(rows.first())?;
-    assert_eq!(rt; fault(rows.get(1)), refused(2, RowCode::TooManyMembers));
+    let rows = groups(rt.alloc(), records.as_str())?;
+    row(rows.as_slice().first())?;
+    are_refused(&rt, rows.as_slice(), &[(2, RowCode::TooManyMembers)]);
     Ok(())
 }
 
@@ -217,11 +284,14 @@ fn rows_have_their_images(rt: HostRuntime) -> Result<(), Fail> {
     assert!(rt; out.as_slice().starts_with(ANN_LINE));
     assert!(rt; out.as_slice().ends_with(BOB_LINE));
     assert_eq!(rt; out.len(), ANN_LINE.len() + BOB_LINE.len());
-    let rows = rows.into_vec();
-    assert_eq!(rt; fault(rows.get(1)), refused(2, RowCode::Revision));
-    let Row::User(ann) = row(rows.first())? else {
-        return Err(Fail::from("no user"));
-    };
+    are_refused(&rt, rows.as_slice(), &[(2, RowCode::Revision)]);
+    Ok(())
+}
+
+#[test]
+fn a_row_has_its_image(rt: HostRuntime) -> Result<(), Fail> {
+    let rows = users(rt.alloc(), ANN)?;
+    let ann = user(rows.as_slice().first())?;
     assert!(rt; row_line(rt.alloc(), ann)?.as_slice() == ANN_LINE);
     let name = user_content(rt.alloc(), ann)?.name(rt.alloc())?;
     assert!(rt; name.key.as_str() == "ann");
@@ -252,21 +322,24 @@ fn lines_that_cannot_be_written_are_told(rt: HostRuntime) -> Result<(), Fail> {
     Ok(())
 }
 
+static CODES: &[(RowCode, &str)] = &[
+    (RowCode::FieldCount, "S2"),
+    (RowCode::NotUtf8, "S3"),
+    (RowCode::Name, "S4"),
+    (RowCode::Value, "S6"),
+    (RowCode::RepeatedMember, "S9"),
+    (RowCode::TooManyMembers, "S10"),
+];
+
 #[test]
 fn faults_of_files_are_printed_as_their_codes(rt: HostRuntime) -> Result<(), Fail> {
-    let rows = users(rt.alloc(), "ann,1,,,,,active\nann,0,,,,,active\n")?.into_vec();
-    let told = fault(rows.get(1)).ok_or("no fault")?;
+    let told = RowFault {
+        place: 2,
+        code: RowCode::Revision,
+    };
     assert!(rt; told.to_string(rt.alloc())?.as_str() == "record 2: S5");
-    let codes = [
-        (RowCode::FieldCount, "S2"),
-        (RowCode::NotUtf8, "S3"),
-        (RowCode::Name, "S4"),
-        (RowCode::Value, "S6"),
-        (RowCode::RepeatedMember, "S9"),
-        (RowCode::TooManyMembers, "S10"),
-    ];
-    for (code, text) in codes {
-        assert!(rt; code.to_string(rt.alloc())?.as_str() == text);
+    for (code, text) in CODES {
+        assert!(rt; code.to_string(rt.alloc())?.as_str() == *text);
     }
     assert!(rt; SourceFault::Header.to_string(rt.alloc())?.as_str() == "S1");
     assert!(rt; BookFault::Differs.to_string(rt.alloc())?.as_str() == "S7");

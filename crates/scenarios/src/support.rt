@@ -6,6 +6,7 @@ use scim_server::{Served, serve};
 use std::alloc::Global;
 use std::io;
 use std::io::{Read, Write};
+use std::process::Abort;
 use std::test::Fail;
 
 /// The request that creates the user `bob` at revision 1, as the connector writes it.
@@ -41,6 +42,52 @@ pub fn exchange<R: Registry>(
     let mut writer = Output::new(Vec::new(alloc));
     let served = serve(alloc, provider, &base, &mut reader, &mut writer);
     Ok((served, writer.into_inner()))
+}
+
+/// Asserts that a request is answered with this status, by these bytes.
+pub fn answers<R: Registry>(
+    rt: &impl Abort,
+    alloc: Global,
+    provider: &mut Provider<R>,
+    request: &[u8],
+    status: u16,
+    expected: &[u8],
+) -> Result<(), Fail> {
+    let (served, written) = exchange(alloc, provider, request)?;
+    assert_eq!(rt; served, Served::Answered { status });
+    assert!(rt; written.as_slice() == expected);
+    Ok(())
+}
+
+/// Asserts that a request is answered with this status, by bytes that end so.
+pub fn ends<R: Registry>(
+    rt: &impl Abort,
+    alloc: Global,
+    provider: &mut Provider<R>,
+    request: &[u8],
+    status: u16,
+    end: &str,
+) -> Result<(), Fail> {
+    let (served, written) = exchange(alloc, provider, request)?;
+    assert_eq!(rt; served, Served::Answered { status });
+    assert!(rt; written.as_slice().ends_with(end.as_bytes()));
+    Ok(())
+}
+
+/// Asserts that a request is answered with this status, by a text in which this stands.
+pub fn tells<R: Registry>(
+    rt: &impl Abort,
+    alloc: Global,
+    provider: &mut Provider<R>,
+    request: &[u8],
+    status: u16,
+    part: &str,
+) -> Result<(), Fail> {
+    let (served, written) = exchange(alloc, provider, request)?;
+    assert_eq!(rt; served, Served::Answered { status });
+    let text = String::from_utf8(written).map_err(|_| "not a text")?;
+    assert!(rt; text.as_str().contains(part));
+    Ok(())
 }
 
 /// What an empty provider answers to these bytes, and how many rows it then has.

@@ -1,5 +1,7 @@
 //! Entity tags and conditions.
 use scim_version::{Condition, EntityTag, TagFault};
+use std::alloc::Global;
+use std::process::Abort;
 use std::test::Fail;
 
 #[test]
@@ -21,24 +23,41 @@ fn tags_are_compared_by_bytes(rt: HostRuntime) -> Result<(), Fail> {
     Ok(())
 }
 
+/// Asserts whether a condition holds of a version as `If-Match`, and as `If-None-Match`.
+fn holds(
+    rt: &impl Abort,
+    alloc: Global,
+    text: &str,
+    version: Option<u64>,
+    wanted: (bool, bool),
+) -> Result<(), Fail> {
+    let condition = Condition::read_list(alloc, text.as_bytes())?;
+    assert_eq!(rt; condition.holds_match(version), wanted.0);
+    assert_eq!(rt; condition.holds_none_match(version), wanted.1);
+    Ok(())
+}
+
+static CONDITIONS: &[(&str, Option<u64>, (bool, bool))] = &[
+    ("\"7\", ,\"1\"", Some(1), (true, false)),
+    ("\"7\", ,\"1\"", Some(2), (false, true)),
+    ("\"7\", ,\"1\"", None, (false, true)),
+    ("W/\"1\"", Some(1), (false, false)),
+    ("*,", Some(5), (true, false)),
+    ("*,", None, (false, true)),
+    ("\"a,b\"", Some(1), (false, true)),
+];
+
 #[test]
 fn conditions(rt: HostRuntime) -> Result<(), Fail> {
-    let some = Condition::read_list(rt.alloc(), b"\"7\", ,\"1\"")?;
-    assert!(rt; some.holds_match(Some(1)) && !some.holds_match(Some(2)) && !some.holds_match(None));
-    assert!(rt;
-        !some.holds_none_match(Some(1))
-            && some.holds_none_match(Some(2))
-            && some.holds_none_match(None)
-    );
-    let weak = Condition::read_list(rt.alloc(), b"W/\"1\"")?;
-    assert!(rt; !weak.holds_match(Some(1)) && !weak.holds_none_match(Some(1)));
-    let any = Condition::read_list(rt.alloc(), b"*,")?;
-    assert!(rt;
-        any.holds_match(Some(5)) && !any.holds_match(None) && !any.holds_none_match(Some(5))
-    );
+    for (text, version, wanted) in CONDITIONS {
+        holds(&rt, rt.alloc(), text, *version, *wanted)?;
+    }
     assert!(rt; Condition::Always.holds_match(None) && Condition::Always.holds_none_match(Some(1)));
-    let comma_inside = Condition::read_list(rt.alloc(), b"\"a,b\"")?;
-    assert!(rt; !comma_inside.holds_match(Some(1)));
+    Ok(())
+}
+
+#[test]
+fn conditions_that_are_malformed(rt: HostRuntime) -> Result<(), Fail> {
     for malformed in ["1", "*, *", "*, \"1\"", ",", "\"1\" \"2\""] {
         let read = Condition::read_list(rt.alloc(), malformed.as_bytes());
         assert_eq!(rt; read.err(), Some(TagFault::Malformed));
