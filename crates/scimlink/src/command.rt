@@ -34,27 +34,53 @@ pub fn choose<R: Runtime + AllocGlobal>(rt: &R, words: &[String]) -> Result<Choi
     }
 }
 
-fn command<'a>(alloc: Global) -> Result<Command<'a>, AllocError> {
+fn answer_command<'a>(alloc: Global) -> Result<Command<'a>, AllocError> {
     let base = Arg::new(alloc, "base")
         .long("base")
         .value_name("URL")
         .help("the base of the service: http://HOST/v2")
         .default_value("http://localhost:8080/v2");
-    let answer = Command::new(alloc, "answer")
+    Command::new(alloc, "answer")
         .about("answers one HTTP request from standard input on standard output")
-        .arg(base)?;
+        .arg(base)
+}
+
+fn map_command<'a>(alloc: Global) -> Result<Command<'a>, AllocError> {
     let file = Arg::new(alloc, "FILE")
         .help("a users file: login,revision,number,given,family,mail,status")
         .required(true);
-    let map = Command::new(alloc, "map")
+    Command::new(alloc, "map")
         .about("prints the SCIM user that each row of a users file asks for, a line each")
-        .arg(file)?;
-    Command::new(alloc, "scimlink")
+        .arg(file)
+}
+
+fn command<'a>(alloc: Global) -> Result<Command<'a>, AllocError> {
+    let answer = answer_command(alloc)?;
+    match map_command(alloc) {
+        Ok(map) => with_subcommands(alloc, answer, map),
+        Err(fault) => {
+            drop(answer);
+            Err(fault)
+        }
+    }
+}
+
+fn with_subcommands<'a>(
+    alloc: Global,
+    answer: Command<'a>,
+    map: Command<'a>,
+) -> Result<Command<'a>, AllocError> {
+    let command = Command::new(alloc, "scimlink")
         .version("0.1.0")
         .about("SCIM 2.0 provisioning, proved")
-        .subcommand_required(true)
-        .subcommand(answer)?
-        .subcommand(map)
+        .subcommand_required(true);
+    match command.subcommand(answer) {
+        Ok(command) => command.subcommand(map),
+        Err(fault) => {
+            drop(map);
+            Err(fault)
+        }
+    }
 }
 
 fn chosen<R: Runtime + AllocGlobal>(rt: &R, matches: &ArgMatches<'_>) -> Result<Choice, Status> {
