@@ -65,7 +65,7 @@ abbrev IsInOrder : List Key → Type 0
 IsInOrder [] = Unit {0}
 IsInOrder (x ∷ xs) = AllByRecursion (λ y. precedes y x ≡ false) xs × IsInOrder xs
 
-all_put : (P : Key → Type 0) (key : Key) (keys : List Key) → P key → AllByRecursion P keys → AllByRecursion P (put key keys)
+pub all_put : (P : Key → Type 0) (key : Key) (keys : List Key) → P key → AllByRecursion P keys → AllByRecursion P (put key keys)
 all_put P key [] here all = (here, tt)
 all_put P key (next ∷ keys) here all = elim (cases_Bool (precedes next key)) [
   | inl e ↦ rw e (all.0, all_put P key keys here all.1)

@@ -3,8 +3,9 @@ use Rattle.std.specs.Prelude.{◌≡◌, ℕ, Bool, true, List, [], ◌∷◌, l
 use Rattle.std.specs.Bool.{beq}
 use Rattle.std.specs.Cmp.Lexicographic.{pointwise, slice_cmp}
 use Rattle.std.specs.Ordering.{nat_cmp, is_lt}
+use Rattle.std.specs.List.{AllByRecursion}
 use Rattle.std.specs.Str.{bytes_eq}
-use Rattle.scim_key.specs.Names.{IsGroupName, IsUserName}
+use Rattle.scim_key.specs.Names.{IsGroupName, IsKey, IsUserName}
 use Rattle.scim_key.specs.Revisions.{RevisionValue, IsRevision}
 
 -- how many bytes a user's number, given name, family name and mail have at most
@@ -52,6 +53,14 @@ are_rising [] = true
 are_rising (key ∷ []) = true
 are_rising (key ∷ next ∷ keys) = precedes key next && are_rising (next ∷ keys)
 
+-- the key of a user: a `userName` in which no letter is a capital
+pub record IsUserKey (key : List ℕ) : Type 0 where
+  pub named : IsUserName key
+  pub lowered : IsKey key
+
+abbrev pub AreUserKeys : List (List ℕ) → Type 0
+AreUserKeys keys = AllByRecursion IsUserKey keys
+
 -- a row of a group. Its members are the keys of their names, in byte order
 pub record GroupFields : Type 0 where
   pub name : List ℕ
@@ -64,6 +73,7 @@ pub record IsGroupRow (row : GroupFields) : Type 0 where
   pub revision : IsRevision row.revision
   pub few : length row.members ≤ member_limit
   pub rising : are_rising row.members ≡ true
+  pub keys : AreUserKeys row.members
 
 -- the same of two rows of groups
 abbrev pub same_group : GroupFields → GroupFields → Bool

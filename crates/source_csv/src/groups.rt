@@ -6,7 +6,7 @@ ghost use Rattle.scim_key.specs.Names.{IsGroupName};
 ghost use Rattle.scim_key.specs.Revisions.{IsRevision};
 ghost use Rattle.csv.specs.Records.{fields_of};
 ghost use Rattle.source_csv.specs.Fields.{Reads, ReadsBy, field, read_group, read_group_fields, read_keys, read_member, read_members};
-ghost use Rattle.source_csv.specs.Rows.{same_group, member_limit, are_rising, precedes};
+ghost use Rattle.source_csv.specs.Rows.{AreUserKeys, IsGroupRow, same_group, member_limit, are_rising, precedes};
 
 use crate::faults::{Refusal, RowCode};
 use crate::fields::{field, group_name_of, login_of, revision_of, texts_of};
@@ -150,6 +150,7 @@ impl GroupRow {
     pub fn revision(&self) -> Revision
         ensures value { result ≡ self.now.revision }
         ensures lawful { IsRevision self.now.revision }
+        ensures row { IsGroupRow self.now }
     {
         self.revision
     }
@@ -159,6 +160,7 @@ impl GroupRow {
         ensures value { result.now ≡ self.now.members }
         ensures few { length self.now.members ≤ member_limit }
         ensures rising { are_rising self.now.members ≡ true }
+        ensures keys { AreUserKeys self.now.members }
     {
         self.members.as_slice()
     }

@@ -11,5 +11,5 @@ mod users;
 pub use faults::{RowCode, RowFault, SourceFault};
 pub use files::{SourceRows, files_have_records, read_groups, read_users};
 pub use groups::GroupRow;
-pub use rows::Row;
+pub use rows::{Row, keys_are_of_names};
 pub use users::UserRow;

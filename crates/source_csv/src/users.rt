@@ -4,7 +4,7 @@ ghost use Rattle.std.specs.Str.{bytes_eq};
 ghost use Rattle.csv.specs.Records.{fields_of};
 ghost use Rattle.scim_key.specs.Names.{IsUserName};
 ghost use Rattle.scim_key.specs.Revisions.{IsRevision};
-ghost use Rattle.source_csv.specs.Rows.{same_user, same_values, value_limit};
+ghost use Rattle.source_csv.specs.Rows.{IsUserRow, same_user, same_values, value_limit};
 ghost use Rattle.source_csv.specs.Fields.{Reads, field, read_user, read_user_fields};
 
 use crate::faults::{Refusal, RowCode};
@@ -100,6 +100,7 @@ impl UserRow {
     pub fn revision(&self) -> Revision
         ensures value { result ≡ self.now.revision }
         ensures lawful { IsRevision self.now.revision }
+        ensures row { IsUserRow self.now }
     {
         self.revision
     }
