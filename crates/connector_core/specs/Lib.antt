@@ -1,0 +1,6 @@
+pub mod Book
+pub mod Maps
+pub mod Images
+pub mod Asking
+pub mod Learning
+pub mod Changing

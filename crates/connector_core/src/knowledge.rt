@@ -1,0 +1,39 @@
+//! What is known of a record.
+use scim_key::{ResourceId, Revision};
+use scim_version::EntityTag;
+use source_csv::Row;
+
+/// What was seen last of a record at the provider, since the connector was opened.
+#[derive(Debug, Drop)]
+pub enum Seen {
+    /// Nothing.
+    Unknown,
+    /// The provider has no resource of the record.
+    Absent,
+    /// A resource under an entity tag, at a revision of the source.
+    At { tag: EntityTag, revision: Revision },
+}
+
+/// What the connector knows of a record.
+#[derive(Debug)]
+pub struct Known {
+    /// The last row that the source gave of it.
+    pub wanted: Row,
+    /// The highest revision that the provider showed, or none.
+    pub confirmed: Revision,
+    /// The id that the provider gave to it.
+    pub id: Option<ResourceId>,
+    pub seen: Seen,
+}
+
+/// One call wherever it is let go, as for a row.
+impl Drop for Known {
+    fn drop(self) {
+        let Known {
+            wanted: _,
+            confirmed: _,
+            id: _,
+            seen: _,
+        } = self;
+    }
+}

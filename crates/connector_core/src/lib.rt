@@ -1,0 +1,15 @@
+//! The connector: what the source wants of each record, what is asked of the provider for it, and
+//! what is learnt from the answers.
+#![tactic(auto)]
+
+mod asking;
+mod changing;
+mod knowledge;
+mod learning;
+mod opening;
+
+pub use asking::{Ask, AskFault};
+pub use changing::ChangeFault;
+pub use knowledge::{Known, Seen};
+pub use learning::{LearnFault, Learnt};
+pub use opening::OpenFault;
