@@ -6,3 +6,4 @@ pub mod Stories
 pub mod Stores
 pub mod Memory
 pub mod MemoryFaults
+pub mod Tables

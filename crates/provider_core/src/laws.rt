@@ -1,6 +1,7 @@
 //! Laws of the provider.
 ghost use Rattle.provider_core.specs.Stories.{RowsFollowStories, StoriesGrow, VersionsCount};
 ghost use Rattle.provider_core.specs.MemoryFaults.{OnlyMemoryWants};
+ghost use Rattle.provider_core.specs.Tables.{EntriesAreFound, FoundByName, GoOnAt, GoOnFurther, GoOnStaying, ShowsFacts, StepsWrite, TablesStayWhole};
 
 /// Rows with a version counter answer and change as the table of whole stories does.
 pub fn rows_follow_stories()
@@ -16,4 +17,34 @@ pub fn memory_never_faults()
 pub fn stories_only_grow()
     ensures grow { StoriesGrow }
     ensures counted { VersionsCount }
+{}
+
+/// After every request no two entries of the table are of one record, and each content of a story is of its
+/// entry's record.
+pub fn tables_stay_whole()
+    ensures { TablesStayWhole }
+{}
+
+/// A record's row is that of its entry: the one that has its name.
+pub fn records_are_found_by_name()
+    ensures rows { FoundByName }
+    ensures entries { EntriesAreFound }
+{}
+
+/// What a request writes: nothing, a first content under a free name, or the next content of the story with
+/// the id and the name, whose version the condition holds of.
+pub fn requests_write_one_content()
+    ensures { StepsWrite }
+{}
+
+/// Each resource that an answer shows is a content that the entry with its id held, under that version's tag.
+pub fn answers_show_facts()
+    ensures { ShowsFacts }
+{}
+
+/// Entries that go on, read at a place, where nothing changes, and over two steps.
+pub fn entries_go_on()
+    ensures at { GoOnAt }
+    ensures staying { GoOnStaying }
+    ensures further { GoOnFurther }
 {}

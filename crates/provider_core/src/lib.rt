@@ -9,7 +9,10 @@ mod provider;
 mod registry;
 mod searching;
 
-pub use laws::{memory_never_faults, rows_follow_stories, stories_only_grow};
+pub use laws::{
+    answers_show_facts, entries_go_on, memory_never_faults, records_are_found_by_name,
+    requests_write_one_content, rows_follow_stories, stories_only_grow, tables_stay_whole,
+};
 pub use memory::MemoryRegistry;
 pub use pending::{Change, Pending};
 pub use provider::{Provider, ProviderFault};
