@@ -13,4 +13,4 @@ mod tokens;
 mod words;
 
 pub use filters::{Filter, FilterFault};
-pub use laws::{one_filter, text_spells};
+pub use laws::{keys_decide, one_filter, text_spells};
