@@ -1,3 +1,4 @@
 pub mod Parts
 pub mod RepeatedNames
 pub mod Texts
+pub mod Utf8Texts

@@ -1,18 +1,8 @@
 -- What an attribute's value must be. An absent value is no fault.
-use Rattle.std.specs.Prelude.{ℕ, List, length, Bool, Option, None, Some, Result, Ok, Err, nat_le, if◌then◌else◌}
+use Rattle.std.specs.Prelude.{ℕ, Bool, Option, None, Some, Result, Ok, Err}
 use Rattle.serde_json.specs.Data.{unsigned, negative, float, Data, null, boolean, number, string, array, object, Items, no_items, Members}
 use Rattle.scim_json.specs.declared.values.ValueFault.{ValueFault}
-use Rattle.scim_json.specs.declared.values.ValueFault.TheVariants.{WrongType, TooLong}
-
--- a text of at most `limit` bytes
-abbrev pub text_within : ℕ → Option Data → Result (Option (List ℕ)) ValueFault
-text_within limit None = Ok None
-text_within limit (Some null) = Err WrongType
-text_within limit (Some (boolean b)) = Err WrongType
-text_within limit (Some (number n)) = Err WrongType
-text_within limit (Some (string s)) = if nat_le (length s) limit then Ok (Some s) else Err TooLong
-text_within limit (Some (array ds)) = Err WrongType
-text_within limit (Some (object ms)) = Err WrongType
+use Rattle.scim_json.specs.declared.values.ValueFault.TheVariants.{WrongType}
 
 -- a boolean, or `absent` where there is none
 abbrev pub flag_or : Bool → Option Data → Result Bool ValueFault

@@ -1,5 +1,5 @@
 //! What an attribute's value must be. An absent value is no fault.
-ghost use Rattle.std.specs.Prelude.{◌≡◌, ◌≤◌, option_map};
+ghost use Rattle.std.specs.Prelude.{◌≡◌, option_map};
 ghost use Rattle.std.specs.Result.{result_map_both};
 ghost use Rattle.serde_json.specs.View.{view, items_view, members_view};
 ghost use Rattle.scim_json.specs.Values as spec;
@@ -12,27 +12,6 @@ use thiserror::Error;
 pub enum ValueFault {
     #[error("the value has another type")]
     WrongType,
-    #[error("the text is too long")]
-    TooLong,
-}
-
-/// A text of at most `limit` bytes.
-pub fn text_within(value: Option<&Value>, limit: usize) -> Result<Option<&str>, ValueFault>
-    ensures { result_map_both (option_map (λ s. s.now)) (λ e. e) result
-        ≡ spec.text_within limit (option_map (λ v. view v.now) value.entry) }
-{
-    match value {
-        None => Ok(None),
-        Some(Value::String(text)) => {
-            let text = text.as_str();
-            if text.len() <= limit {
-                Ok(Some(text))
-            } else {
-                Err(ValueFault::TooLong)
-            }
-        }
-        Some(_) => Err(ValueFault::WrongType),
-    }
 }
 
 /// A boolean, or `absent` where there is none.
