@@ -1,13 +1,14 @@
 -- A content that is written is plain, and is read back as itself; so is a resource that is shown.
-use Rattle.std.proofs.Common.{◌≡◌, ℕ, ◌≤◌, List, false, Option, Some, None, Ok, option_map, refl, arith}
+use Rattle.std.proofs.Common.{◌≡◌, ℕ, ◌≤◌, List, false, Option, Some, None, Ok, option_map, IsUtf8, refl, ap, ◌∙◌, arith}
 use Rattle.serde_json.specs.Data.{Data, string, depth}
 use Rattle.serde_json.specs.Read.{read}
 use Rattle.serde_json.specs.Written.{has_float, compact_text}
 use Rattle.scim_json.specs.Plain.{IsPlain}
 use Rattle.scim_json.proofs.Parts.{IsPlainIf, MembersArePlain-members_from, depth_if, AreWithin, members_depth-members_from, has_float-plain}
 use Rattle.scim_json.proofs.Texts.{read-compact_text}
+use Rattle.scim_json.proofs.Utf8Texts.{json_of-utf8}
 use Rattle.scim_resource.specs.Contents.{content_kind, IsContent}
-use Rattle.scim_resource.specs.Reading.{read_content}
+use Rattle.scim_resource.specs.Reading.{content_from, content_in, read_content}
 use Rattle.scim_resource.specs.Rows.{ShownRecord}
 use Rattle.scim_resource.specs.declared.contents.Content.{Content}
 use Rattle.scim_resource.specs.declared.contents.Content.TheVariants.{User, Group}
@@ -34,6 +35,9 @@ resource_spelled id meta c h ip mp i m = read-compact_text (resource_data id met
 
 pub content_spelled : (c : Content) → IsContent c → read (compact_text (content_data c)) ≡ Some (content_data c)
 content_spelled c h = resource_spelled None None c h tt tt (omega arith) (omega arith)
+
+pub content_sent : (c : Content) → IsContent c → IsUtf8 (compact_text (content_data c)) → content_in (content_kind c) (compact_text (content_data c)) ≡ Ok c
+content_sent c h text = ap (content_from (content_kind c)) (json_of-utf8 _ text ∙ content_spelled c h) ∙ content_read None None c h
 
 pub content_whole : (c : Content) → IsContent c → has_float (content_data c) ≡ false
 content_whole c h = has_float-plain (content_data c) (resource_plain None None c h tt tt)

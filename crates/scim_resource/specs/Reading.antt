@@ -8,6 +8,7 @@ use Rattle.scim_key.specs.declared.records.Kind.TheVariants as kinds
 use Rattle.serde_json.specs.Data.{Data, null, boolean, number, string, array, object, Items, no_items, item, Members}
 use Rattle.scim_json.specs.Attributes.{same_name, attribute, repeats, value_repeats, list_repeats}
 use Rattle.scim_json.specs.Values.{flag_or, whole_in, items_in, members_in}
+use Rattle.scim_json.specs.Parsing.{json_of}
 use Rattle.scim_json.specs.declared.values.ValueFault.{ValueFault}
 use Rattle.scim_resource.specs.Emails.{are_few}
 use Rattle.scim_resource.specs.Groups.{GroupRecord, is_among, are_few_members}
@@ -237,3 +238,12 @@ read_group (object ms) = unless_repeated (group_repeats ms) (group_fields ms)
 unfoldable pub read_content : Kind → Data → Result Content ReadFault
 read_content kinds.User d = read_user d >>= (λ u. Ok (User u))
 read_content kinds.Group d = read_group d >>= (λ g. Ok (Group g))
+
+-- what isn't JSON is no content
+abbrev pub content_from : Kind → Option Data → Result Content ReadFault
+content_from kind None = Err InvalidSyntax
+content_from kind (Some json) = read_content kind json
+
+-- The content that bytes have: they are JSON in UTF-8, and its value is read
+abbrev pub content_in : Kind → List ℕ → Result Content ReadFault
+content_in kind bytes = content_from kind (json_of bytes)

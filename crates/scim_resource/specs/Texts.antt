@@ -1,4 +1,5 @@
 -- Texts of attributes.
+use Rattle.std.specs.Str.{IsUtf8}
 use Rattle.std.specs.Prelude.{◌≡◌, ℕ, Bool, true, List, Option, length, ◌&&◌, nat_le, IfSome}
 
 abbrev pub text_limit : ℕ
@@ -11,6 +12,11 @@ is_short_text bs = nat_le 1 (length bs) && nat_le (length bs) text_limit
 abbrev pub IsText : List ℕ → Type 0
 IsText bs = is_short_text bs ≡ true
 
--- such a text, or none
+-- a text of an attribute in UTF-8, as a `Text` is
+pub record IsUtf8Text (bs : List ℕ) : Type 0 where
+  pub short : IsText bs
+  pub utf8 : IsUtf8 bs
+
+-- a text of 1 to 256 bytes, or none
 abbrev pub IsTextIf : Option (List ℕ) → Type 0
 IsTextIf o = IfSome o IsText

@@ -68,14 +68,6 @@ impl Emails {
         }
     }
 
-    /// Gives the list back.
-    pub fn into_vec(self) -> Vec<Email>
-        ensures { result.items ≡ self }
-    {
-        let Emails { items } = self;
-        items
-    }
-
     pub fn as_slice(&self) -> &[Email]
         ensures value { result.now ≡ self.now }
         ensures lawful { IsEmailList self.now }

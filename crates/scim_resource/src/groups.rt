@@ -51,14 +51,6 @@ impl Members {
         }
     }
 
-    /// Gives the list back.
-    pub fn into_vec(self) -> Vec<Text>
-        ensures { result.items ≡ self }
-    {
-        let Members { items } = self;
-        items
-    }
-
     pub fn as_slice(&self) -> &[Text]
         ensures value { result.now ≡ self.now }
         ensures lawful { IsMemberList self.now }

@@ -16,8 +16,8 @@ use crate::schemas::{core_user, source_extension};
 use crate::texts::{Text, is_short_text};
 use crate::users::User;
 use scim_json::{
-    attribute, flag_or, items_in, list_repeats, members_in, repeats, same_name, value_repeats,
-    whole_in,
+    attribute, flag_or, items_in, json_of, list_repeats, members_in, repeats, same_name,
+    value_repeats, whole_in,
 };
 use scim_key::{Kind, Revision, UserName};
 use serde_json::{Map, Value};
@@ -34,6 +34,14 @@ impl Content {
             Kind::User => Ok(Content::User(read_user(alloc, value)?)),
             Kind::Group => Ok(Content::Group(read_group(alloc, value)?)),
         }
+    }
+
+    /// Reads what a body says that a resource of this type contains. Bytes that aren't JSON in UTF-8
+    /// are `InvalidSyntax`.
+    pub fn from_slice(alloc: Global, bytes: &[u8], kind: Kind) -> Result<Content, ReadFault>
+        ensures { Gives ReadFault.Memory result (spec.content_in kind bytes.now) }
+    {
+        Content::read(alloc, &json_of(alloc, bytes)?, kind)
     }
 }
 
