@@ -1,3 +1,4 @@
+pub mod AheadLemmas
 pub mod BodyLemmas
 pub mod CountLemmas
 pub mod DigitLemmas
@@ -10,4 +11,5 @@ pub mod ListLemmas
 pub mod RequestLemmas
 pub mod ResponseLemmas
 pub mod SendLemmas
+pub mod SpanLemmas
 pub mod TurnLemmas

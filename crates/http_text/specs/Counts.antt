@@ -11,8 +11,10 @@ count_up n k = max n (min (n + k) greatest_count)
 
 -- a reader, as contracts see it
 pub record Reading : Type 0 where
-  -- the bytes that it has left, where they are known
+  -- the bytes that nobody has taken yet, where they are known
   pub remaining : Option (List ℕ)
+  -- those of them that were read ahead
+  pub ahead : List ℕ
   -- its reads so far
   pub calls : ℕ
   -- those that failed; an interrupted one didn't

@@ -2,6 +2,7 @@ pub mod Counts
 pub mod IncomingView
 pub mod Judging
 pub mod Message
+pub mod Parsing
 pub mod Requests
 pub mod Response
 pub mod Sending

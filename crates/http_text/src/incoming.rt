@@ -53,20 +53,20 @@ impl<'a> Model for FieldValues<'a> {
 }
 
 impl Incoming {
-    /// The message of a whole head, with no body yet.
+    /// The message of the head at the front of these bytes, with no body yet.
     pub(crate) fn from_head(
         alloc: Global,
-        bytes: Vec<u8>,
+        mut bytes: Vec<u8>,
         head: RequestSpans,
         fields: &[HeaderSpan],
     ) -> Result<Incoming, ReadFault>
-        requires within { IsRequestWithin bytes.items fields.now head }
-        requires whole { head.len ≡ vec_len bytes }
+        requires { IsRequestWithin bytes.items fields.now head }
         ensures message { IfOk result (λ message. (tree : RequestHead)
             → IsRequestAt bytes.items fields.now head tree
             → message ≡ record { head = head_of tree; body = [] }) }
         ensures memory { IfErr result (λ fault. fault ≡ ReadFault.OutOfMemory) }
     {
+        bytes.truncate(head.len);
         match Vec::from_slice(alloc, &fields[..head.headers]) {
             Ok(fields) => Ok(Incoming {
                 bytes,

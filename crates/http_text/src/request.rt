@@ -1,13 +1,11 @@
 //! A request read from a stream (RFC 9112, sections 2 to 6).
 ghost use Rattle.std.specs.Prelude.{◌≡◌, ◌<◌, ◌≤◌, ◌++◌, length, take, OnOk, IfOk, IfErr, IfSome, IfNone, Ok, Err, None, Some};
-ghost use Rattle.httparse.specs.Grammar.{RequestHead};
-ghost use Rattle.httparse.specs.Spans.{IsRequestOf, IsRequestWithin, IsRequestAt};
+ghost use Rattle.std.specs.Io.KnownBytes.{Keeps};
 ghost use Rattle.http_text.specs.Counts.{CountsTurns};
 ghost use Rattle.http_text.specs.Message.{head_limit, field_limit, head_of};
 ghost use Rattle.http_text.specs.Requests.{IsUndecided, TakesMessage, TakesRefused, FindsMessage, FindsRefusedHead, FindsEnd, FindsLong, FindsMalformed, EndsReading, MessagesAreApart};
-ghost use Rattle.http_text.specs.Steps.{SpendsTurns, EndsTurns, GivesNone, RefusesHead, TakesHead, TakesBody, CutsBody};
-ghost use Rattle.http_text.specs.Streams.{Reads};
-ghost use Rattle.http_text.specs.declared.input.ReadTurn.TheVariants as Turn;
+ghost use Rattle.http_text.specs.Steps.{SpendsTurns, EndsTurns, GivesNone, TakesHead, TakesBody, CutsBody};
+ghost use Rattle.http_text.specs.Parsing.{Parses};
 
 use crate::counts::TURN_LIMIT;
 use crate::fault::ReadFault;
@@ -25,11 +23,8 @@ const HEAD_LIMIT: usize = 16_384;
 /// The greatest number of field lines.
 const FIELD_LIMIT: usize = 64;
 
-/// How much of a body is read at once.
-const CHUNK: usize = 1_024;
-
-/// Reads one request. The head is read a byte at a time and the body to its length, so that what
-/// follows the request stays unread. An interrupted read is made again.
+/// Reads one request. What follows it, though it may have been read ahead, is left. An interrupted
+/// read is made again.
 pub fn read_request<R: Read>(alloc: Global, reader: &mut Input<R>) -> Result<Incoming, ReadFault>
     // What was taken from the reader: a whole message, or what the refusal says.
     ensures message { IfOk result (TakesMessage reader.old.remaining reader.new.remaining) }
@@ -73,8 +68,8 @@ fn read_message<R: Read>(
     Ok(message)
 }
 
-/// Reads up to the end of a head, parsing it anew after each byte: so each refusal comes at the
-/// first byte that decides.
+/// Reads up to the end of a head, which is parsed when new bytes have come. Where a part of them is
+/// refused, half of it is tried, so that each refusal comes at the first byte that decides.
 fn read_head<R: Read>(
     alloc: Global,
     reader: &mut Input<R>,
@@ -88,33 +83,51 @@ fn read_head<R: Read>(
 {
     let mut bytes = Vec::new(alloc);
     let mut fields = [EMPTY_HEADER_SPAN; FIELD_LIMIT];
-    let mut byte = [0u8; 1];
+    let mut step = HEAD_LIMIT;
     loop {
-        if let Some(spans) = find_head(&bytes, &mut fields)? {
-            return Incoming::from_head(alloc, bytes, spans, &fields);
-        }
-        read_some(reader, &mut byte, turns)?;
-        if bytes.push(byte[0]).is_err() {
+        look_ahead(reader, turns)?;
+        let before = bytes.len();
+        let count = step.min(reader.ahead().len()).min(HEAD_LIMIT - before);
+        if bytes.extend_from_slice(&reader.ahead()[..count]).is_err() {
             return Err(ReadFault::OutOfMemory);
+        }
+        match find_head(&bytes, &mut fields) {
+            Parse::Whole(spans) => {
+                reader.take(spans.len - before);
+                return Incoming::from_head(alloc, bytes, spans, &fields);
+            }
+            Parse::Part => reader.take(count),
+            Parse::Refused(fault) if count == 1 => {
+                reader.take(count);
+                return Err(fault);
+            }
+            Parse::Refused(_) => {
+                bytes.truncate(before);
+                step = count / 2;
+            }
         }
     }
 }
 
-/// Where the parts of a whole head are, or None where one may still come.
-fn find_head(bytes: &[u8], fields: &mut [HeaderSpan]) -> Result<Option<RequestSpans>, ReadFault>
+/// What a parse of a head tells.
+enum Parse {
+    Whole(RequestSpans),
+    Part,
+    Refused(ReadFault),
+}
+
+/// Where the parts of a whole head at the front of these bytes are, or whether one may still come.
+fn find_head(bytes: &[u8], fields: &mut [HeaderSpan]) -> Parse
     requires room { length fields.old ≡ field_limit }
     requires bound { length bytes.now ≤ head_limit }
-    ensures found { IfOk result (λ head. IfSome head (IsRequestOf bytes.now fields.new)) }
-    ensures within { IfOk result (λ head. IfSome head (IsRequestWithin bytes.now fields.new)) }
-    ensures partial { IfOk result (λ head. IfNone head (IsUndecided bytes.now × (length bytes.now < head_limit))) }
-    ensures refused { IfErr result (RefusesHead bytes.now) }
+    ensures { Parses bytes.now fields.new result }
 {
     match parse_request(bytes, fields) {
-        Ok(Status::Complete(head)) => Ok(Some(head)),
-        Ok(Status::Partial) if bytes.len() < HEAD_LIMIT => Ok(None),
-        Ok(Status::Partial) => Err(ReadFault::HeadTooLong),
-        Err(Error::TooManyHeaders) => Err(ReadFault::HeadTooLong),
-        Err(_) => Err(ReadFault::Malformed),
+        Ok(Status::Complete(head)) => Parse::Whole(head),
+        Ok(Status::Partial) if bytes.len() < HEAD_LIMIT => Parse::Part,
+        Ok(Status::Partial) => Parse::Refused(ReadFault::HeadTooLong),
+        Err(Error::TooManyHeaders) => Parse::Refused(ReadFault::HeadTooLong),
+        Err(_) => Parse::Refused(ReadFault::Malformed),
     }
 }
 
@@ -132,39 +145,36 @@ fn read_body<R: Read>(
     ensures clean { OnOk result (reader.new.failures ≡ reader.old.failures) }
     ensures fault { IfErr result (EndsTurns reader.old reader.new turns.new) }
 {
-    let mut chunk = [0u8; CHUNK];
     let mut left = length as usize;
     while left > 0 {
-        let space = &mut chunk[..left.min(CHUNK)];
-        let count = read_some(reader, space, turns)?;
-        message.append(&space[..count])?;
+        look_ahead(reader, turns)?;
+        let count = left.min(reader.ahead().len());
+        message.append(&reader.ahead()[..count])?;
+        reader.take(count);
         left -= count;
     }
     Ok(())
 }
 
-/// Reads some bytes, at least one. An interrupted read is made again while turns are left.
-fn read_some<R: Read>(
-    reader: &mut Input<R>,
-    space: &mut [u8],
-    turns: &mut u32,
-) -> Result<usize, ReadFault>
-    requires { 0 < length space.old }
-    ensures bytes { IfOk result
-        (λ count. Reads reader.old.remaining reader.new.remaining space.new (Turn.Bytes count)) }
+/// Reads ahead where nothing stands ahead. An interrupted read is made again while turns are left.
+fn look_ahead<R: Read>(reader: &mut Input<R>, turns: &mut u32) -> Result<(), ReadFault>
+    ensures kept { OnOk result (Keeps reader.old.remaining reader.new.remaining) }
+    ensures some { OnOk result (0 < length reader.new.ahead) }
     ensures none { IfErr result (GivesNone reader.old.remaining reader.new.remaining) }
     ensures counts { SpendsTurns reader.old reader.new turns.old turns.new }
     ensures clean { OnOk result (reader.new.failures ≡ reader.old.failures) }
     ensures fault { IfErr result (EndsTurns reader.old reader.new turns.new) }
 {
-    while *turns > 0 {
+    while reader.ahead().is_empty() {
+        if *turns == 0 {
+            return Err(ReadFault::TurnsExhausted);
+        }
         *turns -= 1;
-        match reader.read(space) {
-            ReadTurn::Bytes(count) => return Ok(count),
+        match reader.look() {
+            ReadTurn::Bytes(_) | ReadTurn::Interrupted => {}
             ReadTurn::End => return Err(ReadFault::EndedEarly),
-            ReadTurn::Interrupted => {}
             ReadTurn::Failed => return Err(ReadFault::ReadFailed),
         }
     }
-    Err(ReadFault::TurnsExhausted)
+    Ok(())
 }

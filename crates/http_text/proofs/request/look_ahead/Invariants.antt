@@ -1,9 +1,9 @@
 use Rattle.std.proofs.Common.{◌≡◌}
 use Rattle.std.specs.Io.KnownBytes.{Keeps}
 use Rattle.http_text.specs.Steps.{SpendsTurns}
-use Rattle.http_text.proofs.request.read_some.Given as goal
+use Rattle.http_text.proofs.request.look_ahead.Given as goal
 
--- nothing has come yet
+-- what is left is as it was, with nothing failed
 abbrev pub invariant-loop-turns : goal.invariant-loop-turns
 invariant-loop-turns g l = record {
   keeps : Keeps l.fn.reader.remaining l.reader.remaining;
