@@ -1,0 +1,201 @@
+-- The book judges each row as the history alone does.
+use Rattle.std.proofs.Common.{◌≡◌, ℕ, ◌+◌, Bool, true, false, not, cond, List, [], ◌∷◌, ◌++◌, Option, Some, None, Result, Ok, Err, is_some, is_none, refl, ap, sym, ◌∙◌, subst, inl, inr}
+use Rattle.std.proofs.lemmas.Bool.{and_parts, cases_Bool}
+use Rattle.std.proofs.lemmas.List.{append-nil}
+use Rattle.std.proofs.lemmas.List.Elements.{filter-append}
+use Rattle.std.proofs.lemmas.Slice.Eq.{bytes_eq-Decides}
+use Rattle.std.specs.List.{last_or, position_from}
+use Rattle.std.specs.Option.{option_map}
+use Rattle.std.specs.Str.{bytes_eq}
+use Rattle.scim_key.specs.Outcome.{◌>>=◌}
+use Rattle.scim_key.specs.declared.records.Kind.{Kind}
+use Rattle.scim_key.specs.declared.records.Kind.TheVariants as kinds
+use Rattle.scim_key.specs.declared.records.RecordName.{RecordName}
+use Rattle.scim_message.specs.declared.messages.Request.{Request}
+use Rattle.scim_message.specs.declared.messages.Answer.{Answer}
+use Rattle.source_csv.specs.Records.{row_name}
+use Rattle.source_csv.specs.declared.rows.Row.{Row}
+use Rattle.source_book.specs.History.{History, same_kind, same_name, rows_of, last_row, user, members_of, missing_member}
+use Rattle.source_book.specs.declared.accepting.Verdict.{Verdict}
+use Rattle.source_book.specs.declared.accepting.Verdict.TheVariants as verdicts
+use Rattle.connector_core.specs.Book.{Book, put, wanting, with_row, forgotten, wanted_row}
+use Rattle.connector_core.specs.Asking.{asking}
+use Rattle.connector_core.specs.declared.asking.Ask.{Ask}
+use Rattle.connector_core.specs.declared.asking.Ask.TheVariants.{Nothing, Waits, Send}
+use Rattle.connector_core.specs.declared.knowledge.Known.{Known}
+use Rattle.connector_core.specs.declared.learning.LearnFault.{LearnFault}
+use Rattle.connector_core.specs.declared.learning.LearnFault.TheVariants.{Unfit, NoSuchRecord}
+use Rattle.connector_core.specs.Learning.{or_fault, Finding, Shows, Shows_none, Taken, Stale, Sight, fit, sighted, none_sighted, forgetting, is_absent, is_under, Lesson, lesson, finding, subject, Learning, noted, learn, after_learning}
+use Rattle.connector_core.specs.declared.changing.ChangeFault.{ChangeFault}
+use Rattle.connector_core.specs.Changing.{verdict, unknown_member, is_full, history_after, book_after}
+use Rattle.world_model.specs.World.{World, Message, Asked, Answered, Event, Changes, Sends, Delivers, Cuts, Restarts_provider, Restarts_connector, sends, delivers, message_at, happens, empty, names, judged, run}
+use Rattle.world_model.specs.Safe.{JudgesBySource}
+
+-- ---- names
+
+kind_from_test : (a b : Kind) → same_kind a b ≡ true → a ≡ b
+kind_from_test kinds.User kinds.User e = refl
+kind_from_test kinds.User kinds.Group e = absurd (cc)
+kind_from_test kinds.Group kinds.User e = absurd (cc)
+kind_from_test kinds.Group kinds.Group e = refl
+
+abbrev record_name : Kind → List ℕ → RecordName
+record_name k key = record { kind = k; key = key }
+
+same_parts : (k k' : Kind) (key key' : List ℕ) → k ≡ k' → key ≡ key' → record_name k key ≡ record_name k' key'
+same_parts k k' key key' e f = rw (e, f)
+
+pub name_from_test : (a b : RecordName) → same_name a b ≡ true → a ≡ b
+name_from_test a b e =
+    let parts = and_parts (same_kind a.kind b.kind) (bytes_eq a.key b.key) e in
+    same_parts _ _ _ _ (kind_from_test a.kind b.kind parts.0) ((bytes_eq-Decides a.key b.key).0 parts.1)
+
+-- ---- the wanted row is the last of its record
+
+abbrev pub Follows : Book → History → Type 0
+Follows book history = (name : RecordName) → wanted_row book name ≡ last_row history name
+
+abbrev wants : Option Known → Option Row
+wants known = option_map (λ k. k.wanted) known
+
+-- what is put in the place of a record
+put_wants : (book : Book) (name : RecordName) (known : Known) (q : RecordName) → wanted_row (put book name known) q ≡ cond (same_name name q) (Some known.wanted) (wanted_row book q)
+put_wants book name known q = elim (cases_Bool (same_name name q)) [
+  | inl e ↦ rw e refl
+  | inr e ↦ rw e refl
+]
+
+last_of_more : (o : Option Row) (rows : List Row) (row : Row) → last_or o (rows ++ row ∷ []) ≡ Some row
+last_of_more o [] row = refl
+last_of_more o (r ∷ rows) row = last_of_more (Some r) rows row
+
+push_last : (history : History) (row : Row) (q : RecordName) → last_row (history ++ row ∷ []) q ≡ cond (same_name (row_name row) q) (Some row) (last_row history q)
+push_last history row q = rw (filter-append (λ r. same_name (row_name r) q) history (row ∷ [])) (elim (cases_Bool (same_name (row_name row) q)) [
+  | inl e ↦ rw e (last_of_more None (rows_of history q) row)
+  | inr e ↦ rw (e, append-nil (rows_of history q)) refl
+])
+
+wanting_wants : (o : Option Known) (row : Row) → (wanting o row).wanted ≡ row
+wanting_wants None row = refl
+wanting_wants (Some known) row = refl
+
+new_follows : (book : Book) (history : History) (row : Row) → Follows book history → Follows (with_row book row) (history ++ row ∷ [])
+new_follows book history row follows q =
+    put_wants book (row_name row) (wanting (book (row_name row)) row) q
+    ∙ rw (wanting_wants (book (row_name row)) row, follows q) (sym (push_last history row q))
+
+change_follows : (book : Book) (history : History) (row : Row) (v : Result Verdict ChangeFault) → Follows book history → Follows (book_after book row v) (history_after history row v)
+change_follows book history row (Ok verdicts.New) follows = new_follows book history row follows
+change_follows book history row (Ok verdicts.Known) follows = follows
+change_follows book history row (Ok verdicts.Older) follows = follows
+change_follows book history row (Err fault) follows = follows
+
+-- ---- learning and a restart keep what is wanted
+
+reopened_wants : (o : Option Known) → wants (option_map forgotten o) ≡ wants o
+reopened_wants None = refl
+reopened_wants (Some known) = refl
+
+module _ (book : Book) where
+  abbrev Keeps : Result Learning LearnFault → Type 0
+  Keeps r = (q : RecordName) → wanted_row (after_learning book r) q ≡ wanted_row book q
+
+  then_keeps : {A : Type 0} (r : Result A LearnFault) (f : A → Result Learning LearnFault) → ((x : A) → r ≡ Ok x → Keeps (f x)) → Keeps (r >>= f)
+  then_keeps (Ok x) f keeps = keeps x refl
+  then_keeps (Err fault) f keeps = λ q. refl
+
+pub from_or_fault : {A : Type 0} (fault : LearnFault) (o : Option A) (x : A) → or_fault fault o ≡ Ok x → o ≡ Some x
+from_or_fault fault None x e = absurd (cc)
+from_or_fault fault (Some y) x e = cc
+
+none_sighted_wants : (id : Option (List ℕ)) (known : Known) → (none_sighted id known).known.wanted ≡ known.wanted
+none_sighted_wants None known = refl
+none_sighted_wants (Some id) known = refl
+
+forgetting_wants : (concerned : Bool) (known : Known) → (forgetting concerned known).known.wanted ≡ known.wanted
+forgetting_wants true known = refl
+forgetting_wants false known = refl
+
+sighted_wants : (known : Known) (r : Result Sight LearnFault) (l : Lesson) → (r >>= λ sight. Ok (sighted known sight)) ≡ Ok l → l.known.wanted ≡ known.wanted
+sighted_wants known (Ok sight) l e = let same : sighted known sight ≡ l = cc in subst (λ m. m.known.wanted ≡ known.wanted) same refl
+sighted_wants known (Err fault) l e = absurd (cc)
+
+lesson_wants : (name : RecordName) (known : Known) (said : Finding) (l : Lesson) → lesson name known said ≡ Ok l → l.known.wanted ≡ known.wanted
+lesson_wants name known (Shows s) l e = sighted_wants known (fit name known s) l e
+lesson_wants name known Shows_none l e =
+    let same : none_sighted known.id known ≡ l = cc in subst (λ m. m.known.wanted ≡ known.wanted) same (none_sighted_wants known.id known)
+lesson_wants name known Taken l e = let same : forgetting (is_absent known.seen) known ≡ l = cc in subst (λ m. m.known.wanted ≡ known.wanted) same (forgetting_wants _ known)
+lesson_wants name known (Stale if_match) l e = let same : forgetting (is_under if_match known.seen) known ≡ l = cc in subst (λ m. m.known.wanted ≡ known.wanted) same (forgetting_wants _ known)
+
+noted_keeps : (book : Book) (name : RecordName) (known : Known) (l : Lesson) → book name ≡ Some known → l.known.wanted ≡ known.wanted → Keeps book (Ok (noted book name l))
+noted_keeps book name known l here same q = put_wants book name l.known q ∙ elim (cases_Bool (same_name name q)) [
+  | inl e ↦ rw e (ap Some same ∙ sym (ap wants (ap book (sym (name_from_test name q e)) ∙ here)))
+  | inr e ↦ rw e refl
+]
+
+-- what is learnt of a record from what the answer says
+abbrev taught : Book → RecordName → Known → Finding → Result Learning LearnFault
+taught book name known said = lesson name known said >>= λ l. Ok (noted book name l)
+
+abbrev told : Book → Request → Answer → RecordName → Known → Result Learning LearnFault
+told book request answer name known = finding request answer >>= taught book name known
+
+taught_keeps : (book : Book) (name : RecordName) (known : Known) (said : Finding) → book name ≡ Some known → Keeps book (taught book name known said)
+taught_keeps book name known said here =
+    then_keeps book (lesson name known said) (λ l. Ok (noted book name l)) (λ l is. noted_keeps book name known l here (lesson_wants name known said l is))
+
+told_keeps : (book : Book) (request : Request) (answer : Answer) (name : RecordName) (known : Known) → book name ≡ Some known → Keeps book (told book request answer name known)
+told_keeps book request answer name known here = then_keeps book (finding request answer) (taught book name known) (λ said is. taught_keeps book name known said here)
+
+learn_keeps : (book : Book) (request : Request) (answer : Answer) → Keeps book (learn book request answer)
+learn_keeps book request answer =
+    then_keeps book (or_fault Unfit (subject request)) (λ name. or_fault NoSuchRecord (book name) >>= told book request answer name) (λ name about.
+    then_keeps book (or_fault NoSuchRecord (book name)) (told book request answer name) (λ known here.
+    told_keeps book request answer name known (from_or_fault NoSuchRecord (book name) known here)))
+
+-- ---- every event
+
+send_follows : (w : World) (o : Option Ask) → Follows w.book w.history → Follows (sends w o).book (sends w o).history
+send_follows w None follows = follows
+send_follows w (Some Nothing) follows = follows
+send_follows w (Some (Waits member)) follows = follows
+send_follows w (Some (Send request)) follows = follows
+
+deliver_follows : (w : World) (o : Option Message) → Follows w.book w.history → Follows (delivers w o).book (delivers w o).history
+deliver_follows w None follows = follows
+deliver_follows w (Some (Asked request)) follows = follows
+deliver_follows w (Some (Answered request answer)) follows = λ q. learn_keeps w.book request answer q ∙ follows q
+
+event_follows : (w : World) (event : Event) → Follows w.book w.history → Follows (happens w event).book (happens w event).history
+event_follows w (Changes row) follows = change_follows w.book w.history row (judged w row) follows
+event_follows w (Sends name) follows = send_follows w (asking w.book name) follows
+event_follows w (Delivers number) follows = deliver_follows w (message_at w.messages number) follows
+event_follows w (Cuts number length) follows = follows
+event_follows w Restarts_provider follows = follows
+event_follows w Restarts_connector follows = λ q. reopened_wants (w.book q) ∙ follows q
+
+pub run_follows : (w : World) (events : List Event) → Follows w.book w.history → Follows (run w events).book (run w events).history
+run_follows w [] follows = follows
+run_follows w (event ∷ events) follows = run_follows (happens w event) events (event_follows w event follows)
+
+-- ---- the verdicts
+
+lacks : (o : Option Known) → is_none o ≡ not (is_some (wants o))
+lacks None = refl
+lacks (Some known) = refl
+
+same_place : (p q : List ℕ → Bool) → ((key : List ℕ) → p key ≡ q key) → (start : ℕ) (keys : List (List ℕ)) → position_from p start keys ≡ position_from q start keys
+same_place p q same start [] = refl
+same_place p q same start (key ∷ keys) = rw (same key, same_place p q same (start + 1) keys) refl
+
+same_missing : (book : Book) (history : History) (row : Row) → Follows book history → unknown_member book row ≡ missing_member history row
+same_missing book history row follows =
+    same_place _ _ (λ key. lacks (book (user key)) ∙ ap (λ o. not (is_some o)) (follows (user key))) 0 (members_of row)
+
+same_verdict : (w : World) (row : Row) → Follows w.book w.history → judged w row ≡ verdict (last_row w.history (row_name row)) (missing_member w.history row) (is_full (row_name row).kind (names w)) row
+same_verdict w row follows =
+    ap (λ last. verdict last (unknown_member w.book row) (is_full (row_name row).kind (names w)) row) (follows (row_name row))
+    ∙ ap (λ missing. verdict (last_row w.history (row_name row)) missing (is_full (row_name row).kind (names w)) row) (same_missing w.book w.history row follows)
+
+pub judges_by_source : JudgesBySource
+judges_by_source events row = same_verdict (run empty events) row (run_follows empty events (λ name. refl))

@@ -1,0 +1,233 @@
+-- Nothing that was accepted, held or sent is lost or changed, and no confirmed revision falls.
+use Rattle.std.proofs.Common.{◌≡◌, ℕ, Bool, true, false, List, [], ◌∷◌, ◌++◌, Option, Some, None, Result, Ok, Err, refl, ap, sym, ◌∙◌, subst, inl, inr, append_assoc}
+use Rattle.std.proofs.lemmas.Bool.{cases_Bool, false_from_ne_true}
+use Rattle.std.proofs.lemmas.List.{append-nil}
+use Rattle.std.proofs.lemmas.List.Elements.{filter-append}
+use Rattle.std.specs.Option.{option_map}
+use Rattle.scim_key.specs.Outcome.{◌>>=◌}
+use Rattle.scim_key.proofs.RevisionLaws.{irreflexive, transitive, total}
+use Rattle.scim_key.specs.Revisions.{RevisionValue, before, later, ◌≼◌}
+use Rattle.scim_key.specs.declared.records.RecordName.{RecordName}
+use Rattle.scim_message.specs.declared.messages.Request.{Request}
+use Rattle.scim_message.specs.declared.messages.Answer.{Answer}
+use Rattle.scim_resource.specs.declared.contents.Content.{Content}
+use Rattle.provider_core.specs.Stories.{Entry, story, step, GoesOn, AllGoOn}
+use Rattle.provider_core.proofs.StoryLaws.{stories_only_grow}
+use Rattle.source_csv.specs.Records.{row_name}
+use Rattle.source_csv.specs.declared.rows.Row.{Row}
+use Rattle.source_book.specs.History.{History, same_name, rows_of}
+use Rattle.source_book.specs.declared.accepting.Verdict.{Verdict}
+use Rattle.source_book.specs.declared.accepting.Verdict.TheVariants as verdicts
+use Rattle.connector_core.specs.Book.{Book, put, wanting, forgotten}
+use Rattle.connector_core.specs.Asking.{asking}
+use Rattle.connector_core.specs.declared.asking.Ask.{Ask}
+use Rattle.connector_core.specs.declared.asking.Ask.TheVariants.{Nothing, Waits, Send}
+use Rattle.connector_core.specs.declared.knowledge.Known.{Known}
+use Rattle.connector_core.specs.declared.learning.LearnFault.{LearnFault}
+use Rattle.connector_core.specs.declared.learning.LearnFault.TheVariants.{Unfit, NoSuchRecord}
+use Rattle.connector_core.specs.Learning.{or_fault, Finding, Shows, Shows_none, Taken, Stale, Sight, fit, sighted, none_sighted, forgetting, is_absent, is_under, Lesson, lesson, finding, subject, Learning, noted, learn, after_learning}
+use Rattle.connector_core.specs.declared.changing.ChangeFault.{ChangeFault}
+use Rattle.connector_core.specs.Changing.{history_after, book_after}
+use Rattle.world_model.specs.World.{World, Message, Asked, Answered, Event, Changes, Sends, Delivers, Cuts, Restarts_provider, Restarts_connector, sends, delivers, message_at, happens, empty, judged, run}
+use Rattle.world_model.specs.Safe.{IsPrefixOf, Onward, AlwaysOnward}
+use Rattle.world_model.proofs.Judging.{name_from_test, from_or_fault}
+
+-- ---- the order of revisions
+
+itself : (a : RevisionValue) → a ≼ a
+itself a = false_from_ne_true _ (irreflexive a)
+
+not_above : (a b c : RevisionValue) → a ≼ b → b ≼ c → a ≼ c
+not_above a b c p q = false_from_ne_true _ (λ below. elim (cases_Bool (before a b)) [
+  | inl e ↦ absurd (cc (transitive c a b below e, q))
+  | inr e ↦ let same : a ≡ b = total a b p e in absurd (cc (rw same at below, q))
+])
+
+raised : (a b : RevisionValue) → a ≼ later a b
+raised a b = elim (cases_Bool (before a b)) [
+  | inl e ↦ rw e (false_from_ne_true _ (λ back. irreflexive a (transitive a b a e back)))
+  | inr e ↦ rw e (itself a)
+]
+
+-- ---- lists
+
+stays : {X : Type 0} (xs : List X) → IsPrefixOf xs xs
+stays xs = ([], sym (append-nil xs))
+
+further : {X : Type 0} (xs ys zs : List X) → IsPrefixOf xs ys → IsPrefixOf ys zs → IsPrefixOf xs zs
+further {X} xs ys zs p q = (p.0 ++ q.0, q.1 ∙ ap (λ (l : List X). l ++ q.0) p.1 ∙ append_assoc xs p.0 q.0)
+
+goes_on_itself : (e : Entry) → GoesOn e e
+goes_on_itself e = record { name = refl; more = []; story = sym (append-nil (story e)) }
+
+goes_on_further : (e f g : Entry) → GoesOn e f → GoesOn f g → GoesOn e g
+goes_on_further e f g p q = record {
+  name = q.name ∙ p.name;
+  more = p.more ++ q.more;
+  story = q.story ∙ ap (λ (l : List Content). l ++ q.more) p.story ∙ append_assoc (story e) p.more q.more;
+}
+
+all_stay : (es : List Entry) → AllGoOn es es
+all_stay [] = tt
+all_stay (e ∷ es) = (goes_on_itself e, all_stay es)
+
+all_further : (es fs gs : List Entry) → AllGoOn es fs → AllGoOn fs gs → AllGoOn es gs
+all_further [] fs gs p q = tt
+all_further (e ∷ es) [] gs p q = absurd p
+all_further (e ∷ es) (f ∷ fs) [] p q = absurd q
+all_further (e ∷ es) (f ∷ fs) (g ∷ gs) p q = (goes_on_further e f g p.0 q.0, all_further es fs gs p.1 q.1)
+
+-- ---- confirmed revisions
+
+abbrev StaysConfirmed : Known → Option Known → Type 0
+StaysConfirmed known o = (after : Known) × (o ≡ Some after) × (known.confirmed ≼ after.confirmed)
+
+abbrev NoneFalls : Book → Book → Type 0
+NoneFalls early late = (name : RecordName) (known : Known) → early name ≡ Some known → StaysConfirmed known (late name)
+
+none_falls : (book : Book) → NoneFalls book book
+none_falls book name known is = (known, is, itself known.confirmed)
+
+none_falls_further : (a b c : Book) → NoneFalls a b → NoneFalls b c → NoneFalls a c
+none_falls_further a b c p q name known is =
+    let (mid, here, up) = p name known is in
+    let (after, there, more) = q name mid here in
+    (after, there, not_above known.confirmed mid.confirmed after.confirmed up more)
+
+put_raises : (book : Book) (name : RecordName) (now : Known) → ((known : Known) → book name ≡ Some known → known.confirmed ≼ now.confirmed) → NoneFalls book (put book name now)
+put_raises book name now up q known is = elim (cases_Bool (same_name name q)) [
+  | inl e ↦ (now, rw e refl, up known (ap book (name_from_test name q e) ∙ is))
+  | inr e ↦ (known, rw e is, itself known.confirmed)
+]
+
+wanting_keeps : (o : Option Known) (row : Row) (known : Known) → o ≡ Some known → known.confirmed ≼ (wanting o row).confirmed
+wanting_keeps None row known is = absurd (cc)
+wanting_keeps (Some k) row known is = let same : k ≡ known = cc in subst (λ x. x.confirmed ≼ k.confirmed) same (itself k.confirmed)
+
+change_raises : (book : Book) (row : Row) (v : Result Verdict ChangeFault) → NoneFalls book (book_after book row v)
+change_raises book row (Ok verdicts.New) = put_raises book (row_name row) (wanting (book (row_name row)) row) (wanting_keeps (book (row_name row)) row)
+change_raises book row (Ok verdicts.Known) = none_falls book
+change_raises book row (Ok verdicts.Older) = none_falls book
+change_raises book row (Err fault) = none_falls book
+
+abbrev Raises : Known → Lesson → Type 0
+Raises known l = known.confirmed ≼ l.known.confirmed
+
+none_sighted_raises : (id : Option (List ℕ)) (known : Known) → Raises known (none_sighted id known)
+none_sighted_raises None known = itself known.confirmed
+none_sighted_raises (Some id) known = itself known.confirmed
+
+forgetting_raises : (concerned : Bool) (known : Known) → Raises known (forgetting concerned known)
+forgetting_raises true known = itself known.confirmed
+forgetting_raises false known = itself known.confirmed
+
+sighted_raises : (known : Known) (r : Result Sight LearnFault) (l : Lesson) → (r >>= λ sight. Ok (sighted known sight)) ≡ Ok l → Raises known l
+sighted_raises known (Ok sight) l e = let same : sighted known sight ≡ l = cc in subst (Raises known) same (raised known.confirmed sight.revision)
+sighted_raises known (Err fault) l e = absurd (cc)
+
+lesson_raises : (name : RecordName) (known : Known) (said : Finding) (l : Lesson) → lesson name known said ≡ Ok l → Raises known l
+lesson_raises name known (Shows s) l e = sighted_raises known (fit name known s) l e
+lesson_raises name known Shows_none l e = let same : none_sighted known.id known ≡ l = cc in subst (Raises known) same (none_sighted_raises known.id known)
+lesson_raises name known Taken l e = let same : forgetting (is_absent known.seen) known ≡ l = cc in subst (Raises known) same (forgetting_raises (is_absent known.seen) known)
+lesson_raises name known (Stale m) l e = let same : forgetting (is_under m known.seen) known ≡ l = cc in subst (Raises known) same (forgetting_raises (is_under m known.seen) known)
+
+then_raises : {A : Type 0} (book : Book) (r : Result A LearnFault) (f : A → Result Learning LearnFault) → ((x : A) → r ≡ Ok x → NoneFalls book (after_learning book (f x)))
+    → NoneFalls book (after_learning book (r >>= f))
+then_raises book (Ok x) f h = h x refl
+then_raises book (Err fault) f h = none_falls book
+
+abbrev taught : Book → RecordName → Known → Finding → Result Learning LearnFault
+taught book name known said = lesson name known said >>= λ l. Ok (noted book name l)
+
+abbrev told : Book → Request → Answer → RecordName → Known → Result Learning LearnFault
+told book request answer name known = finding request answer >>= taught book name known
+
+noted_raises : (book : Book) (name : RecordName) (known : Known) (l : Lesson) → book name ≡ Some known → Raises known l → NoneFalls book (put book name l.known)
+noted_raises book name known l here up = put_raises book name l.known (λ k is.
+    let same : known ≡ k = cc (sym here ∙ is) in subst (λ x. x.confirmed ≼ l.known.confirmed) same up)
+
+learn_raises : (book : Book) (request : Request) (answer : Answer) → NoneFalls book (after_learning book (learn book request answer))
+learn_raises book request answer =
+    then_raises book (or_fault Unfit (subject request)) (λ name. or_fault NoSuchRecord (book name) >>= told book request answer name) (λ name about.
+    then_raises book (or_fault NoSuchRecord (book name)) (told book request answer name) (λ known here.
+    then_raises book (finding request answer) (taught book name known) (λ said says.
+    then_raises book (lesson name known said) (λ l. Ok (noted book name l)) (λ l is.
+    noted_raises book name known l (from_or_fault NoSuchRecord (book name) known here) (lesson_raises name known said l is)))))
+
+reopened_raises : (o : Option Known) (known : Known) → o ≡ Some known → StaysConfirmed known (option_map forgotten o)
+reopened_raises None known is = absurd (cc)
+reopened_raises (Some k) known is = let same : k ≡ known = cc in (forgotten k, refl, subst (λ x. x.confirmed ≼ k.confirmed) same (itself k.confirmed))
+
+-- ---- every event
+
+change_adds : (history : History) (row : Row) (v : Result Verdict ChangeFault) (name : RecordName) → IsPrefixOf (rows_of history name) (rows_of (history_after history row v) name)
+change_adds history row (Ok verdicts.New) name = (rows_of (row ∷ []) name, filter-append (λ r. same_name (row_name r) name) history (row ∷ []))
+change_adds history row (Ok verdicts.Known) name = stays (rows_of history name)
+change_adds history row (Ok verdicts.Older) name = stays (rows_of history name)
+change_adds history row (Err fault) name = stays (rows_of history name)
+
+here_still : (w : World) → Onward w w
+here_still w = record { rows = λ name. stays (rows_of w.history name); stories = all_stay w.entries; messages = stays w.messages; confirmed = none_falls w.book }
+
+and_on : (u v w : World) → Onward u v → Onward v w → Onward u w
+and_on u v w p q = record {
+  rows = λ name. further (rows_of u.history name) (rows_of v.history name) (rows_of w.history name) (p.rows name) (q.rows name);
+  stories = all_further u.entries v.entries w.entries p.stories q.stories;
+  messages = further u.messages v.messages w.messages p.messages q.messages;
+  confirmed = none_falls_further u.book v.book w.book p.confirmed q.confirmed;
+}
+
+sends_on : (w : World) (o : Option Ask) → Onward w (sends w o)
+sends_on w None = here_still w
+sends_on w (Some Nothing) = here_still w
+sends_on w (Some (Waits member)) = here_still w
+sends_on w (Some (Send request)) = record {
+  rows = λ name. stays (rows_of w.history name);
+  stories = all_stay w.entries;
+  messages = (Asked request ∷ [], refl);
+  confirmed = none_falls w.book;
+}
+
+delivers_on : (w : World) (o : Option Message) → Onward w (delivers w o)
+delivers_on w None = here_still w
+delivers_on w (Some (Asked request)) = record {
+  rows = λ name. stays (rows_of w.history name);
+  stories = stories_only_grow w.entries request;
+  messages = (Answered request (step w.entries request).answer ∷ [], refl);
+  confirmed = none_falls w.book;
+}
+delivers_on w (Some (Answered request answer)) = record {
+  rows = λ name. stays (rows_of w.history name);
+  stories = all_stay w.entries;
+  messages = stays w.messages;
+  confirmed = learn_raises w.book request answer;
+}
+
+event_on : (w : World) (event : Event) → Onward w (happens w event)
+event_on w (Changes row) = record {
+  rows = change_adds w.history row (judged w row);
+  stories = all_stay w.entries;
+  messages = stays w.messages;
+  confirmed = change_raises w.book row (judged w row);
+}
+event_on w (Sends name) = sends_on w (asking w.book name)
+event_on w (Delivers number) = delivers_on w (message_at w.messages number)
+event_on w (Cuts number length) = here_still w
+event_on w Restarts_provider = here_still w
+event_on w Restarts_connector = record {
+  rows = λ name. stays (rows_of w.history name);
+  stories = all_stay w.entries;
+  messages = stays w.messages;
+  confirmed = λ name. reopened_raises (w.book name);
+}
+
+run_on : (w : World) (events : List Event) → Onward w (run w events)
+run_on w [] = here_still w
+run_on w (event ∷ events) = and_on w (happens w event) (run (happens w event) events) (event_on w event) (run_on (happens w event) events)
+
+run-append : (w : World) (early late : List Event) → run w (early ++ late) ≡ run (run w early) late
+run-append w [] late = refl
+run-append w (event ∷ early) late = run-append (happens w event) early late
+
+pub always_onward : AlwaysOnward
+always_onward early late = subst (Onward (run empty early)) (sym (run-append empty early late)) (run_on (run empty early) late)

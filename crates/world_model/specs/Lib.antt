@@ -1,0 +1,4 @@
+pub mod World
+pub mod Safe
+pub mod Reports
+pub mod Views

@@ -1,0 +1,6 @@
+//! The world of a provider, a connector and all messages, and the laws of all its runs.
+#![tactic(auto)]
+
+mod laws;
+
+pub use laws::{always_onward, judges_by_source};
