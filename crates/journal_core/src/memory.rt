@@ -78,7 +78,7 @@ fn put_row(
                 name,
                 Entry {
                     row,
-                    confirmed: Revision::NONE,
+                    confirmed: Revision::none(),
                     id: None,
                 },
             )?;
