@@ -1,21 +1,17 @@
 -- The book judges each row as the history alone does.
 use Rattle.std.proofs.Common.{◌≡◌, ℕ, ◌+◌, Bool, true, false, not, cond, List, [], ◌∷◌, ◌++◌, Option, Some, None, Result, Ok, Err, is_some, is_none, refl, ap, sym, ◌∙◌, subst, inl, inr}
-use Rattle.std.proofs.lemmas.Bool.{and_parts, cases_Bool}
+use Rattle.std.proofs.lemmas.Bool.{cases_Bool}
 use Rattle.std.proofs.lemmas.List.{append-nil}
 use Rattle.std.proofs.lemmas.List.Elements.{filter-append}
-use Rattle.std.proofs.lemmas.Slice.Eq.{bytes_eq-Decides}
 use Rattle.std.specs.List.{last_or, position_from}
 use Rattle.std.specs.Option.{option_map}
-use Rattle.std.specs.Str.{bytes_eq}
 use Rattle.scim_key.specs.Outcome.{◌>>=◌}
-use Rattle.scim_key.specs.declared.records.Kind.{Kind}
-use Rattle.scim_key.specs.declared.records.Kind.TheVariants as kinds
 use Rattle.scim_key.specs.declared.records.RecordName.{RecordName}
 use Rattle.scim_message.specs.declared.messages.Request.{Request}
 use Rattle.scim_message.specs.declared.messages.Answer.{Answer}
 use Rattle.source_csv.specs.Records.{row_name}
 use Rattle.source_csv.specs.declared.rows.Row.{Row}
-use Rattle.source_book.specs.History.{History, same_kind, same_name, rows_of, last_row, user, members_of, missing_member}
+use Rattle.source_book.specs.History.{History, same_name, rows_of, last_row, user, members_of, missing_member}
 use Rattle.source_book.specs.declared.accepting.Verdict.{Verdict}
 use Rattle.source_book.specs.declared.accepting.Verdict.TheVariants as verdicts
 use Rattle.connector_core.specs.Book.{Book, put, wanting, with_row, forgotten, wanted_row}
@@ -28,27 +24,9 @@ use Rattle.connector_core.specs.declared.learning.LearnFault.TheVariants.{Unfit,
 use Rattle.connector_core.specs.Learning.{or_fault, Finding, Shows, Shows_none, Taken, Stale, Sight, fit, sighted, none_sighted, forgetting, is_absent, is_under, Lesson, lesson, finding, subject, Learning, noted, learn, after_learning}
 use Rattle.connector_core.specs.declared.changing.ChangeFault.{ChangeFault}
 use Rattle.connector_core.specs.Changing.{verdict, unknown_member, is_full, history_after, book_after}
+use Rattle.world_model.proofs.Naming.{name_from_test}
 use Rattle.world_model.specs.World.{World, Message, Asked, Answered, Event, Changes, Sends, Delivers, Cuts, Restarts_provider, Restarts_connector, sends, delivers, message_at, happens, empty, names, judged, run}
 use Rattle.world_model.specs.Safe.{JudgesBySource}
-
--- ---- names
-
-kind_from_test : (a b : Kind) → same_kind a b ≡ true → a ≡ b
-kind_from_test kinds.User kinds.User e = refl
-kind_from_test kinds.User kinds.Group e = absurd (cc)
-kind_from_test kinds.Group kinds.User e = absurd (cc)
-kind_from_test kinds.Group kinds.Group e = refl
-
-abbrev record_name : Kind → List ℕ → RecordName
-record_name k key = record { kind = k; key = key }
-
-same_parts : (k k' : Kind) (key key' : List ℕ) → k ≡ k' → key ≡ key' → record_name k key ≡ record_name k' key'
-same_parts k k' key key' e f = rw (e, f)
-
-pub name_from_test : (a b : RecordName) → same_name a b ≡ true → a ≡ b
-name_from_test a b e =
-    let parts = and_parts (same_kind a.kind b.kind) (bytes_eq a.key b.key) e in
-    same_parts _ _ _ _ (kind_from_test a.kind b.kind parts.0) ((bytes_eq-Decides a.key b.key).0 parts.1)
 
 -- ---- the wanted row is the last of its record
 
@@ -166,7 +144,7 @@ deliver_follows w None follows = follows
 deliver_follows w (Some (Asked request)) follows = follows
 deliver_follows w (Some (Answered request answer)) follows = λ q. learn_keeps w.book request answer q ∙ follows q
 
-event_follows : (w : World) (event : Event) → Follows w.book w.history → Follows (happens w event).book (happens w event).history
+pub event_follows : (w : World) (event : Event) → Follows w.book w.history → Follows (happens w event).book (happens w event).history
 event_follows w (Changes row) follows = change_follows w.book w.history row (judged w row) follows
 event_follows w (Sends name) follows = send_follows w (asking w.book name) follows
 event_follows w (Delivers number) follows = deliver_follows w (message_at w.messages number) follows
@@ -192,10 +170,10 @@ same_missing : (book : Book) (history : History) (row : Row) → Follows book hi
 same_missing book history row follows =
     same_place _ _ (λ key. lacks (book (user key)) ∙ ap (λ o. not (is_some o)) (follows (user key))) 0 (members_of row)
 
-same_verdict : (w : World) (row : Row) → Follows w.book w.history → judged w row ≡ verdict (last_row w.history (row_name row)) (missing_member w.history row) (is_full (row_name row).kind (names w)) row
-same_verdict w row follows =
+pub judged_by_source : (w : World) (row : Row) → Follows w.book w.history → judged w row ≡ verdict (last_row w.history (row_name row)) (missing_member w.history row) (is_full (row_name row).kind (names w)) row
+judged_by_source w row follows =
     ap (λ last. verdict last (unknown_member w.book row) (is_full (row_name row).kind (names w)) row) (follows (row_name row))
     ∙ ap (λ missing. verdict (last_row w.history (row_name row)) missing (is_full (row_name row).kind (names w)) row) (same_missing w.book w.history row follows)
 
 pub judges_by_source : JudgesBySource
-judges_by_source events row = same_verdict (run empty events) row (run_follows empty events (λ name. refl))
+judges_by_source events row = judged_by_source (run empty events) row (run_follows empty events (λ name. refl))

@@ -1,2 +1,16 @@
+pub mod Order
+pub mod Lists
+pub mod Naming
 pub mod Judging
 pub mod Onwards
+pub mod Imaging
+pub mod Growing
+pub mod Telling
+pub mod Keeping
+pub mod Learned
+pub mod Noting
+pub mod Accepting
+pub mod Sending
+pub mod Invariant
+pub mod Safety
+pub mod Headlines

@@ -1,17 +1,15 @@
 -- Nothing that was accepted, held or sent is lost or changed, and no confirmed revision falls.
 use Rattle.std.proofs.Common.{◌≡◌, ℕ, Bool, true, false, List, [], ◌∷◌, ◌++◌, Option, Some, None, Result, Ok, Err, refl, ap, sym, ◌∙◌, subst, inl, inr, append_assoc}
-use Rattle.std.proofs.lemmas.Bool.{cases_Bool, false_from_ne_true}
+use Rattle.std.proofs.lemmas.Bool.{cases_Bool}
 use Rattle.std.proofs.lemmas.List.{append-nil}
 use Rattle.std.proofs.lemmas.List.Elements.{filter-append}
 use Rattle.std.specs.Option.{option_map}
 use Rattle.scim_key.specs.Outcome.{◌>>=◌}
-use Rattle.scim_key.proofs.RevisionLaws.{irreflexive, transitive, total}
-use Rattle.scim_key.specs.Revisions.{RevisionValue, before, later, ◌≼◌}
+use Rattle.scim_key.specs.Revisions.{◌≼◌}
 use Rattle.scim_key.specs.declared.records.RecordName.{RecordName}
 use Rattle.scim_message.specs.declared.messages.Request.{Request}
 use Rattle.scim_message.specs.declared.messages.Answer.{Answer}
-use Rattle.scim_resource.specs.declared.contents.Content.{Content}
-use Rattle.provider_core.specs.Stories.{Entry, story, step, GoesOn, AllGoOn}
+use Rattle.provider_core.specs.Stories.{step}
 use Rattle.provider_core.proofs.StoryLaws.{stories_only_grow}
 use Rattle.source_csv.specs.Records.{row_name}
 use Rattle.source_csv.specs.declared.rows.Row.{Row}
@@ -30,24 +28,10 @@ use Rattle.connector_core.specs.declared.changing.ChangeFault.{ChangeFault}
 use Rattle.connector_core.specs.Changing.{history_after, book_after}
 use Rattle.world_model.specs.World.{World, Message, Asked, Answered, Event, Changes, Sends, Delivers, Cuts, Restarts_provider, Restarts_connector, sends, delivers, message_at, happens, empty, judged, run}
 use Rattle.world_model.specs.Safe.{IsPrefixOf, Onward, AlwaysOnward}
-use Rattle.world_model.proofs.Judging.{name_from_test, from_or_fault}
-
--- ---- the order of revisions
-
-itself : (a : RevisionValue) → a ≼ a
-itself a = false_from_ne_true _ (irreflexive a)
-
-not_above : (a b c : RevisionValue) → a ≼ b → b ≼ c → a ≼ c
-not_above a b c p q = false_from_ne_true _ (λ below. elim (cases_Bool (before a b)) [
-  | inl e ↦ absurd (cc (transitive c a b below e, q))
-  | inr e ↦ let same : a ≡ b = total a b p e in absurd (cc (rw same at below, q))
-])
-
-raised : (a b : RevisionValue) → a ≼ later a b
-raised a b = elim (cases_Bool (before a b)) [
-  | inl e ↦ rw e (false_from_ne_true _ (λ back. irreflexive a (transitive a b a e back)))
-  | inr e ↦ rw e (itself a)
-]
+use Rattle.world_model.proofs.Judging.{from_or_fault}
+use Rattle.world_model.proofs.Naming.{name_from_test}
+use Rattle.world_model.proofs.Order.{itself, not_above, raised}
+use Rattle.provider_core.proofs.TableLaws.{go_on_staying, go_on_further}
 
 -- ---- lists
 
@@ -56,26 +40,6 @@ stays xs = ([], sym (append-nil xs))
 
 further : {X : Type 0} (xs ys zs : List X) → IsPrefixOf xs ys → IsPrefixOf ys zs → IsPrefixOf xs zs
 further {X} xs ys zs p q = (p.0 ++ q.0, q.1 ∙ ap (λ (l : List X). l ++ q.0) p.1 ∙ append_assoc xs p.0 q.0)
-
-goes_on_itself : (e : Entry) → GoesOn e e
-goes_on_itself e = record { name = refl; more = []; story = sym (append-nil (story e)) }
-
-goes_on_further : (e f g : Entry) → GoesOn e f → GoesOn f g → GoesOn e g
-goes_on_further e f g p q = record {
-  name = q.name ∙ p.name;
-  more = p.more ++ q.more;
-  story = q.story ∙ ap (λ (l : List Content). l ++ q.more) p.story ∙ append_assoc (story e) p.more q.more;
-}
-
-all_stay : (es : List Entry) → AllGoOn es es
-all_stay [] = tt
-all_stay (e ∷ es) = (goes_on_itself e, all_stay es)
-
-all_further : (es fs gs : List Entry) → AllGoOn es fs → AllGoOn fs gs → AllGoOn es gs
-all_further [] fs gs p q = tt
-all_further (e ∷ es) [] gs p q = absurd p
-all_further (e ∷ es) (f ∷ fs) [] p q = absurd q
-all_further (e ∷ es) (f ∷ fs) (g ∷ gs) p q = (goes_on_further e f g p.0 q.0, all_further es fs gs p.1 q.1)
 
 -- ---- confirmed revisions
 
@@ -167,12 +131,12 @@ change_adds history row (Ok verdicts.Older) name = stays (rows_of history name)
 change_adds history row (Err fault) name = stays (rows_of history name)
 
 here_still : (w : World) → Onward w w
-here_still w = record { rows = λ name. stays (rows_of w.history name); stories = all_stay w.entries; messages = stays w.messages; confirmed = none_falls w.book }
+here_still w = record { rows = λ name. stays (rows_of w.history name); stories = go_on_staying w.entries; messages = stays w.messages; confirmed = none_falls w.book }
 
 and_on : (u v w : World) → Onward u v → Onward v w → Onward u w
 and_on u v w p q = record {
   rows = λ name. further (rows_of u.history name) (rows_of v.history name) (rows_of w.history name) (p.rows name) (q.rows name);
-  stories = all_further u.entries v.entries w.entries p.stories q.stories;
+  stories = go_on_further u.entries v.entries w.entries p.stories q.stories;
   messages = further u.messages v.messages w.messages p.messages q.messages;
   confirmed = none_falls_further u.book v.book w.book p.confirmed q.confirmed;
 }
@@ -183,7 +147,7 @@ sends_on w (Some Nothing) = here_still w
 sends_on w (Some (Waits member)) = here_still w
 sends_on w (Some (Send request)) = record {
   rows = λ name. stays (rows_of w.history name);
-  stories = all_stay w.entries;
+  stories = go_on_staying w.entries;
   messages = (Asked request ∷ [], refl);
   confirmed = none_falls w.book;
 }
@@ -198,7 +162,7 @@ delivers_on w (Some (Asked request)) = record {
 }
 delivers_on w (Some (Answered request answer)) = record {
   rows = λ name. stays (rows_of w.history name);
-  stories = all_stay w.entries;
+  stories = go_on_staying w.entries;
   messages = stays w.messages;
   confirmed = learn_raises w.book request answer;
 }
@@ -206,7 +170,7 @@ delivers_on w (Some (Answered request answer)) = record {
 event_on : (w : World) (event : Event) → Onward w (happens w event)
 event_on w (Changes row) = record {
   rows = change_adds w.history row (judged w row);
-  stories = all_stay w.entries;
+  stories = go_on_staying w.entries;
   messages = stays w.messages;
   confirmed = change_raises w.book row (judged w row);
 }
@@ -216,7 +180,7 @@ event_on w (Cuts number length) = here_still w
 event_on w Restarts_provider = here_still w
 event_on w Restarts_connector = record {
   rows = λ name. stays (rows_of w.history name);
-  stories = all_stay w.entries;
+  stories = go_on_staying w.entries;
   messages = stays w.messages;
   confirmed = λ name. reopened_raises (w.book name);
 }

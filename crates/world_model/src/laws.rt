@@ -1,8 +1,7 @@
 //! Laws of all runs, with nothing to run.
-ghost use Rattle.world_model.specs.Safe.{AlwaysOnward, JudgesBySource};
+ghost use Rattle.world_model.specs.Safe.{AlwaysOnward, AlwaysSafe, HeadlineHolds, JudgesBySource};
 
 /// After every run the connector judges each row as the history of the source alone does.
-#[tactic(auto, using(crate::proofs::Judging::judges_by_source))]
 pub fn judges_by_source()
     ensures { JudgesBySource }
 {}
@@ -11,4 +10,17 @@ pub fn judges_by_source()
 /// confirmed revision falls.
 pub fn always_onward()
     ensures { AlwaysOnward }
+{}
+
+/// After every run: no two entries are of one record; along each story revisions rise, and each content is
+/// its row's image; what counts as confirmed is held or surpassed; and a leaver stays inactive.
+pub fn always_safe()
+    ensures { AlwaysSafe }
+{}
+
+/// The headline, at each moment of a run and at each later one: the provider holds at most one resource per
+/// name, it is the image of its revision, its revision never goes back, and every revision that the
+/// connector counts as confirmed is held or surpassed.
+pub fn headline_holds()
+    ensures { HeadlineHolds }
 {}

@@ -1,0 +1,156 @@
+-- What is true after every event.
+use Rattle.std.proofs.Common.{◌≡◌, ℕ, zero, suc, List, [], ◌∷◌, Option, Some, None, Result, Ok, Err, refl, ap, sym, ◌∙◌}
+use Rattle.std.specs.Option.{option_map}
+use Rattle.scim_key.specs.Revisions.{◌≺◌}
+use Rattle.scim_key.specs.declared.records.RecordName.{RecordName}
+use Rattle.scim_message.specs.declared.messages.Request.{Request}
+use Rattle.scim_message.specs.declared.messages.Answer.{Answer}
+use Rattle.provider_core.specs.Stories.{step}
+use Rattle.provider_core.proofs.StoryLaws.{stories_only_grow}
+use Rattle.provider_core.proofs.TableLaws.{go_on_staying, tables_stay_whole, answers_show_facts}
+use Rattle.source_csv.specs.Records.{row_name, row_revision}
+use Rattle.source_csv.specs.declared.rows.Row.{Row}
+use Rattle.source_book.specs.Accepting.{IsNewer}
+use Rattle.source_book.specs.declared.accepting.Verdict.{Verdict}
+use Rattle.source_book.specs.declared.accepting.Verdict.TheVariants as verdicts
+use Rattle.connector_core.specs.Asking.{asking}
+use Rattle.connector_core.specs.declared.asking.Ask.{Ask}
+use Rattle.connector_core.specs.declared.asking.Ask.TheVariants.{Nothing, Waits, Send}
+use Rattle.connector_core.specs.declared.changing.ChangeFault.{ChangeFault}
+use Rattle.connector_core.specs.declared.knowledge.Known.{Known}
+use Rattle.world_model.specs.World.{World, Message, Asked, Answered, Event, Changes, Sends, Delivers, Cuts, Restarts_provider, Restarts_connector, changes, sends, arrives, delivers, message_at, happens, empty, judged, run}
+use Rattle.world_model.specs.Safe.{IsAt}
+use Rattle.world_model.proofs.Judging.{Follows, event_follows, judged_by_source}
+use Rattle.world_model.proofs.Accepting.{AllRise, newer_rises, rows_stay, new_by_source}
+use Rattle.world_model.proofs.Growing.{Grows, image_grows}
+use Rattle.world_model.proofs.Keeping.{Kept, step_grows, step_keeps}
+use Rattle.world_model.proofs.Noting.{AllNoted, all_noted_grow, row_noted, reopened_noted, learning_noted}
+use Rattle.world_model.proofs.Sending.{what_is_asked}
+use Rattle.world_model.proofs.Telling.{AskedTruly, ShowsTruly, AllTold, all_told_grow, told_push}
+
+pub record Inv (w : World) : Type 0 where
+  pub rising : AllRise w.history
+  pub follows : Follows w.book w.history
+  pub kept : Kept w.history w.entries
+  pub noted : AllNoted w.entries w.book
+  pub told : AllTold w.history w.entries w.messages
+
+-- ---- a row is offered
+
+abbrev with_new : World → Row → World
+with_new w row = changes w row (Ok verdicts.New)
+
+module _ (w : World) (row : Row) (inv : Inv w) (newer : IsNewer w.history row) (follows : Follows (with_new w row).book (with_new w row).history) where
+  new_grows : Grows w.history w.entries (with_new w row).history w.entries
+  new_grows = record { rows = λ name r has. rows_stay w.history row name r has; entries = go_on_staying w.entries; whole = inv.kept.whole }
+
+  new_kept : Kept (with_new w row).history w.entries
+  new_kept = record {
+    whole = inv.kept.whole;
+    rises = inv.kept.rises;
+    imaged = λ i j e c at held. image_grows w.history w.entries (with_new w row).history w.entries new_grows e.name c (inv.kept.imaged i j e c at held);
+    short = inv.kept.short;
+  }
+
+  above : (known : Known) → w.book (row_name row) ≡ Some known → row_revision known.wanted ≺ row_revision row
+  above known in_book = newer known.wanted (sym (inv.follows (row_name row)) ∙ ap (option_map (λ k. k.wanted)) in_book)
+
+  new_inv : Inv (with_new w row)
+  new_inv = record {
+    rising = newer_rises w.history row newer inv.rising;
+    follows = follows;
+    kept = new_kept;
+    noted = row_noted w.entries w.book row above inv.noted;
+    told = all_told_grow w.history w.entries (with_new w row).history w.entries new_grows w.messages inv.told;
+  }
+
+changes_inv : (w : World) (row : Row) (v : Result Verdict ChangeFault) → Inv w → judged w row ≡ v → Follows (changes w row v).book (changes w row v).history → Inv (changes w row v)
+changes_inv w row (Ok verdicts.New) inv is follows = new_inv w row inv (new_by_source w.history row (sym (judged_by_source w row inv.follows) ∙ is)) follows
+changes_inv w row (Ok verdicts.Known) inv is follows = inv
+changes_inv w row (Ok verdicts.Older) inv is follows = inv
+changes_inv w row (Err fault) inv is follows = inv
+
+-- ---- a message is sent, and arrives
+
+sends_inv : (w : World) (name : RecordName) (o : Option Ask) → Inv w → asking w.book name ≡ o → Inv (sends w o)
+sends_inv w name None inv is = inv
+sends_inv w name (Some Nothing) inv is = inv
+sends_inv w name (Some (Waits member)) inv is = inv
+sends_inv w name (Some (Send request)) inv is = record {
+  rising = inv.rising;
+  follows = inv.follows;
+  kept = inv.kept;
+  noted = inv.noted;
+  told = told_push w.history w.entries w.messages (Asked request) inv.told (what_is_asked w.history w.entries w.book inv.follows inv.noted name request is);
+}
+
+request_inv : (w : World) (request : Request) → Inv w → AskedTruly w.history w.entries request → Inv (arrives w (Asked request))
+request_inv w request inv asked =
+    let after = step w.entries request in
+    let grows = step_grows w.history w.entries request inv.kept.whole in
+    record {
+      rising = inv.rising;
+      follows = inv.follows;
+      kept = step_keeps w.history w.entries request inv.kept asked;
+      noted = all_noted_grow w.entries after.entries w.book (stories_only_grow w.entries request) (tables_stay_whole w.entries request inv.kept.whole) inv.noted;
+      told = told_push w.history after.entries w.messages (Answered request after.answer)
+          (all_told_grow w.history w.entries w.history after.entries grows w.messages inv.told) (answers_show_facts w.entries request);
+    }
+
+reply_inv : (w : World) (request : Request) (answer : Answer) → Inv w → ShowsTruly w.entries answer → Follows (arrives w (Answered request answer)).book w.history
+    → Inv (arrives w (Answered request answer))
+reply_inv w request answer inv shows follows = record {
+  rising = inv.rising;
+  follows = follows;
+  kept = inv.kept;
+  noted = learning_noted w.entries w.book request answer inv.kept.whole shows inv.noted;
+  told = inv.told;
+}
+
+pub message_there : (messages : List Message) (number : ℕ) (message : Message) → message_at messages number ≡ Some message → (i : ℕ) × IsAt messages i message
+message_there messages zero message is = absurd (cc)
+message_there messages (suc place) message is = (place, is)
+
+delivers_inv : (w : World) (number : ℕ) (o : Option Message) → Inv w → message_at w.messages number ≡ o → Follows (delivers w o).book (delivers w o).history → Inv (delivers w o)
+delivers_inv w number None inv is follows = inv
+delivers_inv w number (Some (Asked request)) inv is follows =
+    let (i, at) = message_there w.messages number (Asked request) is in request_inv w request inv (inv.told i (Asked request) at)
+delivers_inv w number (Some (Answered request answer)) inv is follows =
+    let (i, at) = message_there w.messages number (Answered request answer) is in reply_inv w request answer inv (inv.told i (Answered request answer) at) follows
+
+-- ---- every event
+
+event_inv : (w : World) (event : Event) → Inv w → Inv (happens w event)
+event_inv w (Changes row) inv = changes_inv w row (judged w row) inv refl (event_follows w (Changes row) inv.follows)
+event_inv w (Sends name) inv = sends_inv w name (asking w.book name) inv refl
+event_inv w (Delivers number) inv = delivers_inv w number (message_at w.messages number) inv refl (event_follows w (Delivers number) inv.follows)
+event_inv w (Cuts number length) inv = inv
+event_inv w Restarts_provider inv = inv
+event_inv w Restarts_connector inv = record {
+  rising = inv.rising;
+  follows = event_follows w Restarts_connector inv.follows;
+  kept = inv.kept;
+  noted = reopened_noted w.entries w.book inv.noted;
+  told = inv.told;
+}
+
+empty_inv : Inv empty
+empty_inv = record {
+  rising = λ name. tt;
+  follows = λ name. refl;
+  kept = record {
+    whole = record { named = λ i j e c at held. absurd (cc); distinct = λ i j d e at_d at_e same. absurd (cc) };
+    rises = λ i e at. absurd (cc);
+    imaged = λ i j e c at held. absurd (cc);
+    short = λ i e at. absurd (cc);
+  };
+  noted = λ name known is. absurd (cc);
+  told = λ i message at. absurd (cc);
+}
+
+run_inv : (w : World) (events : List Event) → Inv w → Inv (run w events)
+run_inv w [] inv = inv
+run_inv w (event ∷ events) inv = run_inv (happens w event) events (event_inv w event inv)
+
+pub always_inv : (events : List Event) → Inv (run empty events)
+always_inv events = run_inv empty events empty_inv

@@ -1,0 +1,205 @@
+-- What is true of the provider's table, and that each request that was ever sent leaves it so.
+use Rattle.std.proofs.Common.{◌≡◌, ℕ, zero, suc, ◌<◌, ◌≤◌, true, List, [], ◌∷◌, ◌++◌, length, Some, ◌⊎◌, inl, inr, ap, sym, ◌∙◌, subst, arith, length-append}
+use Rattle.std.proofs.lemmas.Option.{slice_get_within}
+use Rattle.std.specs.List.{slice_get}
+use Rattle.scim_key.specs.Revisions.{RevisionValue, ◌≺◌, ◌≼◌}
+use Rattle.scim_version.proofs.Versions.{has_version-alone}
+use Rattle.scim_version.specs.Conditions.{holds_match}
+use Rattle.scim_version.specs.Tags.{version_tag}
+use Rattle.scim_version.specs.declared.conditions.Condition.{Condition}
+use Rattle.scim_version.specs.declared.conditions.Condition.TheVariants.{Tags}
+use Rattle.scim_resource.specs.Contents.{content_name}
+use Rattle.scim_resource.specs.Rows.{last_version}
+use Rattle.scim_resource.specs.declared.contents.Content.{Content}
+use Rattle.scim_message.specs.declared.messages.Request.{Request}
+use Rattle.provider_core.specs.Stories.{Entry, story, first_entry, renewed, renew_at, step}
+use Rattle.provider_core.specs.Tables.{IsWholeTable, Writes, Writes.nothing, Writes.created, Writes.replaced}
+use Rattle.provider_core.proofs.StoryLaws.{stories_only_grow}
+use Rattle.provider_core.proofs.TableLaws.{at_push, at_one, at_renew, held_at, steps_write, tables_stay_whole}
+use Rattle.source_csv.specs.Records.{row_revision}
+use Rattle.source_book.specs.History.{History}
+use Rattle.connector_core.specs.Learning.{content_revision}
+use Rattle.world_model.specs.Safe.{IsAt, IsImage, StoryRises}
+use Rattle.world_model.proofs.Growing.{Grows, image_grows}
+use Rattle.world_model.proofs.Order.{itself, up_to, up_to_before}
+use Rattle.world_model.proofs.Telling.{Overwrites, AskedTruly}
+
+pub record Kept (history : History) (es : List Entry) : Type 0 where
+  pub whole : IsWholeTable es
+  pub rises : (i : ℕ) (e : Entry) → IsAt es i e → StoryRises (story e)
+  pub imaged : (i j : ℕ) (e : Entry) (c : Content) → IsAt es i e → IsAt (story e) j c → IsImage history es e.name c
+  pub short : (i : ℕ) (e : Entry) → IsAt es i e → length (story e) ≤ last_version
+
+-- the revision of what an entry holds
+pub held_revision : (history : History) (es : List Entry) → Kept history es → (i : ℕ) (e : Entry) → IsAt es i e
+    → (held : RevisionValue) × (content_revision e.held ≡ Some held)
+held_revision history es kept i e at =
+    let image = kept.imaged i (length e.earlier) e e.held at (held_at e) in
+    (row_revision image.row, image.revision)
+
+-- no content of a story is of a higher revision than the one that is held
+pub none_above_held : (e : Entry) → StoryRises (story e) → (j : ℕ) (c : Content) (r held : RevisionValue) → IsAt (story e) j c → content_revision c ≡ Some r
+    → content_revision e.held ≡ Some held → r ≼ held
+none_above_held e rises j c r held at has_r has_held = elim (at_push e.earlier e.held j c at) [
+  | inl old ↦ up_to r held (rises j (length e.earlier) c e.held r held (slice_get_within e.earlier j c old) at (held_at e) has_r has_held)
+  | inr last ↦
+      let same : Some held ≡ Some r = sym has_held ∙ ap content_revision last.1 ∙ has_r in
+      let equal : held ≡ r = cc in
+      subst (λ (x : RevisionValue). r ≼ x) (sym equal) (itself r)
+]
+
+-- one more content of a higher revision
+push_rises : (contents : List Content) (content : Content) (newer : RevisionValue) → StoryRises contents → content_revision content ≡ Some newer
+    → ((j : ℕ) (c : Content) (r : RevisionValue) → IsAt contents j c → content_revision c ≡ Some r → r ≺ newer) → StoryRises (contents ++ content ∷ [])
+push_rises contents content newer rises has_newer above i j c d r s lt at_c at_d has_r has_s = elim (at_push contents content j d at_d) [
+  | inl old_d ↦ elim (at_push contents content i c at_c) [
+    | inl old_c ↦ rises i j c d r s lt old_c old_d has_r has_s
+    | inr new_c ↦ let within = slice_get_within contents j d old_d in absurd (omega (arith, lt, new_c.0, within))
+  ]
+  | inr new_d ↦ elim (at_push contents content i c at_c) [
+    | inl old_c ↦
+        let same : Some newer ≡ Some s = sym has_newer ∙ ap content_revision new_d.1 ∙ has_s in
+        let equal : newer ≡ s = cc in
+        subst (λ (x : RevisionValue). r ≺ x) equal (above i c r old_c has_r)
+    | inr new_c ↦ absurd (omega (arith, lt, new_c.0, new_d.0))
+  ]
+]
+
+one_rises : (content : Content) → StoryRises (content ∷ [])
+one_rises content zero zero c d r s lt at_c at_d has_r has_s = absurd (omega (arith, lt))
+one_rises content zero (suc j) c d r s lt at_c at_d has_r has_s = absurd (cc)
+one_rises content (suc i) j c d r s lt at_c at_d has_r has_s = absurd (cc)
+
+-- ---- a Create
+
+module _ (history : History) (es : List Entry) (content : Content) (kept : Kept history es) (asked : IsImage history es (content_name content) content)
+    (grows : Grows history es history (es ++ first_entry content ∷ [])) where
+  abbrev with_first : List Entry
+  with_first = es ++ first_entry content ∷ []
+
+  created_imaged : (i j : ℕ) (e : Entry) (c : Content) → IsAt with_first i e → IsAt (story e) j c → IsImage history with_first e.name c
+  created_imaged i j e c at held = elim (at_push es (first_entry content) i e at) [
+    | inl old ↦ image_grows history es history with_first grows e.name c (kept.imaged i j e c old held)
+    | inr new ↦ subst (λ (x : Entry). IsAt (story x) j c → IsImage history with_first x.name c) new.1 (λ in_first.
+        subst (λ (x : Content). IsImage history with_first (content_name content) x) (at_one content j c in_first)
+        (image_grows history es history with_first grows (content_name content) content asked)) held
+  ]
+
+  created_rises : (i : ℕ) (e : Entry) → IsAt with_first i e → StoryRises (story e)
+  created_rises i e at = elim (at_push es (first_entry content) i e at) [
+    | inl old ↦ kept.rises i e old
+    | inr new ↦ subst (λ (x : Entry). StoryRises (story x)) new.1 (one_rises content)
+  ]
+
+  created_short : (i : ℕ) (e : Entry) → IsAt with_first i e → length (story e) ≤ last_version
+  created_short i e at = elim (at_push es (first_entry content) i e at) [
+    | inl old ↦ kept.short i e old
+    | inr new ↦ subst (λ (x : Entry). length (story x) ≤ last_version) new.1 (omega arith)
+  ]
+
+  pub created_kept : Kept history with_first
+  created_kept = record { whole = grows.whole; rises = created_rises; imaged = created_imaged; short = created_short }
+
+-- ---- a Replace
+
+-- the condition holds of the version that the request is for, so that version is the current one
+tag_is_last : (turn count : ℕ) (tag : List ℕ) (if_match : Condition) → if_match ≡ Tags (tag ∷ []) → tag ≡ version_tag (suc turn) → turn < count → count ≤ last_version
+    → holds_match if_match (Some count) ≡ true → suc turn ≡ count
+tag_is_last turn count tag if_match alone is within short holds =
+    let P : Condition → Type 0 = λ m. holds_match m (Some count) ≡ true in
+    let Q : List ℕ → Type 0 = λ t. holds_match (Tags (t ∷ [])) (Some count) ≡ true in
+    (has_version-alone (suc turn) count (omega (arith, within, short)) (omega (arith, short))).0 (subst Q is (subst P alone holds))
+
+module _ (history : History) (es : List Entry) (i : ℕ) (e : Entry) (content : Content) (if_match : Condition) (id : List ℕ) (kept : Kept history es)
+    (asked : Overwrites history es id content if_match) (there : IsAt es i e) (named : e.name ≡ content_name content) (below : length (story e) < last_version)
+    (holds : holds_match if_match (Some (length (story e))) ≡ true) (grows : Grows history es history (renew_at i content es)) where
+  -- the version that the request is for is the last of the entry's story
+  overwritten : (held : RevisionValue) → content_revision e.held ≡ Some held → held ≡ asked.older
+  overwritten held has_held =
+      let v = asked.version in
+      let place : v.place ≡ i = kept.whole.distinct v.place i v.entry e v.here there (v.of_record ∙ sym named) in
+      let same : Some v.entry ≡ Some e = sym v.here ∙ ap (slice_get es) place ∙ there in
+      let entry : v.entry ≡ e = cc in
+      let held_there : IsAt (story e) v.turn v.content = subst (λ (x : Entry). IsAt (story x) v.turn v.content) entry v.held in
+      let within = slice_get_within (story e) v.turn v.content held_there in
+      let last = tag_is_last v.turn (length (story e)) asked.tag if_match asked.alone v.has_tag within (omega (arith, below)) holds in
+      let turn : v.turn ≡ length e.earlier = omega (arith, last, length-append e.earlier (e.held ∷ [])) in
+      let content_there : Some v.content ≡ Some e.held = sym held_there ∙ ap (slice_get (story e)) turn ∙ held_at e in
+      let its : v.content ≡ e.held = cc in
+      let revisions : Some held ≡ Some asked.older = sym has_held ∙ ap content_revision (sym its) ∙ v.at_revision in
+      cc
+
+  all_below : (j : ℕ) (c : Content) (r : RevisionValue) → IsAt (story e) j c → content_revision c ≡ Some r → r ≺ asked.newer
+  all_below j c r at has_r =
+      let (held, has_held) = held_revision history es kept i e there in
+      let up = none_above_held e (kept.rises i e there) j c r held at has_r has_held in
+      up_to_before r asked.older asked.newer (subst (λ (x : RevisionValue). r ≼ x) (overwritten held has_held) up) asked.rises
+
+  renewed_story_rises : StoryRises (story (renewed e content))
+  renewed_story_rises = push_rises (story e) content asked.newer (kept.rises i e there) asked.revision all_below
+
+  abbrev with_next : List Entry
+  with_next = renew_at i content es
+
+  -- an entry of the table before it, or this one gone on
+  abbrev Cases : ℕ → Entry → Type 0
+  Cases k f = IsAt es k f ⊎ (f ≡ renewed e content)
+
+  cases : (k : ℕ) (f : Entry) → IsAt with_next k f → Cases k f
+  cases k f at =
+      let (d, here, which) = at_renew i content es k f at in
+      elim which [
+        | inl old ↦ inl (subst (λ (x : Entry). IsAt es k x) (sym old) here)
+        | inr new ↦
+            let same : Some d ≡ Some e = sym here ∙ ap (slice_get es) new.0 ∙ there in
+            let entry : d ≡ e = cc in
+            inr (new.1 ∙ ap (λ x. renewed x content) entry)
+      ]
+
+  renewed_rises : (k : ℕ) (f : Entry) → IsAt with_next k f → StoryRises (story f)
+  renewed_rises k f at = elim (cases k f at) [
+    | inl old ↦ kept.rises k f old
+    | inr new ↦ subst (λ (x : Entry). StoryRises (story x)) (sym new) renewed_story_rises
+  ]
+
+  story_imaged : (j : ℕ) (c : Content) → IsAt (story e ++ content ∷ []) j c → IsImage history with_next e.name c
+  story_imaged j c at = elim (at_push (story e) content j c at) [
+    | inl old ↦ image_grows history es history with_next grows e.name c (kept.imaged i j e c there old)
+    | inr new ↦
+        let P : Content → Type 0 = λ x. IsImage history with_next e.name x in
+        subst P new.1 (subst (λ name. IsImage history with_next name content) (sym named) (image_grows history es history with_next grows (content_name content) content asked.image))
+  ]
+
+  renewed_imaged : (k j : ℕ) (f : Entry) (c : Content) → IsAt with_next k f → IsAt (story f) j c → IsImage history with_next f.name c
+  renewed_imaged k j f c at held = elim (cases k f at) [
+    | inl old ↦ image_grows history es history with_next grows f.name c (kept.imaged k j f c old held)
+    | inr new ↦ subst (λ (x : Entry). IsAt (story x) j c → IsImage history with_next x.name c) (sym new) (story_imaged j c) held
+  ]
+
+  renewed_short : (k : ℕ) (f : Entry) → IsAt with_next k f → length (story f) ≤ last_version
+  renewed_short k f at = elim (cases k f at) [
+    | inl old ↦ kept.short k f old
+    | inr new ↦ subst (λ (x : Entry). length (story x) ≤ last_version) (sym new) (omega (arith, below, length-append (story e) (content ∷ [])))
+  ]
+
+  pub renewed_kept : Kept history with_next
+  renewed_kept = record { whole = grows.whole; rises = renewed_rises; imaged = renewed_imaged; short = renewed_short }
+
+-- ---- every request
+
+kept_by : (history : History) {es : List Entry} {request : Request} {fs : List Entry} → Writes es request fs → Kept history es → AskedTruly history es request
+    → Grows history es history fs → Kept history fs
+kept_by history nothing kept asked grows = kept
+kept_by history (created {es = es} content free) kept asked grows = created_kept history es content kept asked grows
+kept_by history (replaced {es = es} i e content m n there named below holds) kept asked grows =
+    renewed_kept history es i e content m _ kept asked there named below holds grows
+
+pub step_grows : (history : History) (es : List Entry) (request : Request) → IsWholeTable es → Grows history es history (step es request).entries
+step_grows history es request whole = record {
+  rows = λ name row has. has;
+  entries = stories_only_grow es request;
+  whole = tables_stay_whole es request whole;
+}
+
+pub step_keeps : (history : History) (es : List Entry) (request : Request) → Kept history es → AskedTruly history es request → Kept history (step es request).entries
+step_keeps history es request kept asked = kept_by history (steps_write es request) kept asked (step_grows history es request kept.whole)

@@ -1,0 +1,119 @@
+-- After every run the world is safe, and the headline on what the provider holds.
+use Rattle.std.proofs.Common.{◌≡◌, ◌≢◌, ℕ, true, List, length, Option, Some, None, false, refl, ap, sym, ◌∙◌, subst}
+use Rattle.std.proofs.lemmas.Bool.{false_from_ne_true}
+use Rattle.std.specs.List.{slice_get}
+use Rattle.scim_key.proofs.RevisionLaws.{none_first}
+use Rattle.scim_key.specs.Revisions.{RevisionValue, no_revision, before, ◌≺◌, ◌≼◌}
+use Rattle.scim_key.specs.declared.records.RecordName.{RecordName}
+use Rattle.scim_resource.specs.declared.contents.Content.{Content}
+use Rattle.provider_core.specs.Stories.{Entry}
+use Rattle.provider_core.proofs.TableLaws.{held_at}
+use Rattle.source_csv.specs.Records.{row_revision}
+use Rattle.source_csv.specs.declared.rows.Row.{Row}
+use Rattle.source_csv.specs.declared.rows.Row.TheVariants.{User, Group}
+use Rattle.source_book.specs.History.{members_of, rows_of}
+use Rattle.connector_core.specs.Images.{ready, image_with}
+use Rattle.connector_core.specs.Learning.{content_revision}
+use Rattle.connector_core.specs.declared.knowledge.Known.{Known}
+use Rattle.connector_core.specs.declared.knowledge.Seen.{Seen}
+use Rattle.connector_core.specs.declared.knowledge.Seen.TheVariants.{Unknown, Absent, At}
+use Rattle.world_model.specs.World.{World, empty, run}
+use Rattle.world_model.specs.Safe.{Has, id_in, IsEntryOf, HasReached, IsImage, is_leaver, is_inactive, HasLeftSince, IsVersion, SeenTruly, IsReached, KnownTruly, Safe, AlwaysSafe}
+use Rattle.world_model.proofs.Imaging.{of_ready}
+use Rattle.world_model.proofs.Keeping.{held_revision, none_above_held}
+use Rattle.world_model.proofs.Noting.{HasVersion, InSight, Noted}
+use Rattle.world_model.proofs.Invariant.{Inv, always_inv}
+
+-- ---- what is known of a record
+
+seen_truly : (es : List Entry) (name : RecordName) (known : Known) (id : Option (List ℕ)) (seen : Seen) → known.id ≡ id
+    → ((tag : List ℕ) (r : RevisionValue) → seen ≡ At tag r → InSight es name known tag r) → SeenTruly es name id seen
+seen_truly es name known id Unknown is sight = tt
+seen_truly es name known id Absent is sight = tt
+seen_truly es name known None (At tag r) is sight = let s = sight tag r refl in let clash : None ≡ Some s.id = sym is ∙ s.has_id in absurd (cc)
+seen_truly es name known (Some id) (At tag r) is sight =
+    let s = sight tag r refl in
+    let ids : Some s.id ≡ Some id = sym s.has_id ∙ is in
+    let same : s.id ≡ id = cc in
+    subst (λ (i : List ℕ). IsVersion es name i tag r) same s.version
+
+module _ (w : World) (inv : Inv w) where
+  -- the entry that has a version of a revision holds that revision or a later one
+  pub version_reached : (name : RecordName) (id tag : List ℕ) (r : RevisionValue) (v : IsVersion w.entries name id tag r) → HasReached r v.entry.held
+  version_reached name id tag r v =
+      let (held, has_held) = held_revision w.history w.entries inv.kept v.place v.entry v.here in
+      (held, has_held, none_above_held v.entry (inv.kept.rises v.place v.entry v.here) v.turn v.content r held v.held v.at_revision has_held)
+
+  is_reached : (name : RecordName) (known : Known) → Noted w.entries name known → HasVersion w.entries name known.id known.confirmed
+      → IsReached w.entries name known.id known.confirmed
+  is_reached name known n has =
+      let v = has.version in
+      record {
+        entry = v.entry;
+        of_record = ((v.place, v.here), v.of_record);
+        has_id = has.known ∙ sym (n.id has.id has.known);
+        reached = version_reached name has.id has.tag known.confirmed v;
+      }
+
+  known_truly : (name : RecordName) (known : Known) → w.book name ≡ Some known → KnownTruly w.entries name known
+  known_truly name known in_book =
+      let n = inv.noted name known in_book in
+      record {
+        id = n.id;
+        confirmed = λ some. is_reached name known n (n.confirmed some);
+        within = n.within;
+        seen = seen_truly w.entries name known known.id known.seen refl n.seen;
+      }
+
+-- ---- leavers
+
+leaver_image : (ids : List (List ℕ)) (row : Row) → is_leaver row ≡ true → is_inactive (image_with ids row) ≡ true
+leaver_image ids (User row) left = left
+leaver_image ids (Group row) left = absurd (cc)
+
+abbrev IsNone : RevisionValue → Type 0
+IsNone r = r ≡ no_revision
+
+module _ (w : World) (inv : Inv w) (name : RecordName) (known : Known) (in_book : w.book name ≡ Some known) (e : Entry) (of_record : IsEntryOf w.entries name e) where
+  -- the row that the held content is the image of
+  held_image : IsImage w.history w.entries e.name e.held
+  held_image = inv.kept.imaged of_record.0.0 (length e.earlier) e e.held of_record.0.1 (held_at e)
+
+  -- it is of the confirmed revision or of a later one
+  held_reached : known.confirmed ≼ row_revision held_image.row
+  held_reached = false_from_ne_true _ (λ below.
+      let some : known.confirmed ≢ no_revision = λ none. absurd (cc (none_first (row_revision held_image.row), subst (λ (r : RevisionValue). row_revision held_image.row ≺ r) none below)) in
+      let has = (inv.noted name known in_book).confirmed some in
+      let v = has.version in
+      let place : v.place ≡ of_record.0.0 = inv.kept.whole.distinct v.place of_record.0.0 v.entry e v.here of_record.0.1 (v.of_record ∙ sym of_record.1) in
+      let same : Some v.entry ≡ Some e = sym v.here ∙ ap (slice_get w.entries) place ∙ of_record.0.1 in
+      let entry : v.entry ≡ e = cc in
+      let reached = version_reached w inv name has.id has.tag known.confirmed v in
+      let revisions : Some (row_revision held_image.row) ≡ Some reached.0 = sym held_image.revision ∙ ap (λ x. content_revision x.held) (sym entry) ∙ reached.1 in
+      let equal : row_revision held_image.row ≡ reached.0 = cc in
+      let up : before reached.0 known.confirmed ≡ false = reached.2 in
+      let down : before reached.0 known.confirmed ≡ true = subst (λ (r : RevisionValue). r ≺ known.confirmed) equal below in
+      absurd (cc))
+
+  inactive : HasLeftSince w.history name known.confirmed → is_inactive e.held ≡ true
+  inactive left =
+      let row = held_image.row in
+      let (ids, same, _) = of_ready (ready (id_in w.entries) (members_of row)) row e.held held_image.image in
+      let accepted : Has (rows_of w.history name) row = subst (λ (n : RecordName). Has (rows_of w.history n) row) of_record.1 held_image.accepted in
+      subst (λ (c : Content). is_inactive c ≡ true) same (leaver_image ids row (left row accepted held_reached))
+
+-- ---- safe
+
+safe_now : (w : World) → Inv w → Safe w
+safe_now w inv = record {
+  rows_rise = inv.rising;
+  one_each = inv.kept.whole.distinct;
+  stories_rise = λ e has. inv.kept.rises has.0 e has.1;
+  images = λ e content has in_story. inv.kept.imaged has.0 in_story.0 e content has.1 in_story.1;
+  wanted = inv.follows;
+  known = known_truly w inv;
+  leavers = λ name known e of_kind in_book of_record left. inactive w inv name known in_book e of_record left;
+}
+
+pub always_safe : AlwaysSafe
+always_safe events = safe_now (run empty events) (always_inv events)

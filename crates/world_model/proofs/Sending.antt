@@ -1,0 +1,128 @@
+-- What the connector asks for is true: a Create and a Replace carry an image, and a Replace overwrites an older version.
+use Rattle.std.proofs.Common.{◌≡◌, ℕ, Bool, true, false, not, ◌&&◌, List, Option, Some, None, refl, ap, sym, ◌∙◌, subst}
+use Rattle.std.specs.Option.{option_map, option_and_then}
+use Rattle.scim_key.specs.Revisions.{RevisionValue, before, ◌≺◌, ◌≼◌}
+use Rattle.scim_key.specs.declared.records.RecordName.{RecordName}
+use Rattle.scim_resource.specs.Contents.{content_name}
+use Rattle.scim_resource.specs.declared.contents.Content.{Content}
+use Rattle.scim_message.specs.declared.messages.Request.{Request}
+use Rattle.provider_core.specs.Stories.{Entry}
+use Rattle.source_csv.specs.Records.{row_name, row_revision}
+use Rattle.source_csv.specs.declared.rows.Row.{Row}
+use Rattle.source_csv.specs.declared.rows.Row.TheVariants.{User, Group}
+use Rattle.source_book.specs.History.{History, same_name, rows_of, members_of}
+use Rattle.connector_core.specs.Book.{Book, known_id}
+use Rattle.connector_core.specs.Images.{Ready, Ids, Waits_for, ready, image_with, if_ready}
+use Rattle.connector_core.specs.Asking.{asking, asking_for, is_done, request_for, search_for, replacement}
+use Rattle.connector_core.specs.declared.asking.Ask.{Ask}
+use Rattle.connector_core.specs.declared.asking.Ask.TheVariants.{Send}
+use Rattle.connector_core.specs.declared.knowledge.Known.{Known}
+use Rattle.connector_core.specs.declared.knowledge.Seen.{Seen}
+use Rattle.connector_core.specs.declared.knowledge.Seen.TheVariants.{Unknown, Absent, At}
+use Rattle.world_model.specs.Safe.{Has, id_in, IsImage, IsVersion}
+use Rattle.world_model.proofs.Judging.{Follows}
+use Rattle.world_model.proofs.Lists.{at_passes, last_has}
+use Rattle.world_model.proofs.Naming.{name_from_test}
+use Rattle.world_model.proofs.Order.{up_to_before}
+use Rattle.world_model.proofs.Imaging.{Knows, name_with, revision_with, image_more}
+use Rattle.world_model.proofs.Noting.{InSight, AllNoted}
+use Rattle.world_model.proofs.Telling.{AskedTruly}
+
+-- the rows of a record are of that record
+pub row_of_record : (history : History) (name : RecordName) (row : Row) → Has (rows_of history name) row → row_name row ≡ name
+row_of_record history name row has = name_from_test (row_name row) name (at_passes (λ r. same_name (row_name r) name) history has.0 row has.1)
+
+-- what isn't confirmed is of a lower revision than the wanted row
+not_done : (c w : RevisionValue) → c ≼ w → (not (before c w) && not (before w c)) ≡ false → c ≺ w
+not_done c w within unsettled = go (before c w) refl
+  where
+    go : (b : Bool) → before c w ≡ b → before c w ≡ true
+    go true is = is
+    go false is =
+        let both : (not (before c w) && not (before w c)) ≡ true = rw (is, within) refl in
+        absurd (cc)
+
+-- the case in which something is sent
+record Sends (book : Book) (known : Known) (request : Request) : Type 0 where
+  unsettled : is_done known ≡ false
+  ids : List (List ℕ)
+  has_ids : ready (known_id book) (members_of known.wanted) ≡ Ids ids
+  is : request_for known.seen known.id known.wanted (image_with ids known.wanted) ≡ request
+
+sends_of : (book : Book) (known : Known) (done : Bool) (r : Ready) (request : Request) → is_done known ≡ done → ready (known_id book) (members_of known.wanted) ≡ r
+    → asking_for done r known ≡ Send request → Sends book known request
+sends_of book known true r request unsettled has is = absurd (cc)
+sends_of book known false (Waits_for member) request unsettled has is = absurd (cc)
+sends_of book known false (Ids ids) request unsettled has is = record { unsettled = unsettled; ids = ids; has_ids = has; is = cc }
+
+asking_of : (o : Option Known) (f : Known → Ask) (ask : Ask) → option_map f o ≡ Some ask → (known : Known) × (o ≡ Some known) × (f known ≡ ask)
+asking_of None f ask is = absurd (cc)
+asking_of (Some known) f ask is = (known, refl, cc)
+
+wanted_of : (o : Option Known) (known : Known) → o ≡ Some known → option_map (λ k. k.wanted) o ≡ Some known.wanted
+wanted_of o known is = ap (option_map (λ k. k.wanted)) is
+
+search_asked : (history : History) (es : List Entry) (row : Row) → AskedTruly history es (search_for row)
+search_asked history es (User row) = tt
+search_asked history es (Group row) = tt
+
+module _ (history : History) (es : List Entry) (book : Book) (follows : Follows book history) (noted : AllNoted es book) where
+  knows : Knows (known_id book) (id_in es)
+  knows name id is = go (book name) refl is
+    where
+      go : (o : Option Known) → book name ≡ o → option_and_then (λ known. known.id) o ≡ Some id → id_in es name ≡ Some id
+      go None in_book has = absurd (cc)
+      go (Some known) in_book has = (noted name known in_book).id id has
+
+  module _ (name : RecordName) (known : Known) (in_book : book name ≡ Some known) where
+    accepted : Has (rows_of history name) known.wanted
+    accepted = last_has (rows_of history name) known.wanted (sym (follows name) ∙ wanted_of (book name) known in_book)
+
+    its_name : row_name known.wanted ≡ name
+    its_name = row_of_record history name known.wanted accepted
+
+    module _ (ids : List (List ℕ)) (has_ids : ready (known_id book) (members_of known.wanted) ≡ Ids ids) where
+      abbrev content : Content
+      content = image_with ids known.wanted
+
+      content_named : name ≡ content_name content
+      content_named = sym (name_with ids known.wanted ∙ its_name)
+
+      is_image : IsImage history es name content
+      is_image = record {
+        row = known.wanted;
+        accepted = accepted;
+        revision = revision_with ids known.wanted;
+        image = image_more (known_id book) (id_in es) knows known.wanted content (ap (λ r. if_ready r known.wanted) has_ids);
+      }
+
+      wanted_image : IsImage history es (content_name content) content
+      wanted_image = subst (λ (n : RecordName). IsImage history es n content) content_named is_image
+
+      overwrites : (id tag : List ℕ) (revision : RevisionValue) → is_done known ≡ false → known.id ≡ Some id → InSight es name known tag revision
+          → AskedTruly history es (replacement id tag content)
+      overwrites id tag revision unsettled has_id sight =
+          let ids_same : Some sight.id ≡ Some id = sym sight.has_id ∙ has_id in
+          let same : sight.id ≡ id = cc in
+          record {
+            image = wanted_image;
+            tag = tag;
+            alone = refl;
+            older = revision;
+            newer = row_revision known.wanted;
+            version = subst (λ (n : RecordName). IsVersion es n id tag revision) content_named (subst (λ (i : List ℕ). IsVersion es name i tag revision) same sight.version);
+            revision = revision_with ids known.wanted;
+            rises = up_to_before revision known.confirmed (row_revision known.wanted) sight.counted (not_done known.confirmed (row_revision known.wanted) (noted name known in_book).within unsettled);
+          }
+
+      request_asked : (seen : Seen) (id : Option (List ℕ)) → known.seen ≡ seen → known.id ≡ id → is_done known ≡ false → AskedTruly history es (request_for seen id known.wanted content)
+      request_asked Unknown id is_seen is_id unsettled = search_asked history es known.wanted
+      request_asked Absent id is_seen is_id unsettled = wanted_image
+      request_asked (At tag revision) (Some id) is_seen is_id unsettled = overwrites id tag revision unsettled is_id ((noted name known in_book).seen tag revision is_seen)
+      request_asked (At tag revision) None is_seen is_id unsettled = search_asked history es known.wanted
+
+  pub what_is_asked : (name : RecordName) (request : Request) → asking book name ≡ Some (Send request) → AskedTruly history es request
+  what_is_asked name request is =
+      let (known, in_book, asks) = asking_of (book name) (λ known. asking_for (is_done known) (ready (known_id book) (members_of known.wanted)) known) (Send request) is in
+      let sends = sends_of book known (is_done known) (ready (known_id book) (members_of known.wanted)) request refl refl asks in
+      subst (λ (r : Request). AskedTruly history es r) sends.is (request_asked name known in_book sends.ids sends.has_ids known.seen known.id refl refl sends.unsettled)
