@@ -10,6 +10,6 @@ mod users;
 
 pub use faults::{RowCode, RowFault, SourceFault};
 pub use files::{SourceRows, files_have_records, read_groups, read_users};
-pub use groups::GroupRow;
+pub use groups::{GroupRow, MEMBER_LIMIT};
 pub use rows::{Row, keys_are_of_names};
-pub use users::UserRow;
+pub use users::{UserRow, VALUE_LIMIT};
