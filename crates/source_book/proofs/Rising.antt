@@ -1,41 +1,21 @@
 -- The accepted rows of a record strictly rise, and stay.
-use Rattle.std.proofs.Common.{◌≡◌, ℕ, List, [], ◌∷◌, ◌++◌, true, Some, None, Result, Ok, Err, refl, ap, sym, ◌∙◌, inl, inr, append_assoc}
-use Rattle.std.proofs.lemmas.Bool.{and_parts, cases_Bool}
+use Rattle.std.proofs.Common.{◌≡◌, List, [], ◌∷◌, ◌++◌, Some, None, Result, Ok, Err, refl, ap, sym, ◌∙◌, inl, inr, append_assoc}
+use Rattle.std.proofs.lemmas.Bool.{cases_Bool}
 use Rattle.std.proofs.lemmas.List.{append-nil}
-use Rattle.std.proofs.lemmas.Slice.Eq.{bytes_eq-Decides}
 use Rattle.std.specs.List.{AllByRecursion, last_or}
-use Rattle.std.specs.Str.{bytes_eq}
+use Rattle.scim_key.proofs.RecordLaws as names
 use Rattle.scim_key.proofs.RevisionLaws.{transitive}
+use Rattle.scim_key.specs.Records.{same_name}
 use Rattle.scim_key.specs.Revisions.{◌≺◌}
-use Rattle.scim_key.specs.declared.records.Kind.{Kind}
-use Rattle.scim_key.specs.declared.records.Kind.TheVariants as kind
 use Rattle.scim_key.specs.declared.records.RecordName.{RecordName}
 use Rattle.source_csv.specs.Records.{row_name, row_revision}
 use Rattle.source_csv.specs.declared.rows.Row.{Row}
 use Rattle.source_book.specs.Accepting.{HistoriesRise, after_verdict, accepting, history_after}
-use Rattle.source_book.specs.History.{History, Rises, rows_of, same_kind, same_name}
+use Rattle.source_book.specs.History.{History, Rises, rows_of}
 use Rattle.source_book.specs.declared.accepting.BookFault.{BookFault}
 use Rattle.source_book.specs.declared.accepting.Verdict.{Verdict}
 use Rattle.source_book.specs.declared.accepting.Verdict.TheVariants.{New, Known, Older}
 use Rattle.source_book.proofs.Acceptance.{new_is_newer}
-
--- names that test the same are the same
-kind_from_test : (a b : Kind) → same_kind a b ≡ true → a ≡ b
-kind_from_test kind.User kind.User e = refl
-kind_from_test kind.User kind.Group e = cc
-kind_from_test kind.Group kind.User e = cc
-kind_from_test kind.Group kind.Group e = refl
-
-abbrev record_name : Kind → List ℕ → RecordName
-record_name k key = record { kind = k; key = key }
-
-same_parts : (k k' : Kind) (key key' : List ℕ) → k ≡ k' → key ≡ key' → record_name k key ≡ record_name k' key'
-same_parts k k' key key' e f = rw (e, f)
-
-name_from_test : (a b : RecordName) → same_name a b ≡ true → a ≡ b
-name_from_test a b e =
-    let parts = and_parts (same_kind a.kind b.kind) (bytes_eq a.key b.key) e in
-    same_parts _ _ _ _ (kind_from_test a.kind b.kind parts.0) ((bytes_eq-Decides a.key b.key).0 parts.1)
 
 -- one more row at the end
 all_push : (P : Row → Type 0) (rows : List Row) (row : Row) → AllByRecursion P rows → P row → AllByRecursion P (rows ++ row ∷ [])
@@ -67,7 +47,7 @@ AllRise history = (name : RecordName) → Rises (rows_of history name)
 push_rises : (history : History) (row : Row) → AllRise history → accepting history row ≡ Ok New → AllRise (history ++ row ∷ [])
 push_rises history row rises e name = rw (rows_of-push history row name) (elim (cases_Bool (same_name (row_name row) name)) [
   | inl same ↦
-      let named : row_name row ≡ name = name_from_test (row_name row) name same in
+      let named : row_name row ≡ name = (names.same (row_name row) name).0 same in
       rw same (rises_push (rows_of history name) row (rises name) (rw named at (new_is_newer history row e)))
   | inr other ↦ rw (other, append-nil (rows_of history name)) (rises name)
 ])
