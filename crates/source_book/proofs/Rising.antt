@@ -2,40 +2,19 @@
 use Rattle.std.proofs.Common.{◌≡◌, ◌≢◌, ℕ, List, [], ◌∷◌, ◌++◌, true, false, Option, Some, None, is_some, Result, Ok, Err, refl, ap, sym, ◌∙◌, inl, inr, append_assoc}
 use Rattle.std.proofs.lemmas.Bool.{and_parts, cases_Bool, false_from_ne_true}
 use Rattle.std.proofs.lemmas.List.{append-nil}
-use Rattle.std.proofs.lemmas.Slice.Eq.{bytes_eq-Decides}
 use Rattle.std.specs.List.{AllByRecursion, last_or, list_all}
-use Rattle.std.specs.Str.{bytes_eq}
+use Rattle.scim_key.proofs.RecordLaws.{same}
 use Rattle.scim_key.proofs.RevisionLaws.{none_first, transitive}
 use Rattle.scim_key.specs.Revisions.{◌≺◌, ◌≼◌}
-use Rattle.scim_key.specs.declared.records.Kind.{Kind}
-use Rattle.scim_key.specs.declared.records.Kind.TheVariants as kind
 use Rattle.scim_key.specs.declared.records.RecordName.{RecordName}
 use Rattle.source_csv.specs.Records.{row_name, row_revision}
 use Rattle.source_csv.specs.declared.rows.Row.{Row}
 use Rattle.source_book.specs.Accepting.{HistoriesRise, NewRowsGoOn, after_verdict, accepting, history_after}
-use Rattle.source_book.specs.History.{AllAreUsers, AllRise, History, MembersAreUsers, Rises, is_user, last_row, members_of, revision_if, rows_of, same_kind, same_name, user}
+use Rattle.source_book.specs.History.{AllAreUsers, AllRise, History, MembersAreUsers, Rises, is_user, last_row, members_of, revision_if, rows_of, same_name, user}
 use Rattle.source_book.specs.declared.accepting.BookFault.{BookFault}
 use Rattle.source_book.specs.declared.accepting.Verdict.{Verdict}
 use Rattle.source_book.specs.declared.accepting.Verdict.TheVariants.{New, Known, Older}
 use Rattle.source_book.proofs.Acceptance.{new_has_users, new_is_newer, not_before_earlier}
-
--- names that test the same are the same
-kind_from_test : (a b : Kind) → same_kind a b ≡ true → a ≡ b
-kind_from_test kind.User kind.User e = refl
-kind_from_test kind.User kind.Group e = cc
-kind_from_test kind.Group kind.User e = cc
-kind_from_test kind.Group kind.Group e = refl
-
-abbrev record_name : Kind → List ℕ → RecordName
-record_name k key = record { kind = k; key = key }
-
-same_parts : (k k' : Kind) (key key' : List ℕ) → k ≡ k' → key ≡ key' → record_name k key ≡ record_name k' key'
-same_parts k k' key key' e f = rw (e, f)
-
-name_from_test : (a b : RecordName) → same_name a b ≡ true → a ≡ b
-name_from_test a b e =
-    let parts = and_parts (same_kind a.kind b.kind) (bytes_eq a.key b.key) e in
-    same_parts _ _ _ _ (kind_from_test a.kind b.kind parts.0) ((bytes_eq-Decides a.key b.key).0 parts.1)
 
 -- one more row at the end
 all_push : (P : Row → Type 0) (rows : List Row) (row : Row) → AllByRecursion P rows → P row → AllByRecursion P (rows ++ row ∷ [])
@@ -62,9 +41,9 @@ rows_of-push (r ∷ history) row name = elim (cases_Bool (same_name (row_name r)
 
 push_rises : (history : History) (row : Row) → AllRise history → accepting history row ≡ Ok New → AllRise (history ++ row ∷ [])
 push_rises history row rises e name = rw (rows_of-push history row name) (elim (cases_Bool (same_name (row_name row) name)) [
-  | inl same ↦
-      let named : row_name row ≡ name = name_from_test (row_name row) name same in
-      rw same (rises_push (rows_of history name) row (rises name) (rw named at (new_is_newer history row e)))
+  | inl here ↦
+      let named : row_name row ≡ name = (same (row_name row) name).0 here in
+      rw here (rises_push (rows_of history name) row (rises name) (rw named at (new_is_newer history row e)))
   | inr other ↦ rw (other, append-nil (rows_of history name)) (rises name)
 ])
 
@@ -136,19 +115,12 @@ all_members history (row ∷ offered) all =
     all_members (after_verdict history row (accepting history row)) offered (verdict_members history row (accepting history row) refl all)
 
 -- one new row
-name_itself : (name : RecordName) → same_name name name ≡ true
-name_itself name = rw (kind_itself name.kind, (bytes_eq-Decides name.key name.key).1 refl)
-  where
-    kind_itself : (k : Kind) → same_kind k k ≡ true
-    kind_itself kind.User = refl
-    kind_itself kind.Group = refl
-
 record_goes_on : (history : History) (row : Row) → rows_of (history ++ row ∷ []) (row_name row) ≡ rows_of history (row_name row) ++ row ∷ []
-record_goes_on history row = rows_of-push history row (row_name row) ∙ rw (name_itself (row_name row)) refl
+record_goes_on history row = rows_of-push history row (row_name row) ∙ rw ((same (row_name row) (row_name row)).1 refl) refl
 
 others_stay : (history : History) (row : Row) (name : RecordName) → name ≢ row_name row → rows_of (history ++ row ∷ []) name ≡ rows_of history name
 others_stay history row name other =
-    let differ : same_name (row_name row) name ≡ false = false_from_ne_true _ (λ e. other (sym (name_from_test (row_name row) name e))) in
+    let differ : same_name (row_name row) name ≡ false = false_from_ne_true _ (λ e. other (sym ((same (row_name row) name).0 e))) in
     rows_of-push history row name ∙ rw differ (append-nil (rows_of history name))
 
 wanted_before : (held : Option Row) (row : Row) → ((last : Row) → held ≡ Some last → row_revision last ≺ row_revision row) → revision_if held ≼ row_revision row

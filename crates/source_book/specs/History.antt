@@ -1,10 +1,8 @@
 -- The history of the source: the rows that were accepted.
-use Rattle.std.specs.Prelude.{◌≡◌, ℕ, Bool, true, false, not, List, [], ◌∷◌, Option, Some, None, ◌&&◌, is_some}
+use Rattle.std.specs.Prelude.{◌≡◌, ℕ, Bool, true, not, List, [], ◌∷◌, Option, Some, None, is_some}
 use Rattle.std.specs.List.{AllByRecursion, filter, last_or, list_all, position_from}
-use Rattle.std.specs.Str.{bytes_eq}
+pub use Rattle.scim_key.specs.Records.{same_kind, same_name}
 use Rattle.scim_key.specs.Revisions.{RevisionValue, no_revision, ◌≺◌}
-use Rattle.scim_key.specs.declared.records.Kind.{Kind}
-use Rattle.scim_key.specs.declared.records.Kind.TheVariants as kind
 use Rattle.scim_key.specs.declared.records.RecordName.{RecordName}
 use Rattle.source_csv.specs.Records.{row_name, row_revision}
 pub use Rattle.source_csv.specs.Records.{user, members_of}
@@ -13,15 +11,6 @@ use Rattle.source_csv.specs.declared.rows.Row.{Row}
 -- all accepted rows, in the order in which they were accepted
 abbrev pub History : Type 0
 History = List Row
-
-abbrev pub same_kind : Kind → Kind → Bool
-same_kind kind.User kind.User = true
-same_kind kind.User kind.Group = false
-same_kind kind.Group kind.User = false
-same_kind kind.Group kind.Group = true
-
-abbrev pub same_name : RecordName → RecordName → Bool
-same_name a b = same_kind a.kind b.kind && bytes_eq a.key b.key
 
 -- the accepted rows of a record, in their order
 abbrev pub rows_of : History → RecordName → List Row
