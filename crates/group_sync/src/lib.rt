@@ -3,6 +3,8 @@
 
 mod ids;
 mod readiness;
+mod settling;
 
 pub use ids::{Ids, Ready, ResourceIds};
 pub use readiness::{ready, ready_means};
+pub use settling::settle_order;
