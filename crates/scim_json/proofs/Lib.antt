@@ -1,3 +1,4 @@
+pub mod Lists
 pub mod Parts
 pub mod RepeatedNames
 pub mod Texts

@@ -86,3 +86,7 @@ MembersHaveUtf8-members_from ((k, None) ∷ ps) h u = MembersHaveUtf8-members_fr
 MembersHaveUtf8-members_from ((k, Some d) ∷ ps) h u =
     let both = and_parts (are_ascii k) _ h in
     (IsUtf8-are_ascii k both.0, u.0, MembersHaveUtf8-members_from ps both.1 u.1)
+
+-- a literal of ASCII is UTF-8, by `refl`
+pub IsUtf8-literal : (text : List ℕ) → are_ascii text ≡ true → IsUtf8 text
+IsUtf8-literal text h = IsUtf8-are_ascii text h

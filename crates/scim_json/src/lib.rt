@@ -11,5 +11,5 @@ mod writing;
 pub use attributes::{attribute, list_repeats, repeats, same_name, value_repeats};
 pub use laws::plain_text_reads_back;
 pub use parsing::{JsonFault, json_of};
-pub use values::{ValueFault, flag_or, items_in, members_in, whole_in};
+pub use values::{ValueFault, flag_or, items_in, lists_text, members_in, text_of, whole_in};
 pub use writing::{compact, put_if};

@@ -62,9 +62,14 @@ meta_depth base s =
     let within : AreWithin 1 (meta_parts base s) = (omega arith, (omega arith, (version_depth s.version, tt))) in
     omega (arith, members_depth-members_from 1 (meta_parts base s) within)
 
+pub shown_plain : (base : List ℕ) (s : ShownRecord) → IsContent s.content → IsPlain (shown_data base s)
+shown_plain base s h = resource_plain (Some (string s.id)) (Some (meta_data base s)) s.content h tt (meta_plain base s)
+
+pub shown_depth : (base : List ℕ) (s : ShownRecord) → depth (shown_data base s) ≤ 3
+shown_depth base s = resource_depth (Some (string s.id)) (Some (meta_data base s)) s.content (omega arith) (meta_depth base s)
+
 pub shown_spelled : (base : List ℕ) (s : ShownRecord) → IsContent s.content → read (compact_text (shown_data base s)) ≡ Some (shown_data base s)
-shown_spelled base s h =
-    resource_spelled (Some (string s.id)) (Some (meta_data base s)) s.content h tt (meta_plain base s) (omega arith) (meta_depth base s)
+shown_spelled base s h = read-compact_text (shown_data base s) (shown_plain base s h) (omega (arith, shown_depth base s))
 
 pub shown_whole : (base : List ℕ) (s : ShownRecord) → IsContent s.content → has_float (shown_data base s) ≡ false
-shown_whole base s h = has_float-plain (shown_data base s) (resource_plain _ _ s.content h tt (meta_plain base s))
+shown_whole base s h = has_float-plain (shown_data base s) (shown_plain base s h)

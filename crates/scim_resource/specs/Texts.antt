@@ -1,13 +1,11 @@
 -- Texts of attributes.
 use Rattle.std.specs.Str.{IsUtf8}
+use Rattle.scim_resource.specs.declared.texts.TheConstants.{TEXT_LIMIT}
 use Rattle.std.specs.Prelude.{◌≡◌, ℕ, Bool, true, List, Option, length, ◌&&◌, nat_le, IfSome}
-
-abbrev pub text_limit : ℕ
-text_limit = 256
 
 -- a text of 1 to 256 bytes
 unfoldable pub is_short_text : List ℕ → Bool
-is_short_text bs = nat_le 1 (length bs) && nat_le (length bs) text_limit
+is_short_text bs = nat_le 1 (length bs) && nat_le (length bs) TEXT_LIMIT
 
 abbrev pub IsText : List ℕ → Type 0
 IsText bs = is_short_text bs ≡ true

@@ -7,6 +7,9 @@ use crate::texts::{Text, copy_of};
 use std::alloc::{AllocError, Global};
 use std::marker::Model;
 
+/// How many email addresses a user may have.
+pub const EMAIL_LIMIT: usize = 10;
+
 /// An email address.
 #[derive(Debug, Drop)]
 pub struct Email {
@@ -90,7 +93,7 @@ impl Clone for Emails {
 fn are_few(emails: &[Email]) -> bool
     ensures { result ≡ are_few emails.now }
 {
-    emails.len() <= 10 && primaries(emails) <= 1
+    emails.len() <= EMAIL_LIMIT && primaries(emails) <= 1
 }
 
 fn primaries(emails: &[Email]) -> usize

@@ -7,6 +7,9 @@ ghost use Rattle.scim_resource.specs.Texts.{IsText, is_short_text};
 use std::alloc::AllocError;
 use std::marker::Model;
 
+/// How many bytes a text of an attribute may have.
+pub const TEXT_LIMIT: usize = 256;
+
 /// A text of 1 to 256 bytes, in UTF-8.
 #[derive(Debug, Drop)]
 pub struct Text {
@@ -29,7 +32,7 @@ impl Model for Text {
 pub(crate) fn is_short_text(text: &str) -> bool
     ensures { result ≡ is_short_text text.now }
 {
-    !text.is_empty() && text.len() <= 256
+    !text.is_empty() && text.len() <= TEXT_LIMIT
 }
 
 impl Text {

@@ -2,9 +2,9 @@ use Rattle.std.proofs.Common.{◌∙◌, rules, tests}
 use Rattle.std.proofs.lemmas.Iterator.{YieldsList-from_slice}
 use Rattle.std.proofs.lemmas.Iterator.Search.{any_from_yields_List}
 use Rattle.serde_json.specs.View.{view}
-use Rattle.scim_resource.specs.Reading as spec
-use Rattle.scim_resource.proofs.Lists.{list_any_text}
-use Rattle.scim_resource.proofs.reading.some_text.Goals as goal
+use Rattle.scim_json.specs.Values as spec
+use Rattle.scim_json.proofs.Lists.{list_any_text}
+use Rattle.scim_json.proofs.values.some_text.Goals as goal
 
 pub returns : goal.returns
 returns c =
