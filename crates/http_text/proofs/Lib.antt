@@ -4,11 +4,12 @@ pub mod CountLemmas
 pub mod DigitLemmas
 pub mod FieldLemmas
 pub mod FindLemmas
+pub mod FormLaws
 pub mod HeadLemmas
 pub mod JudgeLemmas
 pub mod KnownLemmas
 pub mod ListLemmas
-pub mod RequestLemmas
+pub mod MessageLemmas
 pub mod ResponseLemmas
 pub mod SendLemmas
 pub mod SpanLemmas

@@ -1,4 +1,4 @@
--- The parts of a head in the head's own bytes.
+-- The parts of a head in the head's own bytes, and as a parse finds them.
 use Rattle.std.proofs.Common.{◌≡◌, ℕ, ◌≤◌, List, [], ◌∷◌, take, drop, map, All, refl, ap, sym, ◌∙◌, arith, length-take}
 use Rattle.std.proofs.lemmas.List.{take-take, drop_all}
 use Rattle.std.proofs.lemmas.List.Elements.{All-head, All-tail}
@@ -6,9 +6,16 @@ use Rattle.std.proofs.lemmas.Slice.{between_is}
 use Rattle.httparse.specs.declared.spans.Span.{Span}
 use Rattle.httparse.specs.declared.spans.HeaderSpan.{HeaderSpan}
 use Rattle.httparse.specs.declared.spans.RequestSpans.{RequestSpans}
-use Rattle.httparse.specs.Grammar.{RequestHead}
-use Rattle.httparse.specs.Spans.{span_bytes, header_bytes, IsWithin, IsHeaderWithin, IsRequestWithin, IsRequestAt}
-use Rattle.http_text.specs.Message.{Message, request_line, head_of}
+use Rattle.httparse.specs.declared.spans.ResponseSpans.{ResponseSpans}
+use Rattle.httparse.specs.Spans.{span_bytes, header_bytes, IsWithin, IsHeaderWithin, IsRequestWithin, IsRequestOf, IsResponseWithin, IsResponseOf}
+use Rattle.http_text.specs.declared.parsing.HeadSpans.{HeadSpans}
+use Rattle.http_text.specs.declared.parsing.Parse.TheVariants.{Whole}
+use Rattle.http_text.specs.declared.parsing.Start.{Start}
+use Rattle.http_text.specs.declared.parsing.Start.TheVariants.{RequestLine, StatusLine}
+use Rattle.http_text.specs.Message.{Message, request_line, status_line}
+use Rattle.http_text.specs.Starts.{start_in, IsStartWithin}
+use Rattle.http_text.specs.Forms.{request_form, response_form}
+use Rattle.http_text.specs.Parsing.{spans_of_request, spans_of_response, AreWithin, front_message, Parses}
 
 module _ (bytes : List ℕ) (n : ℕ) where
   -- a span within the first n bytes needs no others
@@ -32,27 +39,51 @@ module _ (bytes : List ℕ) (n : ℕ) where
   pub body_none : (items : List ℕ) → items ≡ take n bytes → drop n items ≡ []
   body_none items is = ap (drop n) is ∙ drop_all n (take n bytes) (omega (arith, length-take n bytes))
 
+  start_kept : (start : Start) (minor : ℕ) → IsStartWithin n start → start_in (take n bytes) start minor ≡ start_in bytes start minor
+  start_kept (RequestLine method target) minor within =
+      let m = span_kept method within.0 in
+      let t = span_kept target within.1 in
+      λ i. request_line (m i) (t i) minor
+  start_kept (StatusLine code) minor within = refl
+
 -- the head at the front of some bytes, read off its own bytes
-pub message_kept : (bytes : List ℕ) (fields : List HeaderSpan) (spans : RequestSpans) (tree : RequestHead)
-    → IsRequestWithin bytes fields spans → IsRequestAt bytes fields spans tree
-    → (items : List ℕ) (own : List HeaderSpan) → items ≡ take spans.len bytes → own ≡ take spans.headers fields
+pub message_kept : (bytes : List ℕ) (fields : List HeaderSpan) (spans : HeadSpans) → AreWithin bytes fields spans
+    → (items : List ℕ) (own : List HeaderSpan) → items ≡ take spans.len bytes → own ≡ take spans.count fields
     → (let front = take spans.len items in
     let m : Message = record {
-      head = record {
-        start = request_line (span_bytes front spans.method) (span_bytes front spans.path) spans.version;
-        fields = map (header_bytes front) own;
-      };
+      head = record { start = start_in front spans.start spans.minor; fields = map (header_bytes front) own };
       body = drop spans.len items;
     } in m)
-    ≡ record { head = head_of tree; body = [] }
-message_kept bytes fields spans tree within at items own is own_is =
+    ≡ front_message bytes fields spans
+message_kept bytes fields spans within items own is own_is =
     let front = front_kept bytes spans.len items is in
-    let method = ap (λ (t : List ℕ). span_bytes t spans.method) front ∙ span_kept bytes spans.len spans.method within.method ∙ at.method in
-    let path = ap (λ (t : List ℕ). span_bytes t spans.path) front ∙ span_kept bytes spans.len spans.path within.path ∙ at.path in
-    let version = at.version in
+    let start = ap (λ (t : List ℕ). start_in t spans.start spans.minor) front ∙ start_kept bytes spans.len spans.start spans.minor within.start in
     let section = within.section in
     let lines =
     ap (λ (t : List ℕ). map (header_bytes t) own) front ∙ ap (map (header_bytes (take spans.len bytes))) own_is
-    ∙ headers_kept bytes spans.len (take spans.headers fields) section.headers_fit ∙ at.fields in
+    ∙ headers_kept bytes spans.len (take spans.count fields) section.headers_fit in
     let body = body_none bytes spans.len items is in
-    λ i. record { head = record { start = request_line (method i) (path i) (version i); fields = lines i }; body = body i }
+    λ i. record { head = record { start = start i; fields = lines i }; body = body i }
+
+-- ---- the parts of a parsed head, of either form
+
+pub request_found : (bytes : List ℕ) (fields : List HeaderSpan) (spans : RequestSpans) → IsRequestOf bytes fields spans → IsRequestWithin bytes fields spans
+    → Parses request_form bytes fields (Whole (spans_of_request spans))
+request_found bytes fields spans found within =
+    let at = found.1 in
+    let method = at.method in
+    let path = at.path in
+    let version = at.version in (
+      (found.0, record { reads = at.reads; len = at.len; start = λ i. request_line (method i) (path i) (version i); lines = at.fields }),
+      record { start = (within.method, within.path); section = within.section },
+    )
+
+pub response_found : (bytes : List ℕ) (fields : List HeaderSpan) (spans : ResponseSpans) → IsResponseOf bytes fields spans → IsResponseWithin bytes fields spans
+    → Parses response_form bytes fields (Whole (spans_of_response spans))
+response_found bytes fields spans found within =
+    let at = found.1 in
+    let version = at.version in
+    let code = at.code in (
+      (found.0, record { reads = at.reads; len = at.len; start = λ i. status_line (version i) (code i); lines = at.fields }),
+      record { start = tt; section = within.section },
+    )

@@ -1,7 +1,7 @@
 use Rattle.std.proofs.Common.{◌≡◌}
 use Rattle.std.specs.Io.KnownBytes.{Keeps}
 use Rattle.http_text.specs.Steps.{SpendsTurns}
-use Rattle.http_text.proofs.request.look_ahead.Given as goal
+use Rattle.http_text.proofs.reading.look_ahead.Given as goal
 
 -- what is left is as it was, with nothing failed
 abbrev pub invariant-loop-turns : goal.invariant-loop-turns

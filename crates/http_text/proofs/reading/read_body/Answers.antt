@@ -1,7 +1,7 @@
 use Rattle.std.proofs.Common.{◌∙◌}
 use Rattle.std.proofs.lemmas.Result.{err_from_is_err_and}
 use Rattle.http_text.proofs.KnownLemmas.{Consumes-kept}
-use Rattle.http_text.proofs.request.read_body.Goals as goal
+use Rattle.http_text.proofs.reading.read_body.Goals as goal
 
 pub returns-in_err-append-clause-cut : goal.returns-in_err-append-clause-cut
 returns-in_err-append-clause-cut g c =

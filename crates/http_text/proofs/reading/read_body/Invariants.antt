@@ -1,5 +1,5 @@
 use Rattle.http_text.proofs.BodyLemmas.{HasRead}
-use Rattle.http_text.proofs.request.read_body.Given as goal
+use Rattle.http_text.proofs.reading.read_body.Given as goal
 
 -- what has come stands at the body's end
 abbrev pub invariant-loop-left : goal.invariant-loop-left
