@@ -118,7 +118,7 @@ module _ {X : Type 0} where
   nothing [] none = refl
   nothing (e ∷ es) none = absurd (omega arith)
 
-  listed : (es : List (RecordName × X)) → IsStrictlySortedBy name_cmp (map (λ e. e.0) es) → entries (from_entries {R = name_cmp} es) ≡ es
+  pub listed : (es : List (RecordName × X)) → IsStrictlySortedBy name_cmp (map (λ e. e.0) es) → entries (from_entries {R = name_cmp} es) ≡ es
   unfolding IsStrictlySortedBy
   listed [] sorted = nothing (entries (empty {X = X} {R = name_cmp})) (sym (len-entries (empty {X = X} {R = name_cmp})) ∙ len-empty name_cmp X)
   listed (e ∷ es) sorted =

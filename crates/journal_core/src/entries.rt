@@ -25,6 +25,18 @@ impl Drop for Entry {
     }
 }
 
+impl Entry {
+    ghost use Rattle.std.specs.Prelude.{◌≡◌};
+
+    /// The row, the confirmed revision and the id.
+    pub fn into_parts(self) -> (Row, Revision, Option<ResourceId>)
+        ensures { result ≡ (self.row, self.confirmed, self.id) }
+    {
+        let Entry { row, confirmed, id } = self;
+        (row, confirmed, id)
+    }
+}
+
 impl Clone for Entry {
     ghost use Rattle.std.specs.Prelude.{◌≡◌};
 
