@@ -1,6 +1,6 @@
 -- What reading asks of a form of messages, and that both forms have it.
-use Rattle.std.proofs.Common.{◌≡◌, ℕ, List, [], ◌++◌, length, refl, ap, arith, Result, Ok, Err, inl, length-append}
-use Rattle.httparse.specs.Grammar.{HasNoRequest, HasNoResponse, ReadsRequest, ReadsResponse, print_request, print_response}
+use Rattle.std.proofs.Common.{◌≡◌, ℕ, List, [], ◌++◌, length, refl, ap, arith, Ok, Err, inl, length-append}
+use Rattle.httparse.specs.Grammar.{HasNoRequest, HasNoResponse, print_request, print_response}
 use Rattle.httparse.proofs.GrammarLemmas.{request_unique, ReadsRequest-append, response_unique, ReadsResponse-append}
 use Rattle.httparse.proofs.OpenLemmas.{BlankLines_after, line_blank, status_blank, request_may_from_line, response_may, Completes_first, some_newline, some_section}
 use Rattle.http_text.specs.declared.fault.ReadFault.{ReadFault}
@@ -8,7 +8,7 @@ use Rattle.http_text.specs.declared.parsing.MessageKind.{MessageKind}
 use Rattle.http_text.specs.declared.parsing.MessageKind.TheVariants.{Request, Response}
 use Rattle.http_text.specs.Message.{Head}
 use Rattle.http_text.specs.Forms.{Form, request_form, response_form}
-use Rattle.http_text.specs.Heads.{HasNone, MayBecome, IsUndecided}
+use Rattle.http_text.specs.Heads.{IsUndecided}
 use Rattle.http_text.specs.Parsing.{form_of}
 use Rattle.http_text.proofs.JudgeLemmas.{IsHeadFault, judged_fault, accepted_length, response_judged_fault, response_accepted_length}
 

@@ -10,8 +10,8 @@ use Rattle.httparse.specs.Spans.{header_bytes, name_and_value}
 use Rattle.http_text.specs.declared.parsing.HeadSpans.{HeadSpans}
 use Rattle.http_text.specs.declared.fault.ReadFault.{ReadFault}
 use Rattle.http_text.specs.declared.fault.ReadFault.TheVariants.{Malformed, HostMissingOrRepeated, LengthMissing, BodyTooLong, HeadTooLong, TransferCoding, Expectation, EndedEarly, ReadFailed, OutOfMemory, TurnsExhausted}
-use Rattle.http_text.specs.Message.{Message, Head, head_limit, field_limit}
-use Rattle.http_text.specs.Forms.{Form, IsHead}
+use Rattle.http_text.specs.Message.{Message, head_limit, field_limit}
+use Rattle.http_text.specs.Forms.{Form}
 use Rattle.http_text.specs.Heads.{IsUndecided, IsUndecidedBefore, Refuses, IsRefusedHead, IsPartOfBody, TakesMessage, TakesRefused}
 use Rattle.http_text.specs.Parsing.{front_message, AreWithin, IsHeadAt, IsHeadOf}
 use Rattle.http_text.specs.Steps.{GivesNone, RefusesHead, TakesHead, TakesBody, CutsBody}

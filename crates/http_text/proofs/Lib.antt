@@ -13,4 +13,5 @@ pub mod MessageLemmas
 pub mod ResponseLemmas
 pub mod SendLemmas
 pub mod SpanLemmas
+pub mod TextLemmas
 pub mod TurnLemmas

@@ -1,5 +1,5 @@
 -- The parts of a head in the head's own bytes, and as a parse finds them.
-use Rattle.std.proofs.Common.{◌≡◌, ℕ, ◌≤◌, List, [], ◌∷◌, take, drop, map, All, refl, ap, sym, ◌∙◌, arith, length-take}
+use Rattle.std.proofs.Common.{◌≡◌, ℕ, List, [], ◌∷◌, take, drop, map, All, refl, ap, sym, ◌∙◌, arith, length-take}
 use Rattle.std.proofs.lemmas.List.{take-take, drop_all}
 use Rattle.std.proofs.lemmas.List.Elements.{All-head, All-tail}
 use Rattle.std.proofs.lemmas.Slice.{between_is}

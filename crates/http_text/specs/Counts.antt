@@ -1,5 +1,6 @@
 -- What is counted of a stream, and how far a count goes.
 use Rattle.std.specs.Prelude.{◌≡◌, ℕ, ◌+◌, ◌-◌, ◌^◌, ◌<◌, ◌≤◌, ◌⊎◌, max, min, List, Option}
+use Rattle.http_text.specs.declared.limits.TheConstants.{TURN_LIMIT}
 
 -- where each count stays
 abbrev pub greatest_count : ℕ
@@ -41,7 +42,7 @@ HasReached k old new = (old + k ≤ new) ⊎ (greatest_count ≤ new)
 
 -- the greatest number of reads, or of writes and flushes, for one message
 abbrev pub turn_limit : ℕ
-turn_limit = 100000
+turn_limit = TURN_LIMIT
 
 -- at most so many turns were made, each counted
 abbrev pub CountsTurns : ℕ → ℕ → Type 0

@@ -12,3 +12,4 @@ pub mod Sending
 pub mod Starts
 pub mod Steps
 pub mod Streams
+pub mod Texts

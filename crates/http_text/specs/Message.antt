@@ -4,6 +4,7 @@ use Rattle.std.specs.List.{list_all}
 use Rattle.std.specs.Char.{is_ascii_digit, to_ascii_lowercase}
 use Rattle.std.specs.Str.{bytes_eq}
 use Rattle.std.specs.Str.Parse.{digits_value}
+use Rattle.http_text.specs.declared.limits.TheConstants.{HEAD_LIMIT, FIELD_LIMIT, BODY_LIMIT, RESPONSE_BODY_LIMIT}
 
 -- a field's name, and its value without the white space around it
 abbrev pub NamedValue : Type 0
@@ -54,16 +55,16 @@ values name fields = map (λ (field : NamedValue). field.1) (filter (is_named na
 
 -- the greatest lengths of a head, of a request's body and of a response's, and the greatest number of field lines
 abbrev pub head_limit : ℕ
-head_limit = 16384
+head_limit = HEAD_LIMIT
 
 abbrev pub field_limit : ℕ
-field_limit = 64
+field_limit = FIELD_LIMIT
 
 abbrev pub body_limit : ℕ
-body_limit = 32768
+body_limit = BODY_LIMIT
 
 abbrev pub response_body_limit : ℕ
-response_body_limit = 8388608
+response_body_limit = RESPONSE_BODY_LIMIT
 
 -- a length is written in 1 to 18 digits
 abbrev pub is_length : List ℕ → Bool

@@ -6,12 +6,7 @@ ghost use Rattle.http_text.specs.Judging.{readable_length, refused_where, is_hea
 
 use crate::fault::ReadFault;
 use crate::incoming::Incoming;
-
-/// The greatest length of a request's body.
-pub const BODY_LIMIT: u64 = 32_768;
-
-/// The greatest length of a response's body.
-pub const RESPONSE_BODY_LIMIT: u64 = 8_388_608;
+use crate::limits::{BODY_LIMIT, RESPONSE_BODY_LIMIT};
 
 /// The greatest number of digits that a length is written in.
 const LENGTH_DIGITS: usize = 18;

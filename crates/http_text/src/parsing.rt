@@ -7,13 +7,11 @@ ghost use Rattle.http_text.specs.Parsing.{form_of, spans_of_request, spans_of_re
 use crate::fault::ReadFault;
 use crate::incoming::Incoming;
 use crate::judge::{judge_request, judge_response};
+use crate::limits::HEAD_LIMIT;
 use httparse::spans::{
     HeaderSpan, RequestSpans, ResponseSpans, Span, parse_request, parse_response,
 };
 use httparse::{Error, Status};
-
-/// The greatest length of a head.
-pub(crate) const HEAD_LIMIT: usize = 16_384;
 
 /// Which of the two forms a message has.
 #[derive(Clone, Copy)]

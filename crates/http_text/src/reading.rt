@@ -6,17 +6,14 @@ ghost use Rattle.http_text.specs.Heads.{TakesMessage, TakesRefused, FindsMessage
 ghost use Rattle.http_text.specs.Parsing.{form_of};
 ghost use Rattle.http_text.specs.Steps.{SpendsTurns, EndsTurns, GivesNone, TakesHead, TakesBody, CutsBody};
 
-use crate::counts::TURN_LIMIT;
 use crate::fault::ReadFault;
 use crate::incoming::Incoming;
 use crate::input::{Input, ReadTurn};
-use crate::parsing::{HEAD_LIMIT, MessageKind, Parse};
+use crate::limits::{FIELD_LIMIT, HEAD_LIMIT, TURN_LIMIT};
+use crate::parsing::{MessageKind, Parse};
 use httparse::spans::EMPTY_HEADER_SPAN;
 use std::alloc::Global;
 use std::io::Read;
-
-/// The greatest number of field lines.
-const FIELD_LIMIT: usize = 64;
 
 /// Reads one message of this kind.
 pub(crate) fn read_message<R: Read>(

@@ -1,5 +1,4 @@
-use Rattle.std.proofs.Common.{List, ℕ, take, drop, slice_range, ap, ◌∙◌, subst}
-use Rattle.std.specs.Io.KnownBytes.{Consumes, prepend_known}
+use Rattle.std.proofs.Common.{drop, slice_range, ap, ◌∙◌}
 use Rattle.http_text.specs.Counts.{Reading}
 use Rattle.http_text.proofs.AheadLemmas.{slice_from, Consumes-ahead}
 use Rattle.http_text.proofs.input.Input.take.Goals as goal
