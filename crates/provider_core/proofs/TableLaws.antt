@@ -76,7 +76,7 @@ at_filter : {X : Type 0} (p : X → Bool) (xs : List X) (i : ℕ) (y : X) → sl
 at_filter p [] i y at = absurd (cc)
 at_filter p (x ∷ xs) i y at = at_cond (p x) x xs (filter p xs) i y (λ k. at_filter p xs k y) at
 
-at_numbered : (m : ℕ) (es : List Entry) (j : ℕ) (n : Numbered) → slice_get (numbered_from m es) j ≡ Some n → (n.number ≡ m + j) × (slice_get es j ≡ Some n.entry)
+pub at_numbered : (m : ℕ) (es : List Entry) (j : ℕ) (n : Numbered) → slice_get (numbered_from m es) j ≡ Some n → (n.number ≡ m + j) × (slice_get es j ≡ Some n.entry)
 at_numbered m [] j n at = absurd (cc)
 at_numbered m (e ∷ es) zero n at =
     let first : Numbered = record { number = m; entry = e } in

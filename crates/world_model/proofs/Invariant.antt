@@ -120,7 +120,7 @@ delivers_inv w number (Some (Answered request answer)) inv is follows =
 
 -- ---- every event
 
-event_inv : (w : World) (event : Event) → Inv w → Inv (happens w event)
+pub event_inv : (w : World) (event : Event) → Inv w → Inv (happens w event)
 event_inv w (Changes row) inv = changes_inv w row (judged w row) inv refl (event_follows w (Changes row) inv.follows)
 event_inv w (Sends name) inv = sends_inv w name (asking w.book name) inv refl
 event_inv w (Delivers number) inv = delivers_inv w number (message_at w.messages number) inv refl (event_follows w (Delivers number) inv.follows)
@@ -134,7 +134,7 @@ event_inv w Restarts_connector inv = record {
   told = inv.told;
 }
 
-empty_inv : Inv empty
+pub empty_inv : Inv empty
 empty_inv = record {
   rising = λ name. tt;
   follows = λ name. refl;

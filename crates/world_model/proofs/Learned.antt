@@ -48,29 +48,30 @@ pub record Fits (name : RecordName) (known : Known) (s : ShownRecord) (sight : S
   pub tag : s.version ≡ Some sight.tag
   pub id : sight.id ≡ s.id
 
+-- the steps of `fit`, each after the one before
+abbrev pub at_tag : ShownRecord → RevisionValue → List ℕ → Result Sight LearnFault
+at_tag s revision tag = Ok (record { id = s.id; revision = revision; tag = tag })
+
+abbrev pub at_within : ShownRecord → RevisionValue → Bool → Result Sight LearnFault
+at_within s revision _ = or_fault Unversioned s.version >>= at_tag s revision
+
+abbrev pub at_revision : Known → ShownRecord → RevisionValue → Result Sight LearnFault
+at_revision known s revision = fault_unless Unfit (not (before (row_revision known.wanted) revision)) >>= at_within s revision
+
+abbrev pub at_id : Known → ShownRecord → Bool → Result Sight LearnFault
+at_id known s _ = or_fault Unfit (content_revision s.content) >>= at_revision known s
+
+abbrev pub at_name : Known → ShownRecord → Bool → Result Sight LearnFault
+at_name known s _ = fault_unless Unfit (fits_id known.id s.id) >>= at_id known s
+
 module _ (name : RecordName) (known : Known) (s : ShownRecord) (sight : Sight) where
-  abbrev at_tag : RevisionValue → List ℕ → Result Sight LearnFault
-  at_tag revision tag = Ok (record { id = s.id; revision = revision; tag = tag })
-
-  abbrev at_within : RevisionValue → Bool → Result Sight LearnFault
-  at_within revision _ = or_fault Unversioned s.version >>= at_tag revision
-
-  abbrev at_revision : RevisionValue → Result Sight LearnFault
-  at_revision revision = fault_unless Unfit (not (before (row_revision known.wanted) revision)) >>= at_within revision
-
-  abbrev at_id : Bool → Result Sight LearnFault
-  at_id _ = or_fault Unfit (content_revision s.content) >>= at_revision
-
-  abbrev at_name : Bool → Result Sight LearnFault
-  at_name _ = fault_unless Unfit (fits_id known.id s.id) >>= at_id
-
   pub fit_tested : fit name known s ≡ Ok sight → Fits name known s sight
   fit_tested is =
-      let (b, named, after_name) = through (fault_unless Unfit (same_name name (content_name s.content))) at_name sight is in
-      let (c, has_id, after_id) = through (fault_unless Unfit (fits_id known.id s.id)) at_id sight after_name in
-      let (revision, has_revision, after_revision) = through (or_fault Unfit (content_revision s.content)) at_revision sight after_id in
-      let (d, not_above, after_within) = through (fault_unless Unfit (not (before (row_revision known.wanted) revision))) (at_within revision) sight after_revision in
-      let (tag, has_tag, made) = through (or_fault Unversioned s.version) (at_tag revision) sight after_within in
+      let (b, named, after_name) = through (fault_unless Unfit (same_name name (content_name s.content))) (at_name known s) sight is in
+      let (c, has_id, after_id) = through (fault_unless Unfit (fits_id known.id s.id)) (at_id known s) sight after_name in
+      let (revision, has_revision, after_revision) = through (or_fault Unfit (content_revision s.content)) (at_revision known s) sight after_id in
+      let (d, not_above, after_within) = through (fault_unless Unfit (not (before (row_revision known.wanted) revision))) (at_within s revision) sight after_revision in
+      let (tag, has_tag, made) = through (or_fault Unversioned s.version) (at_tag s revision) sight after_within in
       let seen : record { id = s.id; revision = revision; tag = tag } ≡ sight = cc in
       let P : Sight → Type 0 = λ x. Fits name known s x in
       subst P seen (record {
@@ -141,13 +142,13 @@ learns_of name known (Stale if_match) l is =
     let same : forgetting (is_under if_match known.seen) known ≡ l = cc in
     subst (Learns name known (Stale if_match)) same (is_stale if_match)
 
-abbrev taught : Book → RecordName → Known → Finding → Result Learning LearnFault
+abbrev pub taught : Book → RecordName → Known → Finding → Result Learning LearnFault
 taught book name known said = lesson name known said >>= λ l. Ok (noted book name l)
 
-abbrev told : Book → Request → Answer → RecordName → Known → Result Learning LearnFault
+abbrev pub told : Book → Request → Answer → RecordName → Known → Result Learning LearnFault
 told book request answer name known = finding request answer >>= taught book name known
 
-abbrev told_of : Book → Request → Answer → RecordName → Result Learning LearnFault
+abbrev pub told_of : Book → Request → Answer → RecordName → Result Learning LearnFault
 told_of book request answer name = or_fault NoSuchRecord (book name) >>= told book request answer name
 
 book_of : (a b : Learning) → a ≡ b → b.book ≡ a.book

@@ -14,3 +14,10 @@ pub mod Sending
 pub mod Invariant
 pub mod Safety
 pub mod Headlines
+pub mod NameOrder
+pub mod Counting
+pub mod Ranking
+pub mod Searched
+pub mod Answering
+pub mod Learning
+pub mod Quiet

@@ -1,6 +1,6 @@
 -- What stands in a list: filtered, at its end, and with more after it.
-use Rattle.std.proofs.Common.{◌≡◌, ℕ, zero, suc, Bool, true, false, cond, List, [], ◌∷◌, Some, None, refl, ap, sym, ◌∙◌}
-use Rattle.std.specs.List.{filter, last_or}
+use Rattle.std.proofs.Common.{length, ◌<◌, arith, ◌≡◌, ℕ, zero, suc, Bool, true, false, cond, List, [], ◌∷◌, Some, None, refl, ap, sym, ◌∙◌}
+use Rattle.std.specs.List.{filter, last_or, slice_get}
 use Rattle.world_model.specs.Safe.{IsAt, Has}
 
 passes_cond : {X : Type 0} (p : X → Bool) (b : Bool) (x : X) (rest : List X) (i : ℕ) (y : X) → p x ≡ b → ((k : ℕ) → IsAt rest k y → p y ≡ true)
@@ -31,3 +31,36 @@ some_last (z ∷ xs) x = some_last xs z
 pub has_last : {X : Type 0} (xs : List X) (x : X) → Has xs x → (y : X) × (last_or None xs ≡ Some y)
 has_last [] x has = absurd (cc has.1)
 has_last (z ∷ xs) x has = some_last xs z
+
+cond_has : {X : Type 0} (b : Bool) (x : X) (xs rest : List X) (i : ℕ) (y : X) → ((k : ℕ) → IsAt rest k y → Has xs y) → IsAt (cond b (x ∷ rest) rest) i y → Has (x ∷ xs) y
+cond_has true x xs rest zero y later at = (0, at)
+cond_has true x xs rest (suc i) y later at = let found = later i at in (suc found.0, found.1)
+cond_has false x xs rest i y later at = let found = later i at in (suc found.0, found.1)
+
+-- what a filter kept stood in the list
+pub filter_has : {X : Type 0} (p : X → Bool) (xs : List X) (i : ℕ) (y : X) → IsAt (filter p xs) i y → Has xs y
+filter_has p [] i y at = absurd (cc)
+filter_has p (x ∷ xs) i y at = cond_has (p x) x xs (filter p xs) i y (λ k. filter_has p xs k y) at
+
+-- there is an element at each place below the length
+pub at_within : {X : Type 0} (xs : List X) (i : ℕ) → i < length xs → (x : X) × IsAt xs i x
+at_within [] i below = absurd (omega (arith, below))
+at_within (x ∷ xs) zero below = (x, refl)
+at_within (x ∷ xs) (suc i) below = at_within xs i (omega (arith, below))
+
+abbrev TwoPass : {X : Type 0} → (X → Bool) → List X → X → X → Type 0
+TwoPass {X} p xs x y = (i j : ℕ) × (i < j) × IsAt xs i x × IsAt xs j y × (p x ≡ true) × (p y ≡ true)
+
+-- two that a filter kept stood at two places
+pub two_kept : {X : Type 0} (p : X → Bool) (xs : List X) (x y : X) (more : List X) → filter p xs ≡ x ∷ y ∷ more → TwoPass p xs x y
+two_kept p [] x y more is = absurd (cc)
+two_kept {X} p (z ∷ zs) x y more is = go (p z) refl (two_kept p zs x y more) is
+  where
+    go : (b : Bool) → p z ≡ b → (filter p zs ≡ x ∷ y ∷ more → TwoPass p zs x y) → cond b (z ∷ filter p zs) (filter p zs) ≡ x ∷ y ∷ more → TwoPass p (z ∷ zs) x y
+    go true test later was =
+        let first : z ≡ x = cc in
+        let rest : filter p zs ≡ y ∷ more = cc in
+        let second : IsAt (filter p zs) 0 y = ap (λ l. slice_get l 0) rest in
+        let (j, at) = filter_has p zs 0 y second in
+        (0, suc j, omega arith, ap Some first, at, ap p (sym first) ∙ test, at_passes p zs 0 y second)
+    go false test later was = let (i, j, lt, at_x, at_y, p_x, p_y) = later was in (suc i, suc j, omega (arith, lt), at_x, at_y, p_x, p_y)

@@ -62,9 +62,9 @@ asking_of (Some known) f ask is = (known, refl, cc)
 wanted_of : (o : Option Known) (known : Known) → o ≡ Some known → option_map (λ k. k.wanted) o ≡ Some known.wanted
 wanted_of o known is = ap (option_map (λ k. k.wanted)) is
 
-search_asked : (history : History) (es : List Entry) (row : Row) → AskedTruly history es (search_for row)
-search_asked history es (User row) = tt
-search_asked history es (Group row) = tt
+search_asked : (history : History) (es : List Entry) (row : Row) → Has (rows_of history (row_name row)) row → AskedTruly history es (search_for row)
+search_asked history es (User row) has = record { row = User row; accepted = has; is = refl }
+search_asked history es (Group row) has = record { row = Group row; accepted = has; is = refl }
 
 module _ (history : History) (es : List Entry) (book : Book) (follows : Follows book history) (noted : AllNoted es book) where
   knows : Knows (known_id book) (id_in es)
@@ -80,6 +80,9 @@ module _ (history : History) (es : List Entry) (book : Book) (follows : Follows 
 
     its_name : row_name known.wanted ≡ name
     its_name = row_of_record history name known.wanted accepted
+
+    wanted_there : Has (rows_of history (row_name known.wanted)) known.wanted
+    wanted_there = subst (λ (n : RecordName). Has (rows_of history n) known.wanted) (sym its_name) accepted
 
     module _ (ids : List (List ℕ)) (has_ids : ready (known_id book) (members_of known.wanted) ≡ Ids ids) where
       abbrev content : Content
@@ -116,10 +119,10 @@ module _ (history : History) (es : List Entry) (book : Book) (follows : Follows 
           }
 
       request_asked : (seen : Seen) (id : Option (List ℕ)) → known.seen ≡ seen → known.id ≡ id → is_done known ≡ false → AskedTruly history es (request_for seen id known.wanted content)
-      request_asked Unknown id is_seen is_id unsettled = search_asked history es known.wanted
+      request_asked Unknown id is_seen is_id unsettled = search_asked history es known.wanted wanted_there
       request_asked Absent id is_seen is_id unsettled = wanted_image
       request_asked (At tag revision) (Some id) is_seen is_id unsettled = overwrites id tag revision unsettled is_id ((noted name known in_book).seen tag revision is_seen)
-      request_asked (At tag revision) None is_seen is_id unsettled = search_asked history es known.wanted
+      request_asked (At tag revision) None is_seen is_id unsettled = search_asked history es known.wanted wanted_there
 
   pub what_is_asked : (name : RecordName) (request : Request) → asking book name ≡ Some (Send request) → AskedTruly history es request
   what_is_asked name request is =

@@ -12,10 +12,13 @@ use Rattle.scim_message.specs.declared.messages.Answer.{Answer}
 use Rattle.provider_core.specs.Stories.{Entry}
 use Rattle.provider_core.specs.Tables.{IsFact, shown_in}
 use Rattle.provider_core.proofs.TableLaws.{at_push}
-use Rattle.source_book.specs.History.{History}
+use Rattle.source_csv.specs.Records.{row_name}
+use Rattle.source_csv.specs.declared.rows.Row.{Row}
+use Rattle.source_book.specs.History.{History, rows_of}
+use Rattle.connector_core.specs.Asking.{search_for}
 use Rattle.connector_core.specs.Learning.{content_revision}
 use Rattle.world_model.specs.World.{Message, Asked, Answered}
-use Rattle.world_model.specs.Safe.{IsAt, IsImage, IsVersion}
+use Rattle.world_model.specs.Safe.{IsAt, Has, IsImage, IsVersion}
 use Rattle.world_model.proofs.Growing.{Grows, image_grows, version_grows, fact_grows}
 
 -- a Replace carries an image, and the tag of a version of its record whose revision is lower
@@ -29,10 +32,16 @@ pub record Overwrites (history : History) (es : List Entry) (id : List ℕ) (con
   pub revision : content_revision content ≡ Some newer
   pub rises : older ≺ newer
 
+-- a Search is for an accepted row
+pub record Sought (history : History) (request : Request) : Type 0 where
+  pub row : Row
+  pub accepted : Has (rows_of history (row_name row)) row
+  pub is : request ≡ search_for row
+
 abbrev pub AskedTruly : History → List Entry → Request → Type 0
 AskedTruly history es (Create content) = IsImage history es (content_name content) content
-AskedTruly history es (Retrieve kind id if_match if_none_match) = Unit {0}
-AskedTruly history es (Search kind wanted start count) = Unit {0}
+AskedTruly history es (Retrieve kind id if_match if_none_match) = ⊥
+AskedTruly history es (Search kind wanted start count) = Sought history (Search kind wanted start count)
 AskedTruly history es (Replace id content if_match if_none_match) = Overwrites history es id content if_match
 
 -- an answer shows facts alone
@@ -49,8 +58,8 @@ AllTold history es messages = (i : ℕ) (message : Message) → IsAt messages i 
 module _ (history : History) (es : List Entry) (history' : History) (fs : List Entry) (grows : Grows history es history' fs) where
   asked_grows : (request : Request) → AskedTruly history es request → AskedTruly history' fs request
   asked_grows (Create content) asked = image_grows history es history' fs grows (content_name content) content asked
-  asked_grows (Retrieve kind id if_match if_none_match) asked = tt
-  asked_grows (Search kind wanted start count) asked = tt
+  asked_grows (Retrieve kind id if_match if_none_match) asked = absurd asked
+  asked_grows (Search kind wanted start count) asked = record { row = asked.row; accepted = grows.rows (row_name asked.row) asked.row asked.accepted; is = asked.is }
   asked_grows (Replace id content if_match if_none_match) asked = record {
     image = image_grows history es history' fs grows (content_name content) content asked.image;
     tag = asked.tag;

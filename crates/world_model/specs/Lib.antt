@@ -2,3 +2,4 @@ pub mod World
 pub mod Safe
 pub mod Reports
 pub mod Views
+pub mod Untroubled

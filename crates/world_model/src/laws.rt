@@ -1,5 +1,6 @@
 //! Laws of all runs, with nothing to run.
 ghost use Rattle.world_model.specs.Safe.{AlwaysOnward, AlwaysSafe, HeadlineHolds, JudgesBySource};
+ghost use Rattle.world_model.specs.Untroubled.{NeverRefused};
 
 /// After every run the connector judges each row as the history of the source alone does.
 pub fn judges_by_source()
@@ -23,4 +24,11 @@ pub fn always_safe()
 /// connector counts as confirmed is held or surpassed.
 pub fn headline_holds()
     ensures { HeadlineHolds }
+{}
+
+/// Where each row that is offered keeps the limits of the source: the connector learns from every reply that
+/// was ever given, and no request that was ever sent meets a limit of the provider. A story has at most as
+/// many versions as there are revisions, and there are at most as many entries as records of the source.
+pub fn never_refused()
+    ensures { NeverRefused }
 {}

@@ -3,4 +3,4 @@
 
 mod laws;
 
-pub use laws::{always_onward, always_safe, headline_holds, judges_by_source};
+pub use laws::{always_onward, always_safe, headline_holds, judges_by_source, never_refused};

@@ -1,0 +1,116 @@
+-- The connector learns from every answer that says something of a record with accepted rows and shows facts.
+use Rattle.std.proofs.Common.{◌≡◌, ℕ, zero, suc, Bool, true, false, not, List, [], ◌∷◌, Option, Some, None, Result, Ok, Err, IsOk, refl, ap, sym, ◌∙◌, subst}
+use Rattle.std.proofs.lemmas.Bool.{not_from_false}
+use Rattle.std.proofs.lemmas.Slice.Eq.{bytes_eq-Decides}
+use Rattle.std.specs.List.{last_or}
+use Rattle.std.specs.Option.{option_map}
+use Rattle.scim_key.specs.Outcome.{◌>>=◌}
+use Rattle.scim_key.specs.Revisions.{RevisionValue, before, ◌≼◌}
+use Rattle.scim_key.specs.declared.records.RecordName.{RecordName}
+use Rattle.scim_version.specs.Tags.{version_tag}
+use Rattle.scim_resource.specs.Contents.{content_name}
+use Rattle.scim_resource.specs.Rows.{ShownRecord}
+use Rattle.scim_message.specs.declared.messages.Answer.{Answer}
+use Rattle.scim_message.specs.declared.messages.Request.{Request}
+use Rattle.provider_core.specs.Tables.{IsFact}
+use Rattle.provider_core.proofs.TableLaws.{same_if_eq}
+use Rattle.source_csv.specs.Records.{row_revision}
+use Rattle.source_csv.specs.declared.rows.Row.{Row}
+use Rattle.source_book.specs.History.{Rises, rows_of, same_name}
+use Rattle.connector_core.specs.Learning.{or_fault, fault_unless, Finding, Shows, Shows_none, Taken, Stale, fit, fits_id, sighted, lesson, finding, subject, content_revision, noted, learn}
+use Rattle.connector_core.specs.declared.knowledge.Known.{Known}
+use Rattle.connector_core.specs.declared.learning.LearnFault.{LearnFault}
+use Rattle.connector_core.specs.declared.learning.LearnFault.TheVariants.{Unfit, Unversioned, NoSuchRecord}
+use Rattle.world_model.specs.World.{World}
+use Rattle.world_model.specs.Safe.{IsAt, Has}
+use Rattle.world_model.proofs.Order.{itself, up_to, not_above}
+use Rattle.world_model.proofs.Lists.{has_last}
+use Rattle.world_model.proofs.Growing.{id_at}
+use Rattle.world_model.proofs.Invariant.{Inv}
+use Rattle.world_model.proofs.Learned.{at_tag, at_within, at_revision, at_id, at_name, taught, told, told_of, shows_first}
+use Rattle.world_model.proofs.Answering.{Answers}
+use Rattle.world_model.proofs.Telling.{ShowsTruly}
+
+-- ---- steps that all come to an end
+
+ok_after : {A B : Type 0} (r : Result A LearnFault) (f : A → Result B LearnFault) (x : A) → r ≡ Ok x → IsOk (f x) → IsOk (r >>= f)
+ok_after {A} {B} r f x is ok = subst (λ (q : Result A LearnFault). IsOk (q >>= f)) (sym is) ok
+
+ok_whatever : {A B : Type 0} (r : Result A LearnFault) (f : A → Result B LearnFault) → IsOk r → ((x : A) → IsOk (f x)) → IsOk (r >>= f)
+ok_whatever (Ok x) f ok all = all x
+ok_whatever (Err fault) f ok all = absurd (cc)
+
+passes : (fault : LearnFault) (b : Bool) → b ≡ true → fault_unless fault b ≡ Ok true
+passes fault true is = refl
+passes fault false is = absurd (cc)
+
+is_there : {A : Type 0} (fault : LearnFault) (o : Option A) (x : A) → o ≡ Some x → or_fault fault o ≡ Ok x
+is_there fault o x is = ap (or_fault fault) is
+
+-- ---- the last row of a record is of its highest revision
+
+first_up_to : (first : Row) (rows : List Row) (last : Row) → Rises (first ∷ rows) → last_or (Some first) rows ≡ Some last → row_revision first ≼ row_revision last
+first_up_to first [] last rises is = let same : first ≡ last = cc in subst (λ (r : Row). row_revision first ≼ row_revision r) same (itself (row_revision first))
+first_up_to first (r ∷ rows) last rises is =
+    not_above (row_revision first) (row_revision r) (row_revision last) (up_to (row_revision first) (row_revision r) rises.0.0) (first_up_to r rows last rises.1 is)
+
+each_up_to : (rows : List Row) (i : ℕ) (row last : Row) → Rises rows → IsAt rows i row → last_or None rows ≡ Some last → row_revision row ≼ row_revision last
+each_up_to [] i row last rises at is = absurd (cc)
+each_up_to (r ∷ rows) zero row last rises at is =
+    let same : r ≡ row = cc in
+    subst (λ (x : Row). row_revision x ≼ row_revision last) same (first_up_to r rows last rises is)
+each_up_to (r ∷ []) (suc i) row last rises at is = absurd (cc)
+each_up_to (r ∷ s ∷ rows) (suc i) row last rises at is = each_up_to (s ∷ rows) i row last rises.1 at is
+
+-- ---- a shown resource fits
+
+fits : (known : Option (List ℕ)) (id : List ℕ) → ((k : List ℕ) → known ≡ Some k → k ≡ id) → fits_id known id ≡ true
+fits None id same = refl
+fits (Some k) id same = (bytes_eq-Decides k id).1 (same k refl)
+
+module _ (name : RecordName) (known : Known) (s : ShownRecord) (revision : RevisionValue) (tag : List ℕ) (named : same_name name (content_name s.content) ≡ true)
+    (its_id : fits_id known.id s.id ≡ true) (has : content_revision s.content ≡ Some revision) (within : not (before (row_revision known.wanted) revision) ≡ true)
+    (tagged : s.version ≡ Some tag) where
+  fit_ok : IsOk (fit name known s)
+  fit_ok =
+      ok_after (fault_unless Unfit (same_name name (content_name s.content))) (at_name known s) true (passes Unfit (same_name name (content_name s.content)) named)
+      (ok_after (fault_unless Unfit (fits_id known.id s.id)) (at_id known s) true (passes Unfit (fits_id known.id s.id) its_id)
+      (ok_after (or_fault Unfit (content_revision s.content)) (at_revision known s) revision (is_there Unfit (content_revision s.content) revision has)
+      (ok_after (fault_unless Unfit (not (before (row_revision known.wanted) revision))) (at_within s revision) true
+      (passes Unfit (not (before (row_revision known.wanted) revision)) within)
+      (ok_after (or_fault Unversioned s.version) (at_tag s revision) tag (is_there Unversioned s.version tag tagged) refl))))
+
+same_id : (k id : List ℕ) → Some k ≡ Some id → k ≡ id
+same_id k id same = cc
+
+wanted_last : (o : Option Known) (last : Row) → option_map (λ k. k.wanted) o ≡ Some last → (known : Known) × (o ≡ Some known) × (known.wanted ≡ last)
+wanted_last None last is = absurd (cc)
+wanted_last (Some known) last is = (known, refl, cc)
+
+module _ (w : World) (inv : Inv w) (name : RecordName) (known : Known) (in_book : w.book name ≡ Some known) (last : last_or None (rows_of w.history name) ≡ Some known.wanted) where
+  -- a fact of the record fits what is known of it
+  fact_fits : (s : ShownRecord) → IsFact w.entries s → content_name s.content ≡ name → IsOk (fit name known s)
+  fact_fits s fact named =
+      let of_record : fact.entry.name ≡ name = sym (inv.kept.whole.named fact.place fact.turn fact.entry s.content fact.here fact.held) ∙ named in
+      let image = inv.kept.imaged fact.place fact.turn fact.entry s.content fact.here fact.held in
+      let accepted : Has (rows_of w.history name) image.row = subst (λ (n : RecordName). Has (rows_of w.history n) image.row) of_record image.accepted in
+      let up = each_up_to (rows_of w.history name) accepted.0 image.row known.wanted (inv.rising name) accepted.1 last in
+      let its = id_at w.entries name fact.place fact.entry inv.kept.whole fact.here of_record in
+      fit_ok name known s (row_revision image.row) (version_tag (suc fact.turn)) (same_if_eq name (content_name s.content) (sym named))
+      (fits known.id s.id (λ k is. same_id k s.id (sym ((inv.noted name known in_book).id k is) ∙ its ∙ ap Some (sym fact.id)))) image.revision (not_from_false _ up) fact.version
+
+  lesson_ok : (said : Finding) → ((s : ShownRecord) → said ≡ Shows s → IsFact w.entries s × (content_name s.content ≡ name)) → IsOk (lesson name known said)
+  lesson_ok (Shows s) shown = let facts = shown s refl in ok_whatever (fit name known s) (λ sight. Ok (sighted known sight)) (fact_fits s facts.0 facts.1) (λ sight. refl)
+  lesson_ok Shows_none shown = refl
+  lesson_ok Taken shown = refl
+  lesson_ok (Stale if_match) shown = refl
+
+pub learns : (w : World) (request : Request) (answer : Answer) → Inv w → ShowsTruly w.entries answer → Answers w.history request answer → IsOk (learn w.book request answer)
+learns w request answer inv shows a =
+    let (last, is_last) = has_last (rows_of w.history a.name) a.row a.accepted in
+    let (known, in_book, wanted) = wanted_last (w.book a.name) last (inv.follows a.name ∙ is_last) in
+    ok_after (or_fault Unfit (subject request)) (told_of w.book request answer) a.name (is_there Unfit (subject request) a.name a.about)
+    (ok_after (or_fault NoSuchRecord (w.book a.name)) (told w.book request answer a.name) known (is_there NoSuchRecord (w.book a.name) known in_book)
+    (ok_after (finding request answer) (taught w.book a.name known) a.said a.says.says
+    (ok_whatever (lesson a.name known a.said) (λ l. Ok (noted w.book a.name l))
+    (lesson_ok w inv a.name known in_book (is_last ∙ ap Some (sym wanted)) a.said (λ s is. (shows 0 s (shows_first request answer s (a.says.says ∙ ap Ok is)), a.says.its s is))) (λ l. refl))))

@@ -1,0 +1,176 @@
+-- Where every row that is offered keeps the limits of the source, no reply is refused and no limit is met.
+use Rattle.std.proofs.Common.{◌≡◌, ℕ, ◌≤◌, ◌&&◌, Bool, true, false, List, [], ◌∷◌, ◌++◌, length, Option, Some, None, Result, Ok, Err, is_none, ◌⊎◌, inl, inr, refl, ap, sym, ◌∙◌, subst, arith}
+use Rattle.std.specs.List.{AllByRecursion}
+use Rattle.scim_key.specs.declared.records.RecordName.{RecordName}
+use Rattle.scim_message.specs.declared.messages.Answer.{Answer}
+use Rattle.scim_message.specs.declared.messages.Request.{Request}
+use Rattle.provider_core.specs.Stories.{Entry, step}
+use Rattle.provider_core.proofs.TableLaws.{at_push, held_at}
+use Rattle.source_csv.specs.Records.{row_name}
+use Rattle.source_csv.specs.declared.rows.Row.{Row}
+use Rattle.source_book.specs.Accepting.{accepting}
+use Rattle.source_book.specs.History.{History, rows_of, last_row}
+use Rattle.source_book.specs.declared.accepting.BookFault.{BookFault}
+use Rattle.source_book.specs.declared.accepting.BookFault.TheVariants as faults
+use Rattle.source_book.specs.declared.accepting.Verdict.{Verdict}
+use Rattle.source_book.specs.declared.accepting.Verdict.TheVariants as verdicts
+use Rattle.connector_core.specs.Asking.{asking}
+use Rattle.connector_core.specs.Changing.{limited, is_full, names_of}
+use Rattle.connector_core.specs.declared.asking.Ask.{Ask}
+use Rattle.connector_core.specs.declared.asking.Ask.TheVariants.{Nothing, Waits, Send}
+use Rattle.connector_core.specs.declared.changing.ChangeFault.{ChangeFault}
+use Rattle.world_model.specs.World.{World, Message, Asked, Answered, Event, Changes, Sends, Delivers, Cuts, Restarts_provider, Restarts_connector, changes, sends, delivers, message_at, happens, empty, judged, run}
+use Rattle.world_model.specs.Safe.{IsAt, Has}
+use Rattle.world_model.specs.Untroubled.{IsRow, IsLawful, most_entries, Untroubled, NeverRefused}
+use Rattle.world_model.proofs.Judging.{judged_by_source}
+use Rattle.world_model.proofs.Lists.{last_has}
+use Rattle.world_model.proofs.Accepting.{rows_stay}
+use Rattle.world_model.proofs.Sending.{row_of_record}
+use Rattle.world_model.proofs.Counting.{Counted, none_counted, push_counted, no_more, few_names}
+use Rattle.world_model.proofs.Ranking.{AllLawful, row_there, versions_few}
+use Rattle.world_model.proofs.Answering.{Answers, request_answers, no_limit}
+use Rattle.world_model.proofs.Learning.{learns}
+use Rattle.world_model.proofs.Invariant.{Inv, event_inv, empty_inv, message_there}
+
+abbrev AllAnswered : History → List Message → Type 0
+AllAnswered history messages = (i : ℕ) (request : Request) (answer : Answer) → IsAt messages i (Answered request answer) → Answers history request answer
+
+pub record Quiet (w : World) : Type 0 where
+  pub inv : Inv w
+  pub lawful : AllLawful w.history
+  pub counted : Counted w.history
+  pub answered : AllAnswered w.history w.messages
+
+-- ---- numbers
+
+-- each entry's record is one of the source
+entry_named_there : (w : World) → Quiet w → (i : ℕ) (e : Entry) → IsAt w.entries i e → Has (names_of w.history) e.name
+entry_named_there w q i e at =
+    let image = q.inv.kept.imaged i (length e.earlier) e e.held at (held_at e) in
+    let there = row_there w.history e.name image.row image.accepted in
+    subst (λ (n : RecordName). Has (names_of w.history) n) (row_of_record w.history e.name image.row image.accepted) (q.counted.every there.0 image.row there.1)
+
+few_entries : (w : World) → Quiet w → length w.entries ≤ most_entries
+few_entries w q =
+    let below = no_more (λ (e : Entry). e.name) w.entries (names_of w.history) q.inv.kept.whole.distinct (entry_named_there w q) in
+    omega (arith, below, few_names w.history q.counted)
+
+answers_now : (w : World) → Quiet w → (i : ℕ) (request : Request) → IsAt w.messages i (Asked request) → Answers w.history request (step w.entries request).answer
+answers_now w q i request at = request_answers w.history w.entries q.inv.kept q.lawful (few_entries w q) request (q.inv.told i (Asked request) at)
+
+untroubled : (w : World) → Quiet w → Untroubled w
+untroubled w q = record {
+  learns = λ request answer has. learns w request answer q.inv (q.inv.told has.0 (Answered request answer) has.1) (q.answered has.0 request answer has.1);
+  room = λ request has. no_limit w.history request (step w.entries request).answer (answers_now w q has.0 request has.1);
+  versions = λ e has. versions_few w.history w.entries q.inv.kept q.lawful has.0 e has.1;
+  entries = few_entries w q;
+}
+
+-- ---- a row is offered
+
+limited_room : (no_room : Bool) (row : Row) (v : Result Verdict BookFault) → limited no_room row v ≡ Ok verdicts.New → no_room ≡ false
+limited_room true row (Ok verdicts.New) is = absurd (cc)
+limited_room false row (Ok verdicts.New) is = refl
+limited_room no_room row (Ok verdicts.Known) is = absurd (cc)
+limited_room no_room row (Ok verdicts.Older) is = absurd (cc)
+limited_room no_room row (Err faults.Differs) is = absurd (cc)
+limited_room no_room row (Err (faults.NoSuchMember place)) is = absurd (cc)
+
+-- a new row is of a record that is there, or there is room for its record
+room_for : (w : World) (row : Row) → Quiet w → judged w row ≡ Ok verdicts.New → Has (names_of w.history) (row_name row) ⊎ (is_full (row_name row).kind (names_of w.history) ≡ false)
+room_for w row q is = go (last_row w.history (row_name row)) refl
+  where
+    room : (is_none (last_row w.history (row_name row)) && is_full (row_name row).kind (names_of w.history)) ≡ false
+    room = limited_room _ row (accepting w.history row) (sym (judged_by_source w row q.inv.follows) ∙ is)
+
+    go : (o : Option Row) → last_row w.history (row_name row) ≡ o → Has (names_of w.history) (row_name row) ⊎ (is_full (row_name row).kind (names_of w.history) ≡ false)
+    go None none = inr (ap (λ o. is_none o && is_full (row_name row).kind (names_of w.history)) (sym none) ∙ room)
+    go (Some last) some =
+        let has = last_has (rows_of w.history (row_name row)) last some in
+        let there = row_there w.history (row_name row) last has in
+        inl (subst (λ (n : RecordName). Has (names_of w.history) n) (row_of_record w.history (row_name row) last has) (q.counted.every there.0 last there.1))
+
+lawful_push : (history : History) (row : Row) → IsRow row → AllLawful history → AllLawful (history ++ row ∷ [])
+lawful_push history row law lawful i r at = elim (at_push history row i r at) [
+  | inl old ↦ lawful i r old
+  | inr new ↦ subst IsRow new.1 law
+]
+
+answers_stay : (history : History) (row : Row) (messages : List Message) → AllAnswered history messages → AllAnswered (history ++ row ∷ []) messages
+answers_stay history row messages answered i request answer at =
+    let a = answered i request answer at in
+    record { name = a.name; about = a.about; row = a.row; accepted = rows_stay history row a.name a.row a.accepted; said = a.said; says = a.says }
+
+changes_quiet : (w : World) (row : Row) (v : Result Verdict ChangeFault) → IsRow row → Quiet w → judged w row ≡ v → Inv (changes w row v) → Quiet (changes w row v)
+changes_quiet w row (Ok verdicts.New) law q is inv = record {
+  inv = inv;
+  lawful = lawful_push w.history row law q.lawful;
+  counted = push_counted w.history row q.counted (room_for w row q is);
+  answered = answers_stay w.history row w.messages q.answered;
+}
+changes_quiet w row (Ok verdicts.Known) law q is inv = q
+changes_quiet w row (Ok verdicts.Older) law q is inv = q
+changes_quiet w row (Err fault) law q is inv = q
+
+-- ---- messages
+
+asked_push : (history : History) (messages : List Message) (request : Request) → AllAnswered history messages → AllAnswered history (messages ++ Asked request ∷ [])
+asked_push history messages request answered i r a at = elim (at_push messages (Asked request) i (Answered r a) at) [
+  | inl old ↦ answered i r a old
+  | inr new ↦ absurd (cc new.1)
+]
+
+both_same : (history : History) (q r : Request) (a b : Answer) → Answered q a ≡ Answered r b → Answers history q a → Answers history r b
+both_same history q r a b same answers =
+    let requests : q ≡ r = cc in
+    let replies : a ≡ b = cc in
+    subst (λ (x : Answer). Answers history r x) replies (subst (λ (x : Request). Answers history x a) requests answers)
+
+answered_push : (history : History) (messages : List Message) (request : Request) (answer : Answer) → AllAnswered history messages → Answers history request answer
+    → AllAnswered history (messages ++ Answered request answer ∷ [])
+answered_push history messages request answer answered new_answers i r a at = elim (at_push messages (Answered request answer) i (Answered r a) at) [
+  | inl old ↦ answered i r a old
+  | inr new ↦ both_same history request r answer a new.1 new_answers
+]
+
+sends_quiet : (w : World) (o : Option Ask) → Quiet w → Inv (sends w o) → Quiet (sends w o)
+sends_quiet w None q inv = q
+sends_quiet w (Some Nothing) q inv = q
+sends_quiet w (Some (Waits member)) q inv = q
+sends_quiet w (Some (Send request)) q inv =
+    record { inv = inv; lawful = q.lawful; counted = q.counted; answered = asked_push w.history w.messages request q.answered }
+
+delivers_quiet : (w : World) (number : ℕ) (o : Option Message) → Quiet w → message_at w.messages number ≡ o → Inv (delivers w o) → Quiet (delivers w o)
+delivers_quiet w number None q is inv = q
+delivers_quiet w number (Some (Asked request)) q is inv =
+    let (i, at) = message_there w.messages number (Asked request) is in
+    record {
+      inv = inv;
+      lawful = q.lawful;
+      counted = q.counted;
+      answered = answered_push w.history w.messages request (step w.entries request).answer q.answered (answers_now w q i request at);
+    }
+delivers_quiet w number (Some (Answered request answer)) q is inv = record { inv = inv; lawful = q.lawful; counted = q.counted; answered = q.answered }
+
+-- ---- every event
+
+event_quiet : (w : World) (event : Event) → IsLawful event → Quiet w → Quiet (happens w event)
+event_quiet w (Changes row) law q = changes_quiet w row (judged w row) law q refl (event_inv w (Changes row) q.inv)
+event_quiet w (Sends name) law q = sends_quiet w (asking w.book name) q (event_inv w (Sends name) q.inv)
+event_quiet w (Delivers number) law q = delivers_quiet w number (message_at w.messages number) q refl (event_inv w (Delivers number) q.inv)
+event_quiet w (Cuts number length) law q = q
+event_quiet w Restarts_provider law q = q
+event_quiet w Restarts_connector law q = record { inv = event_inv w Restarts_connector q.inv; lawful = q.lawful; counted = q.counted; answered = q.answered }
+
+empty_quiet : Quiet empty
+empty_quiet = record { inv = empty_inv; lawful = λ i row at. absurd (cc); counted = none_counted; answered = λ i request answer at. absurd (cc) }
+
+run_quiet : (w : World) (events : List Event) → AllByRecursion IsLawful events → Quiet w → Quiet (run w events)
+run_quiet w [] law q = q
+run_quiet w (event ∷ events) law q = run_quiet (happens w event) events law.1 (event_quiet w event law.0 q)
+
+pub always_quiet : (events : List Event) → AllByRecursion IsLawful events → Quiet (run empty events)
+always_quiet events law = run_quiet empty events law empty_quiet
+
+pub never_refused : NeverRefused
+never_refused events law = untroubled (run empty events) (always_quiet events law)

@@ -1,0 +1,45 @@
+-- What never happens: a reply that teaches nothing, a request that meets a limit of the provider.
+use Rattle.std.specs.Prelude.{◌≢◌, ℕ, ◌≤◌, List, length, IsOk}
+use Rattle.std.specs.List.{AllByRecursion}
+use Rattle.scim_key.specs.Revisions.{most_revisions}
+use Rattle.scim_message.specs.declared.messages.Request.{Request}
+use Rattle.scim_message.specs.declared.messages.Answer.{Answer}
+use Rattle.scim_message.specs.declared.messages.Answer.TheVariants.{Error}
+use Rattle.scim_message.specs.declared.refusals.Refusal.TheVariants.{LimitReached}
+use Rattle.scim_message.specs.Refusals.{error_of}
+use Rattle.provider_core.specs.Stories.{Entry, story, step}
+use Rattle.source_csv.specs.Rows.{IsUserRow, IsGroupRow}
+use Rattle.source_csv.specs.declared.rows.Row.{Row}
+use Rattle.source_csv.specs.declared.rows.Row.TheVariants.{User, Group}
+use Rattle.connector_core.specs.Learning.{learn}
+use Rattle.world_model.specs.World.{World, Asked, Answered, Event, Changes, Sends, Delivers, Cuts, Restarts_provider, Restarts_connector, empty, run}
+use Rattle.world_model.specs.Safe.{Has}
+
+-- the row keeps the limits of the source
+abbrev pub IsRow : Row → Type 0
+IsRow (User row) = IsUserRow row
+IsRow (Group row) = IsGroupRow row
+
+-- each row that is offered keeps them
+abbrev pub IsLawful : Event → Type 0
+IsLawful (Changes row) = IsRow row
+IsLawful (Sends name) = Unit {0}
+IsLawful (Delivers number) = Unit {0}
+IsLawful (Cuts number length) = Unit {0}
+IsLawful Restarts_provider = Unit {0}
+IsLawful Restarts_connector = Unit {0}
+
+-- how many resources a run makes at most: as many as there may be records of the source
+abbrev pub most_entries : ℕ
+most_entries = 110_000
+
+-- the connector learns from every reply that was ever given, no request that was ever sent meets a limit of the provider,
+-- and the numbers that this rests on
+pub record Untroubled (w : World) : Type 0 where
+  pub learns : (request : Request) (answer : Answer) → Has w.messages (Answered request answer) → IsOk (learn w.book request answer)
+  pub room : (request : Request) → Has w.messages (Asked request) → (step w.entries request).answer ≢ Error (error_of LimitReached)
+  pub versions : (e : Entry) → Has w.entries e → length (story e) ≤ most_revisions
+  pub entries : length w.entries ≤ most_entries
+
+abbrev pub NeverRefused : Type 0
+NeverRefused = (events : List Event) → AllByRecursion IsLawful events → Untroubled (run empty events)
