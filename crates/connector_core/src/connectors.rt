@@ -86,7 +86,7 @@ impl<J: Journal> Connector<J> {
     {
         match self.book.get(name) {
             Some(known) => known.confirmed,
-            None => Revision::NONE,
+            None => Revision::none(),
         }
     }
 
@@ -96,7 +96,7 @@ impl<J: Journal> Connector<J> {
     {
         match self.book.get(name) {
             Some(known) => known.wanted.revision(),
-            None => Revision::NONE,
+            None => Revision::none(),
         }
     }
 
