@@ -1,4 +1,3 @@
-pub mod JsonLemmas
 pub mod ReplyLaws
 pub mod LocationLaws
 pub mod MeaningLaws
