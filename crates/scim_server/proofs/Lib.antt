@@ -1,4 +1,5 @@
 pub mod ReplyLaws
+pub mod ResponseLaws
 pub mod LocationLaws
 pub mod MeaningLaws
 pub mod NumberLemmas
