@@ -7,11 +7,13 @@ mod outcomes;
 mod pending;
 mod provider;
 mod registry;
+mod reopening;
 mod searching;
 
-pub use laws::{memory_never_faults, rows_follow_stories, stories_only_grow};
+pub use laws::{memory_is_faithful, memory_never_faults, rows_follow_stories, stories_only_grow};
 pub use memory::MemoryRegistry;
 pub use pending::{Change, Pending};
 pub use provider::{Provider, ProviderFault};
 pub use registry::{Registry, RegistryFault};
+pub use reopening::Reopen;
 pub use scim_message::{Answer, ErrorResponse, ListResponse, Request, Resources};
