@@ -1,11 +1,10 @@
 use Rattle.std.proofs.Common.{◌-◌}
 use Rattle.provider_core.proofs.Gathering.{IsGathering}
-use Rattle.provider_core.proofs.provider.Provider.gather.Given as goal
+use Rattle.provider_core.proofs.provider.Provider.gather_all.Given as goal
 
 -- the rows before `after` have been looked through
 abbrev pub invariant-loop-after : goal.invariant-loop-after
-invariant-loop-after g l =
-    IsGathering g.R.Registry.is_faithful g.R.Registry.rows g.R.Registry.faults g.R.Registry.writes l.kind l.filter l.all l.after l.fn.self l.self l.fn.gathered l.gathered
+invariant-loop-after g l = IsGathering g.R.Registry l.kind l.filter l.all l.after l.initial.self l.self l.fn.gathered l.gathered
 
 abbrev pub decreases-loop-after : goal.decreases-loop-after
 decreases-loop-after g l = l.all - l.after
