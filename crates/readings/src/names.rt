@@ -1,5 +1,5 @@
 //! The limits of names, ids and bases.
-use scim_key::{Base, GroupName, NameFault, ResourceId, UserName};
+use scim_key::{Base, GroupName, Key, NameFault, ResourceId, UserName};
 use std::alloc::Global;
 use std::test::Fail;
 
@@ -36,13 +36,24 @@ fn user_names(rt: HostRuntime) -> Result<(), Fail> {
     let spelled = UserName::read(rt.alloc(), "Bob")?;
     assert!(rt; spelled.same_key(&UserName::read(rt.alloc(), "BOB")?));
     assert!(rt; spelled.key(rt.alloc())?.as_str() == "bob");
+    assert!(rt; spelled.clone()?.as_str() == "Bob");
+    let key = Key::of(rt.alloc(), "Bob")?;
+    assert!(rt; key.clone()?.as_str() == "bob");
     Ok(())
 }
 
 #[test]
 fn group_names(rt: HostRuntime) -> Result<(), Fail> {
-    let read = GroupName::read(rt.alloc(), "crew two")?;
-    assert!(rt; read.as_str() == "crew two");
+    let read = GroupName::read(rt.alloc(), "Crew two")?;
+    assert!(rt; read.as_str() == "Crew two");
+    assert!(rt; read.clone()?.as_str() == "Crew two");
+    assert!(rt; read.key(rt.alloc())?.as_str() == "crew two");
+    let longest = letters(rt.alloc(), 128)?;
+    let longer = letters(rt.alloc(), 129)?;
+    let name = GroupName::read(rt.alloc(), longest.as_str())?;
+    assert_eq!(rt; name.as_str().len(), 128);
+    let fault = GroupName::read(rt.alloc(), longer.as_str()).err();
+    assert_eq!(rt; fault, Some(NameFault::TooLong));
     assert_eq!(rt;
         GroupName::read(rt.alloc(), " crew").err(),
         Some(NameFault::SpaceAtEnd)
@@ -63,6 +74,15 @@ fn ids_of_numbers(rt: HostRuntime) -> Result<(), Fail> {
     assert_eq!(rt; other.number(), None);
     let last = ResourceId::of_number(rt.alloc(), 1_000_000)?;
     assert!(rt; last.as_str() == "5c1a0000-0000-8000-8000-0000000f4240");
+    assert!(rt; last.clone()?.as_str() == last.as_str());
+    let longest = letters(rt.alloc(), 256)?;
+    let longer = letters(rt.alloc(), 257)?;
+    let id = ResourceId::read(rt.alloc(), longest.as_str())?;
+    assert_eq!(rt; id.as_str().len(), 256);
+    let fault = ResourceId::read(rt.alloc(), longer.as_str()).err();
+    assert_eq!(rt; fault, Some(NameFault::TooLong));
+    let fault = ResourceId::read(rt.alloc(), "").err();
+    assert_eq!(rt; fault, Some(NameFault::Empty));
     Ok(())
 }
 
@@ -78,12 +98,12 @@ fn bases(rt: HostRuntime) -> Result<(), Fail> {
     );
     let base = Base::read(rt.alloc(), "http://[::1]:8080/v2")?;
     assert!(rt; base.authority() == b"[::1]:8080".as_slice());
-    Ok(())
-}
-
-#[test]
-fn faults_are_printed_as_their_codes(rt: HostRuntime) -> Result<(), Fail> {
-    assert!(rt; NameFault::Empty.to_string(rt.alloc())?.as_str() == "N1");
-    assert!(rt; NameFault::Memory.to_string(rt.alloc())?.as_str() == "N5");
+    let host = letters(rt.alloc(), 100)?;
+    let longest = format!(in rt.alloc(); "http://{host}/v2")?;
+    let base = Base::read(rt.alloc(), longest.as_str())?;
+    assert!(rt; base.as_str() == longest.as_str());
+    let longer = format!(in rt.alloc(); "http://{host}a/v2")?;
+    let fault = Base::read(rt.alloc(), longer.as_str()).err();
+    assert_eq!(rt; fault, Some(NameFault::TooLong));
     Ok(())
 }

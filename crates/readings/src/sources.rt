@@ -1,13 +1,11 @@
 //! Files of the source: which records are rows, which rows count, and their images.
-use crate::support::FailingWriter;
-use mapping::{WriteFault, row_line, user_content, write_images};
+use mapping::{row_line, user_content, write_images};
 use scim_key::{Kind, Revision};
 use source_book::{BookFault, Verdict, accept};
 use source_csv::{
     GroupRow, Row, RowCode, RowFault, SourceFault, SourceRows, UserRow, read_groups, read_users,
 };
 use std::alloc::Global;
-use std::io::{BufWriter, ErrorKind};
 use std::process::Abort;
 use std::test::Fail;
 
@@ -298,50 +296,27 @@ fn a_row_has_its_image(rt: HostRuntime) -> Result<(), Fail> {
     Ok(())
 }
 
-#[test]
-fn lines_that_cannot_be_written_are_told(rt: HostRuntime) -> Result<(), Fail> {
-    let rows = users(rt.alloc(), ANN)?;
-    for room in [0, 1, ANN_LINE.len() - 1] {
-        let mut out = FailingWriter {
-            taken: Vec::new(rt.alloc()),
-            room,
-            flush_fault: None,
-        };
-        let written = write_images(rt.alloc(), rows.as_slice(), &mut out);
-        assert_eq!(rt; written, Err(WriteFault::Output));
-        assert!(rt; out.taken.as_slice() == &ANN_LINE[..room]);
+fn repeated(alloc: Global, piece: &str, count: usize) -> Result<String, Fail> {
+    let mut text = String::new(alloc);
+    for _ in 0..count {
+        text.push_str(piece)?;
     }
-    let unflushed = FailingWriter {
-        taken: Vec::new(rt.alloc()),
-        room: 1_000,
-        flush_fault: Some(ErrorKind::BrokenPipe),
-    };
-    let mut buffer = BufWriter::new(rt.alloc(), unflushed)?;
-    let written = write_images(rt.alloc(), rows.as_slice(), &mut buffer);
-    assert_eq!(rt; written, Err(WriteFault::Output));
-    Ok(())
+    Ok(text)
 }
 
-static CODES: &[(RowCode, &str)] = &[
-    (RowCode::FieldCount, "S2"),
-    (RowCode::NotUtf8, "S3"),
-    (RowCode::Name, "S4"),
-    (RowCode::Value, "S6"),
-    (RowCode::RepeatedMember, "S9"),
-    (RowCode::TooManyMembers, "S10"),
-];
-
 #[test]
-fn faults_of_files_are_printed_as_their_codes(rt: HostRuntime) -> Result<(), Fail> {
-    let told = RowFault {
-        place: 2,
-        code: RowCode::Revision,
-    };
-    assert!(rt; told.to_string(rt.alloc())?.as_str() == "record 2: S5");
-    for (code, text) in CODES {
-        assert!(rt; code.to_string(rt.alloc())?.as_str() == *text);
-    }
-    assert!(rt; SourceFault::Header.to_string(rt.alloc())?.as_str() == "S1");
-    assert!(rt; BookFault::Differs.to_string(rt.alloc())?.as_str() == "S7");
+fn the_longest_line(rt: HostRuntime) -> Result<(), Fail> {
+    let login = repeated(rt.alloc(), "a", 128)?;
+    let field = repeated(rt.alloc(), "\x01", 256)?;
+    let records = format!(in rt.alloc();
+        "{login},2000000000,{field},{field},{field},{field},active\n"
+    )?;
+    let rows = users(rt.alloc(), records.as_str())?;
+    let written = repeated(rt.alloc(), "\\u0001", 256)?;
+    let line = format!(in rt.alloc();
+        "{{\"active\":true,\"emails\":[{{\"primary\":true,\"type\":\"work\",\"value\":\"{written}\"}}],\"externalId\":\"{written}\",\"name\":{{\"familyName\":\"{written}\",\"givenName\":\"{written}\"}},\"schemas\":[\"urn:ietf:params:scim:schemas:core:2.0:User\",\"urn:example:params:scim:schemas:extension:source:1.0\"],\"urn:example:params:scim:schemas:extension:source:1.0\":{{\"revision\":2000000000}},\"userName\":\"{login}\"}}\n"
+    )?;
+    let longest = row_line(rt.alloc(), user(rows.as_slice().first())?)?;
+    assert!(rt; longest.as_slice() == line.as_bytes());
     Ok(())
 }
