@@ -1,7 +1,7 @@
-# The two commands of the README, and what a checkout needs from day to day.
+# The commands of the README, and what a checkout needs from day to day.
 PREFIX ?= /usr/local
 
-.PHONY: answer map test build install
+.PHONY: answer map try test build install
 
 # the main job on the example: one POST of a user, answered on standard output
 answer: build
@@ -11,9 +11,14 @@ answer: build
 map: build
 	crates/scimlink/out/scimlink map examples/personnel.csv || test $$? = 1
 
+# the same job with no proof and no kept program: for a first look. The last line says so: proved=no
+try:
+	cd crates/scimlink && rt try --steps 1 -- answer < ../../examples/create-user.http
+
 test:
 	rt ci
 	tests/map.sh
+	tests/answer.sh
 	tests/edits.py
 
 build:

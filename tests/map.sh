@@ -2,32 +2,9 @@
 # Tries the built program's `map`: standard error and statuses, which no test in Rattle reaches.
 set -uo pipefail
 cd "$(dirname "$0")/.."
-program=${PROGRAM:-crates/scimlink/out/scimlink}
-[ -x "$program" ] || { echo "map: build the program first: make build"; exit 1; }
-room=$(mktemp -d)
-trap 'rm -rf "$room"' EXIT
+suite=map
+. tests/lib.sh
 header=login,revision,number,given,family,mail,status
-failed=0
-
-# expect NAME STATUS STDERR COMMAND..: standard output goes to $room/out
-expect() {
-    local name=$1 status=$2 told=$3 got
-    shift 3
-    timeout 20 "$@" > "$room/out" 2> "$room/err"
-    got=$?
-    if [ "$got" != "$status" ] || [ "$(cat "$room/err")" != "$told" ]; then
-        echo "map: $name: status $got, told: $(cat "$room/err")"
-        failed=1
-    fi
-}
-
-# lines NAME COUNT: how many lines the last command printed
-lines() {
-    if [ "$(wc -l < "$room/out")" != "$2" ]; then
-        echo "map: $1: $(wc -l < "$room/out") lines"
-        failed=1
-    fi
-}
 
 expect example 1 'users record 3: S5' "$program" map examples/personnel.csv
 lines example 3
@@ -48,10 +25,17 @@ expect folder 3 'file fault' "$program" map "$room"
 expect full 3 $'users record 3: S5\nfile fault' bash -c "$program map examples/personnel.csv > /dev/full"
 lines full 0
 
-{ printf '%s\n' "$header"; for n in $(seq 2000); do echo "user$n,1,,,,,active"; done; } > "$room/many"
+# every row of a large file has its line
+awk -v "header=$header" 'BEGIN { print header
+    for (n = 1; n <= 100000; n++) printf "user%d,%d,,,,,active\n", n, n }' > "$room/many"
+awk 'BEGIN { source = "urn:example:params:scim:schemas:extension:source:1.0"
+    for (n = 1; n <= 100000; n++) {
+        printf "{\"active\":true,\"schemas\":[\"urn:ietf:params:scim:schemas:core:2.0:User\",\"%s\"],", source
+        printf "\"%s\":{\"revision\":%d},\"userName\":\"user%d\"}\n", source, n, n } }' > "$room/lines"
+expect many 0 '' "$program" map "$room/many"
+prints many "$room/lines"
 expect pipe 3 'file fault' bash -c "$program map $room/many | true; exit \${PIPESTATUS[0]}"
 
-timeout 20 "$program" map > /dev/null 2>&1; [ $? = 2 ] || { echo 'map: no file isn'"'"'t usage'; failed=1; }
-timeout 20 "$program" map a b > /dev/null 2>&1; [ $? = 2 ] || { echo 'map: two files aren'"'"'t usage'; failed=1; }
-[ "$failed" = 0 ] && echo 'map: all as wanted'
-exit "$failed"
+expect 'no file' 2 '*' "$program" map
+expect 'two files' 2 '*' "$program" map a b
+ends

@@ -1,12 +1,13 @@
 -- The connector's book: of each record the row that is wanted, and what is known of it at the provider.
 use Rattle.std.specs.Prelude.{ℕ, List, Option, Some, None, if◌then◌else◌}
 use Rattle.std.specs.Option.{option_map, option_and_then}
-use Rattle.scim_key.specs.Revisions.{no_revision}
+use Rattle.scim_key.specs.Revisions.{RevisionValue, no_revision}
 use Rattle.scim_key.specs.declared.records.RecordName.{RecordName}
-use Rattle.source_csv.specs.Records.{row_name}
+use Rattle.source_csv.specs.Records.{row_name, row_revision}
 use Rattle.source_csv.specs.declared.rows.Row.{Row}
 use Rattle.source_book.specs.History.{same_name}
 use Rattle.connector_core.specs.declared.knowledge.Known.{Known}
+use Rattle.connector_core.specs.declared.knowledge.Seen.{Seen}
 use Rattle.connector_core.specs.declared.knowledge.Seen.TheVariants.{Unknown}
 
 -- a record of which the source gave no row isn't in the book
@@ -40,6 +41,20 @@ forgotten known = record known { seen = Unknown }
 abbrev pub reopened : Book → Book
 reopened book name = option_map forgotten (book name)
 
+-- ---- what changes of a record
+
+-- another row is wanted
+abbrev pub wanting_now : Row → Known → Known
+wanting_now row known = record known { wanted = row }
+
+-- this was seen of it
+abbrev pub seeing : Seen → Known → Known
+seeing seen known = record known { seen = seen }
+
+-- a resource was seen with this id, and this is confirmed
+abbrev pub learning : RevisionValue → List ℕ → Seen → Known → Known
+learning confirmed id seen known = record known { confirmed = confirmed; id = Some id; seen = seen }
+
 -- ---- what is read
 
 abbrev pub wanted_row : Book → RecordName → Option Row
@@ -47,3 +62,22 @@ wanted_row book name = option_map (λ known. known.wanted) (book name)
 
 abbrev pub known_id : Book → RecordName → Option (List ℕ)
 known_id book name = option_and_then (λ known. known.id) (book name)
+
+abbrev pub seen_of : Book → RecordName → Option Seen
+seen_of book name = option_map (λ known. known.seen) (book name)
+
+abbrev pub confirmed_if : Option Known → RevisionValue
+confirmed_if None = no_revision
+confirmed_if (Some known) = known.confirmed
+
+-- the confirmed revision, none where there is no such record
+abbrev pub confirmed_of : Book → RecordName → RevisionValue
+confirmed_of book name = confirmed_if (book name)
+
+abbrev pub wanted_if : Option Known → RevisionValue
+wanted_if None = no_revision
+wanted_if (Some known) = row_revision known.wanted
+
+-- the revision that is wanted, none where there is no such record
+abbrev pub wanted_of : Book → RecordName → RevisionValue
+wanted_of book name = wanted_if (book name)

@@ -1,36 +1,32 @@
 -- What the connector says of a row: by its book, and by the history of the source.
-use Rattle.std.specs.Prelude.{ℕ, Bool, true, false, ◌&&◌, List, [], ◌∷◌, ◌++◌, Option, Result, Ok, Err, is_none, nat_le, unwrap_or}
-use Rattle.std.specs.List.{count_by, position_from, slice_get}
+use Rattle.std.specs.Prelude.{◌≡◌, ◌≤◌, ℕ, Bool, true, false, ◌&&◌, List, [], ◌∷◌, ◌++◌, Option, Result, Ok, Err, is_none, nat_le, unwrap_or}
+use Rattle.std.specs.List.{position_from, slice_get}
 use Rattle.std.specs.BTreeSet.{insert_key}
 use Rattle.scim_key.specs.declared.records.Kind.{Kind}
-use Rattle.scim_key.specs.declared.records.Kind.TheVariants.{User, Group}
 use Rattle.scim_key.specs.declared.records.RecordName.{RecordName}
 use Rattle.source_csv.specs.Records.{row_name}
 use Rattle.source_csv.specs.declared.rows.Row.{Row}
-use Rattle.source_book.specs.History.{History, same_kind, user, members_of, last_row, missing_member}
+use Rattle.source_book.specs.History.{History, user, members_of, last_row, missing_member}
 use Rattle.source_book.specs.Accepting.{accepted}
 use Rattle.source_book.specs.declared.accepting.BookFault.{BookFault}
 use Rattle.source_book.specs.declared.accepting.BookFault.TheVariants as book
 use Rattle.source_book.specs.declared.accepting.Verdict.{Verdict}
 use Rattle.source_book.specs.declared.accepting.Verdict.TheVariants.{New, Known, Older}
-use Rattle.connector_core.specs.Book.{Book, wanted_row, with_row}
-use Rattle.connector_core.specs.Maps.{name_cmp}
+use Rattle.std.specs.FinMap.{get, insert}
+use Rattle.journal_core.specs.Entries.{EntryMap, count_of, most_records, with_row as put_row}
+use Rattle.journal_core.specs.Stores.{HasRisen}
+use Rattle.journal_core.specs.declared.journals.JournalFault.{JournalFault}
+use Rattle.journal_core.specs.declared.journals.JournalFault.TheVariants as journal
+use Rattle.connector_core.specs.Book.{Book, wanted_row, wanting, with_row}
+use Rattle.connector_core.specs.Maps.{BookMap, book_of, name_cmp}
 use Rattle.connector_core.specs.declared.changing.ChangeFault.{ChangeFault}
-use Rattle.connector_core.specs.declared.changing.ChangeFault.TheVariants.{Differs, NoSuchMember, TooMany}
+use Rattle.connector_core.specs.declared.changing.ChangeFault.TheVariants.{Differs, NoSuchMember, TooMany, Store, Memory}
 
 -- ---- how many records there are
 
--- how many records of a type there may be
-abbrev pub most_records : Kind → ℕ
-most_records User = 100_000
-most_records Group = 10_000
-
-abbrev pub is_of_kind : Kind → RecordName → Bool
-is_of_kind kind name = same_kind kind name.kind
-
 -- whether there are as many records of a type as there may be
 abbrev pub is_full : Kind → (names : List RecordName) → Bool
-is_full kind names = nat_le (most_records kind) (count_by (is_of_kind kind) names)
+is_full kind names = nat_le (most_records kind) (count_of kind names)
 
 -- ---- the names of the records, users first, and then by the bytes of the key
 
@@ -73,6 +69,29 @@ judging book names row = verdict (wanted_row book (row_name row)) (unknown_membe
 abbrev pub judging_by_source : History → Row → Result Verdict ChangeFault
 judging_by_source history row = verdict (last_row history (row_name row)) (missing_member history row) (is_full (row_name row).kind (names_of history)) row
 
+-- ---- what else may come
+
+-- the fault says nothing of the row
+abbrev pub IsNoVerdict : ChangeFault → Type 0
+IsNoVerdict Differs = ⊥
+IsNoVerdict (NoSuchMember key) = ⊥
+IsNoVerdict TooMany = ⊥
+IsNoVerdict Store = Unit {0}
+IsNoVerdict Memory = Unit {0}
+
+-- a store fault is counted, and no other fault is one
+abbrev pub CountsChange : (old new : ℕ) → ChangeFault → Type 0
+CountsChange old new Differs = new ≡ old
+CountsChange old new (NoSuchMember key) = new ≡ old
+CountsChange old new TooMany = new ≡ old
+CountsChange old new Store = (old ≤ new) × HasRisen old new
+CountsChange old new Memory = new ≡ old
+
+-- the connector's fault at a fault of its journal
+abbrev pub change_fault : JournalFault → ChangeFault
+change_fault journal.Store = Store
+change_fault journal.Memory = Memory
+
 -- ---- what becomes of the history and of the book
 
 -- a new row is appended, and no other changes the history
@@ -88,3 +107,21 @@ book_after book row (Ok New) = with_row book row
 book_after book row (Ok Known) = book
 book_after book row (Ok Older) = book
 book_after book row (Err fault) = book
+
+-- the same of the book as a map
+abbrev pub accepted_map : BookMap → Row → Result Verdict ChangeFault → BookMap
+accepted_map book row (Ok New) = insert book (row_name row) (wanting (get book (row_name row)) row)
+accepted_map book row (Ok Known) = book
+accepted_map book row (Ok Older) = book
+accepted_map book row (Err fault) = book
+
+-- and of the entries of the journal
+abbrev pub accepted_entries : EntryMap → Row → Result Verdict ChangeFault → EntryMap
+accepted_entries entries row (Ok New) = put_row entries row
+accepted_entries entries row (Ok Known) = entries
+accepted_entries entries row (Ok Older) = entries
+accepted_entries entries row (Err fault) = entries
+
+-- what a map becomes is what the book becomes
+abbrev pub MapsAccept : Type 0
+MapsAccept = (book : BookMap) (row : Row) (verdict : Result Verdict ChangeFault) → book_of (accepted_map book row verdict) ≡ book_after (book_of book) row verdict

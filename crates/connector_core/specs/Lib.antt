@@ -1,5 +1,7 @@
 pub mod Book
 pub mod Maps
+pub mod Trees
+pub mod State
 pub mod Images
 pub mod Asking
 pub mod Learning

@@ -1,16 +1,11 @@
 -- The book as a map in memory, which a value of code can be.
-use Rattle.std.specs.Prelude.{◌≡◌}
+use Rattle.std.specs.Prelude.{◌≡◌, ◌⊎◌, Option, Some, None, Result, Ok, Err}
 use Rattle.std.specs.BTreeSet.{insert_key}
 use Rattle.std.specs.FinMap.{FinMap, get, insert, keys}
 use Rattle.scim_key.specs.declared.records.RecordName.{RecordName}
-use Rattle.std.specs.declared.cmp.Ordering.{Ordering}
-use Rattle.scim_key.specs.contracts.records.RecordNameOrd.TheImpl as names
+pub use Rattle.journal_core.specs.Entries.{name_cmp}
 use Rattle.connector_core.specs.Book.{Book, put}
 use Rattle.connector_core.specs.declared.knowledge.Known.{Known}
-
--- the order of names
-abbrev pub name_cmp : RecordName → RecordName → Ordering
-name_cmp = (names.ghosts).cmp
 
 abbrev pub BookMap : Type 0
 BookMap = FinMap name_cmp Known
@@ -19,7 +14,20 @@ BookMap = FinMap name_cmp Known
 abbrev pub book_of : BookMap → Book
 book_of map name = get map name
 
+abbrev pub changed_at : (Known → Known) → BookMap → RecordName → Option Known → BookMap
+changed_at change map name None = map
+changed_at change map name (Some known) = insert map name (change known)
+
+-- the map where what is known of this record is changed, if the record is there
+abbrev pub changed : (Known → Known) → BookMap → RecordName → BookMap
+changed change map name = changed_at change map name (get map name)
+
 -- what is put into the map is put into the book, and the names stay in their order
 pub record MapsAreBooks (map : BookMap) (name : RecordName) (known : Known) : Type 0 where
   pub book : book_of (insert map name known) ≡ put (book_of map) name known
   pub names : keys (insert map name known) ≡ insert_key name_cmp (keys map) name
+
+-- the answer of the definition came, or another fault, which says nothing of it
+abbrev pub GivesUnless : {X F : Type 0} → (other : F → Type 0) → Result X F → Result X F → Type 0
+GivesUnless other (Ok x) answer = answer ≡ Ok x
+GivesUnless other (Err e) answer = other e ⊎ (answer ≡ Err e)

@@ -3,13 +3,16 @@
 #![tactic(auto)]
 
 mod asking;
+mod books;
 mod changing;
+mod connectors;
 mod knowledge;
 mod learning;
 mod opening;
 
 pub use asking::{Ask, AskFault};
 pub use changing::ChangeFault;
+pub use connectors::Connector;
 pub use knowledge::{Known, Seen};
 pub use learning::{LearnFault, Learnt};
 pub use opening::OpenFault;

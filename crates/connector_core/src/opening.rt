@@ -1,4 +1,11 @@
 //! Opening the connector.
+ghost use Rattle.std.specs.Prelude.{◌≡◌, IfOk};
+ghost use Rattle.connector_core.specs.State.{opened, opened_book};
+
+use crate::books::Book;
+use crate::knowledge::{Known, Seen};
+use journal_core::{Entry, JournalFault};
+use std::alloc::{AllocError, Global};
 use thiserror::Error;
 
 /// Why the connector wasn't opened.
@@ -9,4 +16,44 @@ pub enum OpenFault {
     Store,
     #[error("C6")]
     Memory,
+}
+
+impl From<JournalFault> for OpenFault {
+    ghost use Rattle.connector_core.specs.State.{open_fault};
+
+    ghost from_gives = { λ from fault. fault ≡ open_fault from };
+
+    fn from(fault: JournalFault) -> OpenFault {
+        match fault {
+            JournalFault::Store => OpenFault::Store,
+            JournalFault::Memory => OpenFault::Memory,
+        }
+    }
+}
+
+/// What is known of an entry's record, of which nothing was seen.
+fn known_of(entry: Entry) -> Known
+    ensures { result ≡ opened entry }
+{
+    let (row, confirmed, id) = entry.into_parts();
+    Known {
+        wanted: row,
+        confirmed,
+        id,
+        seen: Seen::Unknown,
+    }
+}
+
+/// The book of a list of entries, from its end, so that an earlier one counts.
+pub(crate) fn read_book(alloc: Global, mut list: Vec<Entry>) -> Result<Book, AllocError>
+    ensures { IfOk result (λ book. book ≡ opened_book list.items) }
+{
+    let mut book = Book::new(alloc);
+    while let Some(entry) = list.pop() {
+        let name = entry.row.record_name(alloc)?;
+        if book.put(name, known_of(entry)).is_err() {
+            return Err(AllocError);
+        }
+    }
+    Ok(book)
 }

@@ -1,123 +1,173 @@
--- A head that has just become whole, and one that hasn't.
-use Rattle.std.proofs.Common.{◌≡◌, ℕ, ◌-◌, ◌<◌, ◌≤◌, List, [], ◌∷◌, ◌++◌, length, take, drop, refl, ap, sym, ◌∙◌, arith, append_assoc, length-drop, length-take, Option, Result, Ok, Err, inl, inr}
-use Rattle.std.proofs.lemmas.List.{length-map}
-use Rattle.std.specs.Prelude.{IfOk}
+-- What a step of reading gives: a head that has become whole, one that is refused, and one that is neither.
+use Rattle.std.proofs.Common.{◌≡◌, ℕ, ◌+◌, ◌-◌, ◌<◌, ◌≤◌, List, [], ◌∷◌, ◌++◌, length, take, drop, refl, ap, sym, ◌∙◌, arith, subst, length-append, length-take, Option, Result, Ok, Err, inl, inr}
+use Rattle.std.proofs.Math.Seq.{take-append-add}
+use Rattle.std.proofs.lemmas.Bool.Decides.{leb_tells}
+use Rattle.std.proofs.lemmas.List.{append-nil, length-map, take-take, take_at}
+use Rattle.std.specs.Prelude.{IfOk, IfErr}
 use Rattle.std.specs.Io.KnownBytes.{Consumes}
 use Rattle.httparse.specs.declared.spans.HeaderSpan.{HeaderSpan}
-use Rattle.httparse.specs.declared.spans.RequestSpans.{RequestSpans}
-use Rattle.httparse.specs.Grammar.{RequestHead, ReadsRequest, print_request}
-use Rattle.httparse.specs.Spans.{IsRequestWithin, IsRequestAt, IsRequestOf, header_bytes, name_and_value}
+use Rattle.httparse.specs.Spans.{header_bytes, name_and_value}
+use Rattle.http_text.specs.declared.parsing.HeadSpans.{HeadSpans}
 use Rattle.http_text.specs.declared.fault.ReadFault.{ReadFault}
 use Rattle.http_text.specs.declared.fault.ReadFault.TheVariants.{Malformed, HostMissingOrRepeated, LengthMissing, BodyTooLong, HeadTooLong, TransferCoding, Expectation, EndedEarly, ReadFailed, OutOfMemory, TurnsExhausted}
-use Rattle.http_text.specs.Message.{Message, Head, head_of, head_limit, field_limit, length_of, body_length}
-use Rattle.http_text.specs.Judging.{judge_head}
-use Rattle.http_text.specs.Requests.{IsUndecided, IsUndecidedBefore, Refuses, IsRefusedHead, IsPartOfBody, TakesMessage, TakesRefused}
-use Rattle.http_text.specs.Steps.{GivesNone, TakesHead, TakesBody, CutsBody}
-use Rattle.http_text.proofs.JudgeLemmas.{IsHeadFault, judged_fault, accepted_length}
+use Rattle.http_text.specs.Message.{Message, head_limit, field_limit}
+use Rattle.http_text.specs.Forms.{Form}
+use Rattle.http_text.specs.Heads.{IsUndecided, IsUndecidedBefore, Refuses, IsRefusedHead, IsPartOfBody, TakesMessage, TakesRefused}
+use Rattle.http_text.specs.Parsing.{front_message, AreWithin, IsHeadAt, IsHeadOf}
+use Rattle.http_text.specs.Steps.{GivesNone, RefusesHead, TakesHead, TakesBody, CutsBody}
+use Rattle.http_text.proofs.FormLaws.{Laws}
+use Rattle.http_text.proofs.JudgeLemmas.{IsHeadFault}
 use Rattle.http_text.proofs.KnownLemmas.{Consumes-kept, Consumes-then}
-use Rattle.http_text.proofs.ListLemmas.{split_last}
+use Rattle.http_text.proofs.ListLemmas.{front_of, same_split}
 
--- where nothing was decided before the last byte, a head at the front is the whole
-pub whole_head : (bytes : List ℕ) (tree : RequestHead) (rest : List ℕ) → IsUndecidedBefore bytes → ReadsRequest bytes tree rest → rest ≡ []
-whole_head bytes tree [] before h = refl
-whole_head bytes tree (x ∷ rest) before h =
-    let p = split_last (x ∷ rest) (omega arith) in
-    let front = print_request tree ++ p.0 in
-    let whole : bytes ≡ front ++ p.1 ∷ [] = h.1 ∙ ap (λ (t : List ℕ). print_request tree ++ t) p.2 ∙ sym (append_assoc (print_request tree) p.0 (p.1 ∷ [])) in
-    absurd ((before front p.1 whole).none tree p.0 (h.0, refl))
+module _ (F : Form) (laws : Laws F) where
+  -- a head at the front of more bytes than those that hold none is longer than these
+  pub head_is_longer : (bytes more : List ℕ) (fields : List HeaderSpan) (spans : HeadSpans) → IsUndecided F bytes
+      → IsHeadOf F (bytes ++ more) fields spans → length bytes < spans.len
+  head_is_longer bytes more fields spans undecided h =
+      elim (leb_tells spans.len (length bytes)) [
+        | inl short ↦
+            let le = short.1 in
+            let at = h.1 in
+            let size = at.len in
+            let p = front_of (F.print h.0) (drop spans.len (bytes ++ more)) bytes more (sym (laws.printed (bytes ++ more) h.0 (drop spans.len (bytes ++ more)) at.reads)) (omega arith) in
+            absurd (undecided.none h.0 p.0 (laws.again (bytes ++ more) h.0 (drop spans.len (bytes ++ more)) at.reads bytes p.0 p.1))
+        | inr long ↦ long.1
+      ]
 
-module _ (bytes : List ℕ) (fields : List HeaderSpan) (spans : RequestSpans) (within : IsRequestWithin bytes fields spans) (before : IsUndecidedBefore bytes) where
-  -- so its length is that of the bytes
-  pub whole_length : IsRequestOf bytes fields spans → spans.len ≡ length bytes
-  whole_length h =
-      let rest = whole_head bytes h.0 (drop spans.len bytes) before h.1.reads in
-      let fits : spans.len ≤ length bytes = within.section.len_fits in
-      let none : length bytes - spans.len ≡ 0 = sym (length-drop spans.len bytes) ∙ ap length rest in
-      omega arith
+  module _ (old now new : Option (List ℕ)) (bytes ahead all : List ℕ) (count : ℕ) (taken : Consumes old now bytes) (is : all ≡ bytes ++ take count ahead)
+      (undecided : IsUndecided F bytes) (size : length all ≤ head_limit) where
+    module _ (fields : List HeaderSpan) (spans : HeadSpans) (within : AreWithin all fields spans) (more : Consumes now new (take (spans.len - length bytes) ahead))
+        (room : length fields ≡ field_limit) where
+      -- what was taken is the head
+      TakesHead-front : IsHeadOf F all fields spans → Consumes old new (take spans.len all)
+      TakesHead-front found =
+          let n = spans.len - length bytes in
+          let long = head_is_longer bytes (take count ahead) fields spans undecided (subst (λ (t : List ℕ). IsHeadOf F t fields spans) is found) in
+          let fits : spans.len ≤ length all = within.section.len_fits in
+          let sum : length all ≡ length bytes + length (take count ahead) = ap length is ∙ length-append bytes (take count ahead) in
+          let enough : n ≤ count = omega (arith, length-take count ahead) in
+          let whole : length bytes + n ≡ spans.len = omega arith in
+          let front : bytes ++ take n ahead ≡ take spans.len all =
+          ap (λ (t : List ℕ). bytes ++ t) (sym (take-take n count ahead enough)) ∙ sym (take-append-add bytes (take count ahead) n)
+          ∙ ap (λ k. take k (bytes ++ take count ahead)) whole ∙ ap (take spans.len) (sym is) in
+          subst (Consumes old new) front (Consumes-then old now new bytes (take n ahead) taken more)
 
-  pub TakesHead-made : (old new : Option (List ℕ)) (tree : RequestHead) (m : Message) → Consumes old new bytes → length bytes ≤ head_limit
-      → length fields ≡ field_limit → IsRequestAt bytes fields spans tree → m ≡ record { head = head_of tree; body = [] } → TakesHead old new m
-  TakesHead-made old new tree m taken size room at is =
-      let rest = whole_head bytes tree (drop spans.len bytes) before at.reads in
-      let reads = rw rest at at.reads in
-      let counted : length tree.fields ≡ length (take spans.headers fields) = sym (length-map tree.fields name_and_value) ∙ sym (ap length at.fields) ∙ length-map (take spans.headers fields) (header_bytes bytes) in
-      let few : length tree.fields ≤ field_limit = omega (arith, length-take spans.headers fields) in (
-        bytes,
-        taken,
-        record { tree = tree; reads = reads; size = size; fields = few; parts = ap (λ (k : Message). k.head) is },
-        ap (λ (k : Message). k.body) is,
-      )
+      TakesHead-made : (tree : F.Tree) (m : Message) → IsHeadAt F all fields spans tree → m ≡ front_message all fields spans → TakesHead F old new m
+      TakesHead-made tree m at made =
+          let front : take spans.len all ≡ F.print tree ++ [] =
+          ap (take spans.len) (laws.printed all tree (drop spans.len all) at.reads) ∙ take_at (F.print tree) (drop spans.len all) spans.len (sym at.len) ∙ sym (append-nil (F.print tree)) in
+          let counted : length (F.lines tree) ≡ length (take spans.count fields) = sym (length-map (F.lines tree) name_and_value) ∙ sym (ap length at.lines) ∙ length-map (take spans.count fields) (header_bytes all) in
+          let few : length (F.lines tree) ≤ field_limit = omega (arith, length-take spans.count fields) in (
+            take spans.len all,
+            TakesHead-front (tree, at),
+            record { tree = tree; reads = laws.again all tree (drop spans.len all) at.reads (take spans.len all) [] front; size = omega (arith, length-take spans.len all); fields = few; parts = ap (λ (k : Message). k.head) made ∙ (λ i. record { start = at.start i; fields = at.lines i }) },
+            ap (λ (k : Message). k.body) made,
+          )
 
-  pub TakesHead-result : (old new : Option (List ℕ)) (r : Result Message ReadFault) → Consumes old new bytes → length bytes ≤ head_limit
-      → length fields ≡ field_limit → IsRequestOf bytes fields spans
-      → IfOk r (λ (m : Message). (tree : RequestHead) → IsRequestAt bytes fields spans tree → m ≡ record { head = head_of tree; body = [] })
-      → IfOk r (TakesHead old new)
-  TakesHead-result old new (Ok m) taken size room at made = TakesHead-made old new at.0 m taken size room at.1 (made at.0 at.1)
-  TakesHead-result old new (Err fault) taken size room at made = tt
+      pub TakesHead-result : (r : Result Message ReadFault) → IsHeadOf F all fields spans
+          → IfOk r (λ (m : Message). m ≡ front_message all fields spans)
+          → IfOk r (TakesHead F old new)
+      TakesHead-result (Ok m) at made = TakesHead-made at.0 m at.1 made
+      TakesHead-result (Err fault) at made = tt
 
--- no more bytes came to a head that isn't whole
-pub TakesRefused-none : (old now new : Option (List ℕ)) (bytes : List ℕ) (fault : ReadFault) → Consumes old now bytes
-    → IsUndecided bytes × (length bytes < head_limit) → GivesNone now new fault → TakesRefused old new fault
-TakesRefused-none old now new bytes Malformed taken part none = absurd none
-TakesRefused-none old now new bytes (HostMissingOrRepeated is_head) taken part none = absurd none
-TakesRefused-none old now new bytes (LengthMissing is_head) taken part none = absurd none
-TakesRefused-none old now new bytes (BodyTooLong is_head) taken part none = absurd none
-TakesRefused-none old now new bytes HeadTooLong taken part none = absurd none
-TakesRefused-none old now new bytes (TransferCoding is_head) taken part none = absurd none
-TakesRefused-none old now new bytes (Expectation is_head) taken part none = absurd none
-TakesRefused-none old now new bytes EndedEarly taken part none = (bytes, Consumes-kept old now new bytes taken none.0, (inl part, none.1))
-TakesRefused-none old now new bytes ReadFailed taken part none = (bytes, Consumes-kept old now new bytes taken none, inl part)
-TakesRefused-none old now new bytes OutOfMemory taken part none = absurd none
-TakesRefused-none old now new bytes TurnsExhausted taken part none = (bytes, Consumes-kept old now new bytes taken none, inl part)
+    -- one byte more, which is refused
+    before : count ≡ 1 → 0 < length ahead → IsUndecidedBefore F all
+    before one some front last e =
+        let sum : length bytes + length (take count ahead) ≡ length front + 1 =
+        sym (length-append bytes (take count ahead)) ∙ ap length (sym is ∙ e) ∙ length-append front (last ∷ []) in
+        let same = same_split bytes (take count ahead) front (last ∷ []) (sym is ∙ e) (omega (arith, length-take count ahead)) in
+        subst (IsUndecided F) same.0 undecided
 
-Refuses-head : (bytes : List ℕ) (left : Option (List ℕ)) (fault : ReadFault) → IsHeadFault fault → IsRefusedHead bytes fault → Refuses bytes left fault
-Refuses-head bytes left Malformed h r = inr r
-Refuses-head bytes left (HostMissingOrRepeated is_head) h r = r
-Refuses-head bytes left (LengthMissing is_head) h r = r
-Refuses-head bytes left (BodyTooLong is_head) h r = r
-Refuses-head bytes left HeadTooLong h r = absurd h
-Refuses-head bytes left (TransferCoding is_head) h r = r
-Refuses-head bytes left (Expectation is_head) h r = r
-Refuses-head bytes left EndedEarly h r = absurd h
-Refuses-head bytes left ReadFailed h r = absurd h
-Refuses-head bytes left OutOfMemory h r = absurd h
-Refuses-head bytes left TurnsExhausted h r = absurd h
+    refuses : (left : Option (List ℕ)) (fault : ReadFault) → IsUndecidedBefore F all → RefusesHead F all fault → Refuses F all left fault
+    refuses left Malformed first never = inl (record { never = never; before = first; size = size })
+    refuses left (HostMissingOrRepeated is_head) first h = absurd h
+    refuses left (LengthMissing is_head) first h = absurd h
+    refuses left (BodyTooLong is_head) first h = absurd h
+    refuses left HeadTooLong first h =
+        elim h [ inl limit ↦ inl limit | inr fields ↦ inr (record { exceeds = fields.0; overflows = fields.1; before = first; size = size }) ]
+    refuses left (TransferCoding is_head) first h = absurd h
+    refuses left (Expectation is_head) first h = absurd h
+    refuses left EndedEarly first h = absurd h
+    refuses left ReadFailed first h = absurd h
+    refuses left OutOfMemory first h = absurd h
+    refuses left TurnsExhausted first h = absurd h
 
--- a whole head that is refused
-pub TakesRefused-head : (old new : Option (List ℕ)) (m : Message) (fault : ReadFault) → TakesHead old new m → judge_head m.head ≡ Err fault → TakesRefused old new fault
-TakesRefused-head old new m fault took judged =
-    (took.0, took.1, Refuses-head took.0 new fault (judged_fault m.head fault judged) (m.head, took.2, judged))
+    pub TakesRefused-parse : (fault : ReadFault) → Consumes now new (take count ahead) → count ≡ 1 → 0 < length ahead → RefusesHead F all fault → TakesRefused F old new fault
+    TakesRefused-parse fault more one some h =
+        let whole = subst (Consumes old new) (sym is) (Consumes-then old now new bytes (take count ahead) taken more) in
+        (all, whole, refuses new fault (before one some) h)
 
-module _ (old now new : Option (List ℕ)) (m : Message) (n : ℕ) (took : TakesHead old now m) (judged : judge_head m.head ≡ Ok n) where
-  part : (bytes : List ℕ) → length bytes < n → IsPartOfBody (took.0 ++ bytes)
-  part bytes short = record { front = took.0; part = bytes; head = m.head; stated = n; is_head = took.2; split = refl; accepted = judged; short = short }
+  -- memory for a whole head wanted
+  pub TakesRefused-memory : (old now new : Option (List ℕ)) (bytes more : List ℕ) (r : Result Message ReadFault) → Consumes old now bytes → Consumes now new more
+      → IfErr r (λ (fault : ReadFault). fault ≡ OutOfMemory) → IfErr r (TakesRefused F old new)
+  TakesRefused-memory old now new bytes more (Ok m) taken then_taken h = tt
+  TakesRefused-memory old now new bytes more (Err fault) taken then_taken h =
+      subst (TakesRefused F old new) (sym h) (bytes ++ more, Consumes-then old now new bytes more taken then_taken, tt)
 
-  -- a body that was cut short
-  pub TakesRefused-cut : (fault : ReadFault) → CutsBody now new n fault → TakesRefused old new fault
-  TakesRefused-cut Malformed cut = absurd cut
-  TakesRefused-cut (HostMissingOrRepeated is_head) cut = absurd cut
-  TakesRefused-cut (LengthMissing is_head) cut = absurd cut
-  TakesRefused-cut (BodyTooLong is_head) cut = absurd cut
-  TakesRefused-cut HeadTooLong cut = absurd cut
-  TakesRefused-cut (TransferCoding is_head) cut = absurd cut
-  TakesRefused-cut (Expectation is_head) cut = absurd cut
-  TakesRefused-cut EndedEarly cut = (took.0 ++ cut.0, Consumes-then old now new took.0 cut.0 took.1 cut.1, (inr (part cut.0 cut.2), cut.3))
-  TakesRefused-cut ReadFailed cut = (took.0 ++ cut.0, Consumes-then old now new took.0 cut.0 took.1 cut.1, inr (part cut.0 cut.2))
-  TakesRefused-cut OutOfMemory cut = (took.0 ++ cut.0, Consumes-then old now new took.0 cut.0 took.1 cut.1, tt)
-  TakesRefused-cut TurnsExhausted cut = (took.0 ++ cut.0, Consumes-then old now new took.0 cut.0 took.1 cut.1, inr (part cut.0 cut.2))
+  -- no more bytes came to a head that isn't whole
+  pub TakesRefused-none : (old now new : Option (List ℕ)) (bytes : List ℕ) (fault : ReadFault) → Consumes old now bytes
+      → IsUndecided F bytes × (length bytes < head_limit) → GivesNone now new fault → TakesRefused F old new fault
+  TakesRefused-none old now new bytes Malformed taken part none = absurd none
+  TakesRefused-none old now new bytes (HostMissingOrRepeated is_head) taken part none = absurd none
+  TakesRefused-none old now new bytes (LengthMissing is_head) taken part none = absurd none
+  TakesRefused-none old now new bytes (BodyTooLong is_head) taken part none = absurd none
+  TakesRefused-none old now new bytes HeadTooLong taken part none = absurd none
+  TakesRefused-none old now new bytes (TransferCoding is_head) taken part none = absurd none
+  TakesRefused-none old now new bytes (Expectation is_head) taken part none = absurd none
+  TakesRefused-none old now new bytes EndedEarly taken part none = (bytes, Consumes-kept old now new bytes taken none.0, (inl part, none.1))
+  TakesRefused-none old now new bytes ReadFailed taken part none = (bytes, Consumes-kept old now new bytes taken none, inl part)
+  TakesRefused-none old now new bytes OutOfMemory taken part none = absurd none
+  TakesRefused-none old now new bytes TurnsExhausted taken part none = (bytes, Consumes-kept old now new bytes taken none, inl part)
 
-  -- a whole body
-  pub TakesMessage-body : (after : Message) → TakesBody now new m after n → TakesMessage old new after
-  TakesMessage-body after body =
-      let head : after.head ≡ m.head = ap (λ (k : Message). k.head) body.3 in
-      let bytes : after.body ≡ body.0 = ap (λ (k : Message). k.body) body.3 ∙ ap (λ (t : List ℕ). t ++ body.0) took.3 in (
-        took.0 ++ body.0,
-        Consumes-then old now new took.0 body.0 took.1 body.1,
-        record {
-          front = took.0;
-          head = rw head took.2;
-          split = ap (λ (t : List ℕ). took.0 ++ t) (sym bytes);
-          body = ap length bytes ∙ body.2 ∙ accepted_length m.head n judged ∙ ap (λ (k : Head). body_length (length_of k)) (sym head);
-        },
-        (n, rw head judged),
-      )
+  Refuses-head : (bytes : List ℕ) (left : Option (List ℕ)) (fault : ReadFault) → IsHeadFault fault → IsRefusedHead F bytes fault → Refuses F bytes left fault
+  Refuses-head bytes left Malformed h r = inr r
+  Refuses-head bytes left (HostMissingOrRepeated is_head) h r = r
+  Refuses-head bytes left (LengthMissing is_head) h r = r
+  Refuses-head bytes left (BodyTooLong is_head) h r = r
+  Refuses-head bytes left HeadTooLong h r = absurd h
+  Refuses-head bytes left (TransferCoding is_head) h r = r
+  Refuses-head bytes left (Expectation is_head) h r = r
+  Refuses-head bytes left EndedEarly h r = absurd h
+  Refuses-head bytes left ReadFailed h r = absurd h
+  Refuses-head bytes left OutOfMemory h r = absurd h
+  Refuses-head bytes left TurnsExhausted h r = absurd h
+
+  -- a whole head that is refused
+  pub TakesRefused-head : (old new : Option (List ℕ)) (m : Message) (fault : ReadFault) → TakesHead F old new m → F.judge m.head ≡ Err fault → TakesRefused F old new fault
+  TakesRefused-head old new m fault took judged =
+      (took.0, took.1, Refuses-head took.0 new fault (laws.judged m.head fault judged) (m.head, took.2, judged))
+
+  module _ (old now new : Option (List ℕ)) (m : Message) (n : ℕ) (took : TakesHead F old now m) (judged : F.judge m.head ≡ Ok n) where
+    part : (bytes : List ℕ) → length bytes < n → IsPartOfBody F (took.0 ++ bytes)
+    part bytes short = record { front = took.0; part = bytes; head = m.head; stated = n; is_head = took.2; split = refl; accepted = judged; short = short }
+
+    -- a body that was cut short
+    pub TakesRefused-cut : (fault : ReadFault) → CutsBody now new n fault → TakesRefused F old new fault
+    TakesRefused-cut Malformed cut = absurd cut
+    TakesRefused-cut (HostMissingOrRepeated is_head) cut = absurd cut
+    TakesRefused-cut (LengthMissing is_head) cut = absurd cut
+    TakesRefused-cut (BodyTooLong is_head) cut = absurd cut
+    TakesRefused-cut HeadTooLong cut = absurd cut
+    TakesRefused-cut (TransferCoding is_head) cut = absurd cut
+    TakesRefused-cut (Expectation is_head) cut = absurd cut
+    TakesRefused-cut EndedEarly cut = (took.0 ++ cut.0, Consumes-then old now new took.0 cut.0 took.1 cut.1, (inr (part cut.0 cut.2), cut.3))
+    TakesRefused-cut ReadFailed cut = (took.0 ++ cut.0, Consumes-then old now new took.0 cut.0 took.1 cut.1, inr (part cut.0 cut.2))
+    TakesRefused-cut OutOfMemory cut = (took.0 ++ cut.0, Consumes-then old now new took.0 cut.0 took.1 cut.1, tt)
+    TakesRefused-cut TurnsExhausted cut = (took.0 ++ cut.0, Consumes-then old now new took.0 cut.0 took.1 cut.1, inr (part cut.0 cut.2))
+
+    -- a whole body
+    pub TakesMessage-body : (after : Message) → TakesBody now new m after n → TakesMessage F old new after
+    TakesMessage-body after body =
+        let head : after.head ≡ m.head = ap (λ (k : Message). k.head) body.3 in
+        let bytes : after.body ≡ body.0 = ap (λ (k : Message). k.body) body.3 ∙ ap (λ (t : List ℕ). t ++ body.0) took.3 in (
+          took.0 ++ body.0,
+          Consumes-then old now new took.0 body.0 took.1 body.1,
+          record {
+            front = took.0;
+            head = rw head took.2;
+            split = ap (λ (t : List ℕ). took.0 ++ t) (sym bytes);
+            body = ap length bytes ∙ body.2 ∙ laws.accepted m.head n judged ∙ ap F.body (sym head);
+          },
+          (n, rw head judged),
+        )

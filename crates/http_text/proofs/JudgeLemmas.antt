@@ -1,11 +1,11 @@
 -- What a judged head says.
 use Rattle.std.proofs.Common.{◌≡◌, ℕ, Bool, true, false, cond, Option, Some, None, Result, Ok, Err, refl}
-use Rattle.std.specs.Prelude.{IfOk, IfErr, nat_lt, codes, ⊤}
+use Rattle.std.specs.Prelude.{IfOk, IfErr, ◌==◌, if◌then◌else◌, nat_lt, codes, ⊤}
 use Rattle.std.proofs.lemmas.Result.{IfOk-at_ok, IfErr-at_err}
 use Rattle.http_text.specs.declared.fault.ReadFault.{ReadFault}
 use Rattle.http_text.specs.declared.fault.ReadFault.TheVariants.{Malformed, HostMissingOrRepeated, LengthMissing, BodyTooLong, HeadTooLong, TransferCoding, Expectation, EndedEarly, ReadFailed, OutOfMemory, TurnsExhausted}
-use Rattle.http_text.specs.Message.{Head, minor_of, values, Length, absent, stated, unreadable, length_of, body_length, body_limit}
-use Rattle.http_text.specs.Judging.{◌>>=◌, refused_where, readable_length, length_wanted, is_head, has_body, is_host_wrong, is_any, judge_head}
+use Rattle.http_text.specs.Message.{Head, minor_of, code_of, values, Length, absent, stated, unreadable, length_of, body_length, body_limit, response_body_limit}
+use Rattle.http_text.specs.Judging.{◌>>=◌, refused_where, readable_length, length_wanted, is_head, has_body, is_host_wrong, is_any, judge_head, response_length, judge_response}
 
 -- a refusal by the head
 abbrev pub IsHeadFault : ReadFault → Type 0
@@ -90,3 +90,38 @@ accepted unreadable a b c w h f g e = tt
 pub accepted_length : (head : Head) (n : ℕ) → judge_head head ≡ Ok n → n ≡ body_length (length_of head)
 accepted_length head n e =
     IfOk-at_ok (λ k. k ≡ body_length (length_of head)) e (accepted (length_of head) (host_wrong head) (coded head) (expects head) (has_body head) (is_head head) (HostMissingOrRepeated (is_head head)) (TransferCoding (is_head head)) (Expectation (is_head head)))
+
+-- ---- responses
+
+response_fault : (b : Bool) (length : Option ℕ) → IfErr (response_length b length) IsHeadFault
+response_fault true length = tt
+response_fault false None = tt
+response_fault false (Some n) = limit_fault (nat_lt response_body_limit n) false n
+
+abbrev judged_response : Length → Bool → Bool → Bool → Result ℕ ReadFault
+judged_response l a b c = refused_where a Malformed >>= (λ _. refused_where b Malformed >>= (λ _. readable_length l >>= (λ length. response_length c length)))
+
+response_faults : (l : Length) (a b c : Bool) → IfErr (judged_response l a b c) IsHeadFault
+response_faults l true b c = tt
+response_faults l false true c = tt
+response_faults absent false false c = response_fault c None
+response_faults (stated n) false false c = response_fault c (Some n)
+response_faults unreadable false false c = tt
+
+pub response_judged_fault : (head : Head) (fault : ReadFault) → judge_response head ≡ Err fault → IsHeadFault fault
+response_judged_fault head fault e =
+    IfErr-at_err IsHeadFault e (response_faults (length_of head) (nat_lt (code_of head.start) 100) (coded head) (code_of head.start == 304))
+
+response_accepted : (l : Length) (a b c : Bool) → IfOk (judged_response l a b c) (λ n. n ≡ (if c then 0 else body_length l))
+response_accepted l true b c = tt
+response_accepted l false true c = tt
+response_accepted absent false false true = refl
+response_accepted absent false false false = tt
+response_accepted (stated n) false false true = refl
+response_accepted (stated n) false false false = limit_length (nat_lt response_body_limit n) false n
+response_accepted unreadable false false c = tt
+
+pub response_accepted_length : (head : Head) (n : ℕ) → judge_response head ≡ Ok n → n ≡ (if code_of head.start == 304 then 0 else body_length (length_of head))
+response_accepted_length head n e =
+    IfOk-at_ok (λ k. k ≡ (if code_of head.start == 304 then 0 else body_length (length_of head))) e
+    (response_accepted (length_of head) (nat_lt (code_of head.start) 100) (coded head) (code_of head.start == 304))

@@ -3,7 +3,7 @@ use Rattle.std.proofs.Common.{◌≡◌, ℕ, ◌+◌, ◌-◌, ◌<◌, sym, ap
 use Rattle.http_text.specs.declared.fault.ReadFault.{ReadFault}
 use Rattle.http_text.specs.declared.fault.ReadFault.TheVariants.{Malformed, HostMissingOrRepeated, LengthMissing, BodyTooLong, HeadTooLong, TransferCoding, Expectation, EndedEarly, ReadFailed, OutOfMemory, TurnsExhausted}
 use Rattle.http_text.specs.Counts.{Reading, count_up, turn_limit, HasReached, CountsTurns}
-use Rattle.http_text.specs.Requests.{EndsReading}
+use Rattle.http_text.specs.Heads.{EndsReading}
 use Rattle.http_text.specs.Steps.{SpendsTurns, EndsTurns}
 use Rattle.http_text.proofs.CountLemmas.{count_up-then, count_up-zero, HasReached-count_up}
 

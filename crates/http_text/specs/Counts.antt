@@ -1,5 +1,6 @@
 -- What is counted of a stream, and how far a count goes.
 use Rattle.std.specs.Prelude.{◌≡◌, ℕ, ◌+◌, ◌-◌, ◌^◌, ◌<◌, ◌≤◌, ◌⊎◌, max, min, List, Option}
+use Rattle.http_text.specs.declared.limits.TheConstants.{TURN_LIMIT}
 
 -- where each count stays
 abbrev pub greatest_count : ℕ
@@ -11,8 +12,10 @@ count_up n k = max n (min (n + k) greatest_count)
 
 -- a reader, as contracts see it
 pub record Reading : Type 0 where
-  -- the bytes that it has left, where they are known
+  -- the bytes that nobody has taken yet, where they are known
   pub remaining : Option (List ℕ)
+  -- those of them that were read ahead
+  pub ahead : List ℕ
   -- its reads so far
   pub calls : ℕ
   -- those that failed; an interrupted one didn't
@@ -39,7 +42,7 @@ HasReached k old new = (old + k ≤ new) ⊎ (greatest_count ≤ new)
 
 -- the greatest number of reads, or of writes and flushes, for one message
 abbrev pub turn_limit : ℕ
-turn_limit = 100000
+turn_limit = TURN_LIMIT
 
 -- at most so many turns were made, each counted
 abbrev pub CountsTurns : ℕ → ℕ → Type 0

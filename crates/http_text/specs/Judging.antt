@@ -1,9 +1,9 @@
--- Which requests are refused by their heads, and in which order.
-use Rattle.std.specs.Prelude.{◌≡◌, ℕ, Bool, true, false, ◌||◌, List, [], ◌∷◌, Option, Some, None, Result, Ok, Err, if◌then◌else◌, ◌==◌, nat_lt, codes}
+-- Which requests and responses are refused by their heads, and in which order.
+use Rattle.std.specs.Prelude.{ℕ, Bool, true, false, ◌||◌, List, [], ◌∷◌, Option, Some, None, Result, Ok, Err, if◌then◌else◌, ◌==◌, nat_lt, codes}
 use Rattle.std.specs.Str.{bytes_eq}
 use Rattle.http_text.specs.declared.fault.ReadFault.{ReadFault}
 use Rattle.http_text.specs.declared.fault.ReadFault.TheVariants.{Malformed, HostMissingOrRepeated, LengthMissing, BodyTooLong, TransferCoding, Expectation}
-use Rattle.http_text.specs.Message.{Head, Message, Length, absent, stated, unreadable, method_of, minor_of, values, length_of, body_limit}
+use Rattle.http_text.specs.Message.{Head, Length, absent, stated, unreadable, method_of, minor_of, code_of, values, length_of, body_limit, response_body_limit}
 
 -- one step after the other, up to the first refusal
 infixl 10 ◌>>=◌
@@ -45,7 +45,7 @@ length_wanted true is_head None = Err (LengthMissing is_head)
 length_wanted false is_head None = Ok 0
 length_wanted wanted is_head (Some n) = if nat_lt body_limit n then Err (BodyTooLong is_head) else Ok n
 
--- the length of the body that follows a head, or the first refusal
+-- the length of the body that follows a request's head, or the first refusal
 abbrev pub judge_head : Head → Result ℕ ReadFault
 judge_head head = do
   length ← readable_length (length_of head)
@@ -54,6 +54,16 @@ judge_head head = do
   _ ← refused_where (is_any (values (codes "expect") head.fields)) (Expectation (is_head head))
   length_wanted (has_body head) (is_head head) length
 
--- a message whose head isn't refused
-abbrev pub IsAccepted : Message → Type 0
-IsAccepted m = (n : ℕ) × (judge_head m.head ≡ Ok n)
+-- the length of a response's body, which is stated: but 304 has no body, whatever it states
+abbrev pub response_length : Bool → Option ℕ → Result ℕ ReadFault
+response_length true length = Ok 0
+response_length false None = Err Malformed
+response_length false (Some n) = if nat_lt response_body_limit n then Err (BodyTooLong false) else Ok n
+
+-- the length of the body that follows a response's head, or the first refusal
+abbrev pub judge_response : Head → Result ℕ ReadFault
+judge_response head = do
+  _ ← refused_where (nat_lt (code_of head.start) 100) Malformed
+  _ ← refused_where (is_any (values (codes "transfer-encoding") head.fields)) Malformed
+  length ← readable_length (length_of head)
+  response_length (code_of head.start == 304) length

@@ -1,9 +1,15 @@
 pub mod Counts
+pub mod Forms
+pub mod Heads
 pub mod IncomingView
 pub mod Judging
 pub mod Message
+pub mod Parsing
 pub mod Requests
 pub mod Response
+pub mod Responses
 pub mod Sending
+pub mod Starts
 pub mod Steps
 pub mod Streams
+pub mod Texts

@@ -1,11 +1,10 @@
--- An HTTP/1.1 message in its parts, and which bytes are a request (RFC 9112, sections 2 to 6).
-use Rattle.std.specs.Prelude.{◌≡◌, ℕ, ◌≤◌, Bool, ◌&&◌, List, [], ◌∷◌, ◌++◌, length, map, filter, if◌then◌else◌, nat_le, nat_lt, codes}
+-- An HTTP/1.1 message in its parts (RFC 9112, sections 2 to 6).
+use Rattle.std.specs.Prelude.{ℕ, Bool, ◌&&◌, List, [], ◌∷◌, length, map, filter, if◌then◌else◌, nat_le, nat_lt, codes}
 use Rattle.std.specs.List.{list_all}
 use Rattle.std.specs.Char.{is_ascii_digit, to_ascii_lowercase}
 use Rattle.std.specs.Str.{bytes_eq}
 use Rattle.std.specs.Str.Parse.{digits_value}
-use Rattle.httparse.specs.Grammar.{RequestHead, ReadsRequest}
-use Rattle.httparse.specs.Spans.{name_and_value}
+use Rattle.http_text.specs.declared.limits.TheConstants.{HEAD_LIMIT, FIELD_LIMIT, BODY_LIMIT, RESPONSE_BODY_LIMIT}
 
 -- a field's name, and its value without the white space around it
 abbrev pub NamedValue : Type 0
@@ -33,6 +32,11 @@ abbrev pub target_of : StartLine → List ℕ
 target_of (request_line method target minor) = target
 target_of (status_line minor code) = []
 
+-- a request has no status code
+abbrev pub code_of : StartLine → ℕ
+code_of (request_line method target minor) = 0
+code_of (status_line minor code) = code
+
 abbrev pub minor_of : StartLine → ℕ
 minor_of (request_line method target minor) = minor
 minor_of (status_line minor code) = minor
@@ -49,30 +53,18 @@ is_named name field = bytes_eq (lowered field.0) (lowered name)
 abbrev pub values : List ℕ → List NamedValue → List (List ℕ)
 values name fields = map (λ (field : NamedValue). field.1) (filter (is_named name) fields)
 
--- the greatest lengths of a head and of a body, and the greatest number of field lines
+-- the greatest lengths of a head, of a request's body and of a response's, and the greatest number of field lines
 abbrev pub head_limit : ℕ
-head_limit = 16384
+head_limit = HEAD_LIMIT
 
 abbrev pub field_limit : ℕ
-field_limit = 64
+field_limit = FIELD_LIMIT
 
 abbrev pub body_limit : ℕ
-body_limit = 32768
+body_limit = BODY_LIMIT
 
--- the parts of a request's head of httparse's grammar
-abbrev pub head_of : RequestHead → Head
-head_of tree = record {
-  start = request_line tree.method tree.target tree.minor;
-  fields = map name_and_value tree.fields;
-}
-
--- the bytes are a request's head of the grammar within the limits, and these are its parts
-pub record IsRequestHead (bytes : List ℕ) (head : Head) : Type 0 where
-  pub tree : RequestHead
-  pub reads : ReadsRequest bytes tree []
-  pub size : length bytes ≤ head_limit
-  pub fields : length tree.fields ≤ field_limit
-  pub parts : head ≡ head_of tree
+abbrev pub response_body_limit : ℕ
+response_body_limit = RESPONSE_BODY_LIMIT
 
 -- a length is written in 1 to 18 digits
 abbrev pub is_length : List ℕ → Bool
@@ -98,10 +90,3 @@ abbrev pub body_length : Length → ℕ
 body_length absent = 0
 body_length (stated n) = n
 body_length unreadable = 0
-
--- the bytes are a request's head and then exactly the body that it states
-pub record IsRequestMessage (bytes : List ℕ) (m : Message) : Type 0 where
-  pub front : List ℕ
-  pub head : IsRequestHead front m.head
-  pub split : bytes ≡ front ++ m.body
-  pub body : length m.body ≡ body_length (length_of m.head)

@@ -1,13 +1,12 @@
--- What the steps of reading a request do.
+-- What the steps of reading a message do.
 use Rattle.std.specs.Prelude.{◌≡◌, ℕ, ◌-◌, ◌<◌, ◌≤◌, ◌⊎◌, List, [], ◌++◌, length, Option}
 use Rattle.std.specs.Io.KnownBytes.{Keeps, Consumes, IsAtEnd}
-use Rattle.httparse.specs.Grammar.{NeverHasRequest}
-use Rattle.httparse.specs.Spans.{RequestExceeds, RequestOverflows}
 use Rattle.http_text.specs.declared.fault.ReadFault.{ReadFault}
 use Rattle.http_text.specs.declared.fault.ReadFault.TheVariants.{Malformed, HostMissingOrRepeated, LengthMissing, BodyTooLong, HeadTooLong, TransferCoding, Expectation, EndedEarly, ReadFailed, OutOfMemory, TurnsExhausted}
 use Rattle.http_text.specs.Counts.{Reading, count_up, HasRisen}
-use Rattle.http_text.specs.Message.{Message, IsRequestHead, field_limit}
-use Rattle.http_text.specs.Requests.{IsHeadAtLimit}
+use Rattle.http_text.specs.Message.{Message, field_limit}
+use Rattle.http_text.specs.Forms.{Form, IsHead}
+use Rattle.http_text.specs.Heads.{NeverHas, Exceeds, Overflows, IsHeadAtLimit}
 
 -- from so many turns left to so many, each a call
 pub record SpendsTurns (old new : Reading) (before after : ℕ) : Type 0 where
@@ -34,24 +33,6 @@ GivesNone old new ReadFailed = Keeps old new
 GivesNone old new OutOfMemory = ⊥
 GivesNone old new TurnsExhausted = Keeps old new
 
--- what a parse refuses
-abbrev pub RefusesHead : List ℕ → ReadFault → Type 0
-RefusesHead bytes Malformed = NeverHasRequest bytes
-RefusesHead bytes (HostMissingOrRepeated is_head) = ⊥
-RefusesHead bytes (LengthMissing is_head) = ⊥
-RefusesHead bytes (BodyTooLong is_head) = ⊥
-RefusesHead bytes HeadTooLong = IsHeadAtLimit bytes ⊎ (RequestExceeds field_limit bytes × RequestOverflows field_limit bytes)
-RefusesHead bytes (TransferCoding is_head) = ⊥
-RefusesHead bytes (Expectation is_head) = ⊥
-RefusesHead bytes EndedEarly = ⊥
-RefusesHead bytes ReadFailed = ⊥
-RefusesHead bytes OutOfMemory = ⊥
-RefusesHead bytes TurnsExhausted = ⊥
-
--- exactly the bytes of a head were taken, and nothing of a body
-abbrev pub TakesHead : Option (List ℕ) → Option (List ℕ) → Message → Type 0
-TakesHead old new m = (bytes : List ℕ) × Consumes old new bytes × IsRequestHead bytes m.head × (m.body ≡ [])
-
 -- so many bytes were taken, and stand at the body's end
 abbrev pub TakesBody : Option (List ℕ) → Option (List ℕ) → Message → Message → ℕ → Type 0
 TakesBody old new before after count =
@@ -65,3 +46,22 @@ CutsBody old new count EndedEarly = (bytes : List ℕ) × Consumes old new bytes
 CutsBody old new count ReadFailed = (bytes : List ℕ) × Consumes old new bytes × (length bytes < count)
 CutsBody old new count TurnsExhausted = (bytes : List ℕ) × Consumes old new bytes × (length bytes < count)
 CutsBody old new count fault = ⊥
+
+module _ (F : Form) where
+  -- what a parse refuses
+  abbrev pub RefusesHead : List ℕ → ReadFault → Type 0
+  RefusesHead bytes Malformed = NeverHas F bytes
+  RefusesHead bytes (HostMissingOrRepeated is_head) = ⊥
+  RefusesHead bytes (LengthMissing is_head) = ⊥
+  RefusesHead bytes (BodyTooLong is_head) = ⊥
+  RefusesHead bytes HeadTooLong = IsHeadAtLimit F bytes ⊎ (Exceeds F field_limit bytes × Overflows F field_limit bytes)
+  RefusesHead bytes (TransferCoding is_head) = ⊥
+  RefusesHead bytes (Expectation is_head) = ⊥
+  RefusesHead bytes EndedEarly = ⊥
+  RefusesHead bytes ReadFailed = ⊥
+  RefusesHead bytes OutOfMemory = ⊥
+  RefusesHead bytes TurnsExhausted = ⊥
+
+  -- exactly the bytes of a head were taken, and nothing of a body
+  abbrev pub TakesHead : Option (List ℕ) → Option (List ℕ) → Message → Type 0
+  TakesHead old new m = (bytes : List ℕ) × Consumes old new bytes × IsHead F bytes m.head × (m.body ≡ [])

@@ -2,9 +2,6 @@
 ghost use Rattle.std.specs.Prelude.{◌≡◌};
 ghost use Rattle.http_text.specs.Counts.{count_up};
 
-/// The greatest number of reads, or of writes and flushes, for one message.
-pub(crate) const TURN_LIMIT: u32 = 100_000;
-
 /// Counts one more, up to the greatest number.
 pub(crate) fn count(number: &mut u64)
     ensures { number.new ≡ count_up number.old 1 }

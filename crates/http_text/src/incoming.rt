@@ -1,11 +1,12 @@
 //! A message that was read: one buffer that lends its parts.
 ghost use Rattle.std.specs.Prelude.{◌≡◌, [], ◌∷◌, ◌++◌, length, vec_len, map, All, IfSome, IfOk, IfErr, OnOk, MatchOption};
-ghost use Rattle.httparse.specs.Grammar.{RequestHead};
-ghost use Rattle.httparse.specs.Spans.{header_bytes, IsHeaderWithin, IsRequestWithin, IsRequestAt};
-ghost use Rattle.http_text.specs.Message.{method_of, target_of, minor_of, values, head_of};
+ghost use Rattle.httparse.specs.Spans.{header_bytes, IsHeaderWithin};
+ghost use Rattle.http_text.specs.Message.{method_of, target_of, code_of, minor_of, values};
+ghost use Rattle.http_text.specs.Parsing.{front_message, AreWithin};
 
 use crate::fault::ReadFault;
-use httparse::spans::{HeaderSpan, RequestSpans, Span};
+use crate::parsing::{HeadSpans, Start};
+use httparse::spans::HeaderSpan;
 use std::alloc::Global;
 use std::marker::Model;
 
@@ -14,8 +15,7 @@ use std::marker::Model;
 pub struct Incoming {
     pub(crate) bytes: Vec<u8>,
     pub(crate) head_length: usize,
-    pub(crate) method: Span,
-    pub(crate) target: Span,
+    pub(crate) start: Start,
     pub(crate) minor: u8,
     pub(crate) fields: Vec<HeaderSpan>,
 }
@@ -53,27 +53,24 @@ impl<'a> Model for FieldValues<'a> {
 }
 
 impl Incoming {
-    /// The message of a whole head, with no body yet.
+    /// The message of the head at the front of these bytes, with no body yet.
     pub(crate) fn from_head(
         alloc: Global,
-        bytes: Vec<u8>,
-        head: RequestSpans,
+        mut bytes: Vec<u8>,
+        head: HeadSpans,
         fields: &[HeaderSpan],
     ) -> Result<Incoming, ReadFault>
-        requires within { IsRequestWithin bytes.items fields.now head }
-        requires whole { head.len ≡ vec_len bytes }
-        ensures message { IfOk result (λ message. (tree : RequestHead)
-            → IsRequestAt bytes.items fields.now head tree
-            → message ≡ record { head = head_of tree; body = [] }) }
+        requires { AreWithin bytes.items fields.now head }
+        ensures message { IfOk result (λ message. message ≡ front_message bytes.items fields.now head) }
         ensures memory { IfErr result (λ fault. fault ≡ ReadFault.OutOfMemory) }
     {
-        match Vec::from_slice(alloc, &fields[..head.headers]) {
+        bytes.truncate(head.len);
+        match Vec::from_slice(alloc, &fields[..head.count]) {
             Ok(fields) => Ok(Incoming {
                 bytes,
                 head_length: head.len,
-                method: head.method,
-                target: head.path,
-                minor: head.version,
+                start: head.start,
+                minor: head.minor,
                 fields,
             }),
             Err(_) => Err(ReadFault::OutOfMemory),
@@ -92,18 +89,34 @@ impl Incoming {
         }
     }
 
-    /// A request's method, letters as they came.
+    /// A request's method, letters as they came. A response has none: it is empty.
     pub fn method(&self) -> &[u8]
         ensures { result.now ≡ method_of self.now.head.start }
     {
-        self.method.of(&self.bytes[..self.head_length])
+        match self.start {
+            Start::RequestLine { method, .. } => method.of(&self.bytes[..self.head_length]),
+            Start::StatusLine { .. } => &[],
+        }
     }
 
-    /// A request's target, escapes as they came.
+    /// A request's target, escapes as they came. A response has none: it is empty.
     pub fn target(&self) -> &[u8]
         ensures { result.now ≡ target_of self.now.head.start }
     {
-        self.target.of(&self.bytes[..self.head_length])
+        match self.start {
+            Start::RequestLine { target, .. } => target.of(&self.bytes[..self.head_length]),
+            Start::StatusLine { .. } => &[],
+        }
+    }
+
+    /// A response's status code. A request has none: it is 0.
+    pub fn status(&self) -> u16
+        ensures { result ≡ code_of self.now.head.start }
+    {
+        match self.start {
+            Start::RequestLine { .. } => 0,
+            Start::StatusLine { code } => code,
+        }
     }
 
     /// The digit after `HTTP/1.`.

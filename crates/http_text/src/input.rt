@@ -1,17 +1,25 @@
-//! A reader that counts its reads.
-ghost use Rattle.std.specs.Prelude.{◌≡◌, ◌<◌, length};
+//! A reader that counts its reads, and reads ahead.
+ghost use Rattle.std.specs.Prelude.{◌≡◌, ◌≤◌, [], length, take, drop, Result};
+ghost use Rattle.std.specs.Io.KnownBytes.{Keeps, Consumes, prepend_known};
 ghost use Rattle.http_text.specs.Counts.{count_up};
-ghost use Rattle.http_text.specs.Streams.{Reads, read_failures};
+ghost use Rattle.http_text.specs.Streams.{Looks, read_turn, read_failures};
 
 use crate::counts::count;
 use std::io::{ErrorKind, Read};
 use std::marker::Model;
 
+/// How many bytes are read ahead at most.
+const AHEAD_LIMIT: usize = 4_096;
+
 /// A reader with the number of its reads and of those that failed. Each number stays at the
-/// greatest `u64`. An interrupted read is no failure.
+/// greatest `u64`. An interrupted read is no failure. It reads ahead into an array of its own, so
+/// that a byte is no call of the reader; what was read ahead and not taken is still left.
 #[derive(Drop)]
 pub struct Input<R: Read> {
     reader: R,
+    buffer: [u8; AHEAD_LIMIT],
+    start: usize,
+    end: usize,
     reads: u64,
     failed_reads: u64,
 }
@@ -26,34 +34,50 @@ pub(crate) enum ReadTurn {
 }
 
 impl<R: Read> Model for Input<R> {
+    ghost use Rattle.std.specs.Prelude.{◌≤◌, slice_range};
+    ghost use Rattle.std.specs.Io.KnownBytes.{prepend_known};
     ghost use Rattle.http_text.specs.Counts.{Reading};
 
     ghost Value = { Reading };
 
     ghost view = { λ s. record {
-      remaining = R.remaining s.reader;
+      remaining = prepend_known (slice_range s.buffer s.start s.end) (R.remaining s.reader);
+      ahead = slice_range s.buffer s.start s.end;
       calls = s.reads;
       failures = s.failed_reads;
     } };
+
+    ghost invariant = { λ s. (s.start ≤ s.end) × (s.end ≤ 4096) };
 }
 
 impl<R: Read> Input<R> {
     /// A reader that has counted nothing yet. Lend it as `&mut` to have it back.
     pub fn new(reader: R) -> Input<R>
-        ensures { result ≡ record { remaining = R.remaining reader; calls = 0; failures = 0 } }
+        ensures { result
+            ≡ record { remaining = R.remaining reader; ahead = []; calls = 0; failures = 0 } }
     {
         Input {
             reader,
+            buffer: [0; AHEAD_LIMIT],
+            start: 0,
+            end: 0,
             reads: 0,
             failed_reads: 0,
         }
     }
 
-    /// The reader, with what it has left.
+    /// The reader, with what it has left behind what was read ahead: take that from `ahead` first.
     pub fn into_inner(self) -> R
-        ensures { R.remaining result ≡ self.remaining }
+        ensures { self.remaining ≡ prepend_known self.ahead (R.remaining result) }
     {
         self.reader
+    }
+
+    /// What was read ahead and nobody has taken yet: the front of what is left.
+    pub fn ahead(&self) -> &[u8]
+        ensures { result.now ≡ self.now.ahead }
+    {
+        &self.buffer[self.start..self.end]
     }
 
     /// How many reads were made.
@@ -70,23 +94,47 @@ impl<R: Read> Input<R> {
         self.failed_reads
     }
 
-    pub(crate) fn read(&mut self, space: &mut [u8]) -> ReadTurn
-        requires { 0 < length space.old }
-        ensures bytes { Reads self.old.remaining self.new.remaining space.new result }
+    /// Takes so many of the bytes that were read ahead.
+    pub(crate) fn take(&mut self, count: usize)
+        requires { count ≤ length self.old.ahead }
+        ensures bytes { Consumes self.old.remaining self.new.remaining (take count self.old.ahead) }
+        ensures ahead { self.new.ahead ≡ drop count self.old.ahead }
+        ensures calls { self.new.calls ≡ self.old.calls }
+        ensures failures { self.new.failures ≡ self.old.failures }
+    {
+        self.start += count;
+    }
+
+    /// Reads ahead, where nothing stands ahead.
+    pub(crate) fn look(&mut self) -> ReadTurn
+        requires { self.old.ahead ≡ [] }
+        ensures kept { Keeps self.old.remaining self.new.remaining }
+        ensures found { Looks self.new result }
         ensures calls { self.new.calls ≡ count_up self.old.calls 1 }
         ensures failures { self.new.failures ≡ count_up self.old.failures (read_failures result) }
     {
         count(&mut self.reads);
-        match self.reader.read(space) {
-            Ok(0) => ReadTurn::End,
-            Ok(length) => ReadTurn::Bytes(length),
-            Err(error) => {
-                if error.kind() == ErrorKind::Interrupted {
-                    return ReadTurn::Interrupted;
-                }
-                count(&mut self.failed_reads);
-                ReadTurn::Failed
-            }
+        self.start = 0;
+        self.end = 0;
+        let outcome = self.reader.read(&mut self.buffer);
+        let turn = turn_of(outcome.map_err(|error| error.kind()));
+        match turn {
+            ReadTurn::Bytes(length) => self.end = length,
+            ReadTurn::Failed => count(&mut self.failed_reads),
+            ReadTurn::End | ReadTurn::Interrupted => {}
         }
+        turn
+    }
+}
+
+/// What a read means: no byte is the end, and an interrupted read is made again.
+fn turn_of(outcome: Result<usize, ErrorKind>) -> ReadTurn
+    ensures { result ≡ read_turn outcome }
+{
+    match outcome {
+        Ok(0) => ReadTurn::End,
+        Ok(length) => ReadTurn::Bytes(length),
+        Err(ErrorKind::Interrupted) => ReadTurn::Interrupted,
+        Err(_) => ReadTurn::Failed,
     }
 }

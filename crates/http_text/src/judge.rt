@@ -1,20 +1,18 @@
-//! Which requests are refused by their heads, and in which order.
+//! Which requests and responses are refused by their heads, and in which order.
 ghost use Rattle.std.specs.Prelude.{◌≡◌, Some, None, if◌then◌else◌, codes};
 ghost use Rattle.std.specs.Str.Parse.{digits_value};
 ghost use Rattle.http_text.specs.Message.{is_length, length_of, minor_of, values};
-ghost use Rattle.http_text.specs.Judging.{readable_length, refused_where, is_head, has_body, is_host_wrong, is_any, length_wanted, judge_head};
+ghost use Rattle.http_text.specs.Judging.{readable_length, refused_where, is_head, has_body, is_host_wrong, is_any, length_wanted, judge_head, response_length, judge_response};
 
 use crate::fault::ReadFault;
 use crate::incoming::Incoming;
-
-/// The greatest length of a body.
-const BODY_LIMIT: u64 = 32_768;
+use crate::limits::{BODY_LIMIT, RESPONSE_BODY_LIMIT};
 
 /// The greatest number of digits that a length is written in.
 const LENGTH_DIGITS: usize = 18;
 
-/// The length of the body that follows a head, or the first refusal.
-pub(crate) fn judge(message: &Incoming) -> Result<u64, ReadFault>
+/// The length of the body that follows a request's head, or the first refusal.
+pub(crate) fn judge_request(message: &Incoming) -> Result<u64, ReadFault>
     ensures { result ≡ judge_head message.now.head }
 {
     let is_head = is_head(message);
@@ -26,6 +24,33 @@ pub(crate) fn judge(message: &Incoming) -> Result<u64, ReadFault>
     refuse_where(has_field(message, "transfer-encoding"), coding_fault)?;
     refuse_where(has_field(message, "expect"), expectation_fault)?;
     length_wanted(has_body(message), is_head, length)
+}
+
+/// The length of the body that follows a response's head, or the first refusal.
+pub(crate) fn judge_response(message: &Incoming) -> Result<u64, ReadFault>
+    ensures { result ≡ judge_response message.now.head }
+{
+    refuse_where(message.status() < 100, ReadFault::Malformed)?;
+    refuse_where(
+        has_field(message, "transfer-encoding"),
+        ReadFault::Malformed,
+    )?;
+    let length = stated_length(message)?;
+    response_length(message.status() == 304, length)
+}
+
+/// The length of a response's body: 304 has none, whatever it states.
+fn response_length(is_bodiless: bool, length: Option<u64>) -> Result<u64, ReadFault>
+    ensures { result ≡ response_length is_bodiless length }
+{
+    match length {
+        _ if is_bodiless => Ok(0),
+        None => Err(ReadFault::Malformed),
+        Some(length) if length > RESPONSE_BODY_LIMIT => {
+            Err(ReadFault::BodyTooLong { is_head: false })
+        }
+        Some(length) => Ok(length),
+    }
 }
 
 fn is_head(message: &Incoming) -> bool

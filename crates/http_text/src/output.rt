@@ -1,8 +1,8 @@
 //! A writer that counts its writes and flushes.
-ghost use Rattle.std.specs.Prelude.{◌≡◌, ◌<◌, length};
+ghost use Rattle.std.specs.Prelude.{◌≡◌, ◌<◌, is_ok, length};
 ghost use Rattle.std.specs.Io.KnownBytes.{Keeps};
 ghost use Rattle.http_text.specs.Counts.{count_up};
-ghost use Rattle.http_text.specs.Streams.{Writes, write_failures, flush_failures};
+ghost use Rattle.http_text.specs.Streams.{Writes, write_turn, write_failures, flush_failures};
 
 use crate::counts::count;
 use std::io::{ErrorKind, Write};
@@ -82,17 +82,12 @@ impl<W: Write> Output<W> {
         ensures flushes { self.new.flushes ≡ self.old.flushes }
     {
         count(&mut self.calls);
-        match self.writer.write(bytes) {
-            Ok(0) => {}
-            Ok(taken) => return WriteTurn::Taken(taken),
-            Err(error) => {
-                if error.kind() == ErrorKind::Interrupted {
-                    return WriteTurn::Interrupted;
-                }
-            }
+        let outcome = self.writer.write(bytes);
+        let turn = turn_of(outcome.map_err(|error| error.kind()));
+        if matches!(turn, WriteTurn::Failed) {
+            count(&mut self.failures);
         }
-        count(&mut self.failures);
-        WriteTurn::Failed
+        turn
     }
 
     /// Whether the flush was done.
@@ -104,10 +99,29 @@ impl<W: Write> Output<W> {
     {
         count(&mut self.calls);
         count(&mut self.flushes);
-        let is_flushed = self.writer.flush().is_ok();
+        let is_flushed = is_flushed(self.writer.flush().map_err(|error| error.kind()));
         if !is_flushed {
             count(&mut self.failures);
         }
         is_flushed
     }
+}
+
+/// What a write means: to take no byte is to fail, and an interrupted write is made again.
+fn turn_of(outcome: Result<usize, ErrorKind>) -> WriteTurn
+    ensures { result ≡ write_turn outcome }
+{
+    match outcome {
+        Ok(0) => WriteTurn::Failed,
+        Ok(count) => WriteTurn::Taken(count),
+        Err(ErrorKind::Interrupted) => WriteTurn::Interrupted,
+        Err(_) => WriteTurn::Failed,
+    }
+}
+
+/// Whether a flush was done. An interrupted one wasn't.
+fn is_flushed(outcome: Result<(), ErrorKind>) -> bool
+    ensures { result ≡ is_ok outcome }
+{
+    outcome.is_ok()
 }

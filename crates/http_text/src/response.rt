@@ -61,7 +61,7 @@ pub fn write_response(
     Ok(text)
 }
 
-fn write_fields(text: &mut Vec<u8>, fields: &[FieldLine<'_>]) -> Result<(), AllocError>
+pub(crate) fn write_fields(text: &mut Vec<u8>, fields: &[FieldLine<'_>]) -> Result<(), AllocError>
     ensures { OnOk result (text.new.items
         ≡ text.old.items ++ flat_map print_field (map field_line (map named_value fields.now))) }
 {

@@ -4,8 +4,8 @@ ghost use Rattle.std.specs.Io.KnownBytes.{Keeps, Appends};
 ghost use Rattle.http_text.specs.Counts.{count_up, CountsTurns};
 ghost use Rattle.http_text.specs.Sending.{IsLost, EndsSending};
 
-use crate::counts::TURN_LIMIT;
 use crate::fault::SendFault;
+use crate::limits::TURN_LIMIT;
 use crate::output::{Output, WriteTurn};
 use std::io::Write;
 

@@ -1,15 +1,29 @@
 -- The image of a row is a content that some reading gives.
-use Rattle.std.proofs.Common.{◌≡◌, ℕ, ◌≤◌, true, List, [], ◌∷◌, Option, Some, None, length, refl, ap, arith}
+use Rattle.std.proofs.Common.{◌≡◌, ℕ, suc, ◌≤◌, true, List, [], ◌∷◌, Option, Some, None, length, refl, ap, subst, arith}
 use Rattle.std.proofs.lemmas.Bool.Decides.{nat_tests}
 use Rattle.std.specs.Option.{SomeIff}
-use Rattle.scim_resource.specs.Contents.{IsContent}
+use Rattle.std.specs.Result.{result_ok}
+use Rattle.scim_key.specs.declared.records.RecordName.{RecordName}
+use Rattle.scim_resource.specs.Contents.{IsContent, content_name}
+use Rattle.scim_resource.specs.Groups.{AreTexts}
+use Rattle.scim_resource.specs.declared.contents.Content.{Content}
 use Rattle.scim_resource.specs.Emails.{IsEmailList, are_few}
 use Rattle.scim_resource.specs.Texts.{IsText, IsTextIf, is_short_text}
 use Rattle.scim_resource.specs.declared.emails.Email.{Email}
 use Rattle.scim_resource.proofs.RoundTrips.{content_read, content_spelled}
-use Rattle.source_csv.specs.Rows.{UserFields, IsUserRow}
-use Rattle.mapping.specs.Images.{present, emails_of, user_image}
-use Rattle.mapping.specs.Laws.{ImagesReadBack}
+use Rattle.source_csv.specs.Records.{row_name, user}
+use Rattle.source_csv.specs.Rows.{GroupFields, IsGroupRow, UserFields, IsUserRow}
+use Rattle.source_csv.specs.declared.groups.TheConstants.{MEMBER_LIMIT}
+use Rattle.source_csv.specs.declared.rows.Row.{Row}
+use Rattle.source_csv.specs.declared.rows.Row.TheVariants.{User, Group}
+use Rattle.group_sync.specs.Laws.{GoesOn, HaveIds}
+use Rattle.group_sync.specs.Ready.{ready}
+use Rattle.group_sync.specs.declared.ids.Ready.{Ready}
+use Rattle.group_sync.specs.declared.ids.Ready.TheVariants.{Ids, Waits}
+use Rattle.group_sync.proofs.ReadyLemmas.{means}
+use Rattle.mapping.specs.Images.{present, emails_of, group_image, image, image_by, user_image}
+use Rattle.mapping.specs.Laws.{AreIds, ImagesReadBack, ImagesStay, ReadsBack}
+use Rattle.mapping.proofs.MemberLemmas.{once_lawful, text_of_id}
 
 -- a field that isn't empty is a text of an attribute
 pub text_of_field : (b : ℕ) (text : List ℕ) → length (b ∷ text) ≤ 256 → IsText (b ∷ text)
@@ -51,8 +65,8 @@ emails_are_lawful (b ∷ mail) short = record {
   few = few_of_one _ refl;
 }
 
-pub image_is_content : (row : UserFields) → IsUserRow row → IsContent (user_image row)
-image_is_content row lawful = record {
+user_lawful : (row : UserFields) → IsUserRow row → IsContent (user_image row)
+user_lawful row lawful = record {
   user_name = lawful.login;
   external_id = present_is_text row.number lawful.number;
   given_name = present_is_text row.given lawful.given;
@@ -61,7 +75,54 @@ image_is_content row lawful = record {
   revision = lawful.revision;
 }
 
+-- ids that are known are texts, one for each member
+all_texts : (id_of : RecordName → Option (List ℕ)) (keys ids : List (List ℕ)) → AreIds id_of → HaveIds id_of keys ids → AreTexts ids
+all_texts id_of keys [] lawful all = tt
+all_texts id_of [] (i ∷ ids) lawful all = absurd (cc all)
+all_texts id_of (k ∷ keys) (i ∷ ids) lawful all = (text_of_id i (lawful (user k) i (cc all)), all_texts id_of keys ids lawful (cc all))
+
+as_many : (id_of : RecordName → Option (List ℕ)) (keys ids : List (List ℕ)) → HaveIds id_of keys ids → length ids ≡ length keys
+as_many id_of [] [] all = refl
+as_many id_of [] (i ∷ ids) all = absurd (cc all)
+as_many id_of (k ∷ keys) [] all = absurd (cc all)
+as_many id_of (k ∷ keys) (i ∷ ids) all = ap suc (as_many id_of keys ids (cc all))
+
+pub few_ids : (id_of : RecordName → Option (List ℕ)) (keys ids : List (List ℕ)) → ready id_of keys ≡ Ids ids → length keys ≤ MEMBER_LIMIT → length ids ≤ MEMBER_LIMIT
+few_ids id_of keys ids is few = rw (as_many id_of keys ids ((means.ids id_of keys ids).0 is)) few
+
+group_lawful : (ids : List (List ℕ)) (row : GroupFields) → IsGroupRow row → length ids ≤ MEMBER_LIMIT → AreTexts ids → IsContent (group_image ids row)
+group_lawful ids row lawful few texts = record {
+  display_name = lawful.name;
+  external_id = tt;
+  members = once_lawful ids few texts;
+  revision = lawful.revision;
+}
+
+-- ---- images of whatever kind
+
+read_back : (row : Row) (content : Content) → content_name content ≡ row_name row → IsContent content → ReadsBack row content
+read_back row content named lawful = record { named = named; lawful = lawful; spells = content_spelled content lawful; again = content_read None None content lawful }
+
+group_read_back : (id_of : RecordName → Option (List ℕ)) (row : GroupFields) (found : Ready) (content : Content) → AreIds id_of → IsGroupRow row → ready id_of row.members ≡ found
+    → result_ok (image_by found row) ≡ Some content → ReadsBack (Group row) content
+group_read_back id_of row (Ids ids) content known lawful is e =
+    let few = few_ids id_of row.members ids is lawful.few in
+    let texts = all_texts id_of row.members ids known ((means.ids id_of row.members ids).0 is) in
+    let same : group_image ids row ≡ content = cc e in
+    subst (λ (c : Content). ReadsBack (Group row) c) same (read_back (Group row) (group_image ids row) refl (group_lawful ids row lawful few texts))
+group_read_back id_of row (Waits place) content known lawful is e = absurd (cc e)
+
 pub images_read_back : ImagesReadBack
-images_read_back row lawful =
-    let is : IsContent (user_image row) = image_is_content row lawful in
-    record { lawful = is; spells = content_spelled (user_image row) is; again = content_read None None (user_image row) is }
+images_read_back id_of (User row) content known lawful e =
+    let same : user_image row ≡ content = cc e in
+    subst (λ (c : Content). ReadsBack (User row) c) same (read_back (User row) (user_image row) refl (user_lawful row lawful))
+images_read_back id_of (Group row) content known lawful e = group_read_back id_of row (ready id_of row.members) content known lawful refl e
+
+group_stays : (id_of later : RecordName → Option (List ℕ)) (row : GroupFields) (found : Ready) (content : Content) → GoesOn id_of later → ready id_of row.members ≡ found
+    → result_ok (image_by found row) ≡ Some content → image later (Group row) ≡ Some content
+group_stays id_of later row (Ids ids) content on is e = rw (means.stays id_of later row.members ids on is) e
+group_stays id_of later row (Waits place) content on is e = absurd (cc e)
+
+pub images_stay : ImagesStay
+images_stay id_of later (User row) content on e = e
+images_stay id_of later (Group row) content on e = group_stays id_of later row (ready id_of row.members) content on refl e

@@ -1,9 +1,20 @@
 -- The image of a row: the content that the provider is to hold.
-use Rattle.std.specs.Prelude.{ℕ, true, List, [], ◌∷◌, Option, Some, None, codes}
+use Rattle.std.specs.Prelude.{ℕ, true, not, List, [], ◌∷◌, Option, Some, None, Result, Ok, Err, codes}
+use Rattle.std.specs.List.{filter}
+use Rattle.std.specs.Result.{result_ok}
+use Rattle.std.specs.Str.{bytes_eq}
+use Rattle.scim_key.specs.declared.records.RecordName.{RecordName}
 use Rattle.scim_resource.specs.declared.contents.Content.{Content}
-use Rattle.scim_resource.specs.declared.contents.Content.TheVariants.{User}
+use Rattle.scim_resource.specs.declared.contents.Content.TheVariants as contents
 use Rattle.scim_resource.specs.declared.emails.Email.{Email}
-use Rattle.source_csv.specs.Rows.{UserFields}
+use Rattle.source_csv.specs.Rows.{GroupFields, UserFields}
+use Rattle.source_csv.specs.declared.rows.Row.{Row}
+use Rattle.source_csv.specs.declared.rows.Row.TheVariants.{User, Group}
+use Rattle.group_sync.specs.Ready.{ready}
+use Rattle.group_sync.specs.declared.ids.Ready.{Ready}
+use Rattle.group_sync.specs.declared.ids.Ready.TheVariants.{Ids, Waits}
+use Rattle.mapping.specs.declared.groups.ImageFault.{ImageFault}
+use Rattle.mapping.specs.declared.groups.ImageFault.TheVariants.{MemberWithoutId}
 
 -- an empty field is none
 abbrev pub present : List ℕ → Option (List ℕ)
@@ -20,7 +31,7 @@ emails_of (b ∷ mail) = work_email (b ∷ mail) ∷ []
 
 -- The image of a row of a user
 abbrev pub user_image : UserFields → Content
-user_image row = User (record {
+user_image row = contents.User (record {
   user_name = row.login;
   external_id = present row.number;
   given_name = present row.given;
@@ -29,3 +40,31 @@ user_image row = User (record {
   active = row.active;
   revision = Some row.revision;
 })
+
+-- an id that repeats is kept once, at its first place
+abbrev pub once : List (List ℕ) → List (List ℕ)
+once [] = []
+once (id ∷ ids) = id ∷ filter (λ other. not (bytes_eq id other)) (once ids)
+
+-- The image of a row of a group whose members have these ids
+abbrev pub group_image : List (List ℕ) → GroupFields → Content
+group_image ids row = contents.Group (record {
+  display_name = row.name;
+  external_id = None;
+  members = once ids;
+  revision = Some row.revision;
+})
+
+-- the image of a row of a group by what is known of its members. M1: one of them has no id
+abbrev pub image_by : Ready → GroupFields → Result Content ImageFault
+image_by (Ids ids) row = Ok (group_image ids row)
+image_by (Waits place) row = Err (MemberWithoutId place)
+
+-- The image of a row, of whatever kind, where records have these ids
+abbrev pub imaged : (id_of : RecordName → Option (List ℕ)) → Row → Result Content ImageFault
+imaged id_of (User row) = Ok (user_image row)
+imaged id_of (Group row) = image_by (ready id_of row.members) row
+
+-- the same, none where a member has no id
+abbrev pub image : (id_of : RecordName → Option (List ℕ)) → Row → Option Content
+image id_of row = result_ok (imaged id_of row)

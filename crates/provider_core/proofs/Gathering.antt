@@ -1,16 +1,23 @@
 -- What is gathered of a search goes with the rows that are looked through.
 use Rattle.std.proofs.Common.{◌≡◌, ℕ, ◌+◌, ◌-◌, ◌^◌, suc, ◌≤◌, min, Bool, true, false, cond, List, [], ◌∷◌, ◌++◌, length, take, drop, refl, sym, ap, subst, ◌∙◌, arith}
-use Rattle.std.specs.Prelude.{Option, ℤ}
+use Rattle.std.specs.Prelude.{Option, Some, None, Ok, ℤ, map}
+use Rattle.std.specs.Option.{option_and_then, option_to_list}
 use Rattle.std.specs.List.{filter}
 use Rattle.std.proofs.Math.Seq.{take-add}
-use Rattle.std.proofs.lemmas.List.{append-nil, append_assoc, length-map, take_all, take_min}
+use Rattle.std.proofs.lemmas.List.{append-nil, append_assoc, length-map, map-append, take_all, take_min}
+use Rattle.std.proofs.lemmas.List.Elements.{filter-append}
 use Rattle.scim_key.specs.declared.records.Kind.{Kind}
+use Rattle.scim_key.specs.declared.records.RecordName.{RecordName}
 use Rattle.scim_resource.specs.Rows.{StoredRecord, shown}
 use Rattle.scim_filter.specs.Expressions.{Expression}
+use Rattle.scim_filter.specs.Names.{single_key}
+use Rattle.provider_core.specs.Rows.{row_named, AreNamedApart}
 use Rattle.provider_core.specs.Searches.{is_hit, found, first_place, page_size, listing}
-use Rattle.provider_core.specs.Gathering.{Gathered, gathered, greatest_total, GoesThrough, listed}
+use Rattle.provider_core.specs.Gathering.{Gathered, gathered, greatest_total, IsPlace, Gathers, GoesThrough, listed}
+use Rattle.provider_core.proofs.IndexLaws.{hits-named}
 use Rattle.scim_message.specs.declared.messages.Answer.TheVariants as answers
-use Rattle.provider_core.specs.Stores.{IsQuiet}
+use Rattle.provider_core.specs.Calls.{Reads}
+use Rattle.provider_core.specs.declared.registry.Registry.{Ghosts}
 
 pub goes-none : (kind : Kind) (wanted : Option Expression) (g : Gathered) → GoesThrough kind wanted [] g g
 goes-none kind wanted g first size before place was = was ∙ ap (λ rows. gathered first size (found kind wanted rows)) (sym (append-nil before))
@@ -34,22 +41,52 @@ found-length kind wanted (row ∷ rows) = kept-length (is_hit kind wanted row) r
 counts-all : (n m : ℕ) → n ≤ m → min n m ≡ n
 counts-all n m few = omega (arith, few)
 
+found-after : (kind : Kind) (wanted : Option Expression) (before rows : List StoredRecord) → found kind wanted (before ++ rows) ≡ found kind wanted before ++ map shown (filter (is_hit kind wanted) rows)
+found-after kind wanted before rows =
+    ap (map shown) (filter-append (is_hit kind wanted) before rows) ∙ map-append shown (filter (is_hit kind wanted) before) (filter (is_hit kind wanted) rows)
+
 -- what is gathered of all rows is the page of the list message, and its count
-pub listed-whole : (kind : Kind) (wanted : Option Expression) (start : ℤ) (count : Option ℤ) (rows looked : List StoredRecord) (first size all : ℕ) (g : Gathered)
-    → first ≡ first_place start → size ≡ page_size count → looked ≡ rows → length rows ≤ all → all ≤ 2 ^ 32 - 1 → g ≡ gathered first size (found kind wanted looked)
-    → listed g ≡ answers.List (listing start count (found kind wanted rows))
-listed-whole kind wanted start count rows looked first size all g place page same few small is =
-    let fits : length (found kind wanted rows) ≤ greatest_total = omega (arith, found-length kind wanted rows, length-map (filter (is_hit kind wanted) rows) shown, few, small) in
-    rw (is, same, place, page, counts-all (length (found kind wanted rows)) greatest_total fits) refl
+pub listed-whole : (kind : Kind) (wanted : Option Expression) (start : ℤ) (count : Option ℤ) (rows : List StoredRecord) (first size : ℕ) (old new : Gathered)
+    → first ≡ first_place start → size ≡ page_size count → IsPlace first → old ≡ gathered first size [] → Gathers kind wanted rows old new
+    → listed new ≡ answers.List (listing start count (found kind wanted rows))
+listed-whole kind wanted start count rows first size old new place page lawful none gathers =
+    let is : new ≡ gathered first size (found kind wanted rows) = gathers.through first size [] lawful none in
+    rw (is, place, page, counts-all (length (found kind wanted rows)) greatest_total gathers.few) refl
+
+-- as many rows as a number of 32 bits counts can be counted
+pub gathers-few : (kind : Kind) (wanted : Option Expression) (rows : List StoredRecord) (old new : Gathered) → length rows ≤ 2 ^ 32 - 1 → GoesThrough kind wanted rows old new → Gathers kind wanted rows old new
+gathers-few kind wanted rows old new few through = record {
+  through = through;
+  few = omega (arith, found-length kind wanted rows, length-map (filter (is_hit kind wanted) rows) shown, few);
+}
+
+-- ---- the row of one record
+
+few-named : (row : Option StoredRecord) → length (option_to_list row) ≤ 1
+few-named None = omega arith
+few-named (Some row) = omega arith
+
+by-name : (kind : Kind) (wanted : Option Expression) (rows looked : List StoredRecord) (old new : Gathered) → length looked ≤ 1
+    → filter (is_hit kind wanted) rows ≡ filter (is_hit kind wanted) looked → GoesThrough kind wanted looked old new → Gathers kind wanted rows old new
+by-name kind wanted rows looked old new few same through = record {
+  through = λ first size before place was.
+      through first size before place was ∙ ap (λ resources. gathered first size resources) (found-after kind wanted before looked ∙ sym (found-after kind wanted before rows ∙ ap (λ hits. found kind wanted before ++ map shown hits) same));
+  few = rw same (omega (arith, length-map (filter (is_hit kind wanted) looked) shown, found-length kind wanted looked));
+}
+
+-- where a filter names one record, looking at its row is looking at all rows
+pub gathers-named : (kind : Kind) (wanted : Option Expression) (name : RecordName) (rows : List StoredRecord) (old new : Gathered)
+    → option_and_then single_key wanted ≡ Some name → AreNamedApart rows → GoesThrough kind wanted (option_to_list (row_named name rows)) old new → Gathers kind wanted rows old new
+gathers-named kind None name rows old new names apart through = absurd (cc)
+gathers-named kind (Some wanted) name rows old new names apart through =
+    by-name kind (Some wanted) rows (option_to_list (row_named name rows)) old new (few-named (row_named name rows)) (hits-named kind wanted name rows names apart) through
 
 -- ---- pages of rows
 
 -- what stands while the rows before `after` have been looked through
-pub record IsGathering {S : Type 0} (is_faithful : S → Type 0) (rows : S → List StoredRecord) (faults writes : S → ℕ) (kind : Kind) (wanted : Option Expression) (all after : ℕ) (old new : S) (g h : Gathered) : Type 0 where
-  pub quiet : IsQuiet is_faithful faults old new
-  pub unwritten : writes new ≡ writes old
-  pub same : is_faithful new → rows new ≡ rows old
-  pub through : is_faithful new → length (rows old) ≤ all → GoesThrough kind wanted (take after (rows old)) g h
+pub record IsGathering {R : Type 0} (g : Ghosts R) (kind : Kind) (wanted : Option Expression) (all after : ℕ) (old new : R) (gathered_old gathered_new : Gathered) : Type 0 where
+  pub reads : Reads g old new (Ok (tt {0}))
+  pub through : g.is_faithful new → length (g.rows old) ≤ all → GoesThrough kind wanted (take after (g.rows old)) gathered_old gathered_new
 
 -- a number past all rows takes them all
 past : (n m : ℕ) (xs : List StoredRecord) → length xs ≤ m → take (min n m) xs ≡ take n xs

@@ -1,4 +1,6 @@
+pub mod CallLaws
 pub mod RowLaws
+pub mod IndexLaws
 pub mod StoryLaws
 pub mod MemoryLaws
 pub mod Gathering

@@ -1,7 +1,7 @@
 -- What the numbers and the index of a registry in memory tell of its rows.
-use Rattle.std.proofs.Common.{◌≡◌, ◌≢◌, ◌==◌, ℕ, zero, suc, ◌+◌, ◌-◌, ◌<◌, ◌≤◌, Bool, true, false, ◌&&◌, List, [], ◌∷◌, ◌++◌, Option, Some, None, length, cond, drop, take, nat_lt, refl, sym, ap, subst, ◌∙◌, arith, rules, tests, length-append, inl, inr, ◌⊎◌}
+use Rattle.std.proofs.Common.{◌≡◌, ◌≢◌, ◌==◌, ℕ, zero, suc, ◌+◌, ◌-◌, ◌<◌, ◌≤◌, Bool, true, false, ◌&&◌, ◌||◌, List, [], ◌∷◌, ◌++◌, Option, Some, None, length, cond, drop, take, nat_lt, refl, sym, ap, subst, ◌∙◌, arith, rules, tests, length-append, inl, inr, ◌⊎◌}
 use Rattle.std.specs.Prelude.{slice_get, slice_set}
-use Rattle.std.specs.List.{find, filter}
+use Rattle.std.specs.List.{find, filter, list_any, IsDistinct}
 use Rattle.std.specs.Option.{option_map, option_or}
 use Rattle.std.specs.Ordering.{is_eq}
 use Rattle.std.specs.Str.{bytes_eq}
@@ -11,6 +11,7 @@ use Rattle.std.proofs.lemmas.Bool.{cases_eq, cases_lt, false_from_ne_true}
 use Rattle.std.proofs.lemmas.List.{drop_all}
 use Rattle.std.proofs.lemmas.Option.{slice_get_within}
 use Rattle.std.proofs.lemmas.List.Folds.{find-append}
+use Rattle.std.proofs.lemmas.Map.Keys.{IsDistinct-push}
 use Rattle.std.proofs.lemmas.Map.Text.{is_eq-slice_cmp}
 use Rattle.std.proofs.lemmas.Slice.Eq.{bytes_eq-Decides}
 use Rattle.scim_key.proofs.IdLemmas.{ids_differ}
@@ -20,9 +21,9 @@ use Rattle.scim_key.specs.declared.records.Kind.TheVariants.{User, Group}
 use Rattle.scim_key.specs.declared.records.RecordName.{RecordName}
 use Rattle.scim_resource.specs.Contents.{content_name}
 use Rattle.scim_resource.specs.Rows.{StoredRecord}
-use Rattle.provider_core.specs.Rows.{same_record, is_named, row_named, row_with_id, is_after, page_after, has_number, row_numbered, with_row, same_kind, IsNumberedFrom}
+use Rattle.provider_core.specs.Rows.{same_record, is_named, row_named, row_with_id, is_after, page_after, has_number, row_numbered, with_row, same_kind, IsNumberedFrom, names_of, AreNamedApart}
 use Rattle.provider_core.specs.Stores.{HoldsNumber}
-use Rattle.provider_core.proofs.RowLaws.{same_record-eq, same_record-sym, numbers_same, find-passes}
+use Rattle.provider_core.proofs.RowLaws.{same_record-eq, same_record-sym, same_record-equivalence, numbers_same, find-passes}
 use Rattle.provider_core.specs.Memory.{name_cmp, IsIndexed}
 
 -- ---- names
@@ -138,6 +139,40 @@ name-none numbers rows name indexed gets = here (row_named name rows) (sym (inde
     here None is = refl
     here (Some row) is = absurd (cc)
 
+-- ---- rows of distinct records
+
+pub apart-none : AreNamedApart []
+unfolding IsDistinct
+apart-none = tt
+
+names-append : (rows : List StoredRecord) (row : StoredRecord) → names_of (rows ++ row ∷ []) ≡ names_of rows ++ content_name row.content ∷ []
+names-append [] row = refl
+names-append (r ∷ rs) row = ap (λ names. content_name r.content ∷ names) (names-append rs row)
+
+free-name : (name : RecordName) (rows : List StoredRecord) → row_named name rows ≡ None → list_any (same_record name) (names_of rows) ≡ false
+free-name name [] free = refl
+free-name name (r ∷ rs) free = here (is_named name r) (free-name name rs) free
+  where
+    here : (b : Bool) → (row_named name rs ≡ None → list_any (same_record name) (names_of rs) ≡ false) → cond b (Some r) (row_named name rs) ≡ None → (b || list_any (same_record name) (names_of rs)) ≡ false
+    here true ih was = absurd (cc)
+    here false ih was = ih was
+
+apart-append : (rows : List StoredRecord) (row : StoredRecord) → AreNamedApart rows → row_named (content_name row.content) rows ≡ None → AreNamedApart (rows ++ row ∷ [])
+apart-append rows row apart free =
+    subst (λ (names : List RecordName). IsDistinct same_record names) (sym (names-append rows row))
+    (IsDistinct-push same_record-equivalence (names_of rows) (content_name row.content) apart (free-name (content_name row.content) rows free))
+
+names-set : (rows : List StoredRecord) (i : ℕ) (held row : StoredRecord) → slice_get rows i ≡ Some held → content_name held.content ≡ content_name row.content → names_of (slice_set rows i row) ≡ names_of rows
+names-set [] i held row there same = refl
+names-set (r ∷ rs) zero held row there same =
+    let e : r ≡ held = cc in
+    ap (λ name. name ∷ names_of rs) (sym same ∙ ap (λ x. content_name x.content) (sym e))
+names-set (r ∷ rs) (suc i) held row there same = ap (λ names. content_name r.content ∷ names) (names-set rs i held row there same)
+
+apart-set : (rows : List StoredRecord) (i : ℕ) (held row : StoredRecord) → AreNamedApart rows → slice_get rows i ≡ Some held → content_name held.content ≡ content_name row.content → AreNamedApart (slice_set rows i row)
+apart-set rows i held row apart there same =
+    subst (λ (names : List RecordName). IsDistinct same_record names) (sym (names-set rows i held row there same)) apart
+
 -- ---- a row joins
 
 numbered-append : (n : ℕ) (rows : List StoredRecord) (row : StoredRecord) → IsNumberedFrom n rows → row.number ≡ n + length rows → IsNumberedFrom n (rows ++ row ∷ [])
@@ -167,6 +202,7 @@ pub indexed-insert : (numbers new : BTreeMap RecordName ℕ) (rows : List Stored
 indexed-insert numbers new rows row indexed next within free updates = record {
   within = omega (arith, length-append rows (row ∷ []));
   numbered = numbered-append 1 rows row indexed.numbered (omega arith);
+  apart = apart-append rows row indexed.apart free;
   found = λ q. updates.0 q ∙ ap (λ b. cond b (Some row.number) (get name_cmp numbers q)) (is_eq-name_cmp (content_name row.content) q) ∙ rw (indexed.found q) (sym (name-append rows row q free));
 }
 
@@ -244,5 +280,6 @@ indexed-update numbers rows row indexed holds =
     record {
       within = rw (length-set rows (row.number - 1) row) indexed.within;
       numbered = numbered-set 1 rows (row.number - 1) holds.held row indexed.numbered at.2 at.0;
+      apart = apart-set rows (row.number - 1) holds.held row indexed.apart at.2 holds.name;
       found = λ q. indexed.found q ∙ sym (name-set (is_named q) rows (row.number - 1) holds.held row at.2 (ap (λ name. same_record q name) (sym holds.name)) at.0);
     }

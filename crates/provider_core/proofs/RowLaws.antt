@@ -1,6 +1,7 @@
 -- How rows are found, and that what a request updates is there.
 use Rattle.std.proofs.Common.{◌≡◌, ℕ, ◌==◌, Bool, true, false, ◌&&◌, List, [], ◌∷◌, Option, Some, None, cond, refl, sym, ap, subst, ◌∙◌, rules, tests}
 use Rattle.std.specs.List.{find}
+use Rattle.std.specs.Cmp.{IsEquivalence}
 use Rattle.std.specs.Str.{bytes_eq}
 use Rattle.std.proofs.lemmas.Bool.{false_from_ne_true}
 use Rattle.std.proofs.lemmas.Bool.Decides.{Decides-eqb}
@@ -38,7 +39,7 @@ name_eq a b kinds keys = ap (λ kind. name_of kind a.key) kinds ∙ ap (λ key. 
 pub same_record-eq : (a b : RecordName) → same_record a b ≡ true → a ≡ b
 same_record-eq a b same = let parts = same_parts a.kind b.kind a.key b.key same in name_eq a b parts.0 parts.1
 
-both_true : (b c : Bool) → (b ≡ true → c ≡ true) → (c ≡ true → b ≡ true) → b ≡ c
+pub both_true : (b c : Bool) → (b ≡ true → c ≡ true) → (c ≡ true → b ≡ true) → b ≡ c
 both_true true true to from = refl
 both_true true false to from = sym (to refl)
 both_true false true to from = from refl
@@ -53,6 +54,19 @@ turned a b same =
 
 pub same_record-sym : (a b : RecordName) → same_record a b ≡ same_record b a
 same_record-sym a b = both_true (same_record a b) (same_record b a) (turned a b) (turned b a)
+
+congruent : (a b c : RecordName) → same_record a b ≡ true → same_record a c ≡ same_record b c
+congruent a b c same = ap (λ name. same_record name c) (same_record-eq a b same)
+
+pub same_record-self : (a : RecordName) → same_record a a ≡ true
+same_record-self a = itself a.kind a.key
+  where
+    itself : (k : Kind) (x : List ℕ) → (same_kind k k && bytes_eq x x) ≡ true
+    itself User x = (bytes_eq-Decides x x).1 refl
+    itself Group x = (bytes_eq-Decides x x).1 refl
+
+pub same_record-equivalence : IsEquivalence same_record
+same_record-equivalence = record { refl = same_record-self; symm = same_record-sym; congr = congruent }
 
 -- ---- rows
 

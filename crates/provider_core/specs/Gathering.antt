@@ -40,6 +40,11 @@ abbrev pub GoesThrough : Kind → Option Expression → List StoredRecord → Ga
 GoesThrough kind wanted rows old new = (first size : ℕ) (before : List StoredRecord)
     → IsPlace first → old ≡ gathered first size (found kind wanted before) → new ≡ gathered first size (found kind wanted (before ++ rows))
 
+-- the rows were all looked through, and what was found can be counted
+pub record Gathers (kind : Kind) (wanted : Option Expression) (rows : List StoredRecord) (old new : Gathered) : Type 0 where
+  pub through : GoesThrough kind wanted rows old new
+  pub few : length (found kind wanted rows) ≤ greatest_total
+
 -- the list message with what is gathered
 abbrev pub listed : Gathered → Answer
 listed g = answers.List (record { total = g.total; start = g.first; resources = g.page })

@@ -4,6 +4,7 @@ pub mod Gathering
 pub mod Outcomes
 pub mod Stories
 pub mod Stores
+pub mod Calls
 pub mod Memory
 pub mod MemoryFaults
 pub mod Tables

@@ -6,7 +6,7 @@ use Rattle.scim_key.specs.Identifiers.{last_number}
 use Rattle.scim_key.specs.declared.records.RecordName.{RecordName}
 use Rattle.scim_key.specs.contracts.records.RecordNameOrd.TheImpl as names
 use Rattle.scim_resource.specs.Rows.{StoredRecord}
-use Rattle.provider_core.specs.Rows.{row_named, IsNumberedFrom}
+use Rattle.provider_core.specs.Rows.{row_named, IsNumberedFrom, AreNamedApart}
 
 -- the rows in order of creation, and how many writes there were
 pub record MemoryRecord : Type 0 where
@@ -17,8 +17,9 @@ pub record MemoryRecord : Type 0 where
 abbrev pub name_cmp : RecordName → RecordName → Ordering
 name_cmp = (names.ghosts).cmp
 
--- The rows are numbered from 1, and the index has for every name the number of its row
+-- The rows are numbered from 1, no two of one record, and the index has for every name the number of its row
 pub record IsIndexed (numbers : BTreeMap RecordName ℕ) (rows : List StoredRecord) : Type 0 where
   pub within : length rows ≤ last_number
   pub numbered : IsNumberedFrom 1 rows
+  pub apart : AreNamedApart rows
   pub found : (name : RecordName) → get name_cmp numbers name ≡ option_map (λ row. row.number) (row_named name rows)

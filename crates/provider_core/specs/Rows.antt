@@ -1,6 +1,6 @@
 -- The rows of a provider, in order of creation, and how one of them is found.
-use Rattle.std.specs.Prelude.{◌≡◌, ℕ, suc, Bool, true, false, ◌&&◌, ◌==◌, List, [], ◌∷◌, Option, Some, None, take, nat_lt, if◌then◌else◌}
-use Rattle.std.specs.List.{find, filter}
+use Rattle.std.specs.Prelude.{◌≡◌, ℕ, suc, Bool, true, false, ◌&&◌, ◌==◌, List, [], ◌∷◌, Option, Some, None, take, map, nat_lt, if◌then◌else◌}
+use Rattle.std.specs.List.{find, filter, IsDistinct}
 use Rattle.std.specs.Str.{bytes_eq}
 use Rattle.scim_key.specs.declared.records.Kind.{Kind}
 use Rattle.scim_key.specs.declared.records.Kind.TheVariants.{User, Group}
@@ -67,3 +67,11 @@ with_row row (r ∷ rs) = if has_number row.number r then row ∷ rs else r ∷ 
 abbrev pub IsNumberedFrom : ℕ → List StoredRecord → Type 0
 IsNumberedFrom number [] = Unit {0}
 IsNumberedFrom number (row ∷ rows) = (row.number ≡ number) × IsNumberedFrom (suc number) rows
+
+-- the records of these rows
+abbrev pub names_of : List StoredRecord → List RecordName
+names_of rows = map (λ row. content_name row.content) rows
+
+-- no two rows are of one record
+abbrev pub AreNamedApart : List StoredRecord → Type 0
+AreNamedApart rows = IsDistinct same_record (names_of rows)

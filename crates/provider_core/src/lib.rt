@@ -7,14 +7,17 @@ mod outcomes;
 mod pending;
 mod provider;
 mod registry;
+mod reopening;
 mod searching;
 
 pub use laws::{
-    answers_show_facts, entries_go_on, memory_never_faults, records_are_found_by_name,
-    requests_write_one_content, rows_follow_stories, stories_only_grow, tables_stay_whole,
+    answers_show_facts, entries_go_on, memory_is_faithful, memory_never_faults,
+    records_are_found_by_name, requests_write_one_content, rows_follow_stories, stories_only_grow,
+    tables_stay_whole,
 };
 pub use memory::MemoryRegistry;
 pub use pending::{Change, Pending};
 pub use provider::{Provider, ProviderFault};
 pub use registry::{Registry, RegistryFault};
+pub use reopening::Reopen;
 pub use scim_message::{Answer, ErrorResponse, ListResponse, Request, Resources};

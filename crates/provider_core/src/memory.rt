@@ -1,5 +1,5 @@
 //! A registry in memory.
-ghost use Rattle.std.specs.Prelude.{◌≡◌, ◌<◌, ◌-◌, [], drop, take, slice_get, IfOk};
+ghost use Rattle.std.specs.Prelude.{◌≡◌, ◌<◌, ◌-◌, [], drop, take, slice_get, refl, IfOk};
 
 use crate::registry::{Registry, RegistryFault};
 use scim_key::{RecordName, ResourceId};
@@ -63,6 +63,10 @@ impl Registry for MemoryRegistry {
 
     ghost is_faithful = { λ _. Unit {0} };
 
+    ghost is_honest = { λ _. Unit {0} };
+
+    ghost may_hold = { λ r found. found ≡ r.rows };
+
     ghost faults = { λ _. 0 };
 
     ghost writes = { λ r. r.writes };
@@ -105,4 +109,10 @@ impl Registry for MemoryRegistry {
         self.writes = self.writes.saturating_add(1);
         Ok(())
     }
+
+    ghost is_so = { λ _ faithful. faithful };
+
+    ghost settled = { λ _ _ _ holds. holds };
+
+    ghost stays = { λ _ _. refl };
 }

@@ -1,17 +1,20 @@
 //! The provider over a registry.
-ghost use Rattle.std.specs.Prelude.{◌≡◌, ◌≤◌, ◌+◌, ◌-◌, ◌^◌, take, drop, length, IfOk, IfErr, OnOk, OnErr};
+ghost use Rattle.std.specs.Prelude.{◌≡◌, take, drop, IfOk, OnOk};
+ghost use Rattle.std.specs.Option.{option_and_then};
+ghost use Rattle.scim_filter.specs.Names.{single_key};
 ghost use Rattle.provider_core.specs.Outcomes.{outcome, changed_rows, IsChange, IsOutcome};
-ghost use Rattle.provider_core.specs.Gathering.{GoesThrough};
+ghost use Rattle.provider_core.specs.Gathering.{Gathers, GoesThrough};
 ghost use Rattle.provider_core.specs.Rows.{resource};
-ghost use Rattle.provider_core.specs.Stores.{IsExcused, IsExcusedProvider, IsQuiet};
+ghost use Rattle.provider_core.specs.Stores.{WritesOnce, CountsFault};
+ghost use Rattle.provider_core.specs.Calls.{Reads, Writes};
 ghost use Rattle.provider_core.specs.declared.provider.ProviderFault.TheVariants as provider_faults;
 
 use crate::outcomes::{insertion, is_of_kind, refusal, replacement, retrieval};
 use crate::pending::{Change, Pending};
 use crate::registry::{Registry, RegistryFault};
-use crate::searching::{Gathered, first_place, page_size};
+use crate::searching::{Gathered, first_place, page_size, single_key};
 use scim_filter::Filter;
-use scim_key::{Kind, ResourceId};
+use scim_key::{Kind, RecordName, ResourceId};
 use scim_message::{Answer, Refusal, Request};
 use scim_resource::{Content, Stored};
 use scim_version::Condition;
@@ -81,10 +84,7 @@ impl<R: Registry> Provider<R> {
     pub fn prepare(&mut self, alloc: Global, request: &Request) -> Result<Pending, ProviderFault>
         ensures ok { R.is_faithful self.new →
             IfOk result (λ pending. pending ≡ outcome (R.rows self.old) request.now) }
-        ensures same { R.is_faithful self.new → R.rows self.new ≡ R.rows self.old }
-        ensures quiet { IsQuiet R.is_faithful R.faults self.old self.new }
-        ensures unwritten { R.writes self.new ≡ R.writes self.old }
-        ensures cause { IfErr result (IsExcusedProvider (R.faults self.old) (R.faults self.new)) }
+        ensures reads { Reads R.Registry self.old self.new result }
     {
         match request {
             Request::Create { content } => self.prepare_create(alloc, content),
@@ -112,10 +112,7 @@ impl<R: Registry> Provider<R> {
     fn prepare_create(&mut self, alloc: Global, content: &Content) -> Result<Pending, ProviderFault>
         ensures ok { R.is_faithful self.new →
             IfOk result (λ pending. pending ≡ outcome (R.rows self.old) (Request.Create content.now)) }
-        ensures same { R.is_faithful self.new → R.rows self.new ≡ R.rows self.old }
-        ensures quiet { IsQuiet R.is_faithful R.faults self.old self.new }
-        ensures unwritten { R.writes self.new ≡ R.writes self.old }
-        ensures cause { IfErr result (IsExcusedProvider (R.faults self.old) (R.faults self.new)) }
+        ensures reads { Reads R.Registry self.old self.new result }
     {
         let name = content.name(alloc)?;
         if self.registry.by_key(&name)?.is_some() {
@@ -132,10 +129,7 @@ impl<R: Registry> Provider<R> {
     fn resource(&mut self, kind: Kind, id: &ResourceId) -> Result<Option<Stored>, ProviderFault>
         ensures ok { R.is_faithful self.new →
             IfOk result (λ row. row ≡ resource kind id.now (R.rows self.old)) }
-        ensures same { R.is_faithful self.new → R.rows self.new ≡ R.rows self.old }
-        ensures quiet { IsQuiet R.is_faithful R.faults self.old self.new }
-        ensures unwritten { R.writes self.new ≡ R.writes self.old }
-        ensures cause { IfErr result (IsExcusedProvider (R.faults self.old) (R.faults self.new)) }
+        ensures reads { Reads R.Registry self.old self.new result }
     {
         match self.registry.by_id(id)? {
             Some(row) if is_of_kind(&row, kind) => Ok(Some(row)),
@@ -155,10 +149,7 @@ impl<R: Registry> Provider<R> {
             IfOk result
             (λ pending. pending
             ≡ outcome (R.rows self.old) (Request.Retrieve kind id.now if_match.now if_none_match.now)) }
-        ensures same { R.is_faithful self.new → R.rows self.new ≡ R.rows self.old }
-        ensures quiet { IsQuiet R.is_faithful R.faults self.old self.new }
-        ensures unwritten { R.writes self.new ≡ R.writes self.old }
-        ensures cause { IfErr result (IsExcusedProvider (R.faults self.old) (R.faults self.new)) }
+        ensures reads { Reads R.Registry self.old self.new result }
     {
         match self.resource(kind, id)? {
             Some(row) => Ok(retrieval(alloc, &row, if_match, if_none_match)?),
@@ -177,33 +168,62 @@ impl<R: Registry> Provider<R> {
         ensures ok { R.is_faithful self.new →
             IfOk result
             (λ pending. pending ≡ outcome (R.rows self.old) (Request.Search kind filter.now start count)) }
-        ensures same { R.is_faithful self.new → R.rows self.new ≡ R.rows self.old }
-        ensures quiet { IsQuiet R.is_faithful R.faults self.old self.new }
-        ensures unwritten { R.writes self.new ≡ R.writes self.old }
-        ensures cause { IfErr result (IsExcusedProvider (R.faults self.old) (R.faults self.new)) }
+        ensures reads { Reads R.Registry self.old self.new result }
     {
         let mut gathered = Gathered::new(alloc, first_place(start), page_size(count));
-        let all = self.registry.count()?;
-        self.gather(kind, filter, all, &mut gathered)?;
+        self.gather(alloc, kind, filter, &mut gathered)?;
         Ok(gathered.into_pending())
     }
 
-    /// Looks through all rows, some at a time.
+    /// Looks for the rows of a type that a filter finds: by the index where it names one record.
     fn gather(
+        &mut self,
+        alloc: Global,
+        kind: Kind,
+        filter: &Option<Filter>,
+        gathered: &mut Gathered,
+    ) -> Result<(), ProviderFault>
+        ensures ok { R.is_faithful self.new →
+            OnOk result (Gathers kind filter.now (R.rows self.old) gathered.old gathered.new) }
+        ensures reads { Reads R.Registry self.old self.new result }
+    {
+        match single_key(alloc, filter)? {
+            Some(name) => self.gather_named(kind, filter, &name, gathered),
+            None => self.gather_all(kind, filter, gathered),
+        }
+    }
+
+    /// Looks at the row of the one record that a filter names.
+    fn gather_named(
         &mut self,
         kind: Kind,
         filter: &Option<Filter>,
-        all: u32,
+        name: &RecordName,
         gathered: &mut Gathered,
     ) -> Result<(), ProviderFault>
-        ensures ok { R.is_faithful self.new → length (R.rows self.old) ≤ all →
-            OnOk result (GoesThrough kind filter.now (R.rows self.old) gathered.old gathered.new) }
-        ensures small { all ≤ 2 ^ 32 - 1 }
-        ensures same { R.is_faithful self.new → R.rows self.new ≡ R.rows self.old }
-        ensures quiet { IsQuiet R.is_faithful R.faults self.old self.new }
-        ensures unwritten { R.writes self.new ≡ R.writes self.old }
-        ensures cause { IfErr result (IsExcusedProvider (R.faults self.old) (R.faults self.new)) }
+        requires { option_and_then single_key filter.now ≡ Some name.now }
+        ensures ok { R.is_faithful self.new →
+            OnOk result (Gathers kind filter.now (R.rows self.old) gathered.old gathered.new) }
+        ensures reads { Reads R.Registry self.old self.new result }
     {
+        match self.registry.by_key(name)? {
+            Some(row) => Ok(gathered.look_at(kind, filter, &row)?),
+            None => Ok(()),
+        }
+    }
+
+    /// Looks through all rows, some at a time.
+    fn gather_all(
+        &mut self,
+        kind: Kind,
+        filter: &Option<Filter>,
+        gathered: &mut Gathered,
+    ) -> Result<(), ProviderFault>
+        ensures ok { R.is_faithful self.new →
+            OnOk result (Gathers kind filter.now (R.rows self.old) gathered.old gathered.new) }
+        ensures reads { Reads R.Registry self.old self.new result }
+    {
+        let all = self.registry.count()?;
         let mut after = 0;
         while after < all {
             self.gather_page(kind, filter, after, gathered)?;
@@ -222,10 +242,7 @@ impl<R: Registry> Provider<R> {
     ) -> Result<(), ProviderFault>
         ensures ok { R.is_faithful self.new →
             OnOk result (GoesThrough kind filter.now (take 200 (drop after (R.rows self.old))) gathered.old gathered.new) }
-        ensures same { R.is_faithful self.new → R.rows self.new ≡ R.rows self.old }
-        ensures quiet { IsQuiet R.is_faithful R.faults self.old self.new }
-        ensures unwritten { R.writes self.new ≡ R.writes self.old }
-        ensures cause { IfErr result (IsExcusedProvider (R.faults self.old) (R.faults self.new)) }
+        ensures reads { Reads R.Registry self.old self.new result }
     {
         let rows = self.registry.scan(after, 200)?;
         gathered.look_through(kind, filter, &rows)?;
@@ -244,10 +261,7 @@ impl<R: Registry> Provider<R> {
             IfOk result
             (λ pending. pending
             ≡ outcome (R.rows self.old) (Request.Replace id.now content.now if_match.now if_none_match.now)) }
-        ensures same { R.is_faithful self.new → R.rows self.new ≡ R.rows self.old }
-        ensures quiet { IsQuiet R.is_faithful R.faults self.old self.new }
-        ensures unwritten { R.writes self.new ≡ R.writes self.old }
-        ensures cause { IfErr result (IsExcusedProvider (R.faults self.old) (R.faults self.new)) }
+        ensures reads { Reads R.Registry self.old self.new result }
     {
         match self.resource(content.kind(), id)? {
             Some(row) => Ok(replacement(alloc, &row, content, if_match, if_none_match)?),
@@ -260,12 +274,10 @@ impl<R: Registry> Provider<R> {
     pub fn commit(&mut self, pending: Pending) -> Result<Answer, ProviderFault>
         requires { R.is_faithful self.old → IsOutcome (R.rows self.old) pending }
         ensures answer { IfOk result (λ answer. answer ≡ pending.answer) }
-        ensures ok { R.is_faithful self.new →
-            OnOk result (R.rows self.new ≡ changed_rows (R.rows self.old) pending.change) }
-        ensures err { R.is_faithful self.new → OnErr result (R.rows self.new ≡ R.rows self.old) }
-        ensures quiet { IsQuiet R.is_faithful R.faults self.old self.new }
-        ensures written { R.writes self.new ≤ R.writes self.old + 1 }
-        ensures cause { IfErr result (IsExcusedProvider (R.faults self.old) (R.faults self.new)) }
+        ensures writes { Writes R.Registry self.old self.new
+            (changed_rows (R.rows self.old) pending.change) result }
+        ensures open { R.is_honest self.new → R.is_faithful self.old →
+            OnOk result (R.is_faithful self.new) }
     {
         self.make(pending.change)?;
         Ok(pending.answer)
@@ -274,12 +286,10 @@ impl<R: Registry> Provider<R> {
     /// Makes a change on the rows that now stand.
     fn make(&mut self, change: Change) -> Result<(), RegistryFault>
         requires { R.is_faithful self.old → IsChange (R.rows self.old) change }
-        ensures ok { R.is_faithful self.new →
-            OnOk result (R.rows self.new ≡ changed_rows (R.rows self.old) change) }
-        ensures err { R.is_faithful self.new → OnErr result (R.rows self.new ≡ R.rows self.old) }
-        ensures quiet { IsQuiet R.is_faithful R.faults self.old self.new }
-        ensures written { R.writes self.new ≤ R.writes self.old + 1 }
-        ensures cause { IfErr result (IsExcused (R.faults self.old) (R.faults self.new)) }
+        ensures writes { WritesOnce R.rows R.is_faithful R.is_honest R.may_hold R.faults R.writes
+            CountsFault self.old self.new (changed_rows (R.rows self.old) change) result }
+        ensures open { R.is_honest self.new → R.is_faithful self.old →
+            OnOk result (R.is_faithful self.new) }
     {
         match change {
             Change::Unchanged => Ok(()),
@@ -292,14 +302,9 @@ impl<R: Registry> Provider<R> {
     pub fn answer(&mut self, alloc: Global, request: &Request) -> Result<Answer, ProviderFault>
         ensures answer { R.is_faithful self.new →
             IfOk result (λ answer. answer ≡ (outcome (R.rows self.old) request.now).answer) }
-        ensures ok { R.is_faithful self.new →
-            OnOk result
-            (R.rows self.new
-            ≡ changed_rows (R.rows self.old) (outcome (R.rows self.old) request.now).change) }
-        ensures err { R.is_faithful self.new → OnErr result (R.rows self.new ≡ R.rows self.old) }
-        ensures quiet { IsQuiet R.is_faithful R.faults self.old self.new }
-        ensures written { R.writes self.new ≤ R.writes self.old + 1 }
-        ensures cause { IfErr result (IsExcusedProvider (R.faults self.old) (R.faults self.new)) }
+        ensures writes { Writes R.Registry self.old self.new
+            (changed_rows (R.rows self.old) (outcome (R.rows self.old) request.now).change) result }
+        ensures open { R.is_honest self.new → OnOk result (R.is_faithful self.new) }
     {
         let pending = self.prepare(alloc, request)?;
         self.commit(pending)

@@ -1,9 +1,9 @@
 //! What a provider asks of the store of its rows.
-ghost use Rattle.std.specs.Prelude.{◌≡◌, ℕ, ◌+◌, ◌≤◌, List, [], ◌∷◌, ◌++◌, length, IfOk, OnOk, OnErr, IfErr, None};
+ghost use Rattle.std.specs.Prelude.{◌≡◌, ℕ, ◌+◌, List, [], ◌∷◌, ◌++◌, length, IfOk, OnOk, None};
 ghost use Rattle.scim_resource.specs.Rows.{StoredRecord};
 ghost use Rattle.scim_resource.specs.Contents.{content_name};
-ghost use Rattle.provider_core.specs.Rows.{row_named, row_with_id, page_after, with_row, IsNumberedFrom};
-ghost use Rattle.provider_core.specs.Stores.{HasRisen, IsExcused, IsQuiet, HoldsNumber};
+ghost use Rattle.provider_core.specs.Rows.{row_named, row_with_id, page_after, with_row, IsNumberedFrom, AreNamedApart};
+ghost use Rattle.provider_core.specs.Stores.{HasRisen, CountsFault, OnlyReads, WritesOnce, HoldsNumber};
 
 use scim_key::{RecordName, ResourceId};
 use scim_resource::Stored;
@@ -39,14 +39,21 @@ impl<T: Drop> From<AllocFailed<T>> for RegistryFault {
     }
 }
 
-/// The rows of a provider, in order of creation, numbered from 1.
+/// The rows of a provider, in order of creation, numbered from 1, no two of one record.
 ///
-/// What is said of the rows holds while the store is faithful, that is while it returns what was
-/// committed; a registry in memory always is. A fault of the store is counted.
+/// What is said of the rows holds while the store is faithful: it returned what was committed, and
+/// is open. A registry in memory always is. A fault of the store is counted, and may shut it.
 pub trait Registry {
     ghost rows: { Self → List StoredRecord };
 
+    /// The store returned what was committed, and is open.
     ghost is_faithful: { Self → Type 0 };
+
+    /// The store returned what was committed.
+    ghost is_honest: { Self → Type 0 };
+
+    /// The rows that may be found where the store is opened again after a stop at this moment.
+    ghost may_hold: { Self → List StoredRecord → Type 0 };
 
     ghost faults: { Self → ℕ };
 
@@ -55,56 +62,47 @@ pub trait Registry {
     /// How many rows there are.
     fn count(&mut self) -> Result<u32, RegistryFault>
         ensures ok { is_faithful self.new → IfOk result (λ n. n ≡ length (rows self.old)) }
-        ensures same { is_faithful self.new → rows self.new ≡ rows self.old }
-        ensures quiet { IsQuiet is_faithful faults self.old self.new }
-        ensures unwritten { writes self.new ≡ writes self.old }
-        ensures cause { IfErr result (IsExcused (faults self.old) (faults self.new)) };
+        ensures reads { OnlyReads rows is_faithful is_honest may_hold faults writes CountsFault self.old self.new result };
 
     /// The row of a record, if there is one.
     fn by_key(&mut self, name: &RecordName) -> Result<Option<Stored>, RegistryFault>
         ensures ok { is_faithful self.new → IfOk result (λ row. row ≡ row_named name.now (rows self.old)) }
-        ensures same { is_faithful self.new → rows self.new ≡ rows self.old }
-        ensures quiet { IsQuiet is_faithful faults self.old self.new }
-        ensures unwritten { writes self.new ≡ writes self.old }
-        ensures cause { IfErr result (IsExcused (faults self.old) (faults self.new)) };
+        ensures apart { is_faithful self.new → AreNamedApart (rows self.old) }
+        ensures reads { OnlyReads rows is_faithful is_honest may_hold faults writes CountsFault self.old self.new result };
 
     /// The row with this id, if there is one.
     fn by_id(&mut self, id: &ResourceId) -> Result<Option<Stored>, RegistryFault>
         ensures ok { is_faithful self.new → IfOk result (λ row. row ≡ row_with_id id.now (rows self.old)) }
-        ensures same { is_faithful self.new → rows self.new ≡ rows self.old }
-        ensures quiet { IsQuiet is_faithful faults self.old self.new }
-        ensures unwritten { writes self.new ≡ writes self.old }
-        ensures cause { IfErr result (IsExcused (faults self.old) (faults self.new)) };
+        ensures reads { OnlyReads rows is_faithful is_honest may_hold faults writes CountsFault self.old self.new result };
 
     /// At most `limit` rows, in order, from the first with a number above `after`.
     fn scan(&mut self, after: u32, limit: usize) -> Result<Vec<Stored>, RegistryFault>
         ensures ok { is_faithful self.new → IfOk result (λ page. page.items ≡ page_after after limit (rows self.old)) }
         ensures numbered { is_faithful self.new → IsNumberedFrom 1 (rows self.old) }
-        ensures same { is_faithful self.new → rows self.new ≡ rows self.old }
-        ensures quiet { IsQuiet is_faithful faults self.old self.new }
-        ensures unwritten { writes self.new ≡ writes self.old }
-        ensures cause { IfErr result (IsExcused (faults self.old) (faults self.new)) };
+        ensures apart { is_faithful self.new → AreNamedApart (rows self.old) }
+        ensures reads { OnlyReads rows is_faithful is_honest may_hold faults writes CountsFault self.old self.new result };
 
     /// Adds a row with the next number and a free name.
     fn insert(&mut self, row: Stored) -> Result<(), RegistryFault>
         requires next { is_faithful self.old → row.number ≡ length (rows self.old) + 1 }
         requires free { is_faithful self.old → row_named (content_name row.content) (rows self.old) ≡ None }
-        ensures ok { is_faithful self.new → OnOk result (rows self.new ≡ rows self.old ++ row ∷ []) }
-        ensures same { is_faithful self.new → OnErr result (rows self.new ≡ rows self.old) }
-        ensures quiet { IsQuiet is_faithful faults self.old self.new }
-        ensures written { writes self.new ≤ writes self.old + 1 }
-        ensures counted { OnOk result (HasRisen (writes self.old) (writes self.new)) }
-        ensures unwritten { OnErr result (writes self.new ≡ writes self.old) }
-        ensures cause { IfErr result (IsExcused (faults self.old) (faults self.new)) };
+        ensures adds { WritesOnce rows is_faithful is_honest may_hold faults writes CountsFault self.old self.new (rows self.old ++ row ∷ []) result }
+        ensures open { is_honest self.new → OnOk result (is_faithful self.new) }
+        ensures counted { OnOk result (HasRisen (writes self.old) (writes self.new)) };
 
     /// Puts a row in the place of the one with its number, which has its name too.
     fn update(&mut self, row: &Stored) -> Result<(), RegistryFault>
         requires there { is_faithful self.old → HoldsNumber (rows self.old) row.now }
-        ensures ok { is_faithful self.new → OnOk result (rows self.new ≡ with_row row.now (rows self.old)) }
-        ensures same { is_faithful self.new → OnErr result (rows self.new ≡ rows self.old) }
-        ensures quiet { IsQuiet is_faithful faults self.old self.new }
-        ensures written { writes self.new ≤ writes self.old + 1 }
-        ensures counted { OnOk result (HasRisen (writes self.old) (writes self.new)) }
-        ensures unwritten { OnErr result (writes self.new ≡ writes self.old) }
-        ensures cause { IfErr result (IsExcused (faults self.old) (faults self.new)) };
+        ensures replaces { WritesOnce rows is_faithful is_honest may_hold faults writes CountsFault self.old self.new (with_row row.now (rows self.old)) result }
+        ensures open { is_honest self.new → OnOk result (is_faithful self.new) }
+        ensures counted { OnOk result (HasRisen (writes self.old) (writes self.new)) };
+
+    /// A faithful store is an honest one.
+    ghost is_so: { (s : Self) → is_faithful s → is_honest s };
+
+    /// After a stop at this moment a faithful store holds its rows.
+    ghost settled: { (s : Self) (found : List StoredRecord) → is_faithful s → may_hold s found → found ≡ rows s };
+
+    /// A stop at this moment may leave a faithful store.
+    ghost stays: { (s : Self) → is_faithful s → may_hold s (rows s) };
 }

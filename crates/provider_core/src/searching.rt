@@ -1,5 +1,7 @@
 //! What a search finds: how many resources, and the page of them that is shown.
-ghost use Rattle.std.specs.Prelude.{◌≡◌, ◌∷◌, ◌++◌, [], OnOk};
+ghost use Rattle.std.specs.Prelude.{◌≡◌, ◌∷◌, ◌++◌, [], IfOk, OnOk};
+ghost use Rattle.std.specs.Option.{option_and_then};
+ghost use Rattle.scim_filter.specs.Names as names;
 ghost use Rattle.scim_resource.specs.Rows.{shown};
 ghost use Rattle.provider_core.specs.Searches as spec;
 ghost use Rattle.provider_core.specs.Gathering.{Adds, GoesThrough, IsPlace, gathered, listed};
@@ -8,7 +10,7 @@ ghost use Rattle.provider_core.specs.Outcomes.{replied};
 use crate::outcomes::is_of_kind;
 use crate::pending::{Change, Pending};
 use scim_filter::Filter;
-use scim_key::Kind;
+use scim_key::{Kind, RecordName};
 use scim_message::{Answer, ListResponse, Resources};
 use scim_resource::{Shown, Stored};
 use std::alloc::{AllocError, Global};
@@ -78,7 +80,8 @@ impl Gathered {
         Ok(())
     }
 
-    fn look_at(
+    /// Looks at one row.
+    pub(crate) fn look_at(
         &mut self,
         kind: Kind,
         filter: &Option<Filter>,
@@ -140,5 +143,18 @@ fn is_wanted(filter: &Option<Filter>, row: &Stored) -> bool
     match filter {
         Some(filter) => filter.matches(row),
         None => true,
+    }
+}
+
+/// The record that a filter names, where it tests one name alone.
+pub(crate) fn single_key(
+    alloc: Global,
+    filter: &Option<Filter>,
+) -> Result<Option<RecordName>, AllocError>
+    ensures { IfOk result (λ name. name ≡ option_and_then names.single_key filter.now) }
+{
+    match filter {
+        Some(filter) => filter.single_key(alloc),
+        None => Ok(None),
     }
 }

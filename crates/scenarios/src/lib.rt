@@ -4,13 +4,7 @@
 #[cfg(test)]
 mod creating;
 #[cfg(test)]
-mod filter_texts;
-#[cfg(test)]
-mod filters;
-#[cfg(test)]
 mod grouping;
-#[cfg(test)]
-mod names;
 #[cfg(test)]
 mod refusing;
 #[cfg(test)]
@@ -20,10 +14,6 @@ mod replacing;
 #[cfg(test)]
 mod searching;
 #[cfg(test)]
-mod sources;
-#[cfg(test)]
 mod streams;
 #[cfg(test)]
 mod support;
-#[cfg(test)]
-mod tags;

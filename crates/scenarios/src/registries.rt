@@ -15,6 +15,10 @@ impl Registry for FullRegistry {
 
     ghost is_faithful = { λ _. ⊥ };
 
+    ghost is_honest = { λ _. ⊥ };
+
+    ghost may_hold = { λ _ _. ⊥ };
+
     ghost faults = { λ _. 0 };
 
     ghost writes = { λ _. 0 };
@@ -42,6 +46,12 @@ impl Registry for FullRegistry {
     fn update(&mut self, _: &Stored) -> Result<(), RegistryFault> {
         Err(RegistryFault::Memory)
     }
+
+    ghost is_so = { λ _ faithful. faithful };
+
+    ghost settled = { λ _ _ faithful _. absurd faithful };
+
+    ghost stays = { λ _ faithful. faithful };
 }
 
 /// Fails at every call, and counts its faults.
@@ -65,6 +75,10 @@ impl Registry for FaultyRegistry {
     ghost rows = { λ _. [] };
 
     ghost is_faithful = { λ _. ⊥ };
+
+    ghost is_honest = { λ _. ⊥ };
+
+    ghost may_hold = { λ _ _. ⊥ };
 
     ghost faults = { λ r. r.faults };
 
@@ -93,4 +107,10 @@ impl Registry for FaultyRegistry {
     fn update(&mut self, _: &Stored) -> Result<(), RegistryFault> {
         self.fails()
     }
+
+    ghost is_so = { λ _ faithful. faithful };
+
+    ghost settled = { λ _ _ faithful _. absurd faithful };
+
+    ghost stays = { λ _ faithful. faithful };
 }

@@ -2,6 +2,7 @@ pub mod Comparisons
 pub mod Consumed
 pub mod Cuts
 pub mod Grammatical
+pub mod Keys
 pub mod Lexical
 pub mod Progress
 pub mod Quotes

@@ -1,82 +1,50 @@
--- Asking the values of an attribute one after the other.
-use Rattle.std.proofs.Common.{◌≡◌, ℕ, ◌+◌, ◌<◌, ◌≤◌, List, [], ◌∷◌, length, drop, get_or, map, Bool, true, false, ◌||◌, Option, Some, None, nat_lt, refl, sym, ◌∙◌, arith}
+-- Asking the values of an attribute, and whether there are any.
+use Rattle.std.proofs.Common.{◌≡◌, ℕ, List, [], ◌∷◌, length, map, Bool, true, false, ◌||◌, Option, Some, None, nat_lt, refl, sym, ap, ◌∙◌, arith}
 use Rattle.std.specs.List.{list_any, filter_map, cons_option}
-use Rattle.std.specs.Option.{option_to_list, is_some}
+use Rattle.std.specs.Option.{option_to_list}
 use Rattle.std.proofs.lemmas.Bool.Decides.{nat_tests}
-use Rattle.std.proofs.lemmas.List.{at_drop_more, at_drop_all}
-use Rattle.scim_filter.specs.Comparing.{folded, compares}
-use Rattle.scim_filter.specs.Matching.{some_compares, same_flag, some_is}
+use Rattle.scim_resource.specs.declared.emails.Email.{Email}
+use Rattle.scim_filter.specs.Comparing.{compares, folded}
+use Rattle.scim_filter.specs.Matching.{some_compares, some_is}
 use Rattle.scim_filter.specs.declared.terms.TextOperator.{TextOperator}
+use Rattle.scim_filter.specs.declared.terms.TextOperator.TheVariants.{StartsWith}
 
 or_false : (b : Bool) → (b || false) ≡ b
 or_false true = refl
 or_false false = refl
 
-or_first : (a b : Bool) → a ≡ true → (a || b) ≡ true
-or_first true b h = refl
-or_first false b h = absurd (cc)
+list_any-mapped : {X Y : Type 0} (p : Y → Bool) (f : X → Y) (xs : List X) → list_any p (map f xs) ≡ list_any (λ x. p (f x)) xs
+list_any-mapped p f [] = refl
+list_any-mapped p f (x ∷ xs) = ap (λ b. p (f x) || b) (list_any-mapped p f xs)
 
-or_second : (a b : Bool) → a ≡ false → (a || b) ≡ b
-or_second true b h = absurd (cc)
-or_second false b h = refl
+any_option : {Y : Type 0} (p : Y → Bool) (o : Option Y) (ys : List Y) → list_any p (cons_option o ys) ≡ (list_any p (option_to_list o) || list_any p ys)
+any_option p None ys = refl
+any_option p (Some y) ys = ap (λ b. b || list_any p ys) (sym (or_false (p y)))
 
-or_again : (a b : Bool) → ((a || false) || b) ≡ (a || b)
-or_again true b = refl
-or_again false b = refl
+list_any-filtered : {X Y : Type 0} (p : Y → Bool) (f : X → Option Y) (xs : List X) → list_any p (filter_map f xs) ≡ list_any (λ x. list_any p (option_to_list (f x))) xs
+list_any-filtered p f [] = refl
+list_any-filtered p f (x ∷ xs) = any_option p (f x) (filter_map f xs) ∙ ap (λ b. list_any p (option_to_list (f x)) || b) (list_any-filtered p f xs)
 
--- an answer that goes over a list, one element after the other
-pub record Asks {X : Type 0} (all : List X → Bool) (one : X → Bool) : Type 0 where
-  pub none : all [] ≡ false
-  pub more : (x : X) (xs : List X) → all (x ∷ xs) ≡ (one x || all xs)
-
-module _ {X : Type 0} (all : List X → Bool) (one : X → Bool) (asks : Asks all one) (xs : List X) (i : ℕ) (d : X) where
-  pub yes_here : i < length xs → one (get_or xs i d) ≡ true → all (drop i xs) ≡ true
-  yes_here h k = at_drop_more all xs i d h ∙ asks.more (get_or xs i d) (drop (i + 1) xs) ∙ or_first _ _ k
-
-  pub no_here : i < length xs → one (get_or xs i d) ≡ false → all (drop i xs) ≡ all (drop (i + 1) xs)
-  no_here h k = at_drop_more all xs i d h ∙ asks.more (get_or xs i d) (drop (i + 1) xs) ∙ or_second _ _ k
-
-module _ {X : Type 0} (all : List X → Bool) (one : X → Bool) (asks : Asks all one) (xs : List X) (i : ℕ) where
-  pub no_more : length xs ≤ i → all (drop i xs) ≡ false
-  no_more h = at_drop_all all xs i h ∙ asks.none
-
-module _ (e : Bool) (o : TextOperator) (g : List ℕ) where
-  asks_more : (v : List ℕ) (vs : List (List ℕ)) → some_compares e o g (v ∷ vs) ≡ (some_compares e o g (v ∷ []) || some_compares e o g vs)
+-- the values of emails, and their types
+module _ (exact : Bool) (operator : TextOperator) (given : List ℕ) where
+  pub emails_asked : (emails : List Email) → list_any (λ e. compares operator (folded exact e.value) (folded exact given)) emails ≡ some_compares exact operator given (map (λ e. e.value) emails)
   unfolding some_compares
-  asks_more v vs = sym (or_again (compares o (folded e v) (folded e g)) (list_any (λ x. compares o (folded e x) (folded e g)) vs))
+  emails_asked emails = sym (list_any-mapped (λ text. compares operator (folded exact text) (folded exact given)) (λ (e : Email). e.value) emails)
 
-  asks_none : some_compares e o g [] ≡ false
+  pub types_asked : (emails : List Email) → list_any (λ e. some_compares exact operator given (option_to_list e.type_text)) emails ≡ some_compares exact operator given (filter_map (λ e. e.type_text) emails)
   unfolding some_compares
-  asks_none = refl
+  types_asked emails = sym (list_any-filtered (λ text. compares operator (folded exact text) (folded exact given)) (λ (e : Email). e.type_text) emails)
 
-  pub asks_texts : Asks (λ vs. some_compares e o g vs) (λ v. some_compares e o g (v ∷ []))
-  asks_texts = record { none = asks_none; more = asks_more }
+-- every text begins with the empty one
+pub some_begins : (exact : Bool) (texts : List (List ℕ)) → some_compares exact StartsWith [] texts ≡ nat_lt 0 (length texts)
+unfolding some_compares
+some_begins exact [] = refl
+some_begins true (text ∷ texts) = grind (arith, nat_tests)
+some_begins false (text ∷ texts) = grind (arith, nat_tests)
 
-  pub asks_mapped : {X : Type 0} (f : X → List ℕ) → Asks (λ (xs : List X). some_compares e o g (map f xs)) (λ x. some_compares e o g (f x ∷ []))
-  asks_mapped f = record { none = asks_none; more = λ x xs. asks_more (f x) (map f xs) }
-
-  asks_option : (v : Option (List ℕ)) (vs : List (List ℕ)) → some_compares e o g (cons_option v vs) ≡ (some_compares e o g (option_to_list v) || some_compares e o g vs)
-  asks_option None vs = rw asks_none refl
-  asks_option (Some v) vs = asks_more v vs
-
-  pub asks_filtered : {X : Type 0} (f : X → Option (List ℕ)) → Asks (λ (xs : List X). some_compares e o g (filter_map f xs)) (λ x. some_compares e o g (option_to_list (f x)))
-  asks_filtered f = record { none = asks_none; more = λ x xs. asks_option (f x) (filter_map f xs) }
-
-module _ (value : Bool) where
-  flag_none : some_is value [] ≡ false
-  unfolding some_is
-  flag_none = refl
-
-  flag_more : (b : Bool) (bs : List Bool) → some_is value (b ∷ bs) ≡ (some_is value (b ∷ []) || some_is value bs)
-  unfolding some_is
-  flag_more b bs = sym (or_again (same_flag value b) (list_any (same_flag value) bs))
-
-  pub asks_flags : {X : Type 0} (f : X → Bool) → Asks (λ (xs : List X). some_is value (map f xs)) (λ x. some_is value (f x ∷ []))
-  asks_flags f = record { none = flag_none; more = λ x xs. flag_more (f x) (map f xs) }
-
-some_option : {X : Type 0} (o : Option X) (xs : List X) → nat_lt 0 (length (cons_option o xs)) ≡ (is_some o || nat_lt 0 (length xs))
-some_option None xs = refl
-some_option (Some x) xs = grind (arith, nat_tests)
-
-pub asks_some : {X Y : Type 0} (f : X → Option Y) → Asks (λ (xs : List X). nat_lt 0 (length (filter_map f xs))) (λ x. is_some (f x))
-asks_some f = record { none = refl; more = λ x xs. some_option (f x) (filter_map f xs) }
+-- every boolean is true or false
+pub some_either : (flags : List Bool) → (some_is true flags || some_is false flags) ≡ nat_lt 0 (length flags)
+unfolding some_is
+some_either [] = refl
+some_either (true ∷ flags) = grind (arith, nat_tests)
+some_either (false ∷ flags) = grind (arith, nat_tests)

@@ -1,5 +1,7 @@
 -- How a text spells a filter.
 use Rattle.std.specs.Prelude.{ℕ, suc, ◌≤◌, List, [], ◌∷◌, ◌++◌, length, Bool, true, false}
+use Rattle.scim_filter.specs.declared.filters.TheConstants.{TEXT_LIMIT}
+use Rattle.scim_filter.specs.declared.reader.TheConstants.{DEPTH_LIMIT}
 use Rattle.scim_filter.specs.Expressions.{Expression, Only, Both, Either, Negated}
 use Rattle.scim_filter.specs.Tokens.{Consists}
 use Rattle.scim_filter.specs.declared.terms.TextAttribute.{TextAttribute}
@@ -18,10 +20,10 @@ use Rattle.scim_filter.specs.declared.tokens.Token.TheVariants.{Gap, Open, Close
 
 -- A text has at most so many bytes, and its parentheses are at most so deep
 abbrev pub text_limit : ℕ
-text_limit = 2048
+text_limit = TEXT_LIMIT
 
 abbrev pub depth_limit : ℕ
-depth_limit = 32
+depth_limit = DEPTH_LIMIT
 
 -- any number of spaces: a gap, or none
 abbrev pub spaces : Bool → List Token

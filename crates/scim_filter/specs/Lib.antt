@@ -2,6 +2,7 @@ pub mod Codes
 pub mod Comparing
 pub mod Expressions
 pub mod Grammar
+pub mod Keys
 pub mod Lexing
 pub mod Machine
 pub mod Matching

@@ -16,7 +16,7 @@ use std::marker::Model;
 use thiserror::Error;
 
 /// How many bytes a filter's text may have.
-const TEXT_LIMIT: usize = 2048;
+pub const TEXT_LIMIT: usize = 2_048;
 
 /// Why a text is no filter.
 #[derive(Clone, Copy, Debug, PartialEq, Eq, Error)]
@@ -81,7 +81,7 @@ impl Filter {
     ghost use Rattle.scim_filter.specs.declared.terms.TextAttribute.TheVariants as tests;
 
     /// Reads a filter (RFC 7644 section 3.4.2.2). `Unsupported` comes where the text spells none:
-    /// also where it is above 2,048 bytes, or its parentheses are more than 32 deep.
+    /// also where it is above `TEXT_LIMIT` bytes, or its parentheses are deeper than `DEPTH_LIMIT`.
     pub fn read(alloc: Global, text: &str) -> Result<Filter, FilterFault>
         ensures found { IfOk result (λ f. Spells text.now f) }
         ensures only { (f : Expression) → Spells text.now f → Gives FilterFault.Memory result (Ok f) }

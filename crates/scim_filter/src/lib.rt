@@ -12,5 +12,6 @@ mod texts;
 mod tokens;
 mod words;
 
-pub use filters::{Filter, FilterFault};
-pub use laws::{one_filter, text_spells};
+pub use filters::{Filter, FilterFault, TEXT_LIMIT};
+pub use laws::{keys_decide, one_filter, text_spells};
+pub use reader::DEPTH_LIMIT;

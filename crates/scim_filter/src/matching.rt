@@ -1,10 +1,11 @@
 //! What a filter means on a row. It takes no memory: an id and a version are written into
 //! buffers of fixed size.
-ghost use Rattle.std.specs.Prelude.{◌≡◌, ◌≤◌, [], ◌∷◌, map, length, nat_lt};
-ghost use Rattle.std.specs.List.{filter_map};
+ghost use Rattle.std.specs.Prelude.{◌≡◌, ◌≤◌, [], ◌∷◌, map};
+ghost use Rattle.std.specs.List.{list_any};
 ghost use Rattle.std.specs.Option.{option_to_list, option_copied};
-ghost use Rattle.scim_key.specs.Identifiers.{id_text, id_bytes, last_number};
+ghost use Rattle.scim_key.specs.Identifiers.{id_text, last_number};
 ghost use Rattle.scim_version.specs.Tags.{version_tag};
+ghost use Rattle.scim_filter.specs.Comparing.{compares, folded};
 ghost use Rattle.scim_filter.specs.Expressions.{expression_of};
 ghost use Rattle.scim_filter.specs.Matching as spec;
 
@@ -13,8 +14,8 @@ use crate::filters::Node;
 use crate::terms::{Attribute, FlagAttribute, FlagOperator, Test, TextAttribute, TextOperator};
 use arrayvec::ArrayString;
 use itoa::Buffer;
+use scim_key::{NUMBERED_ID_LENGTH, ResourceId};
 use scim_resource::{Content, Email, Group, Stored, Text, User};
-use uuid::Uuid;
 
 /// A text that is compared with all values of an attribute.
 #[derive(Clone, Copy)]
@@ -26,11 +27,17 @@ struct Question<'a> {
 
 impl Question<'_> {
     /// Whether a text compares so.
+    fn compares(&self, text: &str) -> bool
+        ensures { result ≡ compares self.now.operator (folded self.now.exact text.now) (folded self.now.exact self.now.given.now) }
+    {
+        compares(self.exact, self.operator, text, self.given)
+    }
+
     #[tactic(auto, unfolding(crate::specs::Matching::some_compares))]
     fn of_one(&self, text: &str) -> bool
         ensures { result ≡ spec.some_compares self.now.exact self.now.operator self.now.given.now (text.now ∷ []) }
     {
-        compares(self.exact, self.operator, text, self.given)
+        self.compares(text)
     }
 
     #[tactic(auto, unfolding(crate::specs::Matching::some_compares))]
@@ -50,48 +57,28 @@ impl Question<'_> {
         }
     }
 
+    #[tactic(auto, unfolding(crate::specs::Matching::some_compares))]
     fn of_texts(&self, texts: &[Text]) -> bool
         ensures { result ≡ spec.some_compares self.now.exact self.now.operator self.now.given.now texts.now }
     {
-        for text in texts {
-            if self.of_one(text.as_str()) {
-                return true;
-            }
-        }
-        false
+        texts.iter().any(|text| self.compares(text.as_str()))
     }
 
     fn of_emails(&self, emails: &[Email]) -> bool
-        ensures { result ≡ spec.some_compares self.now.exact self.now.operator self.now.given.now
-            (map (λ e. e.value) emails.now) }
+        ensures { result ≡ list_any (λ e. compares self.now.operator (folded self.now.exact e.value) (folded self.now.exact self.now.given.now)) emails.now }
     {
-        for email in emails {
-            if self.of_one(email.value.as_str()) {
-                return true;
-            }
-        }
-        false
+        emails
+            .iter()
+            .any(|email| self.compares(email.value.as_str()))
     }
 
     fn of_email_types(&self, emails: &[Email]) -> bool
-        ensures { result ≡ spec.some_compares self.now.exact self.now.operator self.now.given.now
-            (filter_map (λ e. e.type_text) emails.now) }
+        ensures { result ≡ list_any (λ e. spec.some_compares self.now.exact self.now.operator self.now.given.now (option_to_list e.type_text)) emails.now }
     {
-        for email in emails {
-            if self.of_option(email.type_text.as_ref()) {
-                return true;
-            }
-        }
-        false
+        emails
+            .iter()
+            .any(|email| self.of_option(email.type_text.as_ref()))
     }
-}
-
-/// The UUID of the n-th resource.
-fn uuid_of(number: u32) -> Uuid
-    ensures { result ≡ id_bytes number }
-{
-    let [a, b, c, d] = number.to_be_bytes();
-    Uuid::from_bytes([0x5c, 0x1a, 0, 0, 0, 0, 0x80, 0, 0x80, 0, 0, 0, a, b, c, d])
 }
 
 /// Whether the id of the n-th resource compares so.
@@ -100,9 +87,8 @@ fn asks_id(question: &Question, number: u32) -> bool
     ensures { result ≡ spec.some_compares question.now.exact question.now.operator question.now.given.now
         (id_text number ∷ []) }
 {
-    let mut buffer = Uuid::encode_buffer();
-    let spelled = uuid_of(number).hyphenated().encode_lower(&mut buffer);
-    question.of_one(spelled)
+    let mut buffer = [0; NUMBERED_ID_LENGTH];
+    question.of_one(ResourceId::spell(number, &mut buffer))
 }
 
 /// Whether the entity tag of a version compares so.
@@ -208,15 +194,14 @@ fn is_flag(value: bool, flag: bool) -> bool
     value == flag
 }
 
+#[tactic(auto, unfolding(crate::specs::Matching::some_is))]
 fn is_some_primary(value: bool, emails: &[Email]) -> bool
     ensures { result ≡ spec.some_is value (map (λ e. e.primary) emails.now) }
 {
-    for email in emails {
-        if is_flag(value, email.primary) {
-            return true;
-        }
-    }
-    false
+    emails
+        .iter()
+        .map(|email| email.primary)
+        .any(|primary| value == primary)
 }
 
 #[tactic(auto, unfolding(crate::specs::Matching::some_is))]
@@ -240,76 +225,16 @@ fn flag_holds(attribute: FlagAttribute, operator: FlagOperator, value: bool, row
     }
 }
 
-fn has_user_text(attribute: TextAttribute, user: &User) -> bool
-    ensures { result ≡ nat_lt 0 (length (spec.user_texts attribute user.now)) }
-{
-    match attribute {
-        TextAttribute::UserName => true,
-        TextAttribute::GivenName => user.given_name().is_some(),
-        TextAttribute::FamilyName => user.family_name().is_some(),
-        TextAttribute::EmailValue => !user.emails().is_empty(),
-        TextAttribute::EmailType => has_email_type(user.emails()),
-        TextAttribute::ExternalId => user.external_id().is_some(),
-        _ => false,
-    }
-}
-
-fn has_email_type(emails: &[Email]) -> bool
-    ensures { result ≡ nat_lt 0 (length (filter_map (λ e. e.type_text) emails.now)) }
-{
-    for email in emails {
-        if email.type_text.is_some() {
-            return true;
-        }
-    }
-    false
-}
-
-fn has_group_text(attribute: TextAttribute, group: &Group) -> bool
-    ensures { result ≡ nat_lt 0 (length (spec.group_texts attribute group.now)) }
-{
-    match attribute {
-        TextAttribute::DisplayName => true,
-        TextAttribute::Member => !group.members().is_empty(),
-        TextAttribute::ExternalId => group.external_id().is_some(),
-        _ => false,
-    }
-}
-
-fn has_content_text(attribute: TextAttribute, content: &Content) -> bool
-    ensures { result ≡ nat_lt 0 (length (spec.content_texts attribute content.now)) }
-{
-    match content {
-        Content::User(user) => has_user_text(attribute, user),
-        Content::Group(group) => has_group_text(attribute, group),
-    }
-}
-
-fn has_text(attribute: TextAttribute, row: &Stored) -> bool
-    ensures { result ≡ nat_lt 0 (length (spec.texts_of attribute row.now)) }
-{
-    match attribute {
-        TextAttribute::Id | TextAttribute::Version => true,
-        _ => has_content_text(attribute, row.content()),
-    }
-}
-
-fn has_flag(attribute: FlagAttribute, content: &Content) -> bool
-    ensures { result ≡ nat_lt 0 (length (spec.content_flags attribute content.now)) }
-{
-    match (attribute, content) {
-        (FlagAttribute::Active, Content::User(_)) => true,
-        (FlagAttribute::EmailPrimary, Content::User(user)) => !user.emails().is_empty(),
-        _ => false,
-    }
-}
-
+/// Whether there is a value: each text begins with the empty one, and each boolean is true or
+/// false.
 fn is_present(attribute: Attribute, row: &Stored) -> bool
     ensures { result ≡ spec.is_present attribute row.now }
 {
     match attribute {
-        Attribute::OfText(attribute) => has_text(attribute, row),
-        Attribute::OfFlag(attribute) => has_flag(attribute, row.content()),
+        Attribute::OfText(attribute) => some_compares(attribute, TextOperator::StartsWith, "", row),
+        Attribute::OfFlag(attribute) => {
+            some_is(attribute, true, row.content()) || some_is(attribute, false, row.content())
+        }
     }
 }
 

@@ -10,8 +10,8 @@ use crate::tokens::Token;
 use crate::words::Word;
 use std::alloc::{AllocError, Global};
 
-/// How deep parentheses may go.
-const DEPTH_LIMIT: usize = 32;
+/// How deep the parentheses of a filter may go.
+pub const DEPTH_LIMIT: usize = 32;
 
 /// What stands right before the next token. The booleans say, before an item or a parenthesis,
 /// whether a gap may come, and after an item whether one came.

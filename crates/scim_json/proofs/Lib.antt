@@ -1,3 +1,5 @@
+pub mod Lists
 pub mod Parts
 pub mod RepeatedNames
 pub mod Texts
+pub mod Utf8Texts

@@ -1,4 +1,5 @@
 pub mod Attributes
 pub mod Plain
+pub mod Parsing
 pub mod Values
 pub mod Writing

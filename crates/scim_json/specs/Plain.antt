@@ -1,5 +1,6 @@
 -- The data that this workspace writes: whole numbers from 0, and objects with their names in byte order.
 use Rattle.std.specs.Prelude.{◌≡◌, ℕ, ◌^◌, ◌<◌, List, ⊤}
+use Rattle.std.specs.Str.{IsUtf8}
 use Rattle.std.specs.Cmp.Lexicographic.{slice_cmp}
 use Rattle.std.specs.Ordering.{nat_cmp}
 use Rattle.std.specs.declared.cmp.Ordering.TheVariants.{Less}
@@ -31,3 +32,21 @@ abbrev mutual
   pub MembersArePlain : Members → Type 0
   MembersArePlain no_members = ⊤
   MembersArePlain (member k d ms) = IsBelow k ms × IsPlain d × MembersArePlain ms
+
+-- the texts and the names of the data are UTF-8
+abbrev mutual
+  pub HasUtf8 : Data → Type 0
+  HasUtf8 null = ⊤
+  HasUtf8 (boolean b) = ⊤
+  HasUtf8 (number n) = ⊤
+  HasUtf8 (string s) = IsUtf8 s
+  HasUtf8 (array ds) = ItemsHaveUtf8 ds
+  HasUtf8 (object ms) = MembersHaveUtf8 ms
+
+  pub ItemsHaveUtf8 : Items → Type 0
+  ItemsHaveUtf8 no_items = ⊤
+  ItemsHaveUtf8 (item d ds) = HasUtf8 d × ItemsHaveUtf8 ds
+
+  pub MembersHaveUtf8 : Members → Type 0
+  MembersHaveUtf8 no_members = ⊤
+  MembersHaveUtf8 (member k d ms) = IsUtf8 k × HasUtf8 d × MembersHaveUtf8 ms

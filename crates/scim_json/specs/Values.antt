@@ -1,18 +1,9 @@
 -- What an attribute's value must be. An absent value is no fault.
-use Rattle.std.specs.Prelude.{ℕ, List, length, Bool, Option, None, Some, Result, Ok, Err, nat_le, if◌then◌else◌}
-use Rattle.serde_json.specs.Data.{unsigned, negative, float, Data, null, boolean, number, string, array, object, Items, no_items, Members}
+use Rattle.std.specs.Prelude.{ℕ, List, Bool, false, ◌||◌, Option, None, Some, Result, Ok, Err}
+use Rattle.serde_json.specs.Data.{unsigned, negative, float, Data, null, boolean, number, string, array, object, Items, no_items, item, Members}
+use Rattle.scim_json.specs.Attributes.{same_name}
 use Rattle.scim_json.specs.declared.values.ValueFault.{ValueFault}
-use Rattle.scim_json.specs.declared.values.ValueFault.TheVariants.{WrongType, TooLong}
-
--- a text of at most `limit` bytes
-abbrev pub text_within : ℕ → Option Data → Result (Option (List ℕ)) ValueFault
-text_within limit None = Ok None
-text_within limit (Some null) = Err WrongType
-text_within limit (Some (boolean b)) = Err WrongType
-text_within limit (Some (number n)) = Err WrongType
-text_within limit (Some (string s)) = if nat_le (length s) limit then Ok (Some s) else Err TooLong
-text_within limit (Some (array ds)) = Err WrongType
-text_within limit (Some (object ms)) = Err WrongType
+use Rattle.scim_json.specs.declared.values.ValueFault.TheVariants.{WrongType}
 
 -- a boolean, or `absent` where there is none
 abbrev pub flag_or : Bool → Option Data → Result Bool ValueFault
@@ -54,3 +45,36 @@ members_in (Some (number n)) = Err WrongType
 members_in (Some (string s)) = Err WrongType
 members_in (Some (array ds)) = Err WrongType
 members_in (Some (object ms)) = Ok (Some ms)
+
+-- the value is this text, in any case
+abbrev pub is_text : List ℕ → Data → Bool
+is_text text null = false
+is_text text (boolean b) = false
+is_text text (number n) = false
+is_text text (string s) = same_name s text
+is_text text (array ds) = false
+is_text text (object ms) = false
+
+unfoldable pub some_text : List ℕ → Items → Bool
+some_text text no_items = false
+some_text text (item d ds) = is_text text d || some_text text ds
+
+-- a list with this text, in any case
+abbrev pub lists_text : List ℕ → Option Data → Bool
+lists_text text None = false
+lists_text text (Some null) = false
+lists_text text (Some (boolean b)) = false
+lists_text text (Some (number n)) = false
+lists_text text (Some (string s)) = false
+lists_text text (Some (array ds)) = some_text text ds
+lists_text text (Some (object ms)) = false
+
+-- the text that a value is, if it is one
+abbrev pub text_of : Option Data → Option (List ℕ)
+text_of None = None
+text_of (Some null) = None
+text_of (Some (boolean b)) = None
+text_of (Some (number n)) = None
+text_of (Some (string s)) = Some s
+text_of (Some (array ds)) = None
+text_of (Some (object ms)) = None

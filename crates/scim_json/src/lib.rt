@@ -4,10 +4,12 @@
 
 mod attributes;
 mod laws;
+mod parsing;
 mod values;
 mod writing;
 
 pub use attributes::{attribute, list_repeats, repeats, same_name, value_repeats};
 pub use laws::plain_text_reads_back;
-pub use values::{ValueFault, flag_or, items_in, members_in, text_within, whole_in};
+pub use parsing::{JsonFault, json_of};
+pub use values::{ValueFault, flag_or, items_in, lists_text, members_in, text_of, whole_in};
 pub use writing::{compact, put_if};

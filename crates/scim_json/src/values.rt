@@ -1,9 +1,10 @@
 //! What an attribute's value must be. An absent value is no fault.
-ghost use Rattle.std.specs.Prelude.{◌≡◌, ◌≤◌, option_map};
+ghost use Rattle.std.specs.Prelude.{◌≡◌, option_map};
 ghost use Rattle.std.specs.Result.{result_map_both};
 ghost use Rattle.serde_json.specs.View.{view, items_view, members_view};
 ghost use Rattle.scim_json.specs.Values as spec;
 
+use crate::attributes::same_name;
 use serde_json::{Map, Value};
 use thiserror::Error;
 
@@ -12,27 +13,6 @@ use thiserror::Error;
 pub enum ValueFault {
     #[error("the value has another type")]
     WrongType,
-    #[error("the text is too long")]
-    TooLong,
-}
-
-/// A text of at most `limit` bytes.
-pub fn text_within(value: Option<&Value>, limit: usize) -> Result<Option<&str>, ValueFault>
-    ensures { result_map_both (option_map (λ s. s.now)) (λ e. e) result
-        ≡ spec.text_within limit (option_map (λ v. view v.now) value.entry) }
-{
-    match value {
-        None => Ok(None),
-        Some(Value::String(text)) => {
-            let text = text.as_str();
-            if text.len() <= limit {
-                Ok(Some(text))
-            } else {
-                Err(ValueFault::TooLong)
-            }
-        }
-        Some(_) => Err(ValueFault::WrongType),
-    }
 }
 
 /// A boolean, or `absent` where there is none.
@@ -80,5 +60,41 @@ pub fn members_in(value: Option<&Value>) -> Result<Option<&Map<String, Value>>, 
         None => Ok(None),
         Some(Value::Object(members)) => Ok(Some(members)),
         Some(_) => Err(ValueFault::WrongType),
+    }
+}
+
+/// Whether the value is a list with this text, in any case.
+pub fn lists_text(value: Option<&Value>, text: &str) -> bool
+    ensures { result ≡ spec.lists_text text.now (option_map (λ v. view v.now) value.entry) }
+{
+    match value {
+        Some(Value::Array(items)) => some_text(items.as_slice(), text),
+        _ => false,
+    }
+}
+
+fn some_text(items: &[Value], text: &str) -> bool
+    ensures { result ≡ spec.some_text text.now (items_view items.now) }
+{
+    items.iter().any(|item| is_text(item, text))
+}
+
+/// Whether the value is this text, in any case.
+fn is_text(value: &Value, text: &str) -> bool
+    ensures { result ≡ spec.is_text text.now (view value.now) }
+{
+    match value {
+        Value::String(found) => same_name(found.as_str(), text),
+        _ => false,
+    }
+}
+
+/// The text that the value is, if it is one.
+pub fn text_of(value: Option<&Value>) -> Option<&str>
+    ensures { option_map (λ s. s.now) result ≡ spec.text_of (option_map (λ v. view v.now) value.entry) }
+{
+    match value {
+        Some(Value::String(text)) => Some(text.as_str()),
+        _ => None,
     }
 }

@@ -1,5 +1,6 @@
 //! Objects with optional members, and their compact text.
 ghost use Rattle.std.specs.Prelude.{◌≡◌, false, IfOk, OnOk, OnErr, option_map};
+ghost use Rattle.std.specs.Str.{IsUtf8};
 ghost use Rattle.serde_json.specs.View.{view, members_view};
 ghost use Rattle.serde_json.specs.Written.{has_float, compact_text};
 ghost use Rattle.scim_json.specs.Writing as spec;
@@ -24,10 +25,11 @@ pub fn put_if(
     }
 }
 
-/// The value's text with no space in it.
+/// The value's text with no space in it, in UTF-8.
 pub fn compact(alloc: Global, value: &Value) -> Result<Vec<u8>, AllocError>
     requires { has_float (view value.now) ≡ false }
-    ensures { IfOk result (λ text. text.items ≡ compact_text (view value.now)) }
+    ensures text { IfOk result (λ text. text.items ≡ compact_text (view value.now)) }
+    ensures utf8 { IfOk result (λ text. IsUtf8 text.items) }
 {
     value.to_vec(alloc)
 }

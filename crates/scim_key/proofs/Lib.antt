@@ -1,4 +1,5 @@
 pub mod KeyLemmas
+pub mod RecordLaws
 pub mod IdLemmas
 pub mod BaseLemmas
 pub mod RevisionLaws

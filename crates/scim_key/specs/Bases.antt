@@ -1,11 +1,9 @@
 -- The base of a service: the text that stands before every path.
-use Rattle.std.specs.Prelude.{◌≡◌, ℕ, List, ◌++◌, Bool, Option, Some, None, ◌==◌, ◌&&◌, ◌||◌, ◌-◌, length, take, drop, nat_lt, nat_le, if◌then◌else◌, codes, nat_eq}
+use Rattle.std.specs.Prelude.{◌≡◌, ◌↔◌, ◌≤◌, ℕ, List, ◌++◌, Bool, Option, Some, None, ◌==◌, ◌&&◌, ◌||◌, ◌-◌, length, take, drop, nat_lt, nat_le, if◌then◌else◌, codes, nat_eq, IsTrue}
 use Rattle.std.specs.List.{list_all, starts_with}
+use Rattle.scim_key.specs.declared.bases.TheConstants.{AUTHORITY_LIMIT, BASE_LIMIT}
 use Rattle.scim_key.specs.declared.names.NameFault.{NameFault}
 use Rattle.scim_key.specs.declared.names.NameFault.TheVariants.{Empty, TooLong, Character}
-
-abbrev pub base_limit : ℕ
-base_limit = 110
 
 -- an ASCII letter or digit, or one of `.-:[]`
 abbrev pub is_authority_byte : ℕ → Bool
@@ -30,9 +28,20 @@ is_base bs = nat_lt 10 (length bs) && starts_with nat_eq bs (codes "http://")
 unfoldable pub base_fault : List ℕ → Option NameFault
 base_fault bs =
     if length bs == 0 then Some Empty
-    else if nat_lt base_limit (length bs) then Some TooLong
+    else if nat_lt BASE_LIMIT (length bs) then Some TooLong
     else if is_base bs then None
     else Some Character
 
 abbrev pub IsBase : List ℕ → Type 0
 IsBase bs = base_fault bs ≡ None
+
+-- 1 to 100 authority bytes
+pub record IsAuthority (authority : List ℕ) : Type 0 where
+  pub some : 1 ≤ length authority
+  pub short : length authority ≤ AUTHORITY_LIMIT
+  pub bytes : IsTrue (list_all is_authority_byte authority)
+
+-- The lawful bases are those that an authority spells, and each authority is read back
+pub record BasesAreSpelled : Type 0 where
+  pub lawful : (bs : List ℕ) → IsBase bs ↔ ((authority : List ℕ) × IsAuthority authority × (bs ≡ base_text authority))
+  pub read_back : (authority : List ℕ) → authority_of (base_text authority) ≡ authority

@@ -1,23 +1,20 @@
 -- The ids of resources.
 use Rattle.std.specs.Prelude.{◌≡◌, ℕ, zero, suc, List, [], ◌∷◌, ◌++◌, Option, Some, None, ◌==◌, ◌+◌, ◌/◌, ◌%◌, ◌≤◌, length, nat_lt, if◌then◌else◌, codes}
 use Rattle.std.specs.Int.{w32, to_be_bytes}
+use Rattle.scim_key.specs.declared.identifiers.TheConstants.{ID_LIMIT, LAST_NUMBER}
 use Rattle.scim_key.specs.declared.names.NameFault.{NameFault}
 use Rattle.scim_key.specs.declared.names.NameFault.TheVariants.{Empty, TooLong}
 
--- how many bytes an id may have
-abbrev pub id_limit : ℕ
-id_limit = 256
-
 -- The first thing that is wrong with a text as an id
 unfoldable pub id_fault : List ℕ → Option NameFault
-id_fault bs = if length bs == 0 then Some Empty else if nat_lt id_limit (length bs) then Some TooLong else None
+id_fault bs = if length bs == 0 then Some Empty else if nat_lt ID_LIMIT (length bs) then Some TooLong else None
 
 abbrev pub IsId : List ℕ → Type 0
 IsId bs = id_fault bs ≡ None
 
 -- how many resources a provider holds at most, so the greatest number that an id is made of
 abbrev pub last_number : ℕ
-last_number = 1_000_000
+last_number = LAST_NUMBER
 
 -- one lower-case hexadecimal digit
 abbrev pub hex_digit : ℕ → ℕ

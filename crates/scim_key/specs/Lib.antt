@@ -1,5 +1,7 @@
 pub mod Outcome
 pub mod Names
+pub mod Records
+pub mod RecordOrder
 pub mod Identifiers
 pub mod Bases
 pub mod Revisions

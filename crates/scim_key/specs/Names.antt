@@ -2,16 +2,13 @@
 use Rattle.std.specs.Prelude.{◌≡◌, ℕ, Bool, List, Option, Some, None, ◌==◌, ◌&&◌, ◌||◌, not, length, nat_lt, nat_le, if◌then◌else◌, slice_index, ◌-◌}
 use Rattle.std.specs.List.{list_all}
 use Rattle.std.specs.Str.{str_to_ascii_lowercase}
+use Rattle.scim_key.specs.declared.names.TheConstants.{NAME_LIMIT}
 use Rattle.scim_key.specs.declared.names.NameFault.{NameFault}
 use Rattle.scim_key.specs.declared.names.NameFault.TheVariants.{Empty, TooLong, Character, SpaceAtEnd}
 
 -- the key of a name is its text with ASCII letters lowered
 abbrev pub key_of : List ℕ → List ℕ
 key_of name = str_to_ascii_lowercase name
-
--- how many bytes a name may have
-abbrev pub name_limit : ℕ
-name_limit = 128
 
 -- a byte from 0x21 to 0x7E that is neither a double quote nor a backslash
 abbrev pub is_user_name_byte : ℕ → Bool
@@ -29,7 +26,7 @@ has_space_at_end bs = (slice_index bs 0 == 32) || (slice_index bs (length bs - 1
 unfoldable pub user_name_fault : List ℕ → Option NameFault
 user_name_fault bs =
     if length bs == 0 then Some Empty
-    else if nat_lt name_limit (length bs) then Some TooLong
+    else if nat_lt NAME_LIMIT (length bs) then Some TooLong
     else if not (list_all is_user_name_byte bs) then Some Character
     else None
 
@@ -37,7 +34,7 @@ user_name_fault bs =
 unfoldable pub group_name_fault : List ℕ → Option NameFault
 group_name_fault bs =
     if length bs == 0 then Some Empty
-    else if nat_lt name_limit (length bs) then Some TooLong
+    else if nat_lt NAME_LIMIT (length bs) then Some TooLong
     else if not (list_all is_group_name_byte bs) then Some Character
     else if has_space_at_end bs then Some SpaceAtEnd
     else None

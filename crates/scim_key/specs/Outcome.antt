@@ -11,10 +11,10 @@ abbrev pub GivesBy : {X Y F : Type 0} → (X → Y) → F → Result X F → Res
 GivesBy view memory (Ok x) answer = answer ≡ Ok (view x)
 GivesBy view memory (Err e) answer = (e ≡ memory) ⊎ (answer ≡ Err e)
 
--- a text was taken as it stands where nothing was wrong with it, else its fault came, or want of memory
+-- a text was taken as it stands, or its fault came; memory may be wanting for a lawful text alone
 abbrev pub Takes : {F : Type 0} → F → Option F → List ℕ → Result (List ℕ) F → Type 0
 Takes memory fault text (Ok x) = (fault ≡ None) × (x ≡ text)
-Takes memory fault text (Err e) = (e ≡ memory) ⊎ (fault ≡ Some e)
+Takes memory fault text (Err e) = ((fault ≡ None) × (e ≡ memory)) ⊎ (fault ≡ Some e)
 
 -- one step after the other, up to the first that fails
 infixl 10 ◌>>=◌

@@ -2,13 +2,19 @@
 ghost use Rattle.std.specs.Prelude.{◌≡◌, IfOk, IsTrue, length, ◌<◌};
 ghost use Rattle.std.specs.List.{list_all};
 ghost use Rattle.scim_key.specs.Outcome.{Takes};
-ghost use Rattle.scim_key.specs.Bases.{base_fault, is_base, authority_of, is_authority_byte};
+ghost use Rattle.scim_key.specs.Bases.{base_fault, is_base, authority_of, is_authority_byte, BasesAreSpelled, IsAuthority, IsBase};
 
 use crate::names::NameFault;
 use std::alloc::Global;
 use std::marker::Model;
 
-/// The base of a service: `http://`, an authority of 1 to 100 bytes of ASCII letters, digits
+/// How many bytes an authority may have.
+pub const AUTHORITY_LIMIT: usize = 100;
+
+/// How many bytes a base may have: `http://`, an authority and `/v2`.
+pub const BASE_LIMIT: usize = AUTHORITY_LIMIT + 10;
+
+/// The base of a service: `http://`, an authority of 1 to `AUTHORITY_LIMIT` bytes of ASCII letters, digits
 /// and `.-:[]`, and `/v2`.
 #[derive(Debug, Drop)]
 pub struct Base {
@@ -65,7 +71,7 @@ fn fault_of_base(text: &str) -> Option<NameFault>
 {
     if text.is_empty() {
         Some(NameFault::Empty)
-    } else if text.len() > 110 {
+    } else if text.len() > BASE_LIMIT {
         Some(NameFault::TooLong)
     } else if is_base_text(text.as_bytes()) {
         None
@@ -89,15 +95,22 @@ impl Base {
 
     /// The base as it was spelled.
     pub fn as_str(&self) -> &str
-        ensures { result.now ≡ self.now }
+        ensures value { result.now ≡ self.now }
+        ensures lawful { IsBase result.now }
     {
         self.text.as_str()
     }
 
     /// What stands between `http://` and `/v2`: the service's host and port.
     pub fn authority(&self) -> &[u8]
-        ensures { result.now ≡ authority_of self.now }
+        ensures value { result.now ≡ authority_of self.now }
+        ensures lawful { IsAuthority result.now }
     {
         authority_in(self.text.as_bytes())
     }
 }
+
+/// The lawful bases are the texts `http://`, an authority and `/v2`, and no other.
+pub fn bases_are_spelled()
+    ensures { BasesAreSpelled }
+{}

@@ -2,14 +2,14 @@
 ghost use Rattle.std.specs.Prelude.{◌≡◌, ◌↔◌, ◌<◌, IfOk, IsTrue, length};
 ghost use Rattle.std.specs.List.{list_all};
 ghost use Rattle.scim_key.specs.Outcome.{Takes};
-ghost use Rattle.scim_key.specs.Names.{key_of, group_name_fault, has_space_at_end, is_group_name_byte};
+ghost use Rattle.scim_key.specs.Names.{key_of, group_name_fault, IsGroupName, has_space_at_end, is_group_name_byte};
 
-use crate::names::{NameFault, have_same_key};
+use crate::names::{NAME_LIMIT, NameFault, have_same_key};
 use crate::records::Key;
 use std::alloc::{AllocError, Global};
 use std::marker::Model;
 
-/// A group's `displayName`: 1 to 128 bytes from 0x20 to 0x7E but `"` and `\`, no space at either end.
+/// A group's `displayName`: 1 to `NAME_LIMIT` bytes from 0x20 to 0x7E but `"` and `\`, no space at either end.
 #[derive(Debug, Drop)]
 pub struct GroupName {
     text: String,
@@ -49,7 +49,7 @@ fn fault_of_group_name(text: &str) -> Option<NameFault>
 {
     if text.is_empty() {
         Some(NameFault::Empty)
-    } else if text.len() > 128 {
+    } else if text.len() > NAME_LIMIT {
         Some(NameFault::TooLong)
     } else if !are_group_name_bytes(text.as_bytes()) {
         Some(NameFault::Character)
@@ -85,7 +85,8 @@ impl GroupName {
 
     /// The name as it was spelled.
     pub fn as_str(&self) -> &str
-        ensures { result.now ≡ self.now }
+        ensures value { result.now ≡ self.now }
+        ensures lawful { IsGroupName result.now }
     {
         self.text.as_str()
     }

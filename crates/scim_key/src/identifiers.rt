@@ -2,14 +2,23 @@
 ghost use Rattle.std.specs.Prelude.{◌≡◌, ◌≢◌, ◌≤◌, ◌↔◌, ℕ, Some, IfOk, IfSome, IfNone, IsTrue, drop};
 ghost use Rattle.std.specs.Int.{w32, from_be_bytes};
 ghost use Rattle.scim_key.specs.Outcome.{Takes};
-ghost use Rattle.scim_key.specs.Identifiers.{id_fault, id_text, id_bytes, last_number, IdsDiffer};
+ghost use Rattle.scim_key.specs.Identifiers.{id_fault, id_text, id_bytes, last_number, IdsDiffer, IsId};
 
 use crate::names::NameFault;
 use std::alloc::{AllocError, Global};
 use std::marker::Model;
 use uuid::Uuid;
 
-/// An id: a text of 1 to 256 bytes. Ids are compared byte for byte.
+/// How many bytes an id may have.
+pub const ID_LIMIT: usize = 256;
+
+/// How many resources a provider holds at most, so the greatest number that an id is made of.
+pub const LAST_NUMBER: u32 = 1_000_000;
+
+/// How many bytes the id of a number has.
+pub const NUMBERED_ID_LENGTH: usize = 36;
+
+/// An id: a text of 1 to `ID_LIMIT` bytes. Ids are compared byte for byte.
 #[derive(Debug, Drop)]
 pub struct ResourceId {
     text: String,
@@ -32,7 +41,7 @@ fn fault_of_id(text: &str) -> Option<NameFault>
 {
     if text.is_empty() {
         Some(NameFault::Empty)
-    } else if text.len() > 256 {
+    } else if text.len() > ID_LIMIT {
         Some(NameFault::TooLong)
     } else {
         None
@@ -48,13 +57,12 @@ fn uuid_of(number: u32) -> Uuid
 }
 
 /// Whether a text is the id of this number, byte for byte. It takes no memory.
-fn spells(text: &str, number: u32) -> bool
+fn is_spelled(text: &str, number: u32) -> bool
     requires { number ≤ last_number }
     ensures { IsTrue result ↔ (text.now ≡ id_text number) }
 {
-    let mut buffer = Uuid::encode_buffer();
-    let spelled = uuid_of(number).hyphenated().encode_lower(&mut buffer);
-    text == &*spelled
+    let mut buffer = [0; NUMBERED_ID_LENGTH];
+    text == ResourceId::spell(number, &mut buffer)
 }
 
 /// The last four bytes of a UUID as a number.
@@ -94,11 +102,18 @@ impl ResourceId {
         requires to { number ≤ last_number }
         ensures { IfOk result (λ id. id ≡ id_text number) }
     {
-        let mut buffer = Uuid::encode_buffer();
-        let spelled = uuid_of(number).hyphenated().encode_lower(&mut buffer);
+        let mut buffer = [0; NUMBERED_ID_LENGTH];
         Ok(ResourceId {
-            text: String::from_str(alloc, spelled)?,
+            text: String::from_str(alloc, ResourceId::spell(number, &mut buffer))?,
         })
+    }
+
+    /// The text of the id of the n-th resource, written into the buffer. It takes no memory.
+    pub fn spell(number: u32, buffer: &mut [u8; NUMBERED_ID_LENGTH]) -> &str
+        requires { number ≤ last_number }
+        ensures { result.now ≡ id_text number }
+    {
+        uuid_of(number).hyphenated().encode_lower(buffer)
     }
 
     /// The number of which this is the id, byte for byte, if there is one. It takes no memory.
@@ -106,9 +121,9 @@ impl ResourceId {
         ensures found { IfSome result (λ n. (1 ≤ n) × (n ≤ last_number) × (self.now ≡ id_text n)) }
         ensures none { IfNone result ((n : ℕ) → 1 ≤ n → n ≤ last_number → self.now ≢ id_text n) }
     {
-        match candidate(self.text.as_str()) {
-            Some(number)
-                if number >= 1 && number <= 1_000_000 && spells(self.text.as_str(), number) => {
+        let text = self.text.as_str();
+        match candidate(text) {
+            Some(number) if number >= 1 && number <= LAST_NUMBER && is_spelled(text, number) => {
                 Some(number)
             }
             _ => None,
@@ -117,7 +132,8 @@ impl ResourceId {
 
     /// The id as it was spelled.
     pub fn as_str(&self) -> &str
-        ensures { result.now ≡ self.now }
+        ensures value { result.now ≡ self.now }
+        ensures lawful { IsId result.now }
     {
         self.text.as_str()
     }

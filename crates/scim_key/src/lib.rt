@@ -9,10 +9,12 @@ mod records;
 mod revisions;
 mod user_names;
 
-pub use bases::Base;
+pub use bases::{AUTHORITY_LIMIT, BASE_LIMIT, Base, bases_are_spelled};
 pub use group_names::GroupName;
-pub use identifiers::{ResourceId, ids_differ};
-pub use names::NameFault;
-pub use records::{Key, Kind, RecordName};
-pub use revisions::{Revision, revisions_are_ordered};
+pub use identifiers::{ID_LIMIT, LAST_NUMBER, NUMBERED_ID_LENGTH, ResourceId, ids_differ};
+pub use names::{NAME_LIMIT, NameFault};
+pub use records::{Key, Kind, RecordName, record_names_are_ordered};
+pub use revisions::{
+    LAST_REVISION, REVISION_DIGITS, Revision, revisions_are_ordered, revisions_are_read_back,
+};
 pub use user_names::UserName;

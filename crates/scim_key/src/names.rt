@@ -6,6 +6,9 @@ ghost use Rattle.scim_key.specs.declared.names.NameFault.TheVariants.{Memory};
 use std::alloc::AllocError;
 use thiserror::Error;
 
+/// How many bytes a name may have.
+pub const NAME_LIMIT: usize = 128;
+
 /// What is wrong with a text as a name, an id or a base.
 #[derive(Clone, Copy, Debug, PartialEq, Eq, Error)]
 pub enum NameFault {

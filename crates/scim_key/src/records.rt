@@ -1,12 +1,14 @@
 //! Records: what the source and the provider speak of by kind and key.
-ghost use Rattle.std.specs.Prelude.{◌≡◌, ◌==◌, IfOk};
+ghost use Rattle.std.specs.Prelude.{◌≡◌, ◌==◌, IfOk, refl};
 ghost use lib.Pointwise.{pointwise};
 ghost use Rattle.std.proofs.Common.{rules};
-ghost use Rattle.std.specs.Cmp.{partial_order_from_own_ties};
+ghost use Rattle.std.specs.Cmp.{partial_equiv_from_equiv, partial_order_from_agreeing_total, partial_order_from_own_ties};
 ghost use Rattle.std.specs.Cmp.Lexicographic.{slice_cmp};
 ghost use Rattle.std.specs.Cmp.Rules.{comparing};
 ghost use Rattle.std.specs.Ordering.{nat_cmp, as_partial_cmp};
-ghost use Rattle.scim_key.specs.Names.{key_of};
+ghost use Rattle.scim_key.specs.Names.{key_of, IsKey};
+ghost use Rattle.scim_key.specs.RecordOrder.{names_equal, names_tie, names_total};
+ghost use Rattle.scim_key.specs.Records.{name_cmp, same_name, NamesAreOrdered};
 
 use std::alloc::{AllocError, Global};
 use std::cmp::Ordering;
@@ -48,7 +50,8 @@ impl Key {
 
     /// The key's text.
     pub fn as_str(&self) -> &str
-        ensures { result.now ≡ self.now }
+        ensures value { result.now ≡ self.now }
+        ensures lawful { IsKey result.now }
     {
         self.text.as_str()
     }
@@ -103,8 +106,53 @@ impl Ord for Key {
 }
 
 /// The name of a record, ordered by kind, then by key.
-#[derive(Debug, PartialEq, Eq, PartialOrd, Ord, Clone, Drop)]
+#[derive(Debug, Clone, Drop)]
 pub struct RecordName {
     pub kind: Kind,
     pub key: Key,
 }
+
+impl PartialEq for RecordName {
+    ghost eq = { same_name };
+
+    ghost laws = { partial_equiv_from_equiv names_equal };
+
+    fn eq(&self, other: &RecordName) -> bool {
+        self.kind == other.kind && self.key == other.key
+    }
+}
+
+impl Eq for RecordName {
+    ghost laws = { names_equal };
+}
+
+impl PartialOrd for RecordName {
+    ghost partial_cmp = { as_partial_cmp name_cmp };
+
+    ghost laws = { partial_order_from_agreeing_total name_cmp names_total (λ a b. refl) names_tie };
+
+    fn partial_cmp(&self, other: &RecordName) -> Option<Ordering> {
+        Some(self.cmp(other))
+    }
+}
+
+impl Ord for RecordName {
+    ghost cmp = { name_cmp };
+
+    ghost total = { names_total };
+
+    ghost matches_partial_cmp = { λ a b. refl };
+
+    ghost matches_eq = { names_tie };
+
+    fn cmp(&self, other: &RecordName) -> Ordering {
+        self.kind
+            .cmp(&other.kind)
+            .then_with(|| self.key.cmp(&other.key))
+    }
+}
+
+/// Names of records are in one order, in which equal ones alone are tied.
+pub fn record_names_are_ordered()
+    ensures { NamesAreOrdered }
+{}

@@ -1,39 +1,95 @@
 //! Revisions of the source.
-ghost use Rattle.std.specs.Prelude.{◌≡◌, ◌==◌, IsTrue, ◌↔◌};
+ghost use Rattle.std.specs.Prelude.{◌≡◌, IfSome, Some};
+ghost use Rattle.std.specs.Char.{is_ascii_digit};
+ghost use Rattle.std.specs.List.{list_all};
+ghost use Rattle.std.proofs.Common.{rules};
+ghost use Rattle.std.specs.Cmp.Rules.{comparing};
 ghost use Rattle.std.specs.Option.{SomeIff};
-ghost use Rattle.scim_key.specs.Revisions.{before, is_revision, IsOrder, IsRevision};
+ghost use Rattle.scim_key.specs.Revisions.{before, later, no_revision, read_revision, revision_number, revision_of_number, revision_text, same_revision, IsOrder, IsRevision, RevisionsAreReadBack};
+ghost use Rattle.scim_key.specs.Revisions as spec;
 
+use std::fmt;
 use std::marker::Model;
 
-/// A revision of a record: a number from 1 to 2,000,000,000, or `NONE`, which stands before all.
-#[derive(Clone, Copy, Debug, PartialEq, Eq, PartialOrd, Ord)]
+/// The greatest number of a revision.
+pub const LAST_REVISION: u32 = 2_000_000_000;
+
+/// How many digits the text of a revision may have, leading zeros among them.
+pub const REVISION_DIGITS: usize = 18;
+
+/// A revision of a record of the source, or none, which stands before all.
+#[derive(Clone, Copy, Debug)]
 pub struct Revision {
     number: u32,
 }
 
 impl Model for Revision {
     ghost use Rattle.std.specs.Prelude.{◌≤◌};
-    ghost use Rattle.scim_key.specs.Revisions.{RevisionValue, last_revision};
+    ghost use Rattle.scim_key.specs.Revisions.{RevisionValue};
+    ghost use Rattle.scim_key.specs.declared.revisions.TheConstants.{LAST_REVISION};
 
     ghost Value = { RevisionValue };
 
     ghost view = { λ r. r.number };
 
-    ghost invariant = { λ r. r.number ≤ last_revision };
+    ghost invariant = { λ r. r.number ≤ LAST_REVISION };
 
     ghost inverse = { λ n. record { number = n } };
 }
 
+impl PartialEq for Revision {
+    ghost eq = { same_revision };
+
+    ghost laws = { Prim.search (comparing, rules) };
+
+    fn eq(&self, other: &Revision) -> bool {
+        self.number == other.number
+    }
+}
+
+impl Eq for Revision {
+    ghost laws = { Prim.search (comparing, rules) };
+}
+
+/// Decimal digits, with no zero in front; `0` for none.
+impl fmt::Display for Revision {
+    ghost output = { λ r. Some (revision_text r) };
+
+    #[tactic(auto, unfolding(crate::specs::Revisions::revision_text))]
+    fn fmt<W: fmt::Write>(&self, f: &mut fmt::Formatter<W>) -> fmt::Result {
+        write!(f, "{}", self.number)
+    }
+}
+
+/// Whether a text is 1 to 18 digits.
+fn is_numeral(text: &str) -> bool
+    ensures { result ≡ spec.is_numeral text.now }
+{
+    !text.is_empty() && text.len() <= REVISION_DIGITS && are_digits(text.as_bytes())
+}
+
+fn are_digits(bytes: &[u8]) -> bool
+    ensures { result ≡ list_all is_ascii_digit bytes.now }
+{
+    bytes.iter().all(|b| b.is_ascii_digit())
+}
+
 impl Revision {
     /// No revision.
-    pub const NONE: Revision = Revision { number: 0 };
-
-    /// The revision of a number from 1 to 2,000,000,000.
-    #[tactic(auto, unfolding(crate::specs::Revisions::is_revision))]
-    pub fn of_number(number: u64) -> Option<Revision>
-        ensures { SomeIff result (IsRevision number) number }
+    pub fn none() -> Revision
+        ensures { result ≡ no_revision }
     {
-        if number >= 1 && number <= 2_000_000_000 {
+        Revision { number: 0 }
+    }
+
+    /// The revision of a number from 1 to `LAST_REVISION`, as a JSON resource has it.
+    #[tactic(auto, unfolding(crate::specs::Revisions::is_revision, crate::specs::Revisions::revision_of_number))]
+    pub fn of_number(number: u64) -> Option<Revision>
+        ensures exact { result ≡ revision_of_number number }
+        ensures lawful { IfSome result IsRevision }
+        ensures value { SomeIff result (IsRevision number) number }
+    {
+        if number >= 1 && number <= LAST_REVISION as u64 {
             Some(Revision {
                 number: number as u32,
             })
@@ -42,19 +98,29 @@ impl Revision {
         }
     }
 
-    /// The revision's number, 0 for none.
-    pub fn number(self) -> u32
-        ensures { result ≡ self }
+    /// The revision that a text of a source file spells: 1 to 18 digits, leading zeros allowed,
+    /// of a value from 1 to `LAST_REVISION`.
+    #[tactic(auto, unfolding(crate::specs::Revisions::read_revision))]
+    pub fn read(text: &str) -> Option<Revision>
+        ensures exact { result ≡ read_revision text.now }
+        ensures lawful { IfSome result IsRevision }
     {
-        self.number
+        if !is_numeral(text) {
+            return None;
+        }
+        match text.parse::<u64>() {
+            Ok(number) => Revision::of_number(number),
+            Err(_) => None,
+        }
     }
 
-    /// Whether the source may give this revision, so whether it isn't `NONE`.
-    #[tactic(auto, unfolding(crate::specs::Revisions::is_revision))]
-    pub fn is_some(self) -> bool
-        ensures { result ≡ is_revision self }
+    /// The number that a JSON resource has for this revision, 0 for none.
+    #[tactic(auto, unfolding(crate::specs::Revisions::revision_number))]
+    pub fn number(self) -> u32
+        ensures exact { result ≡ revision_number self }
+        ensures value { result ≡ self }
     {
-        self.number >= 1
+        self.number
     }
 
     /// Whether this revision comes before the other.
@@ -64,9 +130,21 @@ impl Revision {
     {
         self.number < other.number
     }
+
+    /// The one of both that doesn't come before the other.
+    pub fn later(self, other: Revision) -> Revision
+        ensures { result ≡ later self other }
+    {
+        if self.is_before(other) { other } else { self }
+    }
 }
 
-/// Revisions are in one order, none comes first, and there are at most 2,000,000,000 of them.
+/// Revisions are in one order, none comes first, and there are at most `LAST_REVISION` of them.
 pub fn revisions_are_ordered()
     ensures { IsOrder }
+{}
+
+/// What a lawful revision is written as is read as that revision.
+pub fn revisions_are_read_back()
+    ensures { RevisionsAreReadBack }
 {}

@@ -2,14 +2,14 @@
 ghost use Rattle.std.specs.Prelude.{◌≡◌, ◌↔◌, IfOk, IsTrue};
 ghost use Rattle.std.specs.List.{list_all};
 ghost use Rattle.scim_key.specs.Outcome.{Takes};
-ghost use Rattle.scim_key.specs.Names.{key_of, user_name_fault, is_user_name_byte};
+ghost use Rattle.scim_key.specs.Names.{key_of, user_name_fault, IsUserName, is_user_name_byte};
 
-use crate::names::{NameFault, have_same_key};
+use crate::names::{NAME_LIMIT, NameFault, have_same_key};
 use crate::records::Key;
 use std::alloc::{AllocError, Global};
 use std::marker::Model;
 
-/// A `userName`: 1 to 128 bytes from 0x21 to 0x7E but `"` and `\`.
+/// A `userName`: 1 to `NAME_LIMIT` bytes from 0x21 to 0x7E but `"` and `\`.
 #[derive(Debug, Drop)]
 pub struct UserName {
     text: String,
@@ -41,7 +41,7 @@ fn fault_of_user_name(text: &str) -> Option<NameFault>
 {
     if text.is_empty() {
         Some(NameFault::Empty)
-    } else if text.len() > 128 {
+    } else if text.len() > NAME_LIMIT {
         Some(NameFault::TooLong)
     } else if !are_user_name_bytes(text.as_bytes()) {
         Some(NameFault::Character)
@@ -75,7 +75,8 @@ impl UserName {
 
     /// The name as it was spelled.
     pub fn as_str(&self) -> &str
-        ensures { result.now ≡ self.now }
+        ensures value { result.now ≡ self.now }
+        ensures lawful { IsUserName result.now }
     {
         self.text.as_str()
     }

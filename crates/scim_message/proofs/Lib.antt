@@ -1,1 +1,3 @@
+pub mod BodyTrips
+pub mod Pages
 pub mod Written

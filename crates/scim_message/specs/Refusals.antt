@@ -76,3 +76,7 @@ refusal_detail NoSuchPath = codes "no such path"
 -- The error message that answers a refusal
 abbrev pub error_of : Refusal → ErrorRecord
 error_of refusal = record { status = refusal_status refusal; scim_type = refusal_type refusal; detail = Some (refusal_detail refusal) }
+
+-- an error message that says nothing but its status
+abbrev pub bare_error : (status : ℕ) → ErrorRecord
+bare_error status = record { status = status; scim_type = None; detail = None }

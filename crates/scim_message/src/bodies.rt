@@ -1,5 +1,6 @@
 //! The bodies of answers.
 ghost use Rattle.std.specs.Prelude.{◌≡◌, false, map, IfOk, IfSome, option_map, string_bytes};
+ghost use Rattle.std.specs.Str.{IsUtf8};
 ghost use Rattle.serde_json.specs.Data.{array, item, no_items, string};
 ghost use Rattle.serde_json.specs.View.{items_view, view};
 ghost use Rattle.serde_json.specs.Written.{has_float, items_have_float};
@@ -15,9 +16,10 @@ use scim_resource::Shown;
 use serde_json::{Map, Value};
 use std::alloc::{AllocError, Global};
 
-/// The body of an answer by a service at this base. Where nothing was modified it is empty.
+/// The body of an answer by a service at this base, in UTF-8. Where nothing was modified it is empty.
 pub fn body_of(alloc: Global, answer: &Answer, base: &Base) -> Result<Vec<u8>, AllocError>
-    ensures { IfOk result (λ body. body.items ≡ body_text base.now answer.now) }
+    ensures text { IfOk result (λ body. body.items ≡ body_text base.now answer.now) }
+    ensures utf8 { IfOk result (λ body. IsUtf8 body.items) }
 {
     match body_value(alloc, answer, base)? {
         Some(value) => compact(alloc, &value),
@@ -39,8 +41,9 @@ fn body_value(alloc: Global, answer: &Answer, base: &Base) -> Result<Option<Valu
     }
 }
 
+/// The URN of an error message.
 #[tactic(auto, unfolding(crate::specs::Bodies::error_message))]
-fn error_schema() -> &'static str
+pub(crate) fn error_schema() -> &'static str
     ensures { result.now ≡ error_message }
 {
     "urn:ietf:params:scim:api:messages:2.0:Error"

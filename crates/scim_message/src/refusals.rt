@@ -1,7 +1,7 @@
 //! Refusals, and the error messages that answer them (RFC 7644 section 3.12).
 ghost use Rattle.std.specs.Prelude.{◌≡◌, IfOk, string_bytes};
 ghost use Rattle.std.specs.Option.{option_map};
-ghost use Rattle.scim_message.specs.Refusals.{refusal_status, refusal_type, refusal_detail, error_of, IsErrorStatus};
+ghost use Rattle.scim_message.specs.Refusals.{refusal_status, refusal_type, refusal_detail, error_of, bare_error, IsErrorStatus};
 
 use std::alloc::{AllocError, Global};
 use std::marker::Model;
@@ -161,6 +161,35 @@ impl ErrorResponse {
             status: refusal.status(),
             scim_type: owned(alloc, refusal.scim_type())?,
             detail: owned(alloc, Some(refusal.detail()))?,
+        })
+    }
+
+    /// The message with this status alone.
+    pub(crate) fn bare(status: u16) -> ErrorResponse
+        requires { IsErrorStatus status }
+        ensures { result ≡ bare_error status }
+    {
+        ErrorResponse {
+            status,
+            scim_type: None,
+            detail: None,
+        }
+    }
+
+    /// The message with this status and these texts.
+    pub(crate) fn with_texts(
+        alloc: Global,
+        status: u16,
+        scim_type: Option<&str>,
+        detail: Option<&str>,
+    ) -> Result<ErrorResponse, AllocError>
+        requires { IsErrorStatus status }
+        ensures { IfOk result (λ error. error ≡ record { status = status; scim_type = option_map (λ text. text.now) scim_type.entry; detail = option_map (λ text. text.now) detail.entry }) }
+    {
+        Ok(ErrorResponse {
+            status,
+            scim_type: owned(alloc, scim_type)?,
+            detail: owned(alloc, detail)?,
         })
     }
 

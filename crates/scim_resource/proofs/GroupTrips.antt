@@ -7,11 +7,12 @@ use Rattle.scim_key.specs.Revisions.{RevisionValue}
 use Rattle.serde_json.specs.Data.{Data, string, array, Members, no_members, member, depth, items_depth}
 use Rattle.serde_json.specs.View.{items_of}
 use Rattle.scim_json.specs.Attributes.{named, has_name, attribute, present, repeats, value_repeats, items_repeat, list_repeats}
+use Rattle.scim_json.specs.Values.{some_text}
 use Rattle.scim_json.specs.Plain.{IsPlain, ItemsArePlain}
 use Rattle.scim_json.specs.Writing.{members_from}
 use Rattle.scim_json.proofs.Parts.{are_rising, are_apart, part_named, named-members_from, repeats-members_from, IsPlainIf, ArePlainIf, MembersArePlain-members_from, depth_if, AreWithin, members_depth-members_from}
 use Rattle.scim_resource.specs.Groups.{GroupRecord, IsGroup, IsMemberList, AreTexts, is_among, are_distinct, are_few_members}
-use Rattle.scim_resource.specs.Reading.{lists_schema, all_texts, some_text, display_name_in, member_in, members_after, group_members_in, few_members, with_member, group_fields, group_repeats, read_group, unless_repeated}
+use Rattle.scim_resource.specs.Reading.{lists_schema, all_texts, display_name_in, member_in, members_after, group_members_in, few_members, with_member, group_fields, group_repeats, read_group, unless_repeated}
 use Rattle.scim_resource.specs.Schemas.{core_group, source_extension}
 use Rattle.scim_resource.specs.Texts.{IsText}
 use Rattle.scim_resource.specs.Writing.{source_data, schemas_data, member_data, group_members_data, group_parts, group_data}
@@ -30,7 +31,7 @@ apart id meta g = refl
 
 -- ---- the parts of a group that are found
 
-abbrev members : Option Data → Option Data → GroupRecord → Members
+abbrev pub members : Option Data → Option Data → GroupRecord → Members
 members id meta g = members_from (group_parts id meta g)
 
 found : (name : List ℕ) (id meta : Option Data) (g : GroupRecord) → attribute name (members id meta g) ≡ present (part_named name (group_parts id meta g))
@@ -177,3 +178,8 @@ group_data_depth id meta g i m =
     let within : AreWithin 2 (group_parts id meta g) =
     (omega arith, (omega (arith, text_depth g.external_id), (i, (values_depth g.members, (m, (schemas_depth core_group g.revision, (source_depth g.revision, tt))))))) in
     omega (arith, members_depth-members_from 2 (group_parts id meta g) within)
+
+-- ---- an id and `meta`
+
+pub group_shows : (id meta : Option Data) (g : GroupRecord) → (attribute (codes "id") (members id meta g) ≡ present id) × (attribute (codes "meta") (members id meta g) ≡ present meta)
+group_shows id meta g = (found (codes "id") id meta g, found (codes "meta") id meta g)

@@ -1,8 +1,12 @@
+pub mod AlikeLemmas
 pub mod EmailLists
+pub mod FirstLemmas
 pub mod GroupTrips
 pub mod Lists
+pub mod LookedLemmas
 pub mod MemberLists
 pub mod RoundTrips
+pub mod ShownTrips
 pub mod Tags
 pub mod UserTrips
 pub mod Written

@@ -1,16 +1,11 @@
 -- The tests on the items of a list, over the values that the items are seen of.
-use Rattle.std.proofs.Common.{◌≡◌, ℕ, List, [], ◌∷◌, ◌&&◌, ◌||◌, refl, ap}
-use Rattle.std.specs.List.{list_all, list_any}
+use Rattle.std.proofs.Common.{◌≡◌, List, [], ◌∷◌, ◌&&◌, refl, ap}
+use Rattle.std.specs.List.{list_all}
 use Rattle.serde_json.specs.View.{view, items_view}
 use Rattle.serde_json.specs.declared.value.Value.{Value}
-use Rattle.scim_resource.specs.Reading.{is_text_or_null, is_text, all_texts, some_text}
+use Rattle.scim_resource.specs.Reading.{is_text_or_null, all_texts}
 
 pub list_all_texts : (vs : List Value) → list_all (λ v. is_text_or_null (view v)) vs ≡ all_texts (items_view vs)
 unfolding all_texts
 list_all_texts [] = refl
 list_all_texts (v ∷ vs) = ap (λ b. is_text_or_null (view v) && b) (list_all_texts vs)
-
-pub list_any_text : (text : List ℕ) (vs : List Value) → list_any (λ v. is_text text (view v)) vs ≡ some_text text (items_view vs)
-unfolding some_text
-list_any_text text [] = refl
-list_any_text text (v ∷ vs) = ap (λ b. is_text text (view v) || b) (list_any_text text vs)

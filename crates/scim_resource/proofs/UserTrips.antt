@@ -8,12 +8,12 @@ use Rattle.serde_json.specs.Data.{Data, boolean, string, array, Members, depth, 
 use Rattle.serde_json.specs.View.{items_of}
 use Rattle.scim_key.specs.Outcome.{◌>>=◌}
 use Rattle.scim_json.specs.Attributes.{named, has_name, attribute, present, repeats, value_repeats, items_repeat, list_repeats}
-use Rattle.scim_json.specs.Values.{flag_or, members_in}
+use Rattle.scim_json.specs.Values.{some_text, flag_or, members_in}
 use Rattle.scim_json.specs.Plain.{IsPlain, ItemsArePlain}
 use Rattle.scim_json.specs.Writing.{members_from}
 use Rattle.scim_json.proofs.Parts.{are_rising, are_apart, part_named, named-members_from, repeats-members_from, IsPlainIf, ArePlainIf, MembersArePlain-members_from, depth_if, AreWithin, members_depth-members_from}
 use Rattle.scim_resource.specs.Emails.{IsEmail, AreEmails, IsEmailList, are_few}
-use Rattle.scim_resource.specs.Reading.{lists_schema, all_texts, some_text, user_name_in, text_in, part_of, email_of, email_in, emails_of, emails_in, few_emails, revision_in, user_fields, user_repeats, read_user, unless_repeated}
+use Rattle.scim_resource.specs.Reading.{lists_schema, all_texts, user_name_in, text_in, part_of, email_of, email_in, emails_of, emails_in, few_emails, revision_in, user_fields, user_repeats, read_user, unless_repeated}
 use Rattle.scim_resource.specs.Schemas.{core_user, source_extension}
 use Rattle.scim_resource.specs.Texts.{IsText, IsTextIf, is_short_text}
 use Rattle.scim_resource.specs.Users.{UserRecord, IsUser, IsSourceRevision}
@@ -32,7 +32,7 @@ apart id meta u = refl
 
 -- ---- the parts of a user that are found
 
-abbrev members : Option Data → Option Data → UserRecord → Members
+abbrev pub members : Option Data → Option Data → UserRecord → Members
 members id meta u = members_from (user_parts id meta u)
 
 found : (name : List ℕ) (id meta : Option Data) (u : UserRecord) → attribute name (members id meta u) ≡ present (part_named name (user_parts id meta u))
@@ -312,3 +312,8 @@ user_data_depth id meta u i m =
     let within : AreWithin 2 (user_parts id meta u) =
     (omega arith, (emails_depth u.emails, (omega (arith, text_depth u.external_id), (i, (m, (omega (arith, name_depth u.given_name u.family_name), (schemas_depth core_user u.revision, (source_depth u.revision, (omega arith, tt))))))))) in
     omega (arith, members_depth-members_from 2 (user_parts id meta u) within)
+
+-- ---- an id and `meta`
+
+pub user_shows : (id meta : Option Data) (u : UserRecord) → (attribute (codes "id") (members id meta u) ≡ present id) × (attribute (codes "meta") (members id meta u) ≡ present meta)
+user_shows id meta u = (found (codes "id") id meta u, found (codes "meta") id meta u)

@@ -1,6 +1,7 @@
 -- The content of a resource, and the record that it is the content of.
-use Rattle.std.specs.Prelude.{ℕ, List}
+use Rattle.std.specs.Prelude.{ℕ, Bool, List, [], length, Option, Some, None}
 use Rattle.scim_key.specs.Names.{key_of}
+use Rattle.scim_key.specs.Revisions.{RevisionValue}
 use Rattle.scim_key.specs.declared.records.Kind.{Kind}
 use Rattle.scim_key.specs.declared.records.Kind.TheVariants as kinds
 use Rattle.scim_key.specs.declared.records.RecordName.{RecordName}
@@ -26,3 +27,21 @@ spelled_name (Group g) = g.display_name
 -- The record that a content is of: its type and the key of its name
 abbrev pub content_name : Content → RecordName
 content_name c = record { kind = content_kind c; key = key_of (spelled_name c) }
+
+-- the source's revision that it is the image of, if it has one
+abbrev pub content_revision : Content → Option RevisionValue
+content_revision (User u) = u.revision
+content_revision (Group g) = g.revision
+
+-- whether a user's account is switched on; a group has none
+abbrev pub content_active : Content → Option Bool
+content_active (User u) = Some u.active
+content_active (Group g) = None
+
+-- the values of a group's members, in their order; a user has none
+abbrev pub content_members : Content → List (List ℕ)
+content_members (User u) = []
+content_members (Group g) = g.members
+
+abbrev pub member_count : Content → ℕ
+member_count c = length (content_members c)

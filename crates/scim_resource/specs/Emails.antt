@@ -1,10 +1,8 @@
 -- The email addresses of a user (RFC 7643 section 4.1.2).
 use Rattle.std.specs.Prelude.{◌≡◌, ℕ, Bool, true, List, [], ◌∷◌, length, ◌&&◌, nat_le, count_by}
 use Rattle.scim_resource.specs.Texts.{IsText, IsTextIf}
+use Rattle.scim_resource.specs.declared.emails.TheConstants.{EMAIL_LIMIT}
 use Rattle.scim_resource.specs.declared.emails.Email.{Email}
-
-abbrev pub email_limit : ℕ
-email_limit = 10
 
 pub record IsEmail (e : Email) : Type 0 where
   pub value : IsText e.value
@@ -20,7 +18,7 @@ primaries es = count_by (λ e. e.primary) es
 
 -- at most ten, of which one at most is primary
 unfoldable pub are_few : List Email → Bool
-are_few es = nat_le (length es) email_limit && nat_le (primaries es) 1
+are_few es = nat_le (length es) EMAIL_LIMIT && nat_le (primaries es) 1
 
 -- the limits of a user's emails
 pub record IsEmailList (es : List Email) : Type 0 where

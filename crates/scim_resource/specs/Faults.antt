@@ -1,8 +1,10 @@
--- What a fault of a name is as a fault of a resource.
+-- What a fault of a name, or of a text as JSON, is as a fault of a resource.
 use Rattle.scim_key.specs.declared.names.NameFault.{NameFault}
 use Rattle.scim_key.specs.declared.names.NameFault.TheVariants as names
+use Rattle.scim_json.specs.declared.parsing.JsonFault.{JsonFault}
+use Rattle.scim_json.specs.declared.parsing.JsonFault.TheVariants as json
 use Rattle.scim_resource.specs.declared.faults.ReadFault.{ReadFault}
-use Rattle.scim_resource.specs.declared.faults.ReadFault.TheVariants.{InvalidValue, Memory}
+use Rattle.scim_resource.specs.declared.faults.ReadFault.TheVariants.{InvalidSyntax, InvalidValue, Memory}
 
 abbrev pub fault_of_name : NameFault → ReadFault
 fault_of_name names.Empty = InvalidValue
@@ -10,3 +12,7 @@ fault_of_name names.TooLong = InvalidValue
 fault_of_name names.Character = InvalidValue
 fault_of_name names.SpaceAtEnd = InvalidValue
 fault_of_name names.Memory = Memory
+
+abbrev pub fault_of_json : JsonFault → ReadFault
+fault_of_json json.NotJson = InvalidSyntax
+fault_of_json json.Memory = Memory

@@ -3,11 +3,9 @@ use Rattle.std.specs.Prelude.{◌≡◌, ℕ, Bool, true, false, not, ◌&&◌, 
 use Rattle.std.specs.Str.{bytes_eq}
 use Rattle.scim_key.specs.Names.{IsGroupName}
 use Rattle.scim_key.specs.Revisions.{RevisionValue}
+use Rattle.scim_resource.specs.declared.groups.TheConstants.{MEMBER_LIMIT}
 use Rattle.scim_resource.specs.Texts.{IsText, IsTextIf}
 use Rattle.scim_resource.specs.Users.{IsSourceRevision}
-
-abbrev pub member_limit : ℕ
-member_limit = 400
 
 -- the value is among these, byte for byte
 unfoldable pub is_among : List ℕ → List (List ℕ) → Bool
@@ -24,7 +22,7 @@ are_distinct (v ∷ vs) = not (is_among v vs) && are_distinct vs
 
 -- at most 400
 abbrev pub are_few_members : List (List ℕ) → Bool
-are_few_members vs = nat_le (length vs) member_limit
+are_few_members vs = nat_le (length vs) MEMBER_LIMIT
 
 -- the values of a group's members: at most 400, none of them twice
 pub record IsMemberList (vs : List (List ℕ)) : Type 0 where

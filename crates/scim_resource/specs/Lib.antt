@@ -1,11 +1,15 @@
+pub mod Alike
 pub mod Contents
 pub mod Emails
 pub mod Faults
+pub mod FirstPlaces
 pub mod Groups
 pub mod Locations
+pub mod Looked
 pub mod Reading
 pub mod Rows
 pub mod Schemas
+pub mod Showing
 pub mod Texts
 pub mod Users
 pub mod Writing

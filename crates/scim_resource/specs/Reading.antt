@@ -6,8 +6,9 @@ use Rattle.scim_key.specs.Revisions.{RevisionValue, is_revision}
 use Rattle.scim_key.specs.declared.records.Kind.{Kind}
 use Rattle.scim_key.specs.declared.records.Kind.TheVariants as kinds
 use Rattle.serde_json.specs.Data.{Data, null, boolean, number, string, array, object, Items, no_items, item, Members}
-use Rattle.scim_json.specs.Attributes.{same_name, attribute, repeats, value_repeats, list_repeats}
-use Rattle.scim_json.specs.Values.{flag_or, whole_in, items_in, members_in}
+use Rattle.scim_json.specs.Attributes.{attribute, repeats, value_repeats, list_repeats}
+use Rattle.scim_json.specs.Values.{some_text, flag_or, whole_in, items_in, members_in}
+use Rattle.scim_json.specs.Parsing.{json_of}
 use Rattle.scim_json.specs.declared.values.ValueFault.{ValueFault}
 use Rattle.scim_resource.specs.Emails.{are_few}
 use Rattle.scim_resource.specs.Groups.{GroupRecord, is_among, are_few_members}
@@ -35,23 +36,10 @@ is_text_or_null (string s) = true
 is_text_or_null (array ds) = false
 is_text_or_null (object ms) = false
 
--- the value is this text, in any case
-abbrev pub is_text : List ℕ → Data → Bool
-is_text text null = false
-is_text text (boolean b) = false
-is_text text (number n) = false
-is_text text (string s) = same_name s text
-is_text text (array ds) = false
-is_text text (object ms) = false
-
 -- the list has texts alone; a `null` is disregarded
 unfoldable pub all_texts : Items → Bool
 all_texts no_items = true
 all_texts (item d ds) = is_text_or_null d && all_texts ds
-
-unfoldable pub some_text : List ℕ → Items → Bool
-some_text text no_items = false
-some_text text (item d ds) = is_text text d || some_text text ds
 
 -- a list of texts, one of which is this URN in any case
 abbrev pub lists_schema : List ℕ → Option Data → Bool
@@ -237,3 +225,12 @@ read_group (object ms) = unless_repeated (group_repeats ms) (group_fields ms)
 unfoldable pub read_content : Kind → Data → Result Content ReadFault
 read_content kinds.User d = read_user d >>= (λ u. Ok (User u))
 read_content kinds.Group d = read_group d >>= (λ g. Ok (Group g))
+
+-- what isn't JSON is no content
+abbrev pub content_from : Kind → Option Data → Result Content ReadFault
+content_from kind None = Err InvalidSyntax
+content_from kind (Some json) = read_content kind json
+
+-- The content that bytes have: they are JSON in UTF-8, and its value is read
+abbrev pub content_in : Kind → List ℕ → Result Content ReadFault
+content_in kind bytes = content_from kind (json_of bytes)

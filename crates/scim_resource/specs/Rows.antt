@@ -1,9 +1,12 @@
 -- A row of the provider, and a resource as an answer shows it.
-use Rattle.std.specs.Prelude.{ℕ, ◌≤◌, List, Option, Some, IfSome}
+use Rattle.std.specs.Prelude.{◌≡◌, ℕ, ◌≤◌, List, length, Option, Some, IfSome}
 use Rattle.std.specs.Str.{IsUtf8}
-use Rattle.scim_key.specs.Identifiers.{id_text, last_number}
-use Rattle.scim_version.specs.Tags.{version_tag}
+use Rattle.scim_key.specs.Identifiers.{IsId, id_text, last_number}
+use Rattle.scim_key.specs.declared.records.Kind.{Kind}
+use Rattle.scim_version.specs.Tags.{IsEntityTag, version_tag}
+use Rattle.scim_resource.specs.Contents.{IsContent, content_kind}
 use Rattle.scim_resource.specs.declared.contents.Content.{Content}
+use Rattle.scim_resource.specs.declared.rows.TheConstants.{TAG_LIMIT}
 
 -- the greatest version
 abbrev pub last_version : ℕ
@@ -27,9 +30,22 @@ pub record ShownRecord : Type 0 where
   pub version : Option (List ℕ)
   pub content : Content
 
--- a shown entity tag is text
+abbrev pub IsShort : List ℕ → Type 0
+IsShort tag = length tag ≤ TAG_LIMIT
+
+-- the id is one, in UTF-8; the entity tag, where there is one, is one of at most 256 bytes, in UTF-8
 pub record IsShown (s : ShownRecord) : Type 0 where
+  pub id : IsId s.id
+  pub id_text : IsUtf8 s.id
+  pub tag : IfSome s.version IsEntityTag
+  pub short : IfSome s.version IsShort
   pub text : IfSome s.version IsUtf8
+
+-- a resource of this type, as some reading gives it
+pub record IsShownOf (kind : Kind) (s : ShownRecord) : Type 0 where
+  pub of_kind : content_kind s.content ≡ kind
+  pub shown : IsShown s
+  pub content : IsContent s.content
 
 -- a row as an answer shows it
 abbrev pub shown : StoredRecord → ShownRecord

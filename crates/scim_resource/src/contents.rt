@@ -1,10 +1,12 @@
 //! The content of a resource.
 ghost use Rattle.std.specs.Prelude.{◌≡◌, ◌↔◌, IfOk, IsTrue};
-ghost use Rattle.scim_resource.specs.Contents.{content_kind, content_name, spelled_name};
+ghost use Rattle.scim_resource.specs.Contents.{content_active, content_kind, content_members, content_name, content_revision, spelled_name};
+ghost use Rattle.scim_resource.specs.Users.{IsSourceRevision};
 
 use crate::groups::Group;
+use crate::texts::Text;
 use crate::users::User;
-use scim_key::{Kind, RecordName};
+use scim_key::{Kind, RecordName, Revision};
 use std::alloc::{AllocError, Global};
 
 /// What a resource contains, but for its id and `meta`.
@@ -32,6 +34,37 @@ impl Content {
         match self {
             Content::User(user) => user.user_name().as_str(),
             Content::Group(group) => group.display_name().as_str(),
+        }
+    }
+
+    /// The source's revision that this is the image of, if it has one.
+    pub fn revision(&self) -> Option<Revision>
+        ensures value { result ≡ content_revision self.now }
+        ensures lawful { IsSourceRevision result }
+    {
+        match self {
+            Content::User(user) => user.revision(),
+            Content::Group(group) => group.revision(),
+        }
+    }
+
+    /// Whether the account is switched on. A group has none.
+    pub fn active(&self) -> Option<bool>
+        ensures { result ≡ content_active self.now }
+    {
+        match self {
+            Content::User(user) => Some(user.is_active()),
+            Content::Group(_) => None,
+        }
+    }
+
+    /// The values of a group's members, in their order. A user has none.
+    pub fn members(&self) -> &[Text]
+        ensures { result.now ≡ content_members self.now }
+    {
+        match self {
+            Content::User(_) => &[],
+            Content::Group(group) => group.members(),
         }
     }
 

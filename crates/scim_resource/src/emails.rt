@@ -7,6 +7,9 @@ use crate::texts::{Text, copy_of};
 use std::alloc::{AllocError, Global};
 use std::marker::Model;
 
+/// How many email addresses a user may have.
+pub const EMAIL_LIMIT: usize = 10;
+
 /// An email address.
 #[derive(Debug, Drop)]
 pub struct Email {
@@ -68,14 +71,6 @@ impl Emails {
         }
     }
 
-    /// Gives the list back.
-    pub fn into_vec(self) -> Vec<Email>
-        ensures { result.items ≡ self }
-    {
-        let Emails { items } = self;
-        items
-    }
-
     pub fn as_slice(&self) -> &[Email]
         ensures value { result.now ≡ self.now }
         ensures lawful { IsEmailList self.now }
@@ -98,7 +93,7 @@ impl Clone for Emails {
 fn are_few(emails: &[Email]) -> bool
     ensures { result ≡ are_few emails.now }
 {
-    emails.len() <= 10 && primaries(emails) <= 1
+    emails.len() <= EMAIL_LIMIT && primaries(emails) <= 1
 }
 
 fn primaries(emails: &[Email]) -> usize

@@ -1,9 +1,9 @@
 //! Why a value isn't read as a resource.
 ghost use Rattle.std.specs.Prelude.{◌≡◌};
 ghost use Rattle.scim_resource.specs.declared.faults.ReadFault.TheVariants.{InvalidValue, Memory};
-ghost use Rattle.scim_resource.specs.Faults.{fault_of_name};
+ghost use Rattle.scim_resource.specs.Faults.{fault_of_json, fault_of_name};
 
-use scim_json::ValueFault;
+use scim_json::{JsonFault, ValueFault};
 use scim_key::NameFault;
 use std::alloc::{AllocError, AllocFailed};
 use thiserror::Error;
@@ -42,6 +42,17 @@ impl From<ValueFault> for ReadFault {
 
     fn from(_: ValueFault) -> ReadFault {
         ReadFault::InvalidValue
+    }
+}
+
+impl From<JsonFault> for ReadFault {
+    ghost from_gives = { λ json fault. fault ≡ fault_of_json json };
+
+    fn from(fault: JsonFault) -> ReadFault {
+        match fault {
+            JsonFault::NotJson => ReadFault::InvalidSyntax,
+            JsonFault::Memory => ReadFault::Memory,
+        }
     }
 }
 

@@ -12,6 +12,9 @@ use scim_key::{GroupName, Revision};
 use std::alloc::{AllocError, Global};
 use std::marker::Model;
 
+/// How many members a group may have.
+pub const MEMBER_LIMIT: usize = 400;
+
 /// The values of a group's members: at most 400 texts, none of them twice.
 #[derive(Debug, Drop)]
 pub struct Members {
@@ -44,19 +47,11 @@ impl Members {
         requires { AreTexts items.items }
         ensures { SomeIff result ((are_distinct items.items ≡ true) × (are_few_members items.items ≡ true)) items.items }
     {
-        if items.len() <= 400 && are_distinct(items.as_slice()) {
+        if items.len() <= MEMBER_LIMIT && are_distinct(items.as_slice()) {
             Some(Members { items })
         } else {
             None
         }
-    }
-
-    /// Gives the list back.
-    pub fn into_vec(self) -> Vec<Text>
-        ensures { result.items ≡ self }
-    {
-        let Members { items } = self;
-        items
     }
 
     pub fn as_slice(&self) -> &[Text]

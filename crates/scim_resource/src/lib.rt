@@ -12,16 +12,20 @@ mod locations;
 mod reading;
 mod rows;
 mod schemas;
+mod showing;
 mod texts;
 mod users;
 mod writing;
 
 pub use contents::Content;
-pub use emails::{Email, Emails};
+pub use emails::{EMAIL_LIMIT, Email, Emails};
 pub use faults::ReadFault;
-pub use groups::{Group, Members};
-pub use laws::{shown_reads_back, text_reads_back};
+pub use groups::{Group, MEMBER_LIMIT, Members};
+pub use laws::{
+    alike_values_are_read_the_same, repeated_members_are_kept_once, repeated_names_come_first,
+    shown_reads_back, text_reads_back,
+};
 pub use locations::location;
-pub use rows::{Shown, Stored};
-pub use texts::Text;
+pub use rows::{Shown, Stored, TAG_LIMIT};
+pub use texts::{TEXT_LIMIT, Text};
 pub use users::User;

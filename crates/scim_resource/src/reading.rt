@@ -16,8 +16,8 @@ use crate::schemas::{core_user, source_extension};
 use crate::texts::{Text, is_short_text};
 use crate::users::User;
 use scim_json::{
-    attribute, flag_or, items_in, list_repeats, members_in, repeats, same_name, value_repeats,
-    whole_in,
+    attribute, flag_or, items_in, json_of, list_repeats, lists_text, members_in, repeats,
+    value_repeats, whole_in,
 };
 use scim_key::{Kind, Revision, UserName};
 use serde_json::{Map, Value};
@@ -34,6 +34,14 @@ impl Content {
             Kind::User => Ok(Content::User(read_user(alloc, value)?)),
             Kind::Group => Ok(Content::Group(read_group(alloc, value)?)),
         }
+    }
+
+    /// Reads what a body says that a resource of this type contains. Bytes that aren't JSON in UTF-8
+    /// are `InvalidSyntax`.
+    pub fn from_slice(alloc: Global, bytes: &[u8], kind: Kind) -> Result<Content, ReadFault>
+        ensures { Gives ReadFault.Memory result (spec.content_in kind bytes.now) }
+    {
+        Content::read(alloc, &json_of(alloc, bytes)?, kind)
     }
 }
 
@@ -177,10 +185,7 @@ pub(crate) fn lists_schema(value: Option<&Value>, urn: &str) -> bool
     ensures { result ≡ spec.lists_schema urn.now (option_map (λ v. view v.now) value.entry) }
 {
     match value {
-        Some(Value::Array(items)) => {
-            let items = items.as_slice();
-            all_texts(items) && some_text(items, urn)
-        }
+        Some(Value::Array(items)) => { all_texts(items.as_slice()) && lists_text(value, urn) }
         _ => false,
     }
 }
@@ -195,22 +200,6 @@ fn is_text_or_null(value: &Value) -> bool
     ensures { result ≡ spec.is_text_or_null (view value.now) }
 {
     matches!(value, Value::Null | Value::String(_))
-}
-
-fn some_text(items: &[Value], text: &str) -> bool
-    ensures { result ≡ spec.some_text text.now (items_view items.now) }
-{
-    items.iter().any(|item| is_text(item, text))
-}
-
-/// Whether the value is this text, in any case.
-fn is_text(value: &Value, text: &str) -> bool
-    ensures { result ≡ spec.is_text text.now (view value.now) }
-{
-    match value {
-        Value::String(found) => same_name(found.as_str(), text),
-        _ => false,
-    }
 }
 
 fn user_name_in(alloc: Global, value: Option<&Value>) -> Result<UserName, ReadFault>

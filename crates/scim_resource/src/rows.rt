@@ -1,8 +1,10 @@
 //! Rows of the provider, and resources as answers show them.
-ghost use Rattle.std.specs.Prelude.{◌≡◌, ◌≤◌, IfOk};
+ghost use Rattle.std.specs.Prelude.{◌≡◌, ◌≤◌, IfOk, IfSome};
 ghost use Rattle.std.specs.Option.{option_copied};
-ghost use Rattle.scim_key.specs.Identifiers.{id_text, last_number};
-ghost use Rattle.scim_resource.specs.Rows.{last_version, shown, IsShown};
+ghost use Rattle.std.specs.Str.{IsUtf8};
+ghost use Rattle.scim_key.specs.Identifiers.{IsId, id_text, last_number};
+ghost use Rattle.scim_version.specs.Tags.{IsEntityTag};
+ghost use Rattle.scim_resource.specs.Rows.{last_version, shown, IsShort, IsShown};
 
 use crate::contents::Content;
 use scim_key::ResourceId;
@@ -130,7 +132,26 @@ impl Drop for Shown {
     }
 }
 
+/// How many bytes the entity tag of a shown resource may have.
+pub const TAG_LIMIT: usize = 256;
+
 impl Shown {
+    /// What is shown by these parts.
+    pub(crate) fn from_parts(id: ResourceId, version: Option<EntityTag>, content: Content) -> Shown
+        requires id { IsId id }
+        requires id_text { IsUtf8 id }
+        requires tag { IfSome version IsEntityTag }
+        requires short { IfSome version IsShort }
+        requires text { IfSome version IsUtf8 }
+        ensures { result ≡ record { id = id; version = version; content = content } }
+    {
+        Shown {
+            id,
+            version,
+            content,
+        }
+    }
+
     /// A row as an answer shows it.
     pub fn of(alloc: Global, stored: &Stored) -> Result<Shown, AllocError>
         ensures { IfOk result (λ s. s ≡ shown stored.now) }

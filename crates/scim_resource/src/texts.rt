@@ -1,12 +1,16 @@
 //! Texts of attributes.
 ghost use Rattle.std.specs.Prelude.{◌≡◌, Some, IfSome, IfOk, string_bytes, option_map};
 ghost use Rattle.std.specs.Option.{SomeIff};
+ghost use Rattle.std.specs.Str.{IsUtf8};
 ghost use Rattle.scim_resource.specs.Texts.{IsText, is_short_text};
 
 use std::alloc::AllocError;
 use std::marker::Model;
 
-/// A text of 1 to 256 bytes.
+/// How many bytes a text of an attribute may have.
+pub const TEXT_LIMIT: usize = 256;
+
+/// A text of 1 to 256 bytes, in UTF-8.
 #[derive(Debug, Drop)]
 pub struct Text {
     text: String,
@@ -14,13 +18,13 @@ pub struct Text {
 
 impl Model for Text {
     ghost use Rattle.std.specs.Prelude.{List, ℕ, string_bytes};
-    ghost use Rattle.scim_resource.specs.Texts.{IsText};
+    ghost use Rattle.scim_resource.specs.Texts.{IsUtf8Text};
 
     ghost Value = { List ℕ };
 
     ghost view = { λ t. string_bytes t.text };
 
-    ghost invariant = { λ t. IsText (string_bytes t.text) };
+    ghost invariant = { λ t. IsUtf8Text (string_bytes t.text) };
 }
 
 /// Whether the text has 1 to 256 bytes.
@@ -28,7 +32,7 @@ impl Model for Text {
 pub(crate) fn is_short_text(text: &str) -> bool
     ensures { result ≡ is_short_text text.now }
 {
-    !text.is_empty() && text.len() <= 256
+    !text.is_empty() && text.len() <= TEXT_LIMIT
 }
 
 impl Text {
@@ -43,17 +47,10 @@ impl Text {
         }
     }
 
-    /// Gives the text back.
-    pub fn into_string(self) -> String
-        ensures { string_bytes result ≡ self }
-    {
-        let Text { text } = self;
-        text
-    }
-
     pub fn as_str(&self) -> &str
         ensures value { result.now ≡ self.now }
         ensures lawful { IsText self.now }
+        ensures utf8 { IsUtf8 self.now }
     {
         self.text.as_str()
     }

@@ -5,6 +5,7 @@ ghost use Rattle.serde_json.specs.Data.{array, string};
 ghost use Rattle.serde_json.specs.View.{view};
 ghost use Rattle.serde_json.specs.Written.{has_float};
 ghost use Rattle.scim_resource.specs.Contents.{IsContent};
+ghost use Rattle.scim_resource.specs.Rows.{IsShown};
 ghost use Rattle.scim_resource.specs.Users.{IsUser};
 ghost use Rattle.scim_resource.specs.Writing as spec;
 
@@ -48,6 +49,7 @@ impl Shown {
         ensures value { IfOk result (λ value. view value ≡ spec.shown_data base.now self.now) }
         ensures whole { IfOk result (λ value. has_float (view value) ≡ false) }
         ensures lawful { OnOk result (IsContent self.now.content) }
+        ensures shown { OnOk result (IsShown self.now) }
     {
         let id = Value::try_from_str(alloc, self.id().as_str())?;
         let meta = meta_value(alloc, base, self)?;
@@ -210,7 +212,8 @@ pub(crate) fn schemas_value(
 }
 
 fn meta_value(alloc: Global, base: &Base, shown: &Shown) -> Result<Value, AllocError>
-    ensures { IfOk result (λ value. view value ≡ spec.meta_data base.now shown.now) }
+    ensures value { IfOk result (λ value. view value ≡ spec.meta_data base.now shown.now) }
+    ensures lawful { OnOk result (IsShown shown.now) }
 {
     let mut members = Map::new(alloc);
     let version = version_value(alloc, shown)?;
@@ -224,7 +227,8 @@ fn meta_value(alloc: Global, base: &Base, shown: &Shown) -> Result<Value, AllocE
 
 /// The entity tag as text, where it is known.
 fn version_value(alloc: Global, shown: &Shown) -> Result<Option<Value>, AllocError>
-    ensures { IfOk result (λ value. option_map view value ≡ option_map string shown.now.version) }
+    ensures value { IfOk result (λ value. option_map view value ≡ option_map string shown.now.version) }
+    ensures lawful { OnOk result (IsShown shown.now) }
 {
     match shown.version() {
         None => Ok(None),

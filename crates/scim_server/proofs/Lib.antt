@@ -1,5 +1,5 @@
-pub mod JsonLemmas
 pub mod ReplyLaws
+pub mod ResponseLaws
 pub mod LocationLaws
 pub mod MeaningLaws
 pub mod NumberLemmas

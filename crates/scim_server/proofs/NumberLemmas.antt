@@ -19,7 +19,7 @@ record Fits (text : List ℕ) : Type 0 where
   some : 0 < length text
   small : digits_value 10 text < 10 ^ 18
 
-all_digits : (text : List ℕ) → list_all is_ascii_digit text ≡ all_ascii_digits text
+pub all_digits : (text : List ℕ) → list_all is_ascii_digit text ≡ all_ascii_digits text
 all_digits [] = refl
 all_digits (byte ∷ text) = ap (λ rest. is_ascii_digit byte && rest) (all_digits text)
 

@@ -8,9 +8,11 @@ use Rattle.scim_message.specs.declared.refusals.Refusal.{Refusal}
 use Rattle.http_text.specs.declared.fault.ReadFault.{ReadFault}
 use Rattle.http_text.specs.declared.fault.ReadFault.TheVariants.{Malformed, HostMissingOrRepeated, LengthMissing, BodyTooLong, HeadTooLong, TransferCoding, Expectation, EndedEarly, ReadFailed, OutOfMemory, TurnsExhausted}
 use Rattle.http_text.specs.Counts.{Reading, Writing}
-use Rattle.http_text.specs.Message.{Message, IsRequestMessage, head_limit, field_limit}
-use Rattle.http_text.specs.Judging.{is_head, IsAccepted}
-use Rattle.http_text.specs.Requests.{IsStreamFault, Answers, FindsMessage, AnswersMalformed}
+use Rattle.http_text.specs.Message.{Message, head_limit, field_limit}
+use Rattle.http_text.specs.Forms.{IsRequestMessage, IsAccepted}
+use Rattle.http_text.specs.Heads.{IsStreamFault, Answers}
+use Rattle.http_text.specs.Judging.{is_head}
+use Rattle.http_text.specs.Requests.{FindsMessage, AnswersMalformed}
 use Rattle.scim_server.specs.declared.serving.Served.{Served}
 use Rattle.scim_server.specs.Meaning.{Asks}
 use Rattle.scim_server.proofs.MeaningLaws.{one_meaning}

@@ -8,8 +8,9 @@ use Rattle.scim_message.specs.declared.refusals.Refusal.{Refusal}
 use Rattle.http_text.specs.declared.fault.ReadFault.{ReadFault}
 use Rattle.http_text.specs.declared.fault.ReadFault.TheVariants.{Malformed, HeadTooLong, EndedEarly, ReadFailed, TurnsExhausted}
 use Rattle.http_text.specs.Counts.{Writing}
-use Rattle.http_text.specs.Message.{Head, Message, IsRequestHead, IsRequestMessage, head_limit, field_limit}
-use Rattle.http_text.specs.Judging.{judge_head, is_head, IsAccepted}
+use Rattle.http_text.specs.Message.{Head, Message, head_limit, field_limit}
+use Rattle.http_text.specs.Forms.{IsRequestHead, IsRequestMessage, IsAccepted}
+use Rattle.http_text.specs.Judging.{judge_head, is_head}
 use Rattle.http_text.specs.Requests.{IsPartOfHead, IsPartOfBody, IsLongPart, HasLongSection}
 use Rattle.scim_server.specs.declared.serving.Served.{Served}
 use Rattle.scim_server.specs.Meaning.{Asks}

@@ -1,22 +1,29 @@
 -- Facts about the definitions of requests, of replies, of segments and of paths.
-use Rattle.std.specs.Prelude.{◌≡◌, ℕ, ◌<◌, ◌++◌, Bool, false, List, [], ◌∷◌, Some, None, Result, codes}
-use Rattle.std.specs.List.{AllByRecursion}
+use Rattle.std.specs.Prelude.{◌≡◌, ℕ, ◌+◌, ◌<◌, ◌≤◌, ◌++◌, Bool, true, false, List, [], ◌∷◌, length, Option, Some, None, IfSome, Result, codes, ⊤}
+use Rattle.std.specs.List.{AllByRecursion, list_all}
 use Rattle.std.specs.Str.{IsUtf8}
+use Rattle.scim_key.specs.Bases.{base_text, is_authority_byte}
 use Rattle.scim_key.specs.Identifiers.{IsId}
 use Rattle.scim_key.specs.declared.records.Kind.{Kind}
 use Rattle.scim_key.specs.declared.records.Kind.TheVariants as kinds
 use Rattle.scim_resource.specs.Locations.{escaped, location_text}
-use Rattle.scim_message.specs.declared.messages.Answer.TheVariants.{NotModified, Error}
+use Rattle.scim_version.specs.Tags.{IsEntityTag}
+use Rattle.scim_message.specs.declared.messages.Answer.{Answer}
+use Rattle.scim_message.specs.declared.messages.Answer.TheVariants.{Created, Found, Replaced, NotModified, Error}
+use Rattle.scim_message.specs.declared.messages.Answer.TheVariants as answers
+use Rattle.scim_message.specs.Bodies.{body_text}
+use Rattle.scim_message.specs.Messages.{answer_status}
 use Rattle.scim_message.specs.declared.messages.Request.{Request}
 use Rattle.scim_message.specs.declared.refusals.Refusal.{Refusal}
 use Rattle.scim_message.specs.Refusals.{ErrorRecord}
-use Rattle.http_text.specs.Message.{Message}
+use Rattle.http_text.specs.Message.{Message, status_line, head_limit, response_body_limit}
+use Rattle.http_text.specs.Forms.{IsResponseMessage}
 use Rattle.http_text.specs.Response.{response_text}
 use Rattle.scim_server.specs.declared.routes.Route.TheVariants.{Resource}
 use Rattle.scim_server.specs.Routes.{route_of}
 use Rattle.scim_server.specs.Segments.{SpellsText, unescaped}
 use Rattle.scim_server.specs.Meaning.{Asks}
-use Rattle.scim_server.specs.Replies.{answer_text, fixed_text}
+use Rattle.scim_server.specs.Replies.{written_lines, answer_lines, answer_text, fixed_text}
 
 -- A message asks for one thing, and no text spells two filters, so what is asked is told by the message alone
 abbrev pub OneMeaning : Type 0
@@ -54,3 +61,30 @@ pub record LocationsAreRouted : Type 0 where
   pub located : (origin : List ℕ) (kind : Kind) (id : List ℕ) → location_text (origin ++ codes "/v2") kind id ≡ origin ++ resource_path kind id
   pub routed : (kind : Kind) (id : List ℕ) → AllByRecursion (λ byte. byte < 256) id → IsUtf8 id → IsId id
       → route_of (resource_path kind id) ≡ Some (Resource kind id)
+
+-- what an answer speaks of: an id of bytes, and an entity tag where one is known
+abbrev pub IsSpeakable : List ℕ → Option (List ℕ) → Type 0
+IsSpeakable id version = AllByRecursion (λ byte. byte < 256) id × IfSome version IsEntityTag
+
+abbrev pub HasLawfulParts : Answer → Type 0
+HasLawfulParts (Created shown) = IsSpeakable shown.id shown.version
+HasLawfulParts (Found shown) = IsSpeakable shown.id shown.version
+HasLawfulParts (Replaced shown) = IsSpeakable shown.id shown.version
+HasLawfulParts (answers.List list) = ⊤
+HasLawfulParts (NotModified kind id version) = IsSpeakable id (Some version)
+HasLawfulParts (Error error) = (400 ≤ error.status) × (error.status ≤ 599)
+
+-- an answer as a message: its status, its field lines, and its body
+abbrev pub response_message : List ℕ → Answer → Message
+response_message base answer = record {
+  head = record { start = status_line 1 (answer_status answer); fields = written_lines (answer_lines base answer) };
+  body = body_text base answer;
+}
+
+-- The text of an answer is a response of just those parts, where its head and its body keep their limits
+abbrev pub AnswersAreResponses : Type 0
+AnswersAreResponses =
+    (authority : List ℕ) (answer : Answer) → list_all is_authority_byte authority ≡ true → HasLawfulParts answer
+    → length (answer_text (base_text authority) false answer) ≤ head_limit + length (body_text (base_text authority) answer)
+    → length (body_text (base_text authority) answer) ≤ response_body_limit
+    → IsResponseMessage (answer_text (base_text authority) false answer) (response_message (base_text authority) answer)

@@ -1,11 +1,7 @@
 -- What an accepted message asks for, or the refusal that it meets first.
 use Rattle.std.specs.Prelude.{◌≡◌, ℕ, List, [], ◌∷◌, Option, Some, None, Result, Ok, Err, if◌then◌else◌, codes, ⊤}
 use Rattle.std.specs.List.{join_by}
-use Rattle.std.specs.Str.{bytes_eq, is_utf8}
-use Rattle.serde_json.specs.Data.{Data}
-use Rattle.serde_json.specs.Read.{read}
-use Rattle.serde_json.specs.View.{view}
-use Rattle.serde_json.specs.declared.value.Value.{Value}
+use Rattle.std.specs.Str.{bytes_eq}
 use Rattle.scim_key.specs.Outcome.{◌>>=◌}
 use Rattle.scim_key.specs.declared.records.Kind.{Kind}
 use Rattle.scim_version.specs.declared.tags.TagFault.{TagFault}
@@ -15,7 +11,7 @@ use Rattle.scim_version.specs.Conditions.{condition_of}
 use Rattle.scim_resource.specs.declared.contents.Content.{Content}
 use Rattle.scim_resource.specs.declared.faults.ReadFault.{ReadFault}
 use Rattle.scim_resource.specs.declared.faults.ReadFault.TheVariants.{InvalidSyntax, InvalidValue, Memory}
-use Rattle.scim_resource.specs.Reading.{read_content}
+use Rattle.scim_resource.specs.Reading.{content_in}
 use Rattle.scim_message.specs.declared.messages.Request.{Request}
 use Rattle.scim_message.specs.declared.messages.Request.TheVariants.{Create, Retrieve, Replace}
 use Rattle.scim_message.specs.declared.refusals.Refusal.{Refusal}
@@ -29,10 +25,6 @@ use Rattle.scim_server.specs.Routes.{path_of, query_of, route_of}
 use Rattle.scim_server.specs.Media.{is_type_served}
 use Rattle.scim_server.specs.Searches.{IsSearch}
 
--- a body as JSON: it is UTF-8, and serde_json reads it
-unfoldable pub json_of : List ℕ → Option Data
-json_of body = if is_utf8 body then read body else None
-
 -- the refusal of a value that isn't read as a resource (`Memory` never comes of a definition)
 abbrev pub refusal_of : ReadFault → Refusal
 refusal_of InvalidSyntax = UnreadableBody
@@ -43,13 +35,9 @@ abbrev pub content_read : Result Content ReadFault → Result Content Refusal
 content_read (Ok content) = Ok content
 content_read (Err fault) = Err (refusal_of fault)
 
-abbrev pub content_from : Kind → Option Data → Result Content Refusal
-content_from kind None = Err UnreadableBody
-content_from kind (Some json) = content_read (read_content kind json)
-
 -- the content that a body has
 abbrev pub content_of : Kind → List ℕ → Result Content Refusal
-content_of kind body = content_from kind (json_of body)
+content_of kind body = content_read (content_in kind body)
 
 -- a media type that isn't served is refused
 abbrev pub type_accepted : Message → Result (Unit {0}) Refusal
@@ -145,12 +133,6 @@ IsAsked (by_query kind query) answer = IsSearch kind query answer
 -- query
 abbrev pub Asks : Message → Result Request Refusal → Type 0
 Asks m answer = IsAsked (routed_asked (route_of (path_of (target_of m.head.start))) m) answer
-
--- a body was read as JSON, or refused as none, or memory was wanting
-abbrev pub ReadsJson : Result Value MeaningFault → Option Data → Type 0
-ReadsJson (Ok value) answer = answer ≡ Some (view value)
-ReadsJson (Err (Refused refusal)) answer = (refusal ≡ UnreadableBody) × (answer ≡ None)
-ReadsJson (Err OutOfMemory) answer = ⊤
 
 -- what came is exactly what the definition says, or want of memory
 abbrev pub Tells : {X : Type 0} → Result X MeaningFault → Result X Refusal → Type 0

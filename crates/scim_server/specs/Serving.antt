@@ -13,7 +13,8 @@ use Rattle.http_text.specs.declared.fault.SendFault.{SendFault}
 use Rattle.http_text.specs.Counts.{Reading, Writing, count_up, CountsTurns}
 use Rattle.http_text.specs.Message.{Message}
 use Rattle.http_text.specs.Judging.{is_head}
-use Rattle.http_text.specs.Requests.{TakesMessage, TakesRefused, FindsMessage, FindsRefusedHead, FindsEnd, FindsLong, FindsMalformed, EndsReading}
+use Rattle.http_text.specs.Heads.{EndsReading}
+use Rattle.http_text.specs.Requests.{TakesMessage, TakesRefused, FindsMessage, FindsRefusedHead, FindsEnd, FindsLong, FindsMalformed}
 use Rattle.http_text.specs.Sending.{IsLost, EndsSending}
 use Rattle.scim_server.specs.declared.serving.Served.{Served}
 use Rattle.scim_server.specs.declared.serving.Served.TheVariants.{Answered, NoRequest, Lost}

@@ -1,5 +1,5 @@
 //! Laws of the definitions of requests, of replies, of segments and of paths.
-ghost use Rattle.scim_server.specs.Laws.{LocationsAreRouted, OneMeaning, RepliesAreLawful, SegmentsAreSpelled};
+ghost use Rattle.scim_server.specs.Laws.{AnswersAreResponses, LocationsAreRouted, OneMeaning, RepliesAreLawful, SegmentsAreSpelled};
 
 /// A message asks for one thing.
 pub fn one_meaning()
@@ -20,4 +20,10 @@ pub fn segments_are_spelled()
 /// The location that is written for a user has a path that names that user.
 pub fn locations_are_routed()
     ensures { LocationsAreRouted }
+{}
+
+/// The text of an answer is a response of the grammar, and is read as just its status, its field
+/// lines and its body.
+pub fn answers_are_responses()
+    ensures { AnswersAreResponses }
 {}

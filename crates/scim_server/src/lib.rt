@@ -14,7 +14,10 @@ mod searches;
 mod segments;
 mod serving;
 
-pub use laws::{locations_are_routed, one_meaning, replies_are_lawful, segments_are_spelled};
+pub use laws::{
+    answers_are_responses, locations_are_routed, one_meaning, replies_are_lawful,
+    segments_are_spelled,
+};
 pub use replies::response_of;
 pub use requests::{MeaningFault, meaning};
 pub use serving::{Served, serve};

@@ -12,7 +12,6 @@ use http_text::Incoming;
 use scim_key::{Kind, ResourceId};
 use scim_message::{Refusal, Request};
 use scim_resource::{Content, ReadFault};
-use serde_json::Value;
 use std::alloc::{AllocError, Global};
 use thiserror::Error;
 
@@ -147,23 +146,10 @@ fn accept_type(incoming: &Incoming) -> Result<(), MeaningFault>
 fn content_of(alloc: Global, kind: Kind, body: &[u8]) -> Result<Content, MeaningFault>
     ensures { Tells result (spec.content_of kind body.now) }
 {
-    let value = json_of(alloc, body)?;
-    match Content::read(alloc, &value, kind) {
+    match Content::from_slice(alloc, body, kind) {
         Ok(content) => Ok(content),
         Err(ReadFault::InvalidSyntax) => Err(MeaningFault::Refused(Refusal::UnreadableBody)),
         Err(ReadFault::InvalidValue) => Err(MeaningFault::Refused(Refusal::ValueNotAllowed)),
         Err(ReadFault::Memory) => Err(MeaningFault::OutOfMemory),
-    }
-}
-
-/// A body as JSON.
-#[tactic(auto, unfolding(crate::specs::Meaning::json_of))]
-fn json_of(alloc: Global, body: &[u8]) -> Result<Value, MeaningFault>
-    ensures { spec.ReadsJson result (spec.json_of body.now) }
-{
-    match Value::from_slice(alloc, body) {
-        Ok(value) => Ok(value),
-        Err(error) if error.is_memory() => Err(MeaningFault::OutOfMemory),
-        Err(_) => Err(MeaningFault::Refused(Refusal::UnreadableBody)),
     }
 }

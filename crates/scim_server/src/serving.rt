@@ -1,11 +1,13 @@
 //! One connection.
-ghost use Rattle.std.specs.Prelude.{◌≡◌, ◌≤◌, ◌+◌, Result, IfOk, IfErr, OnErr};
+ghost use Rattle.std.specs.Prelude.{◌≡◌, ◌≤◌, ◌+◌, Result, IfOk, OnErr};
 ghost use Rattle.scim_server.specs.Reactions.{reaction_to};
 ghost use Rattle.http_text.specs.Counts.{CountsTurns};
 ghost use Rattle.http_text.specs.Judging as judging;
 ghost use Rattle.http_text.specs.Message.{Message};
 ghost use Rattle.http_text.specs.declared.fault.ReadFault.{ReadFault};
-ghost use Rattle.provider_core.specs.Stores.{IsQuiet, IsExcusedProvider};
+ghost use Rattle.provider_core.specs.Stores.{IsQuiet, CountsFaults, CountsProviderFault};
+ghost use Rattle.provider_core.specs.Outcomes.{outcome, changed_rows};
+ghost use Rattle.provider_core.specs.Calls.{Writes};
 ghost use Rattle.scim_server.specs.Replies.{fixed_reply};
 ghost use Rattle.scim_server.specs.Serving as spec;
 ghost use Rattle.scim_server.specs.Known.{ServesKnown};
@@ -135,8 +137,8 @@ fn reply_to<R: Registry>(
         → OnErr result (R.rows provider.new ≡ R.rows provider.old) }
     ensures quiet { IsQuiet R.is_faithful R.faults provider.old provider.new }
     ensures writes { R.writes provider.new ≤ R.writes provider.old + 1 }
-    ensures cause { IfErr result
-        (IsExcusedProvider (R.faults provider.old) (R.faults provider.new)) }
+    ensures counted { CountsFaults CountsProviderFault
+        (R.faults provider.old) (R.faults provider.new) result }
 {
     let leaves_body_out = is_head(incoming);
     match meaning(alloc, incoming) {
@@ -167,12 +169,8 @@ fn carry_out<R: Registry>(
 ) -> Result<Reply, ProviderFault>
     ensures reply { IfOk result (spec.AnswersRequest (R.is_faithful provider.new) base.now
         (R.rows provider.old) (R.rows provider.new) leaves_body_out request.now) }
-    ensures same { R.is_faithful provider.new
-        → OnErr result (R.rows provider.new ≡ R.rows provider.old) }
-    ensures quiet { IsQuiet R.is_faithful R.faults provider.old provider.new }
-    ensures writes { R.writes provider.new ≤ R.writes provider.old + 1 }
-    ensures cause { IfErr result
-        (IsExcusedProvider (R.faults provider.old) (R.faults provider.new)) }
+    ensures writes { Writes R.Registry provider.old provider.new
+        (changed_rows (R.rows provider.old) (outcome (R.rows provider.old) request.now).change) result }
 {
     let pending = provider.prepare(alloc, request)?;
     let reply = Reply::of(alloc, pending.answer(), base, leaves_body_out)?;

@@ -46,14 +46,6 @@ impl TagList {
         self.tags.as_slice()
     }
 
-    /// Gives the tags back.
-    pub fn into_vec(self) -> Vec<EntityTag>
-        ensures { result.items ≡ self }
-    {
-        let TagList { tags } = self;
-        tags
-    }
-
     /// Whether some tag is strongly equal to the tag of a version.
     #[tactic(auto, unfolding(crate::specs::Conditions::has_version))]
     fn has_version(&self, version: u64) -> bool

@@ -1,8 +1,20 @@
--- The exit status of a run.
-use Rattle.std.specs.Prelude.{ℕ, Bool, List, Result, is_ok, if◌then◌else◌}
+-- The exit status of a run, and what leads to it.
+use Rattle.std.specs.Prelude.{ℕ, Bool, true, false, List, Result, Ok, Err, is_ok, if◌then◌else◌}
 use Rattle.std.specs.List.{list_all}
+use Rattle.clap.specs.declared.error.kind.ErrorKind.{ErrorKind}
+use Rattle.clap.specs.declared.error.kind.ErrorKind.TheVariants as kind
+use Rattle.scim_key.specs.declared.names.NameFault.{NameFault}
+use Rattle.scim_key.specs.declared.names.NameFault.TheVariants as name
+use Rattle.scim_server.specs.declared.serving.Served.{Served}
+use Rattle.scim_server.specs.declared.serving.Served.TheVariants.{Answered, NoRequest, Lost}
 use Rattle.source_csv.specs.declared.faults.RowFault.{RowFault}
+use Rattle.source_csv.specs.declared.faults.SourceFault.{SourceFault}
+use Rattle.source_csv.specs.declared.faults.SourceFault.TheVariants as source
 use Rattle.source_csv.specs.declared.rows.Row.{Row}
+use Rattle.mapping.specs.declared.lines.WriteFault.{WriteFault}
+use Rattle.mapping.specs.declared.lines.WriteFault.TheVariants as write
+use Rattle.scimlink.specs.declared.status.RunFault.{RunFault}
+use Rattle.scimlink.specs.declared.status.RunFault.TheVariants as fault
 use Rattle.scimlink.specs.declared.status.Status.{Status}
 use Rattle.scimlink.specs.declared.status.Status.TheVariants.{Done, Refused, Usage, Fault}
 
@@ -11,6 +23,48 @@ status_code Done = 0
 status_code Refused = 1
 status_code Usage = 2
 status_code Fault = 3
+
+-- a run that a fault ended
+abbrev pub fault_status : RunFault → Status
+fault_status fault.Words = Usage
+fault_status fault.Subcommand = Usage
+fault_status fault.Base = Usage
+fault_status (fault.Users source.Header) = Refused
+fault_status (fault.Users source.Memory) = Fault
+fault_status fault.File = Fault
+fault_status fault.Connection = Fault
+fault_status fault.Memory = Fault
+
+-- What the parser of the command line told in place of a choice: help and the version are no fault, but where they
+-- couldn't be printed
+abbrev pub words_status : ErrorKind → (is_printed : Bool) → Status
+words_status kind.OutOfMemory printed = Fault
+words_status kind.DisplayHelp true = Done
+words_status kind.DisplayHelp false = Fault
+words_status kind.DisplayVersion true = Done
+words_status kind.DisplayVersion false = Fault
+words_status other printed = Usage
+
+-- a base that isn't read
+abbrev pub base_fault : NameFault → RunFault
+base_fault name.Memory = fault.Memory
+base_fault other = fault.Base
+
+-- a connection is done where a response was written whole
+abbrev pub served_status : Served → Result Status RunFault
+served_status (Answered status) = Ok Done
+served_status (NoRequest why) = Err fault.Connection
+served_status (Lost status) = Err fault.Connection
+
+-- a file of users that gives no rows
+abbrev pub users_fault : SourceFault → RunFault
+users_fault source.Header = fault.Users source.Header
+users_fault source.Memory = fault.Memory
+
+-- lines that weren't written whole
+abbrev pub lines_fault : WriteFault → RunFault
+lines_fault write.Memory = fault.Memory
+lines_fault write.Output = fault.File
 
 -- every record was read as a row
 abbrev pub are_rows : List (Result Row RowFault) → Bool

@@ -1,20 +1,45 @@
 //! `answer`: one request from standard input, answered on standard output.
-use crate::status::{Status, connection_fault};
+ghost use Rattle.std.specs.Prelude.{◌≡◌};
+ghost use Rattle.scimlink.specs.Connections.{AnswersOne};
+ghost use Rattle.scimlink.specs.Statuses.{served_status};
+
+use crate::status::{RunFault, Status};
 use http_text::{Input, Output};
 use provider_core::{MemoryRegistry, Provider};
 use scim_key::Base;
 use scim_server::{Served, serve};
+use std::alloc::Global;
 use std::io;
+use std::io::{Read, Write};
 use std::rt::Runtime;
 
-/// Answers one request over an empty provider in memory.
-pub fn answer<R: Runtime + AllocGlobal>(rt: &R, base: &Base) -> Status {
-    let alloc = rt.alloc();
-    let mut provider = Provider::new(MemoryRegistry::new(alloc));
+/// Answers one request from standard input over an empty provider in memory.
+pub fn answer<R: Runtime + AllocGlobal>(rt: &R, base: &Base) -> Result<Status, RunFault> {
     let mut reader = Input::new(rt.reader());
     let mut writer = Output::new(io::writer(rt));
-    match serve(alloc, &mut provider, base, &mut reader, &mut writer) {
-        Served::Answered { .. } => Status::Done,
-        Served::NoRequest(_) | Served::Lost { .. } => connection_fault(rt),
+    answer_one(rt.alloc(), base, &mut reader, &mut writer)
+}
+
+/// Answers one request over an empty provider in memory.
+fn answer_one<I: Read, O: Write>(
+    alloc: Global,
+    base: &Base,
+    reader: &mut Input<I>,
+    writer: &mut Output<O>,
+) -> Result<Status, RunFault>
+    ensures { AnswersOne base.now reader.old reader.new writer.old writer.new result }
+{
+    let mut provider = Provider::new(MemoryRegistry::new(alloc));
+    let served = serve(alloc, &mut provider, base, reader, writer);
+    served_status(served)
+}
+
+/// How a run ends after a connection.
+fn served_status(served: Served) -> Result<Status, RunFault>
+    ensures { result ≡ served_status served }
+{
+    match served {
+        Served::Answered { .. } => Ok(Status::Done),
+        Served::NoRequest(_) | Served::Lost { .. } => Err(RunFault::Connection),
     }
 }

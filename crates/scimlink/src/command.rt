@@ -1,5 +1,9 @@
 //! The command line.
-use crate::status::{Status, memory_fault};
+ghost use Rattle.std.specs.Prelude.{◌≡◌, IfOk, Some, codes, string_bytes};
+ghost use Rattle.clap.specs.Matches.{first_value, found_of};
+ghost use Rattle.scimlink.specs.Statuses.{base_fault, words_status};
+
+use crate::status::{RunFault, Status};
 use clap::error::ErrorKind;
 use clap::{Arg, ArgMatches, Command, Error};
 use scim_key::{Base, NameFault};
@@ -14,23 +18,22 @@ pub enum Choice {
     Answer { base: Base },
     /// The image of each row of a users file is printed.
     Map { file: String },
+    /// Help, the version or what is wrong with the words was told, and so the run ends.
+    Told(Status),
 }
 
 /// The words of the command line. A word that isn't UTF-8 is no lawful one.
-pub fn words<R: Runtime + AllocGlobal>(rt: &R) -> Result<Vec<String>, Status> {
-    let words = match env::args(rt) {
-        Ok(words) => words,
-        Err(_) => return Err(usage(rt, "the command line isn't UTF-8")),
-    };
-    words.collect(rt.alloc()).map_err(|_| memory_fault(rt))
+pub fn words<R: Runtime + AllocGlobal>(rt: &R) -> Result<Vec<String>, RunFault> {
+    let words = env::args(rt).map_err(|_| RunFault::Words)?;
+    words.collect(rt.alloc()).map_err(|_| RunFault::Memory)
 }
 
-/// What these words ask for, or how the program ends where they ask for nothing that it does.
-pub fn choose<R: Runtime + AllocGlobal>(rt: &R, words: &[String]) -> Result<Choice, Status> {
-    let command = command(rt.alloc()).map_err(|_| memory_fault(rt))?;
+/// What these words ask for.
+pub fn choose<R: Runtime + AllocGlobal>(rt: &R, words: &[String]) -> Result<Choice, RunFault> {
+    let command = command(rt.alloc())?;
     match command.try_get_matches_from(words) {
-        Ok(matches) => chosen(rt, &matches),
-        Err(error) => Err(refused(rt, error)),
+        Ok(matches) => chosen(rt.alloc(), &matches),
+        Err(error) => tell(rt, error),
     }
 }
 
@@ -83,45 +86,68 @@ fn with_subcommands<'a>(
     }
 }
 
-fn chosen<R: Runtime + AllocGlobal>(rt: &R, matches: &ArgMatches<'_>) -> Result<Choice, Status> {
+fn chosen(alloc: Global, matches: &ArgMatches<'_>) -> Result<Choice, RunFault> {
     match matches.subcommand() {
         Some(("answer", answer)) => Ok(Choice::Answer {
-            base: base(rt, answer)?,
+            base: base(alloc, answer)?,
         }),
         Some(("map", map)) => Ok(Choice::Map {
-            file: file(rt, map)?,
+            file: file(alloc, map)?,
         }),
-        _ => Err(usage(rt, "there is no such subcommand")),
+        _ => Err(RunFault::Subcommand),
     }
 }
 
-fn base<R: Runtime + AllocGlobal>(rt: &R, matches: &ArgMatches<'_>) -> Result<Base, Status> {
-    let text = matches.get_str("base").unwrap_or("");
-    Base::read(rt.alloc(), text).map_err(|fault| match fault {
-        NameFault::Memory => memory_fault(rt),
-        _ => usage(rt, "--base is http://HOST/v2"),
-    })
-}
-
-fn file<R: Runtime + AllocGlobal>(rt: &R, matches: &ArgMatches<'_>) -> Result<String, Status> {
-    let text = matches.get_str("FILE").unwrap_or("");
-    String::from_str(rt.alloc(), text).map_err(|_| memory_fault(rt))
-}
-
-/// Prints what clap has to say: help and version are no fault.
-fn refused(rt: &impl Runtime, error: Error) -> Status {
-    if error.kind() == ErrorKind::OutOfMemory {
-        return memory_fault(rt);
+/// The base that the words give, or the one by default.
+fn base(alloc: Global, matches: &ArgMatches<'_>) -> Result<Base, RunFault>
+    ensures { IfOk result
+        (λ base. first_value (found_of matches.now) (codes "base") ≡ Some base) }
+{
+    match matches.get_str("base") {
+        Some(text) => Base::read(alloc, text).map_err(base_fault),
+        None => Err(RunFault::Base),
     }
-    let printed = error.print(rt);
-    match (error.exit_code(), printed) {
-        (0, Ok(())) => Status::Done,
-        (0, Err(_)) => Status::Fault,
+}
+
+/// Why a base isn't read.
+fn base_fault(fault: NameFault) -> RunFault
+    ensures { result ≡ base_fault fault }
+{
+    match fault {
+        NameFault::Memory => RunFault::Memory,
+        _ => RunFault::Base,
+    }
+}
+
+/// The file that the words name.
+fn file(alloc: Global, matches: &ArgMatches<'_>) -> Result<String, RunFault>
+    ensures { IfOk result
+        (λ file. first_value (found_of matches.now) (codes "FILE") ≡ Some (string_bytes file)) }
+{
+    match matches.get_str("FILE") {
+        Some(text) => Ok(String::from_str(alloc, text)?),
+        None => Err(RunFault::File),
+    }
+}
+
+/// Tells what clap has to say.
+fn tell(rt: &impl Runtime, error: Error) -> Result<Choice, RunFault> {
+    let kind = error.kind();
+    if kind == ErrorKind::OutOfMemory {
+        return Err(RunFault::Memory);
+    }
+    let is_printed = error.print(rt).is_ok();
+    Ok(Choice::Told(words_status(kind, is_printed)))
+}
+
+/// How a run ends that gave help, the version, or told what is wrong with the words.
+fn words_status(kind: ErrorKind, is_printed: bool) -> Status
+    ensures { result ≡ words_status kind is_printed }
+{
+    match kind {
+        ErrorKind::OutOfMemory => Status::Fault,
+        ErrorKind::DisplayHelp | ErrorKind::DisplayVersion if is_printed => Status::Done,
+        ErrorKind::DisplayHelp | ErrorKind::DisplayVersion => Status::Fault,
         _ => Status::Usage,
     }
-}
-
-fn usage(rt: &impl Eprint, why: &str) -> Status {
-    let _ = eprintln!(rt; "error: {why}");
-    Status::Usage
 }

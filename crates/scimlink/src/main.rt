@@ -7,7 +7,7 @@ mod map_users;
 mod status;
 
 use command::{Choice, choose};
-use status::Status;
+use status::{RunFault, Status, told};
 use std::process::ExitCode;
 use std::rt::Runtime;
 
@@ -15,15 +15,19 @@ fn main(rt: HostRuntime) -> ExitCode {
     ExitCode::from(run(&rt).code())
 }
 
-/// Reads the command line and does what it says.
+/// Reads the command line and does what it says. A fault is told on standard error.
 fn run<R: Runtime + AllocGlobal>(rt: &R) -> Status {
-    let words = match command::words(rt) {
-        Ok(words) => words,
-        Err(status) => return status,
-    };
-    match choose(rt, words.as_slice()) {
-        Ok(Choice::Answer { base }) => answering::answer(rt, &base),
-        Ok(Choice::Map { file }) => map_users::map(rt, file.as_str()),
-        Err(status) => status,
+    match done(rt) {
+        Ok(status) => status,
+        Err(fault) => told(rt, fault),
+    }
+}
+
+fn done<R: Runtime + AllocGlobal>(rt: &R) -> Result<Status, RunFault> {
+    let words = command::words(rt)?;
+    match choose(rt, words.as_slice())? {
+        Choice::Answer { base } => answering::answer(rt, &base),
+        Choice::Map { file } => map_users::map(rt, file.as_str()),
+        Choice::Told(status) => Ok(status),
     }
 }

@@ -1,47 +1,29 @@
 //! `map`: the image of each row of a users file, a line each.
-ghost use Rattle.std.specs.Prelude.{◌≡◌};
+ghost use Rattle.std.specs.Prelude.{◌≡◌, IfOk, OnOk};
+ghost use Rattle.std.specs.Io.KnownBytes.{Appends};
+ghost use Rattle.mapping.specs.Lines.{lines_of};
 ghost use Rattle.scimlink.specs.Statuses.{are_rows, records_status};
 
-use crate::status::{Status, file_fault, memory_fault};
-use mapping::{WriteFault, write_images};
-use source_csv::{Row, RowFault, SourceFault, SourceRows, read_users};
-use std::io::{BufWriter, ErrorKind};
+use crate::status::{RunFault, Status};
+use mapping::write_images;
+use source_csv::{Row, RowFault, SourceRows, read_users};
+use std::alloc::Global;
+use std::io::{BufWriter, Write};
 use std::rt::Runtime;
 use std::{fs, io};
 
 /// Tells the refused records of a file on standard error, then prints the images of its rows.
-pub fn map<R: Runtime + AllocGlobal>(rt: &R, file: &str) -> Status {
-    let rows = match users_in(rt, file) {
-        Ok(rows) => rows,
-        Err(status) => return status,
-    };
+pub fn map<R: Runtime + AllocGlobal>(rt: &R, file: &str) -> Result<Status, RunFault> {
+    let rows = users_in(rt, file)?;
     tell_refused(rt, rows.as_slice());
-    match print_images(rt, rows.as_slice()) {
-        Ok(()) => records_status(rows.as_slice()),
-        Err(WriteFault::Memory) => memory_fault(rt),
-        Err(WriteFault::Output) => file_fault(rt),
-    }
+    let mut out = BufWriter::new(rt.alloc(), io::writer(rt))?;
+    print_images(rt.alloc(), rows.as_slice(), &mut out)
 }
 
 /// The records of a file of users.
-fn users_in<R: Runtime + AllocGlobal>(rt: &R, file: &str) -> Result<SourceRows, Status> {
-    let bytes = fs::read(rt, file).map_err(|error| match error.kind() {
-        ErrorKind::OutOfMemory => memory_fault(rt),
-        _ => file_fault(rt),
-    })?;
-    read_users(rt.alloc(), bytes.as_slice()).map_err(|fault| match fault {
-        SourceFault::Header => header_refused(rt),
-        SourceFault::Memory => memory_fault(rt),
-    })
-}
-
-/// Says on standard error that the header isn't lawful.
-fn header_refused(rt: &impl Eprint) -> Status
-    ensures { result ≡ Status.Refused }
-{
-    let fault = SourceFault::Header;
-    let _ = eprintln!(rt; "users: {fault}");
-    Status::Refused
+fn users_in<R: Runtime + AllocGlobal>(rt: &R, file: &str) -> Result<SourceRows, RunFault> {
+    let bytes = fs::read(rt, file)?;
+    Ok(read_users(rt.alloc(), bytes.as_slice())?)
 }
 
 /// Says on standard error which records are refused.
@@ -51,6 +33,20 @@ fn tell_refused(rt: &impl Eprint, rows: &[Result<Row, RowFault>]) {
             let _ = eprintln!(rt; "users {fault}");
         }
     }
+}
+
+/// Prints the images of these records, all of them, and tells how the run then ends.
+fn print_images<W: Write>(
+    alloc: Global,
+    records: &[Result<Row, RowFault>],
+    out: &mut W,
+) -> Result<Status, RunFault>
+    ensures lines { OnOk result
+        (Appends (W.contents out.old) (W.contents out.new) (lines_of records.now)) }
+    ensures status { IfOk result (λ status. status ≡ records_status records.now) }
+{
+    write_images(alloc, records, out)?;
+    Ok(records_status(records))
 }
 
 /// Whether every record was read as a row.
@@ -69,13 +65,4 @@ fn records_status(records: &[Result<Row, RowFault>]) -> Status
     } else {
         Status::Refused
     }
-}
-
-/// Prints the images, through a buffer.
-fn print_images<R: Runtime + AllocGlobal>(
-    rt: &R,
-    rows: &[Result<Row, RowFault>],
-) -> Result<(), WriteFault> {
-    let mut out = BufWriter::new(rt.alloc(), io::writer(rt))?;
-    write_images(rt.alloc(), rows, &mut out)
 }

@@ -1,6 +1,15 @@
 //! How a run ends.
-ghost use Rattle.std.specs.Prelude.{◌≡◌};
-ghost use Rattle.scimlink.specs.Statuses.{status_code};
+ghost use Rattle.std.specs.Prelude.{◌≡◌, ◌≢◌};
+ghost use Rattle.scimlink.specs.Statuses.{fault_status, lines_fault, status_code, users_fault};
+ghost use Rattle.scimlink.specs.declared.status.RunFault.TheVariants.{Memory};
+
+use mapping::WriteFault;
+use source_csv::SourceFault;
+use std::alloc::AllocError;
+use std::io;
+use std::io::ErrorKind;
+use std::rt::Runtime;
+use thiserror::Error;
 
 /// The exit status of the program.
 #[derive(Clone, Copy, Debug, PartialEq, Eq)]
@@ -29,26 +38,93 @@ impl Status {
     }
 }
 
-/// Says on standard error that memory was wanting.
-pub fn memory_fault(rt: &impl Eprint) -> Status
-    ensures { result ≡ Status.Fault }
-{
-    let _ = eprintln!(rt; "memory fault");
-    Status::Fault
+/// What ends a run before it is done. Its text is what standard error is told.
+#[derive(Clone, Copy, Debug, PartialEq, Eq, Error)]
+pub enum RunFault {
+    #[error("error: the command line isn't UTF-8")]
+    Words,
+    #[error("error: there is no such subcommand")]
+    Subcommand,
+    #[error("error: --base is http://HOST/v2")]
+    Base,
+    /// The users file as a whole.
+    #[error("users: {0}")]
+    Users(SourceFault),
+    /// A file couldn't be read, or standard output not be written.
+    #[error("file fault")]
+    File,
+    /// No request came, or its answer couldn't be written whole.
+    #[error("connection fault")]
+    Connection,
+    #[error("memory fault")]
+    Memory,
 }
 
-/// Says on standard error that a connection failed.
-pub fn connection_fault(rt: &impl Eprint) -> Status
-    ensures { result ≡ Status.Fault }
-{
-    let _ = eprintln!(rt; "connection fault");
-    Status::Fault
+impl RunFault {
+    /// How the run ends.
+    pub fn status(self) -> Status
+        ensures { result ≡ fault_status self }
+    {
+        match self {
+            RunFault::Words | RunFault::Subcommand | RunFault::Base => Status::Usage,
+            RunFault::Users(SourceFault::Header) => Status::Refused,
+            RunFault::Users(SourceFault::Memory) => Status::Fault,
+            RunFault::File | RunFault::Connection | RunFault::Memory => Status::Fault,
+        }
+    }
 }
 
-/// Says on standard error that a file couldn't be read, or standard output not be written.
-pub fn file_fault(rt: &impl Eprint) -> Status
-    ensures { result ≡ Status.Fault }
+impl From<AllocError> for RunFault {
+    ghost from_gives = { λ _ fault. fault ≡ Memory };
+
+    fn from(_: AllocError) -> RunFault {
+        RunFault::Memory
+    }
+}
+
+impl From<io::Error> for RunFault {
+    fn from(error: io::Error) -> RunFault {
+        io_fault(error.kind())
+    }
+}
+
+/// Why a file can't be read, or standard output not be written.
+fn io_fault(kind: ErrorKind) -> RunFault
+    ensures memory { kind ≡ ErrorKind.OutOfMemory → result ≡ Memory }
+    ensures file { kind ≢ ErrorKind.OutOfMemory → result ≡ RunFault.File }
 {
-    let _ = eprintln!(rt; "file fault");
-    Status::Fault
+    match kind {
+        ErrorKind::OutOfMemory => RunFault::Memory,
+        _ => RunFault::File,
+    }
+}
+
+impl From<SourceFault> for RunFault {
+    ghost from_gives = { λ users fault. fault ≡ users_fault users };
+
+    fn from(fault: SourceFault) -> RunFault {
+        match fault {
+            SourceFault::Header => RunFault::Users(fault),
+            SourceFault::Memory => RunFault::Memory,
+        }
+    }
+}
+
+impl From<WriteFault> for RunFault {
+    ghost from_gives = { λ lines fault. fault ≡ lines_fault lines };
+
+    fn from(fault: WriteFault) -> RunFault {
+        match fault {
+            WriteFault::Memory => RunFault::Memory,
+            WriteFault::Output => RunFault::File,
+        }
+    }
+}
+
+/// Tells a fault on standard error, and how the run then ends.
+pub fn told(rt: &impl Eprint, fault: RunFault) -> Status
+    ensures { result ≡ fault_status fault }
+{
+    let _ = eprintln!(rt; "{fault}");
+    fault.status()
 }

@@ -8,7 +8,7 @@ use Rattle.source_csv.proofs.RowLemmas.{row_from_test, row_itself}
 use Rattle.source_csv.specs.Records.{row_name, row_revision, same_row}
 use Rattle.source_csv.specs.declared.rows.Row.{Row}
 use Rattle.source_book.specs.Accepting.{Accepts, Accepts.older, Accepts.known, Accepts.differs, Accepts.missing, Accepts.new, IsNewer, accepted, accepting, newer}
-use Rattle.source_book.specs.History.{History, is_user, last_row, members_of, missing_member}
+use Rattle.source_book.specs.History.{AllAreUsers, History, is_user, last_row, members_of, missing_member}
 use Rattle.source_book.specs.declared.accepting.BookFault.{BookFault}
 use Rattle.source_book.specs.declared.accepting.Verdict.{Verdict}
 use Rattle.source_book.specs.declared.accepting.Verdict.TheVariants.{New}
@@ -17,7 +17,7 @@ use Rattle.source_book.specs.declared.accepting.Verdict.TheVariants.{New}
 not_before_itself : (a b : RevisionValue) → a ≡ b → before a b ≡ false
 not_before_itself a b same = false_from_ne_true _ (λ lt. irreflexive b (rw same at lt))
 
-not_before_earlier : (a b : RevisionValue) → a ≺ b → before b a ≡ false
+pub not_before_earlier : (a b : RevisionValue) → a ≺ b → before b a ≡ false
 not_before_earlier a b lt = false_from_ne_true _ (λ back. irreflexive a (transitive a b a lt back))
 
 -- the first member that is no user record
@@ -113,3 +113,10 @@ new_is_newer history row e = above_of (subst (Accepts history row) e (case_of hi
   where
     above_of : Accepts history row (Ok New) → IsNewer history row
     above_of (new above all) = above
+
+-- and its members are user records
+pub new_has_users : (history : History) (row : Row) → accepting history row ≡ Ok New → AllAreUsers history row
+new_has_users history row e = users_of (subst (Accepts history row) e (case_of history row (accepting history row) refl))
+  where
+    users_of : Accepts history row (Ok New) → AllAreUsers history row
+    users_of (new above all) = all

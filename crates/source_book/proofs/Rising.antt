@@ -1,41 +1,20 @@
--- The accepted rows of a record strictly rise, and stay.
-use Rattle.std.proofs.Common.{◌≡◌, ℕ, List, [], ◌∷◌, ◌++◌, true, Some, None, Result, Ok, Err, refl, ap, sym, ◌∙◌, inl, inr, append_assoc}
-use Rattle.std.proofs.lemmas.Bool.{and_parts, cases_Bool}
+-- The accepted rows of a record strictly rise and stay, and their members are user records.
+use Rattle.std.proofs.Common.{◌≡◌, ◌≢◌, ℕ, List, [], ◌∷◌, ◌++◌, true, false, Option, Some, None, is_some, Result, Ok, Err, refl, ap, sym, ◌∙◌, inl, inr, append_assoc}
+use Rattle.std.proofs.lemmas.Bool.{and_parts, cases_Bool, false_from_ne_true}
 use Rattle.std.proofs.lemmas.List.{append-nil}
-use Rattle.std.proofs.lemmas.Slice.Eq.{bytes_eq-Decides}
-use Rattle.std.specs.List.{AllByRecursion, last_or}
-use Rattle.std.specs.Str.{bytes_eq}
-use Rattle.scim_key.proofs.RevisionLaws.{transitive}
-use Rattle.scim_key.specs.Revisions.{◌≺◌}
-use Rattle.scim_key.specs.declared.records.Kind.{Kind}
-use Rattle.scim_key.specs.declared.records.Kind.TheVariants as kind
+use Rattle.std.specs.List.{AllByRecursion, last_or, list_all}
+use Rattle.scim_key.proofs.RecordLaws.{same}
+use Rattle.scim_key.proofs.RevisionLaws.{none_first, transitive}
+use Rattle.scim_key.specs.Revisions.{◌≺◌, ◌≼◌}
 use Rattle.scim_key.specs.declared.records.RecordName.{RecordName}
 use Rattle.source_csv.specs.Records.{row_name, row_revision}
 use Rattle.source_csv.specs.declared.rows.Row.{Row}
-use Rattle.source_book.specs.Accepting.{HistoriesRise, after_verdict, accepting, history_after}
-use Rattle.source_book.specs.History.{History, Rises, rows_of, same_kind, same_name}
+use Rattle.source_book.specs.Accepting.{HistoriesRise, NewRowsGoOn, after_verdict, accepting, history_after}
+use Rattle.source_book.specs.History.{AllAreUsers, AllRise, History, MembersAreUsers, Rises, is_user, last_row, members_of, revision_if, rows_of, same_name, user}
 use Rattle.source_book.specs.declared.accepting.BookFault.{BookFault}
 use Rattle.source_book.specs.declared.accepting.Verdict.{Verdict}
 use Rattle.source_book.specs.declared.accepting.Verdict.TheVariants.{New, Known, Older}
-use Rattle.source_book.proofs.Acceptance.{new_is_newer}
-
--- names that test the same are the same
-kind_from_test : (a b : Kind) → same_kind a b ≡ true → a ≡ b
-kind_from_test kind.User kind.User e = refl
-kind_from_test kind.User kind.Group e = cc
-kind_from_test kind.Group kind.User e = cc
-kind_from_test kind.Group kind.Group e = refl
-
-abbrev record_name : Kind → List ℕ → RecordName
-record_name k key = record { kind = k; key = key }
-
-same_parts : (k k' : Kind) (key key' : List ℕ) → k ≡ k' → key ≡ key' → record_name k key ≡ record_name k' key'
-same_parts k k' key key' e f = rw (e, f)
-
-name_from_test : (a b : RecordName) → same_name a b ≡ true → a ≡ b
-name_from_test a b e =
-    let parts = and_parts (same_kind a.kind b.kind) (bytes_eq a.key b.key) e in
-    same_parts _ _ _ _ (kind_from_test a.kind b.kind parts.0) ((bytes_eq-Decides a.key b.key).0 parts.1)
+use Rattle.source_book.proofs.Acceptance.{new_has_users, new_is_newer, not_before_earlier}
 
 -- one more row at the end
 all_push : (P : Row → Type 0) (rows : List Row) (row : Row) → AllByRecursion P rows → P row → AllByRecursion P (rows ++ row ∷ [])
@@ -60,15 +39,11 @@ rows_of-push (r ∷ history) row name = elim (cases_Bool (same_name (row_name r)
   | inr e ↦ rw (e, rows_of-push history row name)
 ]
 
--- every record's accepted rows rise
-abbrev AllRise : History → Type 0
-AllRise history = (name : RecordName) → Rises (rows_of history name)
-
 push_rises : (history : History) (row : Row) → AllRise history → accepting history row ≡ Ok New → AllRise (history ++ row ∷ [])
 push_rises history row rises e name = rw (rows_of-push history row name) (elim (cases_Bool (same_name (row_name row) name)) [
-  | inl same ↦
-      let named : row_name row ≡ name = name_from_test (row_name row) name same in
-      rw same (rises_push (rows_of history name) row (rises name) (rw named at (new_is_newer history row e)))
+  | inl here ↦
+      let named : row_name row ≡ name = (same (row_name row) name).0 here in
+      rw here (rises_push (rows_of history name) row (rises name) (rw named at (new_is_newer history row e)))
   | inr other ↦ rw (other, append-nil (rows_of history name)) (rises name)
 ])
 
@@ -100,8 +75,71 @@ all_stay history (row ∷ offered) name =
     let (later, rest) = all_stay (after_verdict history row (accepting history row)) offered name in
     (next ++ later, rest ∙ ap (λ (rows : List Row). rows ++ later) first ∙ append_assoc (rows_of history name) next later)
 
+-- a user record stays one, so members stay user records
+last_push : (rows : List Row) (row : Row) (o : Option Row) → last_or o (rows ++ row ∷ []) ≡ Some row
+last_push [] row o = refl
+last_push (r ∷ rows) row o = last_push rows row (Some r)
+
+last_stays : (rows more : List Row) (o : Option Row) → is_some (last_or o rows) ≡ true → is_some (last_or o (rows ++ more)) ≡ true
+last_stays [] [] o some = some
+last_stays [] (row ∷ more) o some = last_stays [] more (Some row) refl
+last_stays (r ∷ rows) more o some = last_stays rows more (Some r) some
+
+user_stays : (history : History) (row : Row) (key : List ℕ) → is_user history key ≡ true → is_user (history ++ row ∷ []) key ≡ true
+user_stays history row key some =
+    rw (rows_of-push history row (user key)) (last_stays (rows_of history (user key)) (rows_of (row ∷ []) (user key)) None some)
+
+users_stay : (history : History) (row : Row) (keys : List (List ℕ)) → list_all (is_user history) keys ≡ true → list_all (is_user (history ++ row ∷ [])) keys ≡ true
+users_stay history row [] all = refl
+users_stay history row (key ∷ keys) all =
+    let parts = and_parts (is_user history key) (list_all (is_user history) keys) all in
+    rw (user_stays history row key parts.0) (users_stay history row keys parts.1)
+
+all_stay_users : (history : History) (row : Row) (rows : List Row) → AllByRecursion (AllAreUsers history) rows → AllByRecursion (AllAreUsers (history ++ row ∷ [])) rows
+all_stay_users history row [] all = tt
+all_stay_users history row (r ∷ rows) all = (users_stay history row (members_of r) all.0, all_stay_users history row rows all.1)
+
+push_members : (history : History) (row : Row) → accepting history row ≡ Ok New → MembersAreUsers history → MembersAreUsers (history ++ row ∷ [])
+push_members history row e all =
+    all_push (AllAreUsers (history ++ row ∷ [])) history row (all_stay_users history row history all) (users_stay history row (members_of row) (new_has_users history row e))
+
+verdict_members : (history : History) (row : Row) (answer : Result Verdict BookFault) → accepting history row ≡ answer → MembersAreUsers history → MembersAreUsers (after_verdict history row answer)
+verdict_members history row (Ok New) e all = push_members history row e all
+verdict_members history row (Ok Known) e all = all
+verdict_members history row (Ok Older) e all = all
+verdict_members history row (Err fault) e all = all
+
+all_members : (history : History) (offered : List Row) → MembersAreUsers history → MembersAreUsers (history_after history offered)
+all_members history [] all = all
+all_members history (row ∷ offered) all =
+    all_members (after_verdict history row (accepting history row)) offered (verdict_members history row (accepting history row) refl all)
+
+-- one new row
+record_goes_on : (history : History) (row : Row) → rows_of (history ++ row ∷ []) (row_name row) ≡ rows_of history (row_name row) ++ row ∷ []
+record_goes_on history row = rows_of-push history row (row_name row) ∙ rw ((same (row_name row) (row_name row)).1 refl) refl
+
+others_stay : (history : History) (row : Row) (name : RecordName) → name ≢ row_name row → rows_of (history ++ row ∷ []) name ≡ rows_of history name
+others_stay history row name other =
+    let differ : same_name (row_name row) name ≡ false = false_from_ne_true _ (λ e. other (sym ((same (row_name row) name).0 e))) in
+    rows_of-push history row name ∙ rw differ (append-nil (rows_of history name))
+
+wanted_before : (held : Option Row) (row : Row) → ((last : Row) → held ≡ Some last → row_revision last ≺ row_revision row) → revision_if held ≼ row_revision row
+wanted_before None row above = none_first (row_revision row)
+wanted_before (Some last) row above = not_before_earlier (row_revision last) (row_revision row) (above last refl)
+
+pub goes_on : NewRowsGoOn
+goes_on history row e = record {
+  of_record = record_goes_on history row;
+  others = others_stay history row;
+  last = ap (last_or None) (record_goes_on history row) ∙ last_push (rows_of history (row_name row)) row None;
+  never_back = wanted_before (last_row history (row_name row)) row (new_is_newer history row e);
+  rises = λ rises. push_rises history row rises e;
+  members = push_members history row e;
+}
+
 pub histories : HistoriesRise
 histories = record {
   rises = λ offered. all_rise [] offered (λ name. tt);
+  members = λ offered. all_members [] offered tt;
   stays = all_stay;
 }

@@ -1,11 +1,11 @@
 -- Accepting a row.
 use Rattle.std.specs.Prelude.{◌≡◌, ◌≢◌, ◌↔◌, ℕ, true, false, List, [], ◌∷◌, ◌++◌, length, Option, Some, None, Result, Ok, Err, if◌then◌else◌}
 use Rattle.std.specs.List.{list_all}
-use Rattle.scim_key.specs.Revisions.{before, ◌≺◌}
+use Rattle.scim_key.specs.Revisions.{before, ◌≺◌, ◌≼◌}
 use Rattle.scim_key.specs.declared.records.RecordName.{RecordName}
 use Rattle.source_csv.specs.Records.{row_name, row_revision, same_row}
 use Rattle.source_csv.specs.declared.rows.Row.{Row}
-use Rattle.source_book.specs.History.{History, Rises, is_user, last_row, members_of, missing_member, rows_of}
+use Rattle.source_book.specs.History.{AllAreUsers, AllRise, History, MembersAreUsers, is_user, last_row, members_of, missing_member, rows_of, wanted}
 use Rattle.source_book.specs.declared.accepting.BookFault.{BookFault}
 use Rattle.source_book.specs.declared.accepting.BookFault.TheVariants.{Differs, NoSuchMember}
 use Rattle.source_book.specs.declared.accepting.Verdict.{Verdict}
@@ -31,10 +31,6 @@ accepted (Some held) row missing =
 abbrev pub IsNewer : History → Row → Type 0
 IsNewer history row = (held : Row) → last_row history (row_name row) ≡ Some held → row_revision held ≺ row_revision row
 
--- every member is a user record of the history
-abbrev pub AllAreUsers : History → Row → Type 0
-AllAreUsers history row = list_all (is_user history) (members_of row) ≡ true
-
 -- the member at this place is none, and every member before it is one
 abbrev pub IsFirstMissing : History → Row → ℕ → Type 0
 IsFirstMissing history row place = (earlier : List (List ℕ)) × (key : List ℕ) × (later : List (List ℕ))
@@ -55,6 +51,22 @@ accepting history row = accepted (last_row history (row_name row)) row (missing_
 abbrev pub AcceptsByHistory : Type 0
 AcceptsByHistory = (history : History) (row : Row) (answer : Result Verdict BookFault) → Accepts history row answer ↔ (answer ≡ accepting history row)
 
+-- What a row that is accepted as new does to the history: it is appended
+pub record GoesOn (history : History) (row : Row) : Type 0 where
+  -- the rows of its record go on with it, and those of every other record stay
+  pub of_record : rows_of (history ++ row ∷ []) (row_name row) ≡ rows_of history (row_name row) ++ row ∷ []
+  pub others : (name : RecordName) → name ≢ row_name row → rows_of (history ++ row ∷ []) name ≡ rows_of history name
+  -- it is what the source wants from now on, and no earlier revision than it wanted before
+  pub last : last_row (history ++ row ∷ []) (row_name row) ≡ Some row
+  pub never_back : wanted history (row_name row) ≼ row_revision row
+  -- the rows of each record still strictly rise, and members are still user records
+  pub rises : AllRise history → AllRise (history ++ row ∷ [])
+  pub members : MembersAreUsers history → MembersAreUsers (history ++ row ∷ [])
+
+-- so it is of every row that is accepted as new
+abbrev pub NewRowsGoOn : Type 0
+NewRowsGoOn = (history : History) (row : Row) → accepting history row ≡ Ok New → GoesOn history row
+
 -- the history after a row was offered: a new one is appended, and no other changes it
 abbrev pub after_verdict : History → Row → Result Verdict BookFault → History
 after_verdict history row (Ok New) = history ++ row ∷ []
@@ -67,8 +79,10 @@ abbrev pub history_after : History → List Row → History
 history_after history [] = history
 history_after history (row ∷ rows) = history_after (after_verdict history row (accepting history row)) rows
 
--- whatever rows are offered, the accepted ones of each record strictly rise, and none is lost or changed later
+-- whatever rows are offered, the accepted ones of each record strictly rise, none is lost or changed later,
+-- and every member of an accepted row is a user record
 pub record HistoriesRise : Type 0 where
-  pub rises : (offered : List Row) (name : RecordName) → Rises (rows_of (history_after [] offered) name)
+  pub rises : (offered : List Row) → AllRise (history_after [] offered)
+  pub members : (offered : List Row) → MembersAreUsers (history_after [] offered)
   pub stays : (history : History) (offered : List Row) (name : RecordName)
       → (later : List Row) × (rows_of (history_after history offered) name ≡ rows_of history name ++ later)

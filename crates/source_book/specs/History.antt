@@ -1,27 +1,16 @@
 -- The history of the source: the rows that were accepted.
-use Rattle.std.specs.Prelude.{ℕ, Bool, true, false, not, List, [], ◌∷◌, Option, None, ◌&&◌, is_some}
-use Rattle.std.specs.List.{AllByRecursion, filter, last_or, position_from}
-use Rattle.std.specs.Str.{bytes_eq}
-use Rattle.scim_key.specs.Revisions.{◌≺◌}
-use Rattle.scim_key.specs.declared.records.Kind.{Kind}
-use Rattle.scim_key.specs.declared.records.Kind.TheVariants as kind
+use Rattle.std.specs.Prelude.{◌≡◌, ℕ, Bool, true, not, List, [], ◌∷◌, Option, Some, None, is_some}
+use Rattle.std.specs.List.{AllByRecursion, filter, last_or, list_all, position_from}
+pub use Rattle.scim_key.specs.Records.{same_kind, same_name}
+use Rattle.scim_key.specs.Revisions.{RevisionValue, no_revision, ◌≺◌}
 use Rattle.scim_key.specs.declared.records.RecordName.{RecordName}
 use Rattle.source_csv.specs.Records.{row_name, row_revision}
+pub use Rattle.source_csv.specs.Records.{user, members_of}
 use Rattle.source_csv.specs.declared.rows.Row.{Row}
-use Rattle.source_csv.specs.declared.rows.Row.TheVariants.{User, Group}
 
 -- all accepted rows, in the order in which they were accepted
 abbrev pub History : Type 0
 History = List Row
-
-abbrev pub same_kind : Kind → Kind → Bool
-same_kind kind.User kind.User = true
-same_kind kind.User kind.Group = false
-same_kind kind.Group kind.User = false
-same_kind kind.Group kind.Group = true
-
-abbrev pub same_name : RecordName → RecordName → Bool
-same_name a b = same_kind a.kind b.kind && bytes_eq a.key b.key
 
 -- the accepted rows of a record, in their order
 abbrev pub rows_of : History → RecordName → List Row
@@ -31,24 +20,36 @@ rows_of history name = filter (λ row. same_name (row_name row) name) history
 abbrev pub last_row : History → RecordName → Option Row
 last_row history name = last_or None (rows_of history name)
 
--- the record of the user with this key
-abbrev pub user : List ℕ → RecordName
-user key = record { kind = kind.User; key = key }
-
 -- whether the history has a user record with this key
 abbrev pub is_user : History → List ℕ → Bool
 is_user history key = is_some (last_row history (user key))
-
--- the keys of the members of a group's row; a user's row has none
-abbrev pub members_of : Row → List (List ℕ)
-members_of (User row) = []
-members_of (Group row) = row.members
 
 -- the place, from 0, of a row's first member by key that is no user record of the history
 abbrev pub missing_member : History → Row → Option ℕ
 missing_member history row = position_from (λ key. not (is_user history key)) 0 (members_of row)
 
+-- the revision of a row, if there is one
+abbrev pub revision_if : Option Row → RevisionValue
+revision_if None = no_revision
+revision_if (Some row) = row_revision row
+
+-- the revision that the source wants of a record: that of its last row
+abbrev pub wanted : History → RecordName → RevisionValue
+wanted history name = revision_if (last_row history name)
+
+-- every member of a row is a user record of the history
+abbrev pub AllAreUsers : History → Row → Type 0
+AllAreUsers history row = list_all (is_user history) (members_of row) ≡ true
+
+-- every member of every row is one
+abbrev pub MembersAreUsers : History → Type 0
+MembersAreUsers history = AllByRecursion (AllAreUsers history) history
+
 -- each row is of a higher revision than all before it
 abbrev pub Rises : List Row → Type 0
 Rises [] = Unit {0}
 Rises (row ∷ rows) = AllByRecursion (λ later. row_revision row ≺ row_revision later) rows × Rises rows
+
+-- the rows of each record are
+abbrev pub AllRise : History → Type 0
+AllRise history = (name : RecordName) → Rises (rows_of history name)

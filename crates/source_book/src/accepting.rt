@@ -1,7 +1,7 @@
 //! Accepting a row, by the last accepted row of its record.
 ghost use Rattle.std.specs.Prelude.{◌≡◌};
 ghost use Rattle.std.specs.Option.{option_copied};
-ghost use Rattle.source_book.specs.Accepting.{AcceptsByHistory, HistoriesRise, accepted, newer};
+ghost use Rattle.source_book.specs.Accepting.{AcceptsByHistory, HistoriesRise, NewRowsGoOn, accepted, newer};
 
 use source_csv::Row;
 use thiserror::Error;
@@ -63,7 +63,12 @@ pub fn accept_is_by_history()
     ensures { AcceptsByHistory }
 {}
 
-/// The accepted rows of a record strictly rise, and stay.
+/// A new row is the last of its record, whose rows go on and rise, and no other record changes.
+pub fn new_rows_go_on()
+    ensures { NewRowsGoOn }
+{}
+
+/// The accepted rows of a record strictly rise and stay, and their members are user records.
 pub fn histories_rise()
     ensures { HistoriesRise }
 {}

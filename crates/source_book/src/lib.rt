@@ -3,4 +3,6 @@
 
 mod accepting;
 
-pub use accepting::{BookFault, Verdict, accept, accept_is_by_history, histories_rise};
+pub use accepting::{
+    BookFault, Verdict, accept, accept_is_by_history, histories_rise, new_rows_go_on,
+};

@@ -1,16 +1,12 @@
 -- The readers of fields, as the code takes its steps.
-use Rattle.std.proofs.Common.{◌≡◌, ◌<◌, ◌≤◌, ◌^◌, ℕ, List, [], ◌∷◌, Bool, true, false, cond, Result, Ok, Err, length, refl, ◌∙◌, ◌&&◌, nat_le, arith, rules}
+use Rattle.std.proofs.Common.{◌≡◌, [], ◌∷◌, Bool, true, false, cond, Ok, Err, length, refl, ◌∙◌, arith}
 use Rattle.std.proofs.lemmas.Bool.{and_parts, false_from_ne_true}
-use Rattle.std.proofs.lemmas.Bool.Decides.{nat_tests}
 use Rattle.std.proofs.lemmas.Str.{IsUtf8-from_is_utf8, is_utf8-from_IsUtf8}
-use Rattle.std.proofs.lemmas.Str.Parse.{IsNumeralModel, numerals_by_value, parse_gives, digits_value_short}
-use Rattle.std.specs.Char.{is_ascii_digit}
 use Rattle.std.specs.List.{list_all}
 use Rattle.std.specs.Str.{is_utf8}
-use Rattle.std.specs.Str.Parse.{ParsesUnsigned, digits_value}
 use Rattle.csv.specs.Records.{AllText, field_at}
 use Rattle.scim_key.specs.Outcome.{◌>>=◌}
-use Rattle.source_csv.specs.Fields.{Record, field, is_numeral, read_group, read_group_fields, read_texts, read_user, read_user_fields}
+use Rattle.source_csv.specs.Fields.{Record, field, read_group, read_group_fields, read_texts, read_user, read_user_fields}
 use Rattle.source_csv.specs.declared.faults.RowCode.{RowCode}
 use Rattle.source_csv.specs.declared.faults.RowCode.TheVariants as code
 
@@ -84,16 +80,3 @@ pub read_group-other : (fields : Record) → (length fields ≡ 3 → ⊥) → r
 unfolding read_group
 read_group-other (a ∷ b ∷ c ∷ []) other = absurd (other refl)
 read_group-other fields other = refl
-
--- 18 digits fit 64 bits
-numerals : IsNumeralModel (λ text. list_all is_ascii_digit text ≡ true) (digits_value 10)
-numerals = numerals_by_value _ (search rules)
-
-pub numeral_is_read : {E : Type 0} (text : List ℕ) (r : Result ℕ E) → ParsesUnsigned 64 10 text r → is_numeral text ≡ true → r ≡ Ok (digits_value 10 text)
-numeral_is_read text r parses numeral =
-    let front = and_parts (nat_le 1 (length text) && nat_le (length text) 18) (list_all is_ascii_digit text) numeral in
-    let sizes = and_parts (nat_le 1 (length text)) (nat_le (length text) 18) front.0 in
-    let some : 0 < length text = grind (arith, nat_tests) in
-    let short : length text ≤ 18 = grind (arith, nat_tests) in
-    let small : digits_value 10 text < 10 ^ 18 = digits_value_short numerals text 18 front.1 short in
-    parse_gives numerals 64 text r parses front.1 some (omega arith)

@@ -1,6 +1,7 @@
 -- The records of a file: its header, and the rest one by one.
-use Rattle.std.proofs.Common.{◌≡◌, ℕ, suc, ◌+◌, List, [], ◌∷◌, ◌++◌, Bool, true, false, Some, None, Result, Ok, Bor, length, refl, ap, sym, subst, inl, append_assoc, length-append, ◌∙◌, ◌&&◌, arith, codes}
+use Rattle.std.proofs.Common.{◌≡◌, ℕ, suc, ◌+◌, List, [], ◌∷◌, ◌++◌, Bool, true, false, Some, None, Result, Ok, Bor, length, refl, ap, sym, subst, inl, append_assoc, length-append, ◌∙◌, ◌&&◌, arith}
 use Rattle.std.proofs.lemmas.Bool.{and_parts, false_from_ne_true}
+use Rattle.std.specs.List.{enumerate_from, list_all}
 use Rattle.std.specs.Str.{bytes_eq}
 use Rattle.csv.specs.Machine.{Read, next_record}
 use Rattle.csv.specs.Reading.{AreRecords, FlexibleStep, Reached, RowStep, default_config}
@@ -12,18 +13,8 @@ use Rattle.source_csv.specs.declared.rows.Row.{Row as SourceRow}
 use Rattle.source_csv.specs.declared.faults.RowFault.{RowFault}
 use Rattle.source_csv.specs.Fields.{Record, field}
 use Rattle.scim_key.specs.declared.records.Kind.{Kind}
-use Rattle.scim_key.specs.declared.records.Kind.TheVariants as kind
 use Rattle.source_csv.specs.Reader.{IsAt}
-use Rattle.source_csv.specs.Files.{at_place, header_of, read_row, rows_from, rows_of, same_record}
-
--- the headers, field by field
-abbrev pub users_by_place : Record → Bool
-users_by_place fields =
-    bytes_eq (field fields 0) (codes "login") && (bytes_eq (field fields 1) (codes "revision") && (bytes_eq (field fields 2) (codes "number")
-    && (bytes_eq (field fields 3) (codes "given") && (bytes_eq (field fields 4) (codes "family") && (bytes_eq (field fields 5) (codes "mail") && (bytes_eq (field fields 6) (codes "status") && true))))))
-
-abbrev pub groups_by_place : Record → Bool
-groups_by_place fields = bytes_eq (field fields 0) (codes "name") && (bytes_eq (field fields 1) (codes "revision") && (bytes_eq (field fields 2) (codes "members") && true))
+use Rattle.source_csv.specs.Files.{at_place, header_of, named, read_row, rows_from, rows_of, same_record}
 
 same_length : (one two : Record) → same_record one two ≡ true → length one ≡ length two
 same_length [] [] e = refl
@@ -31,18 +22,32 @@ same_length [] (f ∷ two) e = cc
 same_length (f ∷ one) [] e = cc
 same_length (f ∷ one) (g ∷ two) e = ap suc (same_length one two (and_parts (bytes_eq f g) (same_record one two) e).1)
 
-pub header_of_seven : (fields : Record) → length fields ≡ 7 → users_by_place fields ≡ same_record fields (header_of kind.User)
+-- columns are asked field by field
+field_seam : (front rest : Record) (f : List ℕ) → field (front ++ f ∷ rest) (length front) ≡ f
 unfolding field_at
-header_of_seven (a ∷ b ∷ c ∷ d ∷ e ∷ f ∷ g ∷ []) seven = refl
-header_of_seven fields seven = absurd (omega arith)
+field_seam [] rest f = refl
+field_seam (g ∷ front) rest f = field_seam front rest f
 
-pub header_of_three : (fields : Record) → length fields ≡ 3 → groups_by_place fields ≡ same_record fields (header_of kind.Group)
-unfolding field_at
-header_of_three (a ∷ b ∷ c ∷ []) three = refl
-header_of_three fields three = absurd (omega arith)
+match_from : (front rest : Record) (columns : List (Bor (List ℕ))) → length rest ≡ length columns
+    → list_all (λ p. bytes_eq (field (front ++ rest) p.0) p.1.now) (enumerate_from (length front) columns) ≡ same_record rest (named columns)
+match_from front [] [] same = refl
+match_from front [] (c ∷ columns) same = absurd (omega arith)
+match_from front (f ∷ rest) [] same = absurd (omega arith)
+match_from front (f ∷ rest) (c ∷ columns) same =
+    let next = match_from (front ++ f ∷ []) rest columns (omega arith) in
+    let place : length (front ++ f ∷ []) ≡ length front + 1 = simp length-append (omega arith) in
+    rw field_seam (ap (λ (b : Bool). bytes_eq f c.now && b) (rw (append_assoc, place) at next))
 
-pub header_of_other : (fields header : Record) → (length fields ≡ length header → ⊥) → false ≡ same_record fields header
-header_of_other fields header other = sym (false_from_ne_true _ (λ e. other (same_length fields header e)))
+pub columns_match : (fields : Record) (columns : List (Bor (List ℕ))) → length fields ≡ length columns
+    → list_all (λ p. bytes_eq (field fields p.0) p.1.now) (enumerate_from 0 columns) ≡ same_record fields (named columns)
+columns_match fields columns same = match_from [] fields columns same
+
+length_named : (columns : List (Bor (List ℕ))) → length (named columns) ≡ length columns
+length_named [] = refl
+length_named (c ∷ columns) = ap suc (length_named columns)
+
+pub columns_other : (fields : Record) (columns : List (Bor (List ℕ))) → (length fields ≡ length columns → ⊥) → false ≡ same_record fields (named columns)
+columns_other fields columns other = sym (false_from_ne_true _ (λ e. other (same_length fields (named columns) e ∙ length_named columns)))
 
 -- where a record comes next, it is the first of the records, and where none does, there are no records
 pub first_record : (s : State) (xs : List ℕ) (p : Read) (records : List Record)

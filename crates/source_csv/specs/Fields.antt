@@ -1,14 +1,16 @@
 -- What the fields of a record say, and what a record is as a row: the first refusal that stands in it decides.
-use Rattle.std.specs.Prelude.{◌≡◌, ℕ, Bool, true, false, List, [], ◌∷◌, Result, Ok, Err, ◌&&◌, if◌then◌else◌, ◌||◌, ◌==◌, nat_le, nat_lt, length, map, codes, is_none, unwrap_or}
+use Rattle.std.specs.Prelude.{◌≡◌, ℕ, Bool, true, false, List, [], ◌∷◌, Result, Ok, Err, if◌then◌else◌, ◌||◌, ◌==◌, nat_le, nat_lt, length, map, codes, is_none, unwrap_or}
 use Rattle.std.specs.List.{list_all, list_any, slice_split}
-use Rattle.std.specs.Char.{is_ascii_digit}
+use Rattle.std.specs.Option.{ok_or}
 use Rattle.std.specs.Str.{bytes_eq, is_utf8}
-use Rattle.std.specs.Str.Parse.{digits_value}
 use Rattle.csv.specs.Records.{field_at}
 use Rattle.scim_key.specs.Names.{group_name_fault, key_of, user_name_fault}
 use Rattle.scim_key.specs.Outcome.{◌>>=◌}
-use Rattle.scim_key.specs.Revisions.{RevisionValue, is_revision}
-use Rattle.source_csv.specs.Rows.{GroupFields, UserFields, member_limit, precedes, value_limit}
+use Rattle.scim_key.specs.Revisions as revisions
+use Rattle.scim_key.specs.Revisions.{RevisionValue}
+use Rattle.source_csv.specs.Rows.{GroupFields, UserFields, precedes}
+use Rattle.source_csv.specs.declared.groups.TheConstants.{MEMBER_LIMIT}
+use Rattle.source_csv.specs.declared.users.TheConstants.{VALUE_LIMIT}
 use Rattle.source_csv.specs.declared.faults.RowCode.{RowCode}
 use Rattle.source_csv.specs.declared.faults.RowCode.TheVariants as code
 use Rattle.source_csv.specs.declared.faults.Refusal.{Refusal}
@@ -26,17 +28,13 @@ read_texts fields = if list_all is_utf8 fields then Ok fields else Err code.NotU
 unfoldable pub read_login : List ℕ → Result (List ℕ) RowCode
 read_login text = if is_none (user_name_fault text) then Ok text else Err code.Name
 
--- 1 to 18 digits, whatever zeros lead
-abbrev pub is_numeral : List ℕ → Bool
-is_numeral text = nat_le 1 (length text) && nat_le (length text) 18 && list_all is_ascii_digit text
-
--- S5: a revision is 1 to 18 digits with a value in its range
+-- S5: a revision is one that `scim_key` reads
 unfoldable pub read_revision : List ℕ → Result RevisionValue RowCode
-read_revision text = if is_numeral text && is_revision (digits_value 10 text) then Ok (digits_value 10 text) else Err code.Revision
+read_revision text = ok_or (revisions.read_revision text) code.Revision
 
--- S6: a number, a given name, a family name or a mail has at most 256 bytes
+-- S6: a number, a given name, a family name or a mail has at most `VALUE_LIMIT` bytes
 unfoldable pub read_value : List ℕ → Result (List ℕ) RowCode
-read_value text = if nat_le (length text) value_limit then Ok text else Err code.Value
+read_value text = if nat_le (length text) VALUE_LIMIT then Ok text else Err code.Value
 
 -- S6: a status is `active` or `left`
 unfoldable pub read_status : List ℕ → Result Bool RowCode
@@ -98,11 +96,11 @@ abbrev pub has_repeat : List (List ℕ) → Bool
 has_repeat [] = false
 has_repeat (key ∷ keys) = list_any (bytes_eq key) keys || has_repeat keys
 
--- S9: two members have one key; S10: there are more than 400
+-- S9: two members have one key; S10: there are more than `MEMBER_LIMIT`
 unfoldable pub read_keys : List (List ℕ) → Result (List (List ℕ)) RowCode
 read_keys keys =
     if has_repeat keys then Err code.RepeatedMember
-    else if nat_lt member_limit (length keys) then Err code.TooManyMembers
+    else if nat_lt MEMBER_LIMIT (length keys) then Err code.TooManyMembers
     else Ok (in_order keys)
 
 -- a record's fields by name, as a row

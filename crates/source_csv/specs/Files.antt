@@ -1,13 +1,15 @@
 -- What a file of the source says: a header, and for each record after it a row or a refusal.
-use Rattle.std.specs.Prelude.{◌≡◌, ℕ, ◌+◌, Bool, List, [], ◌∷◌, Result, Ok, Err, if◌then◌else◌, codes}
+use Rattle.std.specs.Prelude.{◌≡◌, ℕ, ◌+◌, Bool, List, [], ◌∷◌, Result, Ok, Err, if◌then◌else◌, map}
 use Rattle.std.specs.Cmp.Lexicographic.{pointwise}
 use Rattle.std.specs.Str.{bytes_eq}
+use denote.Ref.{Bor}
 use Rattle.csv.specs.Reading.{AreRecords, default_config, strip_bom}
 use Rattle.csv.specs.declared.parser.State.TheVariants.{StartRecord}
 use Rattle.scim_key.specs.Outcome.{◌>>=◌}
 use Rattle.scim_key.specs.declared.records.Kind.{Kind}
 use Rattle.scim_key.specs.declared.records.Kind.TheVariants as kind
 use Rattle.source_csv.specs.Fields.{Record, read_group, read_user}
+use Rattle.source_csv.specs.declared.files.TheConstants.{GROUP_COLUMNS, USER_COLUMNS}
 use Rattle.source_csv.specs.declared.faults.RowCode.{RowCode}
 use Rattle.source_csv.specs.declared.faults.RowFault.{RowFault}
 use Rattle.source_csv.specs.declared.faults.SourceFault.{SourceFault}
@@ -20,10 +22,14 @@ use Rattle.source_csv.specs.declared.rows.Row.TheVariants.{User, Group}
 abbrev pub AreRecordsOf : List ℕ → List Record → Type 0
 AreRecordsOf bytes records = AreRecords default_config StartRecord (strip_bom bytes) records
 
--- the header of a file of users, and of one of groups
+-- the record with these names of columns as its fields
+abbrev pub named : List (Bor (List ℕ)) → Record
+named columns = map (λ column. column.now) columns
+
+-- the header of a file of this kind: its columns
 abbrev pub header_of : Kind → Record
-header_of kind.User = codes "login" ∷ codes "revision" ∷ codes "number" ∷ codes "given" ∷ codes "family" ∷ codes "mail" ∷ codes "status" ∷ []
-header_of kind.Group = codes "name" ∷ codes "revision" ∷ codes "members" ∷ []
+header_of kind.User = map (λ column. column.now) USER_COLUMNS
+header_of kind.Group = map (λ column. column.now) GROUP_COLUMNS
 
 -- whether two records have the same fields, by bytes
 abbrev pub same_record : Record → Record → Bool

@@ -3,13 +3,12 @@ use Rattle.std.specs.Prelude.{◌≡◌, ℕ, Bool, true, List, [], ◌∷◌, l
 use Rattle.std.specs.Bool.{beq}
 use Rattle.std.specs.Cmp.Lexicographic.{pointwise, slice_cmp}
 use Rattle.std.specs.Ordering.{nat_cmp, is_lt}
+use Rattle.std.specs.List.{AllByRecursion}
 use Rattle.std.specs.Str.{bytes_eq}
-use Rattle.scim_key.specs.Names.{IsGroupName, IsUserName}
+use Rattle.scim_key.specs.Names.{IsGroupName, IsKey, IsUserName}
 use Rattle.scim_key.specs.Revisions.{RevisionValue, IsRevision}
-
--- how many bytes a user's number, given name, family name and mail have at most
-abbrev pub value_limit : ℕ
-value_limit = 256
+use Rattle.source_csv.specs.declared.groups.TheConstants.{MEMBER_LIMIT}
+use Rattle.source_csv.specs.declared.users.TheConstants.{VALUE_LIMIT}
 
 -- a row of a user. An empty number, given name, family name or mail is none
 pub record UserFields : Type 0 where
@@ -25,10 +24,10 @@ pub record UserFields : Type 0 where
 pub record IsUserRow (row : UserFields) : Type 0 where
   pub login : IsUserName row.login
   pub revision : IsRevision row.revision
-  pub number : length row.number ≤ value_limit
-  pub given : length row.given ≤ value_limit
-  pub family : length row.family ≤ value_limit
-  pub mail : length row.mail ≤ value_limit
+  pub number : length row.number ≤ VALUE_LIMIT
+  pub given : length row.given ≤ VALUE_LIMIT
+  pub family : length row.family ≤ VALUE_LIMIT
+  pub mail : length row.mail ≤ VALUE_LIMIT
 
 -- whether the numbers, names and mails of two rows are equal, by bytes
 abbrev pub same_values : UserFields → UserFields → Bool
@@ -37,10 +36,6 @@ same_values a b = bytes_eq a.number b.number && bytes_eq a.given b.given && byte
 -- whether all fields of two rows of users are equal, by bytes: a login in another spelling is another field
 abbrev pub same_user : UserFields → UserFields → Bool
 same_user a b = bytes_eq a.login b.login && (a.revision == b.revision) && beq a.active b.active && same_values a b
-
--- how many members a group has at most
-abbrev pub member_limit : ℕ
-member_limit = 400
 
 -- whether a key stands before another in byte order
 unfoldable pub precedes : List ℕ → List ℕ → Bool
@@ -52,6 +47,14 @@ are_rising [] = true
 are_rising (key ∷ []) = true
 are_rising (key ∷ next ∷ keys) = precedes key next && are_rising (next ∷ keys)
 
+-- the key of a user: a `userName` in which no letter is a capital
+pub record IsUserKey (key : List ℕ) : Type 0 where
+  pub named : IsUserName key
+  pub lowered : IsKey key
+
+abbrev pub AreUserKeys : List (List ℕ) → Type 0
+AreUserKeys keys = AllByRecursion IsUserKey keys
+
 -- a row of a group. Its members are the keys of their names, in byte order
 pub record GroupFields : Type 0 where
   pub name : List ℕ
@@ -62,8 +65,9 @@ pub record GroupFields : Type 0 where
 pub record IsGroupRow (row : GroupFields) : Type 0 where
   pub name : IsGroupName row.name
   pub revision : IsRevision row.revision
-  pub few : length row.members ≤ member_limit
+  pub few : length row.members ≤ MEMBER_LIMIT
   pub rising : are_rising row.members ≡ true
+  pub keys : AreUserKeys row.members
 
 -- the same of two rows of groups
 abbrev pub same_group : GroupFields → GroupFields → Bool

@@ -3,12 +3,11 @@ ghost use Rattle.std.specs.Prelude.{◌≡◌, ◌≤◌, Ok, Err, IfOk, MatchRe
 ghost use Rattle.csv.specs.Records.{fields_of};
 ghost use Rattle.scim_key.specs.Names.{IsGroupName, IsUserName};
 ghost use Rattle.scim_key.specs.Revisions.{IsRevision};
-ghost use Rattle.std.specs.Char.{is_ascii_digit};
-ghost use Rattle.std.specs.List.{list_all};
-ghost use Rattle.source_csv.specs.Fields.{Reads, ReadsBy, field, is_numeral, read_group_name, read_login, read_revision, read_status, read_texts, read_value};
-ghost use Rattle.source_csv.specs.Rows.{value_limit};
+ghost use Rattle.source_csv.specs.Fields.{Reads, ReadsBy, field, read_group_name, read_login, read_revision, read_status, read_texts, read_value};
+ghost use Rattle.source_csv.specs.Rows.{};
 
 use crate::faults::{Refusal, RowCode};
+use crate::users::VALUE_LIMIT;
 use csv::{ByteRecord, StringRecord};
 use scim_key::{GroupName, NameFault, Revision, UserName};
 use std::alloc::Global;
@@ -57,42 +56,22 @@ pub(crate) fn group_name_of(alloc: Global, text: &str) -> Result<GroupName, Refu
     }
 }
 
-/// Whether every byte is an ASCII digit.
-fn are_digits(bytes: &[u8]) -> bool
-    ensures { result ≡ list_all is_ascii_digit bytes.now }
-{
-    bytes.iter().all(|b| b.is_ascii_digit())
-}
-
-/// Whether a text is 1 to 18 digits.
-fn is_numeral(text: &str) -> bool
-    ensures { result ≡ is_numeral text.now }
-{
-    text.len() >= 1 && text.len() <= 18 && are_digits(text.as_bytes())
-}
-
 /// The revision that a text spells, with whatever zeros in front.
 #[tactic(auto, unfolding(crate::specs::Fields::read_revision))]
 pub(crate) fn revision_of(text: &str) -> Result<Revision, RowCode>
     ensures exact { result ≡ read_revision text.now }
     ensures lawful { IfOk result (λ revision. IsRevision revision) }
 {
-    if !is_numeral(text) {
-        return Err(RowCode::Revision);
-    }
-    match text.parse::<u64>() {
-        Ok(number) => Revision::of_number(number).ok_or(RowCode::Revision),
-        Err(_) => Err(RowCode::Revision),
-    }
+    Revision::read(text).ok_or(RowCode::Revision)
 }
 
-/// A text of at most 256 bytes.
+/// A text of at most `VALUE_LIMIT` bytes.
 #[tactic(auto, unfolding(crate::specs::Fields::read_value))]
 pub(crate) fn value_of(alloc: Global, text: &str) -> Result<String, Refusal>
     ensures exact { ReadsBy string_bytes result (read_value text.now) }
-    ensures lawful { IfOk result (λ value. string_len value ≤ value_limit) }
+    ensures lawful { IfOk result (λ value. string_len value ≤ VALUE_LIMIT) }
 {
-    if text.len() > 256 {
+    if text.len() > VALUE_LIMIT {
         return Err(Refusal::Refused(RowCode::Value));
     }
     Ok(String::from_str(alloc, text)?)

@@ -10,7 +10,7 @@ ghost use Rattle.scim_key.specs.Outcome.{Gives};
 ghost use Rattle.scim_key.specs.declared.records.Kind.TheVariants as kind;
 ghost use Rattle.source_csv.specs.Fields.{Reads, Record, field};
 ghost use Rattle.source_csv.specs.Reader.{IsAt};
-ghost use Rattle.source_csv.specs.Files.{AreRecordsOf, FilesHaveRecords, at_place, header_of, read_row, rows_of, same_record};
+ghost use Rattle.source_csv.specs.Files.{AreRecordsOf, FilesHaveRecords, at_place, header_of, named, read_row, rows_of, same_record};
 
 use crate::faults::{Refusal, RowFault, SourceFault};
 use crate::groups::read_group;
@@ -20,6 +20,14 @@ use csv::{ByteRecord, ByteRecordsIntoIter, ReaderBuilder};
 use scim_key::Kind;
 use std::alloc::Global;
 use std::marker::Model;
+
+/// The columns of a file of users, as its header names them.
+pub const USER_COLUMNS: [&str; 7] = [
+    "login", "revision", "number", "given", "family", "mail", "status",
+];
+
+/// The columns of a file of groups.
+pub const GROUP_COLUMNS: [&str; 3] = ["name", "revision", "members"];
 
 /// The records of a file in their order: each is a row, or is refused.
 #[derive(Debug, Drop)]
@@ -71,22 +79,11 @@ fn has_fields(raw: &ByteRecord, names: &[&str]) -> bool
         .all(|(place, name)| has_field(raw, place, name))
 }
 
-/// Whether a record is the header of a file of users.
-fn is_users_header(raw: &ByteRecord) -> bool
-    ensures { result ≡ same_record (fields_of raw.now) (header_of kind.User) }
+/// Whether a record has these columns, and no others.
+fn has_columns(raw: &ByteRecord, columns: &[&str]) -> bool
+    ensures { result ≡ same_record (fields_of raw.now) (named columns.now) }
 {
-    let names = [
-        "login", "revision", "number", "given", "family", "mail", "status",
-    ];
-    raw.len() == names.len() && has_fields(raw, &names)
-}
-
-/// Whether a record is the header of a file of groups.
-fn is_groups_header(raw: &ByteRecord) -> bool
-    ensures { result ≡ same_record (fields_of raw.now) (header_of kind.Group) }
-{
-    let names = ["name", "revision", "members"];
-    raw.len() == names.len() && has_fields(raw, &names)
+    raw.len() == columns.len() && has_fields(raw, columns)
 }
 
 /// Whether a record is the header of a file of this kind.
@@ -94,8 +91,8 @@ fn is_header(kind: Kind, raw: &ByteRecord) -> bool
     ensures { result ≡ same_record (fields_of raw.now) (header_of kind) }
 {
     match kind {
-        Kind::User => is_users_header(raw),
-        Kind::Group => is_groups_header(raw),
+        Kind::User => has_columns(raw, &USER_COLUMNS),
+        Kind::Group => has_columns(raw, &GROUP_COLUMNS),
     }
 }
 

@@ -6,7 +6,7 @@ ghost use Rattle.scim_key.specs.Names.{IsGroupName};
 ghost use Rattle.scim_key.specs.Revisions.{IsRevision};
 ghost use Rattle.csv.specs.Records.{fields_of};
 ghost use Rattle.source_csv.specs.Fields.{Reads, ReadsBy, field, read_group, read_group_fields, read_keys, read_member, read_members};
-ghost use Rattle.source_csv.specs.Rows.{same_group, member_limit, are_rising, precedes};
+ghost use Rattle.source_csv.specs.Rows.{AreUserKeys, IsGroupRow, same_group, are_rising, precedes};
 
 use crate::faults::{Refusal, RowCode};
 use crate::fields::{field, group_name_of, login_of, revision_of, texts_of};
@@ -15,8 +15,11 @@ use scim_key::{GroupName, Key, Revision};
 use std::alloc::{AllocError, Global};
 use std::marker::Model;
 
-/// What the source says of a group at a revision. Its members are the keys of at most 400 users, in
-/// byte order.
+/// How many members a group has at most.
+pub const MEMBER_LIMIT: usize = 400;
+
+/// What the source says of a group at a revision. Its members are the keys of at most `MEMBER_LIMIT`
+/// users, in byte order.
 #[derive(Debug)]
 pub struct GroupRow {
     name: GroupName,
@@ -87,18 +90,18 @@ fn are_rising(keys: &[Key]) -> bool
     true
 }
 
-/// The keys in byte order, where there are at most 400 and none stands twice.
+/// The keys in byte order, where there are at most `MEMBER_LIMIT` and none stands twice.
 #[tactic(auto, unfolding(crate::specs::Fields::read_keys))]
 fn in_order(mut keys: Vec<Key>) -> Result<Vec<Key>, RowCode>
     ensures exact { MatchResult result (λ sorted. read_keys keys.items ≡ Ok sorted.items) (λ code. read_keys keys.items ≡ Err code) }
-    ensures few { IfOk result (λ sorted. length sorted.items ≤ member_limit) }
+    ensures few { IfOk result (λ sorted. length sorted.items ≤ MEMBER_LIMIT) }
     ensures rising { IfOk result (λ sorted. are_rising sorted.items ≡ true) }
 {
     keys.sort_unstable();
     if !are_rising(&keys) {
         return Err(RowCode::RepeatedMember);
     }
-    if keys.len() > 400 {
+    if keys.len() > MEMBER_LIMIT {
         return Err(RowCode::TooManyMembers);
     }
     Ok(keys)
@@ -150,6 +153,7 @@ impl GroupRow {
     pub fn revision(&self) -> Revision
         ensures value { result ≡ self.now.revision }
         ensures lawful { IsRevision self.now.revision }
+        ensures row { IsGroupRow self.now }
     {
         self.revision
     }
@@ -157,8 +161,9 @@ impl GroupRow {
     /// The keys of the members, in byte order.
     pub fn members(&self) -> &[Key]
         ensures value { result.now ≡ self.now.members }
-        ensures few { length self.now.members ≤ member_limit }
+        ensures few { length self.now.members ≤ MEMBER_LIMIT }
         ensures rising { are_rising self.now.members ≡ true }
+        ensures keys { AreUserKeys self.now.members }
     {
         self.members.as_slice()
     }

@@ -9,7 +9,9 @@ mod rows;
 mod users;
 
 pub use faults::{RowCode, RowFault, SourceFault};
-pub use files::{SourceRows, files_have_records, read_groups, read_users};
-pub use groups::GroupRow;
-pub use rows::Row;
-pub use users::UserRow;
+pub use files::{
+    GROUP_COLUMNS, SourceRows, USER_COLUMNS, files_have_records, read_groups, read_users,
+};
+pub use groups::{GroupRow, MEMBER_LIMIT};
+pub use rows::{Row, keys_are_of_names};
+pub use users::{UserRow, VALUE_LIMIT};

@@ -4,7 +4,7 @@ ghost use Rattle.std.specs.Str.{bytes_eq};
 ghost use Rattle.csv.specs.Records.{fields_of};
 ghost use Rattle.scim_key.specs.Names.{IsUserName};
 ghost use Rattle.scim_key.specs.Revisions.{IsRevision};
-ghost use Rattle.source_csv.specs.Rows.{same_user, same_values, value_limit};
+ghost use Rattle.source_csv.specs.Rows.{IsUserRow, same_user, same_values};
 ghost use Rattle.source_csv.specs.Fields.{Reads, field, read_user, read_user_fields};
 
 use crate::faults::{Refusal, RowCode};
@@ -14,8 +14,11 @@ use scim_key::{Revision, UserName};
 use std::alloc::{AllocError, Global};
 use std::marker::Model;
 
+/// How many bytes a user's number, given name, family name and mail have at most.
+pub const VALUE_LIMIT: usize = 256;
+
 /// What the source says of a user at a revision. An empty number, given name, family name or mail is
-/// none; each has at most 256 bytes.
+/// none; each has at most `VALUE_LIMIT` bytes.
 #[derive(Debug)]
 pub struct UserRow {
     login: UserName,
@@ -100,6 +103,7 @@ impl UserRow {
     pub fn revision(&self) -> Revision
         ensures value { result ≡ self.now.revision }
         ensures lawful { IsRevision self.now.revision }
+        ensures row { IsUserRow self.now }
     {
         self.revision
     }
@@ -107,7 +111,7 @@ impl UserRow {
     /// The user's number in the source, empty for none.
     pub fn number(&self) -> &str
         ensures value { result.now ≡ self.now.number }
-        ensures short { length self.now.number ≤ value_limit }
+        ensures short { length self.now.number ≤ VALUE_LIMIT }
     {
         self.number.as_str()
     }
@@ -115,7 +119,7 @@ impl UserRow {
     /// The given name, empty for none.
     pub fn given(&self) -> &str
         ensures value { result.now ≡ self.now.given }
-        ensures short { length self.now.given ≤ value_limit }
+        ensures short { length self.now.given ≤ VALUE_LIMIT }
     {
         self.given.as_str()
     }
@@ -123,7 +127,7 @@ impl UserRow {
     /// The family name, empty for none.
     pub fn family(&self) -> &str
         ensures value { result.now ≡ self.now.family }
-        ensures short { length self.now.family ≤ value_limit }
+        ensures short { length self.now.family ≤ VALUE_LIMIT }
     {
         self.family.as_str()
     }
@@ -131,7 +135,7 @@ impl UserRow {
     /// The mail address, empty for none.
     pub fn mail(&self) -> &str
         ensures value { result.now ≡ self.now.mail }
-        ensures short { length self.now.mail ≤ value_limit }
+        ensures short { length self.now.mail ≤ VALUE_LIMIT }
     {
         self.mail.as_str()
     }

@@ -1,0 +1,2 @@
+pub mod BookLaws
+pub mod Keeping

@@ -1,0 +1,109 @@
+//! The connector over a journal.
+ghost use Rattle.std.specs.Prelude.{◌≡◌, IfOk};
+ghost use Rattle.std.specs.FinMap.{keys};
+ghost use Rattle.std.specs.Option.{option_copied};
+ghost use Rattle.journal_core.specs.Stores.{OnlyReads};
+ghost use Rattle.connector_core.specs.Book.{confirmed_of, seen_of, wanted_of};
+ghost use Rattle.connector_core.specs.Maps.{book_of};
+ghost use Rattle.connector_core.specs.State.{CountsOpenFault, IsKept, IsOpened, journal_after};
+
+use crate::books::Book;
+use crate::knowledge::Seen;
+use crate::opening::{OpenFault, read_book};
+use journal_core::Journal;
+use scim_key::{RecordName, Revision};
+use std::alloc::{AllocError, Global};
+use std::marker::Model;
+
+/// The connector: what the source wants of each record, and what is known of it at the provider.
+///
+/// The journal keeps all of it but what was seen.
+#[derive(Debug, Drop)]
+pub struct Connector<J: Journal> {
+    pub(crate) alloc: Global,
+    pub(crate) journal: J,
+    pub(crate) book: Book,
+}
+
+impl<J: Journal> Model for Connector<J> {
+    ghost use Rattle.std.specs.Coded.{codes};
+    ghost use Rattle.std.specs.FinMap as fin;
+    ghost use Rattle.connector_core.specs.State.{State, IsKept};
+
+    ghost Value = { State J };
+
+    ghost coded = { Prim.hlevel (codes, fin.code, J.code) };
+
+    ghost view = { λ c. record { journal = c.journal; book = c.book } };
+
+    ghost invariant = { λ c. J.is_faithful c.journal → IsKept (J.entries c.journal) c.book };
+}
+
+impl<J: Journal> Connector<J> {
+    /// A connector over the entries of a journal, which has seen nothing yet. With a fault the
+    /// journal comes back.
+    pub fn open(alloc: Global, mut journal: J) -> Result<Connector<J>, (OpenFault, J)>
+        ensures opened { IfOk result (λ connector. J.is_faithful connector.journal → IsOpened (J.entries journal) connector.book) }
+        ensures kept { IfOk result (λ connector. J.is_faithful connector.journal → IsKept (J.entries connector.journal) connector.book) }
+        ensures reads { OnlyReads J.entries J.is_faithful J.is_honest J.may_hold J.faults J.writes CountsOpenFault journal (journal_after result) result }
+    {
+        let list = match journal.load() {
+            Ok(list) => list,
+            Err(fault) => return Err((OpenFault::from(fault), journal)),
+        };
+        match read_book(alloc, list) {
+            Ok(book) => Ok(Connector {
+                alloc,
+                journal,
+                book,
+            }),
+            Err(_) => Err((OpenFault::Memory, journal)),
+        }
+    }
+
+    /// The journal, with the entries as they stand. What was seen is forgotten.
+    pub fn close(self) -> J
+        ensures value { result ≡ self.journal }
+        ensures kept { J.is_faithful self.journal → IsKept (J.entries self.journal) self.book }
+    {
+        let Connector { journal, .. } = self;
+        journal
+    }
+
+    /// What was seen last of a record since the connector was opened, if there is such a record.
+    pub fn seen(&self, name: &RecordName) -> Option<&Seen>
+        ensures { option_copied result ≡ seen_of (book_of self.now.book) name.now }
+    {
+        match self.book.get(name) {
+            Some(known) => Some(&known.seen),
+            None => None,
+        }
+    }
+
+    /// The highest revision of a record that the provider showed, none where there is no such record.
+    pub fn confirmed(&self, name: &RecordName) -> Revision
+        ensures { result ≡ confirmed_of (book_of self.now.book) name.now }
+    {
+        match self.book.get(name) {
+            Some(known) => known.confirmed,
+            None => Revision::none(),
+        }
+    }
+
+    /// The revision of a record that the source wants, none where there is no such record.
+    pub fn wanted(&self, name: &RecordName) -> Revision
+        ensures { result ≡ wanted_of (book_of self.now.book) name.now }
+    {
+        match self.book.get(name) {
+            Some(known) => known.wanted.revision(),
+            None => Revision::none(),
+        }
+    }
+
+    /// The names of the records: users by key, then groups by key.
+    pub fn names(&self) -> Result<Vec<RecordName>, AllocError>
+        ensures { IfOk result (λ names. names.items ≡ keys self.now.book) }
+    {
+        self.book.names(self.alloc)
+    }
+}

@@ -1,0 +1,12 @@
+//! The order in which records settle.
+ghost use Rattle.group_sync.specs.Settling.{IsSettleOrder};
+
+use scim_key::RecordName;
+
+/// Puts names of records into the order in which they settle: users by key, then groups by key, so that
+/// members have ids before their groups are sent. It takes no memory.
+pub fn settle_order(names: &mut [RecordName])
+    ensures { IsSettleOrder names.old names.new }
+{
+    names.sort_unstable();
+}

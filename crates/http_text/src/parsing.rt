@@ -1,0 +1,121 @@
+//! Heads of requests and of responses, parsed.
+ghost use Rattle.std.specs.Prelude.{◌≡◌, ◌≤◌, length};
+ghost use Rattle.http_text.specs.Message.{head_limit, field_limit};
+ghost use Rattle.http_text.specs.Forms.{request_form, response_form};
+ghost use Rattle.http_text.specs.Parsing.{form_of, spans_of_request, spans_of_response, Parses};
+
+use crate::fault::ReadFault;
+use crate::incoming::Incoming;
+use crate::judge::{judge_request, judge_response};
+use crate::limits::HEAD_LIMIT;
+use httparse::spans::{
+    HeaderSpan, RequestSpans, ResponseSpans, Span, parse_request, parse_response,
+};
+use httparse::{Error, Status};
+
+/// Which of the two forms a message has.
+#[derive(Clone, Copy)]
+pub(crate) enum MessageKind {
+    Request,
+    Response,
+}
+
+/// The first line of a head, as the parts of its bytes.
+#[derive(Clone, Copy, Debug)]
+pub(crate) enum Start {
+    RequestLine { method: Span, target: Span },
+    StatusLine { code: u16 },
+}
+
+/// Where the parts of a head are, how many field lines it has, and its length.
+#[derive(Clone, Copy)]
+pub(crate) struct HeadSpans {
+    pub(crate) start: Start,
+    pub(crate) minor: u8,
+    pub(crate) count: usize,
+    pub(crate) len: usize,
+}
+
+/// What a parse of a head tells.
+pub(crate) enum Parse {
+    Whole(HeadSpans),
+    Part,
+    Refused(ReadFault),
+}
+
+impl MessageKind {
+    /// Where the parts of a whole head at the front of these bytes are, or whether one may come.
+    pub(crate) fn parse(self, bytes: &[u8], fields: &mut [HeaderSpan]) -> Parse
+        requires room { length fields.old ≡ field_limit }
+        requires bound { length bytes.now ≤ head_limit }
+        ensures { Parses (form_of self) bytes.now fields.new result }
+    {
+        match self {
+            MessageKind::Request => parse_request_head(bytes, fields),
+            MessageKind::Response => parse_response_head(bytes, fields),
+        }
+    }
+
+    /// The length of the body that follows a head, or the first refusal.
+    pub(crate) fn judge(self, message: &Incoming) -> Result<u64, ReadFault>
+        ensures { result ≡ (form_of self).judge message.now.head }
+    {
+        match self {
+            MessageKind::Request => judge_request(message),
+            MessageKind::Response => judge_response(message),
+        }
+    }
+}
+
+fn parse_request_head(bytes: &[u8], fields: &mut [HeaderSpan]) -> Parse
+    requires room { length fields.old ≡ field_limit }
+    requires bound { length bytes.now ≤ head_limit }
+    ensures { Parses request_form bytes.now fields.new result }
+{
+    match parse_request(bytes, fields) {
+        Ok(Status::Complete(head)) => Parse::Whole(of_request(head)),
+        Ok(Status::Partial) if bytes.len() < HEAD_LIMIT => Parse::Part,
+        Ok(Status::Partial) => Parse::Refused(ReadFault::HeadTooLong),
+        Err(Error::TooManyHeaders) => Parse::Refused(ReadFault::HeadTooLong),
+        Err(_) => Parse::Refused(ReadFault::Malformed),
+    }
+}
+
+fn parse_response_head(bytes: &[u8], fields: &mut [HeaderSpan]) -> Parse
+    requires room { length fields.old ≡ field_limit }
+    requires bound { length bytes.now ≤ head_limit }
+    ensures { Parses response_form bytes.now fields.new result }
+{
+    match parse_response(bytes, fields) {
+        Ok(Status::Complete(head)) => Parse::Whole(of_response(head)),
+        Ok(Status::Partial) if bytes.len() < HEAD_LIMIT => Parse::Part,
+        Ok(Status::Partial) => Parse::Refused(ReadFault::HeadTooLong),
+        Err(Error::TooManyHeaders) => Parse::Refused(ReadFault::HeadTooLong),
+        Err(_) => Parse::Refused(ReadFault::Malformed),
+    }
+}
+
+fn of_request(head: RequestSpans) -> HeadSpans
+    ensures { result ≡ spans_of_request head }
+{
+    HeadSpans {
+        start: Start::RequestLine {
+            method: head.method,
+            target: head.path,
+        },
+        minor: head.version,
+        count: head.headers,
+        len: head.len,
+    }
+}
+
+fn of_response(head: ResponseSpans) -> HeadSpans
+    ensures { result ≡ spans_of_response head }
+{
+    HeadSpans {
+        start: Start::StatusLine { code: head.code },
+        minor: head.version,
+        count: head.headers,
+        len: head.len,
+    }
+}

@@ -1,0 +1,151 @@
+//! A message of either form read from a stream.
+ghost use Rattle.std.specs.Prelude.{◌≡◌, ◌<◌, length, OnOk, IfOk, IfErr};
+ghost use Rattle.std.specs.Io.KnownBytes.{Keeps};
+ghost use Rattle.http_text.specs.Counts.{CountsTurns};
+ghost use Rattle.http_text.specs.Heads.{TakesMessage, TakesRefused, FindsMessage, FindsRefusedHead, FindsEnd, FindsLong, FindsMalformed, EndsReading};
+ghost use Rattle.http_text.specs.Parsing.{form_of};
+ghost use Rattle.http_text.specs.Steps.{SpendsTurns, EndsTurns, GivesNone, TakesHead, TakesBody, CutsBody};
+
+use crate::fault::ReadFault;
+use crate::incoming::Incoming;
+use crate::input::{Input, ReadTurn};
+use crate::limits::{FIELD_LIMIT, HEAD_LIMIT, TURN_LIMIT};
+use crate::parsing::{MessageKind, Parse};
+use httparse::spans::EMPTY_HEADER_SPAN;
+use std::alloc::Global;
+use std::io::Read;
+
+/// Reads one message of this kind.
+pub(crate) fn read_message<R: Read>(
+    alloc: Global,
+    kind: MessageKind,
+    reader: &mut Input<R>,
+) -> Result<Incoming, ReadFault>
+    ensures message { IfOk result
+        (TakesMessage (form_of kind) reader.old.remaining reader.new.remaining) }
+    ensures refused { IfErr result
+        (TakesRefused (form_of kind) reader.old.remaining reader.new.remaining) }
+    ensures found { FindsMessage (form_of kind) reader.old.remaining reader.new.remaining result }
+    ensures refused_head { FindsRefusedHead (form_of kind) reader.old.remaining result }
+    ensures ended { FindsEnd (form_of kind) reader.old.remaining result }
+    ensures long { FindsLong (form_of kind) reader.old.remaining result }
+    ensures malformed { FindsMalformed (form_of kind) reader.old.remaining result }
+    ensures counts { CountsTurns reader.old.calls reader.new.calls }
+    ensures clean { OnOk result (reader.new.failures ≡ reader.old.failures) }
+    ensures fault { IfErr result (EndsReading reader.old reader.new) }
+{
+    let mut turns = TURN_LIMIT;
+    read_whole(alloc, kind, reader, &mut turns)
+}
+
+fn read_whole<R: Read>(
+    alloc: Global,
+    kind: MessageKind,
+    reader: &mut Input<R>,
+    turns: &mut u32,
+) -> Result<Incoming, ReadFault>
+    ensures message { IfOk result
+        (TakesMessage (form_of kind) reader.old.remaining reader.new.remaining) }
+    ensures refused { IfErr result
+        (TakesRefused (form_of kind) reader.old.remaining reader.new.remaining) }
+    ensures counts { SpendsTurns reader.old reader.new turns.old turns.new }
+    ensures clean { OnOk result (reader.new.failures ≡ reader.old.failures) }
+    ensures fault { IfErr result (EndsTurns reader.old reader.new turns.new) }
+{
+    let mut message = read_head(alloc, kind, reader, turns)?;
+    let length = kind.judge(&message)?;
+    read_body(reader, &mut message, length, turns)?;
+    Ok(message)
+}
+
+/// Reads up to the end of a head, which is parsed when new bytes have come. Where a part of them is
+/// refused, half of it is tried, so that each refusal comes at the first byte that decides.
+fn read_head<R: Read>(
+    alloc: Global,
+    kind: MessageKind,
+    reader: &mut Input<R>,
+    turns: &mut u32,
+) -> Result<Incoming, ReadFault>
+    ensures head { IfOk result
+        (TakesHead (form_of kind) reader.old.remaining reader.new.remaining) }
+    ensures refused { IfErr result
+        (TakesRefused (form_of kind) reader.old.remaining reader.new.remaining) }
+    ensures counts { SpendsTurns reader.old reader.new turns.old turns.new }
+    ensures clean { OnOk result (reader.new.failures ≡ reader.old.failures) }
+    ensures fault { IfErr result (EndsTurns reader.old reader.new turns.new) }
+{
+    let mut bytes = Vec::new(alloc);
+    let mut fields = [EMPTY_HEADER_SPAN; FIELD_LIMIT];
+    let mut step = HEAD_LIMIT;
+    loop {
+        look_ahead(reader, turns)?;
+        let before = bytes.len();
+        let count = step.min(reader.ahead().len()).min(HEAD_LIMIT - before);
+        if bytes.extend_from_slice(&reader.ahead()[..count]).is_err() {
+            return Err(ReadFault::OutOfMemory);
+        }
+        match kind.parse(&bytes, &mut fields) {
+            Parse::Whole(spans) => {
+                reader.take(spans.len - before);
+                return Incoming::from_head(alloc, bytes, spans, &fields);
+            }
+            Parse::Part => reader.take(count),
+            Parse::Refused(fault) if count == 1 => {
+                reader.take(count);
+                return Err(fault);
+            }
+            Parse::Refused(_) => {
+                bytes.truncate(before);
+                step = count / 2;
+            }
+        }
+    }
+}
+
+/// Reads the bytes of a body.
+fn read_body<R: Read>(
+    reader: &mut Input<R>,
+    message: &mut Incoming,
+    length: u64,
+    turns: &mut u32,
+) -> Result<(), ReadFault>
+    ensures body { OnOk result
+        (TakesBody reader.old.remaining reader.new.remaining message.old message.new length) }
+    ensures cut { IfErr result (CutsBody reader.old.remaining reader.new.remaining length) }
+    ensures counts { SpendsTurns reader.old reader.new turns.old turns.new }
+    ensures clean { OnOk result (reader.new.failures ≡ reader.old.failures) }
+    ensures fault { IfErr result (EndsTurns reader.old reader.new turns.new) }
+{
+    let mut left = length as usize;
+    while left > 0 {
+        look_ahead(reader, turns)?;
+        let count = left.min(reader.ahead().len());
+        message.append(&reader.ahead()[..count])?;
+        reader.take(count);
+        left -= count;
+    }
+    Ok(())
+}
+
+/// Reads ahead where nothing stands ahead. An interrupted read is made again while turns are left.
+fn look_ahead<R: Read>(reader: &mut Input<R>, turns: &mut u32) -> Result<(), ReadFault>
+    ensures kept { OnOk result (Keeps reader.old.remaining reader.new.remaining) }
+    ensures some { OnOk result (0 < length reader.new.ahead) }
+    ensures none { IfErr result (GivesNone reader.old.remaining reader.new.remaining) }
+    ensures counts { SpendsTurns reader.old reader.new turns.old turns.new }
+    ensures clean { OnOk result (reader.new.failures ≡ reader.old.failures) }
+    ensures fault { IfErr result (EndsTurns reader.old reader.new turns.new) }
+{
+    while reader.ahead().is_empty() {
+        if *turns == 0 {
+            return Err(ReadFault::TurnsExhausted);
+        }
+        *turns -= 1;
+        match reader.look() {
+            ReadTurn::Bytes(_) | ReadTurn::Interrupted => {}
+            ReadTurn::End => return Err(ReadFault::EndedEarly),
+            ReadTurn::Failed => return Err(ReadFault::ReadFailed),
+        }
+    }
+    Ok(())
+}

@@ -1,0 +1,41 @@
+//! A response read from a stream (RFC 9112, sections 2 to 6).
+ghost use Rattle.std.specs.Prelude.{◌≡◌, OnOk, IfOk, IfErr};
+ghost use Rattle.http_text.specs.Counts.{CountsTurns};
+ghost use Rattle.http_text.specs.Heads.{EndsReading};
+ghost use Rattle.http_text.specs.Responses.{TakesResponse, TakesRefusedResponse, FindsResponse, FindsRefusedResponse, FindsResponseEnd, FindsLongResponse, FindsMalformedResponse, ResponsesAreApart};
+
+use crate::fault::ReadFault;
+use crate::incoming::Incoming;
+use crate::input::Input;
+use crate::parsing::MessageKind;
+use crate::reading::read_message;
+use std::alloc::Global;
+use std::io::Read;
+
+/// Reads one response. What follows it, though it may have been read ahead, is left. An interrupted
+/// read is made again. A body's length is stated, in `Content-Length`, and is at most 8,388,608;
+/// 304 has no body, whatever length it states.
+pub fn read_response<R: Read>(alloc: Global, reader: &mut Input<R>) -> Result<Incoming, ReadFault>
+    // What was taken from the reader: a whole response, or what the refusal says.
+    ensures message { IfOk result (TakesResponse reader.old.remaining reader.new.remaining) }
+    ensures refused { IfErr result (TakesRefusedResponse reader.old.remaining reader.new.remaining) }
+
+    // What stands at the reader's front is found, whatever follows, but for a fault of the stream.
+    ensures found { FindsResponse reader.old.remaining reader.new.remaining result }
+    ensures refused_head { FindsRefusedResponse reader.old.remaining result }
+    ensures ended { FindsResponseEnd reader.old.remaining result }
+    ensures long { FindsLongResponse reader.old.remaining result }
+    ensures malformed { FindsMalformedResponse reader.old.remaining result }
+
+    // A fault of the stream comes only as the counts allow.
+    ensures counts { CountsTurns reader.old.calls reader.new.calls }
+    ensures clean { OnOk result (reader.new.failures ≡ reader.old.failures) }
+    ensures fault { IfErr result (EndsReading reader.old reader.new) }
+{
+    read_message(alloc, MessageKind::Response, reader)
+}
+
+/// A law: no proper prefix of a response is a response.
+pub fn responses_are_apart()
+    ensures { ResponsesAreApart }
+{}

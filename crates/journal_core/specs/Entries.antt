@@ -1,0 +1,81 @@
+-- The entries of a journal, and what becomes of them.
+use Rattle.std.specs.Prelude.{◌≡◌, ◌<◌, ℕ, List, Option, Some, None, map, IsSome}
+use Rattle.std.specs.FinMap.{FinMap, entries, get, insert, keys}
+use Rattle.std.specs.List.{All, count_by}
+use Rattle.std.specs.declared.cmp.Ordering.{Ordering}
+use Rattle.scim_key.specs.Revisions.{RevisionValue, no_revision, ◌≺◌, ◌≼◌}
+use Rattle.scim_key.specs.declared.records.Kind.{Kind}
+use Rattle.scim_key.specs.declared.records.Kind.TheVariants.{User, Group}
+use Rattle.scim_key.specs.declared.records.RecordName.{RecordName}
+use Rattle.scim_key.specs.contracts.records.RecordNameOrd.TheImpl as names
+use Rattle.source_csv.specs.Records.{row_name, row_revision}
+use Rattle.source_csv.specs.declared.rows.Row.{Row}
+use Rattle.source_book.specs.History.{same_kind, members_of, user}
+use Rattle.journal_core.specs.declared.entries.Entry.{Entry}
+
+-- the order of names
+abbrev pub name_cmp : RecordName → RecordName → Ordering
+name_cmp = (names.ghosts).cmp
+
+-- the entries of the records, each under its name
+abbrev pub EntryMap : Type 0
+EntryMap = FinMap name_cmp Entry
+
+-- ---- what becomes of them
+
+abbrev pub entry_with : Row → Option Entry → Entry
+entry_with row None = record { row = row; confirmed = no_revision; id = None }
+entry_with row (Some entry) = record entry { row = row }
+
+-- the entries with this row: a new record has nothing else, one that is there keeps its id and what is confirmed
+abbrev pub with_row : EntryMap → Row → EntryMap
+with_row map row = insert map (row_name row) (entry_with row (get map (row_name row)))
+
+abbrev pub entry_learnt : RevisionValue → List ℕ → Entry → Entry
+entry_learnt confirmed id entry = record entry { confirmed = confirmed; id = Some id }
+
+abbrev pub learnt_at : EntryMap → RecordName → RevisionValue → List ℕ → Option Entry → EntryMap
+learnt_at map name confirmed id None = map
+learnt_at map name confirmed id (Some entry) = insert map name (entry_learnt confirmed id entry)
+
+-- the entries with this confirmed revision and this id, where the record is there
+abbrev pub with_learnt : EntryMap → RecordName → RevisionValue → List ℕ → EntryMap
+with_learnt map name confirmed id = learnt_at map name confirmed id (get map name)
+
+-- ---- what is lawful
+
+-- the entry is that of this record, and no revision above its row's is confirmed
+pub record IsEntryOf (name : RecordName) (entry : Entry) : Type 0 where
+  pub named : row_name entry.row ≡ name
+  pub within : entry.confirmed ≼ row_revision entry.row
+
+-- an entry under the name of its record
+abbrev pub named : Entry → RecordName × Entry
+named entry = (row_name entry.row, entry)
+
+-- the list has the entries in order of their names, and each is lawful
+pub record IsListOf (map_ : EntryMap) (list : List Entry) : Type 0 where
+  pub whole : entries map_ ≡ map named list
+  pub lawful : All (λ entry. entry.confirmed ≼ row_revision entry.row) list
+
+-- how many records of a type there may be
+abbrev pub most_records : Kind → ℕ
+most_records User = 100_000
+most_records Group = 10_000
+
+-- how many records of a type there are
+abbrev pub count_of : Kind → List RecordName → ℕ
+count_of kind names = count_by (λ name. same_kind kind name.kind) names
+
+-- a row may be put where no higher revision is confirmed, its members are users that are there, and a new record has room
+pub record CanPutRow (map : EntryMap) (row : Row) : Type 0 where
+  pub not_below : (entry : Entry) → get map (row_name row) ≡ Some entry → entry.confirmed ≼ row_revision row
+  pub members : All (λ key. IsSome (get map (user key))) (members_of row)
+  pub room : get map (row_name row) ≡ None → count_of (row_name row).kind (keys map) < most_records (row_name row).kind
+
+-- a revision may be confirmed of a record that is there, where it is one, and isn't above its row's
+pub record CanPutLearnt (map : EntryMap) (name : RecordName) (confirmed : RevisionValue) : Type 0 where
+  pub entry : Entry
+  pub there : get map name ≡ Some entry
+  pub confirms : no_revision ≺ confirmed
+  pub within : confirmed ≼ row_revision entry.row

@@ -1,0 +1,4 @@
+pub mod Entries
+pub mod Stores
+pub mod Memory
+pub mod MemoryLaws

@@ -1,0 +1,52 @@
+//! What a journal keeps of a record.
+use scim_key::{ResourceId, Revision};
+use source_csv::Row;
+use std::alloc::AllocError;
+
+/// What a journal keeps of a record.
+#[derive(Debug)]
+pub struct Entry {
+    /// The last row that the source gave of it.
+    pub row: Row,
+    /// The highest revision that the provider showed, or none.
+    pub confirmed: Revision,
+    /// The id that the provider gave to it.
+    pub id: Option<ResourceId>,
+}
+
+/// One call wherever it is let go, as for a row.
+impl Drop for Entry {
+    fn drop(self) {
+        let Entry {
+            row: _,
+            confirmed: _,
+            id: _,
+        } = self;
+    }
+}
+
+impl Entry {
+    ghost use Rattle.std.specs.Prelude.{◌≡◌};
+
+    /// The row, the confirmed revision and the id.
+    pub fn into_parts(self) -> (Row, Revision, Option<ResourceId>)
+        ensures { result ≡ (self.row, self.confirmed, self.id) }
+    {
+        let Entry { row, confirmed, id } = self;
+        (row, confirmed, id)
+    }
+}
+
+impl Clone for Entry {
+    ghost use Rattle.std.specs.Prelude.{◌≡◌};
+
+    ghost is_clone = { λ a b. b ≡ a };
+
+    fn clone(&self) -> Result<Entry, AllocError> {
+        Ok(Entry {
+            row: self.row.clone()?,
+            confirmed: self.confirmed,
+            id: self.id.clone()?,
+        })
+    }
+}

@@ -1,0 +1,94 @@
+//! What a connector asks of the store of its entries.
+ghost use Rattle.std.specs.Prelude.{◌≡◌, ℕ, IfOk, OnOk};
+ghost use Rattle.scim_key.specs.Revisions.{RevisionValue};
+ghost use Rattle.journal_core.specs.Entries.{EntryMap, IsListOf, CanPutRow, CanPutLearnt, with_row, with_learnt};
+ghost use Rattle.journal_core.specs.Stores.{CountsFault, HasRisen, OnlyReads, WritesOnce};
+
+use crate::entries::Entry;
+use scim_key::{RecordName, ResourceId, Revision};
+use source_csv::Row;
+use std::alloc::{AllocError, AllocFailed};
+use thiserror::Error;
+
+/// Why a call of a journal failed. The entries are then as they were.
+#[derive(Clone, Copy, Debug, PartialEq, Eq, Error)]
+pub enum JournalFault {
+    #[error("J1")]
+    Store,
+    #[error("J3")]
+    Memory,
+}
+
+impl From<AllocError> for JournalFault {
+    ghost use Rattle.journal_core.specs.declared.journals.JournalFault.TheVariants.{Memory};
+
+    ghost from_gives = { λ _ fault. fault ≡ Memory };
+
+    fn from(_: AllocError) -> JournalFault {
+        JournalFault::Memory
+    }
+}
+
+impl<T: Drop> From<AllocFailed<T>> for JournalFault {
+    ghost use Rattle.journal_core.specs.declared.journals.JournalFault.TheVariants.{Memory};
+
+    ghost from_gives = { λ _ fault. fault ≡ Memory };
+
+    fn from(_: AllocFailed<T>) -> JournalFault {
+        JournalFault::Memory
+    }
+}
+
+/// The entries of a connector, one for each record.
+///
+/// What is said of the entries holds while the store is faithful, that is open, and returns what
+/// was committed; a journal in memory always is. Faults of the store and writes are counted.
+pub trait Journal {
+    ghost entries: { Self → EntryMap };
+
+    ghost is_faithful: { Self → Type 0 };
+
+    /// The store returned what was committed.
+    ghost is_honest: { Self → Type 0 };
+
+    /// The entries that may be found where the store is opened again after a stop at this moment.
+    ghost may_hold: { Self → EntryMap → Type 0 };
+
+    ghost faults: { Self → ℕ };
+
+    ghost writes: { Self → ℕ };
+
+    /// All entries, in order of the records' names.
+    fn load(&mut self) -> Result<Vec<Entry>, JournalFault>
+        ensures ok { is_faithful self.new → IfOk result (λ list. IsListOf (entries self.old) list.items) }
+        ensures reads { OnlyReads entries is_faithful is_honest may_hold faults writes CountsFault self.old self.new result };
+
+    /// Puts the row in the place of the last row of its record, whose id and confirmed revision stay.
+    /// A new record has neither.
+    fn put_row(&mut self, row: &Row) -> Result<(), JournalFault>
+        requires lawful { is_faithful self.old → CanPutRow (entries self.old) row.now }
+        ensures puts { WritesOnce entries is_faithful is_honest may_hold faults writes CountsFault self.old self.new (with_row (entries self.old) row.now) result }
+        ensures open { is_honest self.new → OnOk result (is_faithful self.new) }
+        ensures counted { OnOk result (HasRisen (writes self.old) (writes self.new)) };
+
+    /// Puts the confirmed revision and the id of a record that is there. Its row stays.
+    fn put_learnt(
+        &mut self,
+        name: &RecordName,
+        confirmed: Revision,
+        id: &ResourceId,
+    ) -> Result<(), JournalFault>
+        requires lawful { is_faithful self.old → CanPutLearnt (entries self.old) name.now confirmed }
+        ensures puts { WritesOnce entries is_faithful is_honest may_hold faults writes CountsFault self.old self.new (with_learnt (entries self.old) name.now confirmed id.now) result }
+        ensures open { is_honest self.new → OnOk result (is_faithful self.new) }
+        ensures counted { OnOk result (HasRisen (writes self.old) (writes self.new)) };
+
+    /// A faithful store is an honest one.
+    ghost is_so: { (s : Self) → is_faithful s → is_honest s };
+
+    /// After a stop at this moment a faithful store holds its entries.
+    ghost settled: { (s : Self) (found : EntryMap) → is_faithful s → may_hold s found → found ≡ entries s };
+
+    /// A stop at this moment may leave a faithful store.
+    ghost stays: { (s : Self) → is_faithful s → may_hold s (entries s) };
+}

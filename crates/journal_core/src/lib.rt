@@ -1,0 +1,12 @@
+//! The journal of the connector: of each record the last row, the id, and what is confirmed.
+#![tactic(auto)]
+
+mod entries;
+mod journals;
+mod laws;
+mod memory;
+
+pub use entries::Entry;
+pub use journals::{Journal, JournalFault};
+pub use laws::journals_in_memory_stay;
+pub use memory::MemoryJournal;

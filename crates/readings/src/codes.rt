@@ -1,0 +1,96 @@
+//! The codes that faults are printed as.
+use mapping::WriteFault;
+use scim_filter::FilterFault;
+use scim_key::NameFault;
+use scim_resource::ReadFault;
+use scim_version::TagFault;
+use source_book::BookFault;
+use source_csv::{RowCode, RowFault, SourceFault};
+use std::alloc::Global;
+use std::fmt::Display;
+use std::process::Abort;
+use std::test::Fail;
+
+/// Asserts that each of these is printed as the text beside it.
+fn are_printed<F: Display>(
+    rt: &impl Abort,
+    alloc: Global,
+    table: &[(F, &str)],
+) -> Result<(), Fail> {
+    for (fault, code) in table {
+        let text = fault.to_string(alloc)?;
+        assert!(rt; text.as_str() == *code, "{text} and not {code}");
+    }
+    Ok(())
+}
+
+static NAME_FAULTS: &[(NameFault, &str)] = &[
+    (NameFault::Empty, "N1"),
+    (NameFault::TooLong, "N2"),
+    (NameFault::Character, "N3"),
+    (NameFault::SpaceAtEnd, "N4"),
+    (NameFault::Memory, "N5"),
+];
+
+static TAG_FAULTS: &[(TagFault, &str)] = &[(TagFault::Malformed, "V1"), (TagFault::Memory, "V2")];
+
+static READ_FAULTS: &[(ReadFault, &str)] = &[
+    (ReadFault::InvalidSyntax, "P1"),
+    (ReadFault::InvalidValue, "P2"),
+    (ReadFault::Memory, "memory"),
+];
+
+static FILTER_FAULTS: &[(FilterFault, &str)] = &[
+    (FilterFault::Unsupported, "P3"),
+    (FilterFault::Memory, "memory"),
+];
+
+#[test]
+fn faults_of_names_tags_and_filters(rt: HostRuntime) -> Result<(), Fail> {
+    are_printed(&rt, rt.alloc(), NAME_FAULTS)?;
+    are_printed(&rt, rt.alloc(), TAG_FAULTS)?;
+    are_printed(&rt, rt.alloc(), READ_FAULTS)?;
+    are_printed(&rt, rt.alloc(), FILTER_FAULTS)
+}
+
+static SOURCE_FAULTS: &[(SourceFault, &str)] = &[
+    (SourceFault::Header, "S1"),
+    (SourceFault::Memory, "S11"),
+];
+
+static ROW_CODES: &[(RowCode, &str)] = &[
+    (RowCode::FieldCount, "S2"),
+    (RowCode::NotUtf8, "S3"),
+    (RowCode::Name, "S4"),
+    (RowCode::Revision, "S5"),
+    (RowCode::Value, "S6"),
+    (RowCode::RepeatedMember, "S9"),
+    (RowCode::TooManyMembers, "S10"),
+];
+
+static ROW_FAULTS: &[(RowFault, &str)] = &[(
+    RowFault {
+        place: 2,
+        code: RowCode::Revision,
+    },
+    "record 2: S5",
+)];
+
+static BOOK_FAULTS: &[(BookFault, &str)] = &[
+    (BookFault::Differs, "S7"),
+    (BookFault::NoSuchMember { place: 3 }, "S8"),
+];
+
+static WRITE_FAULTS: &[(WriteFault, &str)] = &[
+    (WriteFault::Memory, "memory"),
+    (WriteFault::Output, "output"),
+];
+
+#[test]
+fn faults_of_files_and_rows(rt: HostRuntime) -> Result<(), Fail> {
+    are_printed(&rt, rt.alloc(), SOURCE_FAULTS)?;
+    are_printed(&rt, rt.alloc(), ROW_CODES)?;
+    are_printed(&rt, rt.alloc(), ROW_FAULTS)?;
+    are_printed(&rt, rt.alloc(), BOOK_FAULTS)?;
+    are_printed(&rt, rt.alloc(), WRITE_FAULTS)
+}

@@ -1,0 +1,103 @@
+//! Contents and rows with every attribute: their texts, and that copies are the same.
+use scim_json::compact;
+use scim_key::{Base, Kind, RecordName};
+use scim_resource::{Content, Shown, Stored};
+use serde_json::Value;
+use source_csv::{Row, RowFault, read_groups, read_users};
+use std::alloc::Global;
+use std::process::Abort;
+use std::test::Fail;
+
+static ANN: &str =
+    "{\"active\":false,\"emails\":[{\"primary\":true,\"type\":\"work\",\"value\":\"ann@example.com\"},{\"value\":\"ann@example.org\"}],\"externalId\":\"1001\",\"name\":{\"familyName\":\"Lee\",\"givenName\":\"Ann\"},\"schemas\":[\"urn:ietf:params:scim:schemas:core:2.0:User\",\"urn:example:params:scim:schemas:extension:source:1.0\"],\"urn:example:params:scim:schemas:extension:source:1.0\":{\"revision\":7},\"userName\":\"Ann\"}";
+
+static ANN_SHOWN: &str =
+    "{\"active\":false,\"emails\":[{\"primary\":true,\"type\":\"work\",\"value\":\"ann@example.com\"},{\"value\":\"ann@example.org\"}],\"externalId\":\"1001\",\"id\":\"5c1a0000-0000-8000-8000-000000000007\",\"meta\":{\"location\":\"http://localhost:8080/v2/Users/5c1a0000-0000-8000-8000-000000000007\",\"resourceType\":\"User\",\"version\":\"\\\"3\\\"\"},\"name\":{\"familyName\":\"Lee\",\"givenName\":\"Ann\"},\"schemas\":[\"urn:ietf:params:scim:schemas:core:2.0:User\",\"urn:example:params:scim:schemas:extension:source:1.0\"],\"urn:example:params:scim:schemas:extension:source:1.0\":{\"revision\":7},\"userName\":\"Ann\"}";
+
+static CREW: &str =
+    "{\"displayName\":\"Crew two\",\"externalId\":\"x\",\"members\":[{\"value\":\"b\"},{\"value\":\"a\"}],\"schemas\":[\"urn:ietf:params:scim:schemas:core:2.0:Group\",\"urn:example:params:scim:schemas:extension:source:1.0\"],\"urn:example:params:scim:schemas:extension:source:1.0\":{\"revision\":2}}";
+
+static CREW_SHOWN: &str =
+    "{\"displayName\":\"Crew two\",\"externalId\":\"x\",\"id\":\"5c1a0000-0000-8000-8000-000000000007\",\"members\":[{\"value\":\"b\"},{\"value\":\"a\"}],\"meta\":{\"location\":\"http://localhost:8080/v2/Groups/5c1a0000-0000-8000-8000-000000000007\",\"resourceType\":\"Group\",\"version\":\"\\\"3\\\"\"},\"schemas\":[\"urn:ietf:params:scim:schemas:core:2.0:Group\",\"urn:example:params:scim:schemas:extension:source:1.0\"],\"urn:example:params:scim:schemas:extension:source:1.0\":{\"revision\":2}}";
+
+/// The text of a content.
+fn text_of(alloc: Global, content: &Content) -> Result<Vec<u8>, Fail> {
+    let value = content.to_value(alloc)?;
+    Ok(compact(alloc, &value)?)
+}
+
+/// The text of a resource as it is shown.
+fn shown_text(alloc: Global, shown: &Shown) -> Result<Vec<u8>, Fail> {
+    let base = Base::read(alloc, "http://localhost:8080/v2")?;
+    let value = shown.to_value(alloc, &base)?;
+    Ok(compact(alloc, &value)?)
+}
+
+fn is_named(rt: &impl Abort, name: &RecordName, kind: Kind, key: &str) {
+    assert_eq!(rt; name.kind, kind);
+    assert!(rt; name.key.as_str() == key);
+}
+
+/// A row with the content that a text spells.
+fn stored(alloc: Global, text: &str, kind: Kind) -> Result<Stored, Fail> {
+    let content = Content::read(alloc, &Value::from_str(alloc, text)?, kind)?;
+    Ok(Stored::new(7, 3, content))
+}
+
+/// Asserts what a row and its copy have and are shown as.
+fn is_shown(
+    rt: &impl Abort,
+    alloc: Global,
+    row: &Stored,
+    text: &str,
+    shown: &str,
+) -> Result<(), Fail> {
+    assert!(rt; text_of(alloc, row.content())?.as_slice() == text.as_bytes());
+    let copy = row.content().clone()?;
+    assert!(rt; text_of(alloc, &copy)?.as_slice() == text.as_bytes());
+    assert!(rt; row.id(alloc)?.as_str() == "5c1a0000-0000-8000-8000-000000000007");
+    let copy = Shown::of(alloc, &row.clone()?)?;
+    assert!(rt; shown_text(alloc, &copy)?.as_slice() == shown.as_bytes());
+    Ok(())
+}
+
+#[test]
+fn contents_with_every_attribute(rt: HostRuntime) -> Result<(), Fail> {
+    let alloc = rt.alloc();
+    let ann = stored(alloc, ANN, Kind::User)?;
+    is_shown(&rt, alloc, &ann, ANN, ANN_SHOWN)?;
+    is_named(&rt, &ann.content().name(alloc)?, Kind::User, "ann");
+    let crew = stored(alloc, CREW, Kind::Group)?;
+    is_shown(&rt, alloc, &crew, CREW, CREW_SHOWN)?;
+    is_named(&rt, &crew.content().name(alloc)?, Kind::Group, "crew two");
+    Ok(())
+}
+
+/// Asserts that the first record is a row of this record, and so is its copy.
+fn is_row_of(
+    rt: &impl Abort,
+    alloc: Global,
+    records: &[Result<Row, RowFault>],
+    kind: Kind,
+    key: &str,
+) -> Result<(), Fail> {
+    let Some(Ok(row)) = records.first() else {
+        return Err(Fail::from("no row"));
+    };
+    is_named(rt, &row.record_name(alloc)?, kind, key);
+    let copy = row.clone()?;
+    is_named(rt, &copy.record_name(alloc)?, kind, key);
+    assert!(rt; copy.same_fields(row));
+    Ok(())
+}
+
+#[test]
+fn rows_with_every_field(rt: HostRuntime) -> Result<(), Fail> {
+    let alloc = rt.alloc();
+    let file =
+        b"login,revision,number,given,family,mail,status\nAnn,7,1001,Ann,Lee,ann@example.com,left\n";
+    let rows = read_users(alloc, file)?;
+    is_row_of(&rt, alloc, rows.as_slice(), Kind::User, "ann")?;
+    let rows = read_groups(alloc, b"name,revision,members\nCrew two,1,bob ann\n")?;
+    is_row_of(&rt, alloc, rows.as_slice(), Kind::Group, "crew two")
+}

@@ -1,0 +1,17 @@
+//! What texts are read as, and how it is written again: tests by tables.
+#![tactic(auto)]
+
+#[cfg(test)]
+mod codes;
+#[cfg(test)]
+mod copies;
+#[cfg(test)]
+mod filter_texts;
+#[cfg(test)]
+mod filters;
+#[cfg(test)]
+mod names;
+#[cfg(test)]
+mod sources;
+#[cfg(test)]
+mod tags;

@@ -1,0 +1,31 @@
+//! Bytes as JSON.
+ghost use Rattle.std.specs.Prelude.{◌≡◌, None, Some, IfOk, IsErrOf};
+ghost use Rattle.serde_json.specs.View.{view};
+ghost use Rattle.scim_json.specs.Parsing as spec;
+ghost use Rattle.scim_json.specs.declared.parsing.JsonFault.TheVariants.{NotJson};
+
+use serde_json::Value;
+use std::alloc::Global;
+use thiserror::Error;
+
+/// Why bytes aren't read as JSON.
+#[derive(Clone, Copy, PartialEq, Eq, Debug, Drop, Error)]
+pub enum JsonFault {
+    /// The bytes aren't UTF-8, or no JSON text, or nested deeper than 127.
+    #[error("the bytes are not JSON")]
+    NotJson,
+    #[error("out of memory")]
+    Memory,
+}
+
+/// The value that these bytes are, as JSON in UTF-8.
+pub fn json_of(alloc: Global, bytes: &[u8]) -> Result<Value, JsonFault>
+    ensures read { IfOk result (λ value. spec.json_of bytes.now ≡ Some (view value)) }
+    ensures refused { IsErrOf result NotJson → spec.json_of bytes.now ≡ None }
+{
+    match Value::from_slice(alloc, bytes) {
+        Ok(value) => Ok(value),
+        Err(error) if error.is_memory() => Err(JsonFault::Memory),
+        Err(_) => Err(JsonFault::NotJson),
+    }
+}

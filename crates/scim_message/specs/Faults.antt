@@ -1,0 +1,16 @@
+-- What a fault of a text as JSON, or of a resource, is as a fault of a body.
+use Rattle.scim_json.specs.declared.parsing.JsonFault.{JsonFault}
+use Rattle.scim_json.specs.declared.parsing.JsonFault.TheVariants as json
+use Rattle.scim_resource.specs.declared.faults.ReadFault.{ReadFault}
+use Rattle.scim_resource.specs.declared.faults.ReadFault.TheVariants as reading
+use Rattle.scim_message.specs.declared.answers.BodyFault.{BodyFault}
+use Rattle.scim_message.specs.declared.answers.BodyFault.TheVariants.{NotJson, WrongShape, Memory}
+
+abbrev pub fault_of_json : JsonFault → BodyFault
+fault_of_json json.NotJson = NotJson
+fault_of_json json.Memory = Memory
+
+abbrev pub fault_of_reading : ReadFault → BodyFault
+fault_of_reading reading.InvalidSyntax = WrongShape
+fault_of_reading reading.InvalidValue = WrongShape
+fault_of_reading reading.Memory = Memory

@@ -1,0 +1,64 @@
+-- Reading a resource as an answer shows it.
+use Rattle.std.specs.Prelude.{ℕ, List, length, Option, None, Some, Result, Ok, Err, ◌&&◌, nat_le, if◌then◌else◌, is_none, codes}
+use Rattle.scim_key.specs.Identifiers.{id_fault}
+use Rattle.scim_key.specs.Outcome.{◌>>=◌}
+use Rattle.scim_key.specs.declared.records.Kind.{Kind}
+use Rattle.scim_version.specs.Tags.{tag_fault}
+use Rattle.serde_json.specs.Data.{Data, null, boolean, number, string, array, object, Members}
+use Rattle.scim_json.specs.Attributes.{attribute, value_repeats}
+use Rattle.scim_resource.specs.Reading.{read_content, unless_repeated}
+use Rattle.scim_resource.specs.Rows.{ShownRecord}
+use Rattle.scim_resource.specs.declared.rows.TheConstants.{TAG_LIMIT}
+use Rattle.scim_resource.specs.declared.contents.Content.{Content}
+use Rattle.scim_resource.specs.declared.faults.ReadFault.{ReadFault}
+use Rattle.scim_resource.specs.declared.faults.ReadFault.TheVariants.{InvalidSyntax, InvalidValue}
+
+-- an id
+abbrev pub id_in : Option Data → Result (List ℕ) ReadFault
+id_in None = Err InvalidValue
+id_in (Some null) = Err InvalidValue
+id_in (Some (boolean b)) = Err InvalidValue
+id_in (Some (number n)) = Err InvalidValue
+id_in (Some (string s)) = if is_none (id_fault s) then Ok s else Err InvalidValue
+id_in (Some (array ds)) = Err InvalidValue
+id_in (Some (object ms)) = Err InvalidValue
+
+-- the text, where it is an entity tag of at most 256 bytes
+abbrev pub tag_of : List ℕ → Option (List ℕ)
+tag_of s = if nat_le (length s) TAG_LIMIT && is_none (tag_fault s) then Some s else None
+
+-- an entity tag of at most 256 bytes, or none
+abbrev pub tag_in : Option Data → Option (List ℕ)
+tag_in None = None
+tag_in (Some null) = None
+tag_in (Some (boolean b)) = None
+tag_in (Some (number n)) = None
+tag_in (Some (string s)) = tag_of s
+tag_in (Some (array ds)) = None
+tag_in (Some (object ms)) = None
+
+-- the version in `meta`, or none where it is no object
+abbrev pub version_in : Option Data → Option (List ℕ)
+version_in None = None
+version_in (Some null) = None
+version_in (Some (boolean b)) = None
+version_in (Some (number n)) = None
+version_in (Some (string s)) = None
+version_in (Some (array ds)) = None
+version_in (Some (object ms)) = tag_in (attribute (codes "version") ms)
+
+-- this content, with the id and the version of an object: an id is required, any version will do
+abbrev pub shown_with : Content → Members → Result ShownRecord ReadFault
+shown_with content ms =
+    id_in (attribute (codes "id") ms) >>= (λ id.
+    Ok (record { id = id; version = version_in (attribute (codes "meta") ms); content = content }))
+
+-- A resource of this type as it is shown: its content, its id, and its version where that is known. `meta` is an object
+-- that is looked into
+abbrev pub read_shown : Kind → Data → Result ShownRecord ReadFault
+read_shown kind null = Err InvalidSyntax
+read_shown kind (boolean b) = Err InvalidSyntax
+read_shown kind (number n) = Err InvalidSyntax
+read_shown kind (string s) = Err InvalidSyntax
+read_shown kind (array ds) = Err InvalidSyntax
+read_shown kind (object ms) = unless_repeated (value_repeats (attribute (codes "meta") ms)) (read_content kind (object ms) >>= (λ content. shown_with content ms))
