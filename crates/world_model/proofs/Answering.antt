@@ -148,8 +148,9 @@ module _ (history : History) (es : List Entry) (kept : Kept history es) (lawful 
   request_answers (Search kind wanted start count) asked =
       let row = asked.row in
       let P : Request → Type 0 = λ r. Answers history r (step es r).answer in
-      let (said, says) = search_said es row kept.whole in
-      let its_subject = search_subject row (row_lawful history lawful (row_name row) row asked.accepted) in
+      let law = row_lawful history lawful (row_name row) row asked.accepted in
+      let (said, says) = search_said es row law kept.whole in
+      let its_subject = search_subject row law in
       subst P (sym (asked.is ∙ search_is row))
       (record { name = row_name row; about = ap subject (sym (search_is row)) ∙ its_subject; row = row; accepted = asked.accepted; said = said; says = says })
   request_answers (Replace id content if_match if_none_match) asked =

@@ -8,6 +8,8 @@ use Rattle.std.specs.Ordering.{is_eq, ordering_reverse, match_ordering}
 use Rattle.std.specs.Prelude.{nat_le}
 use Rattle.std.specs.declared.cmp.Ordering.{Ordering}
 use Rattle.std.specs.declared.cmp.Ordering.TheVariants.{Less, Equal, Greater}
+use Rattle.scim_key.proofs.RecordLaws.{same as same_names}
+use Rattle.scim_key.specs.RecordOrder.{names_total, tied}
 use Rattle.scim_key.specs.declared.records.Kind.{Kind}
 use Rattle.scim_key.specs.declared.records.Kind.TheVariants.{User, Group}
 use Rattle.scim_key.specs.declared.records.RecordName.{RecordName}
@@ -20,8 +22,6 @@ use Rattle.connector_core.specs.Maps.{name_cmp}
 use Rattle.world_model.specs.Safe.{IsAt, Has}
 use Rattle.world_model.specs.Untroubled.{most_entries}
 use Rattle.provider_core.proofs.TableLaws.{at_push}
-use Rattle.world_model.proofs.Naming.{name_from_test}
-use Rattle.world_model.proofs.NameOrder.{names_total, tied}
 
 -- ---- names in their order
 
@@ -106,7 +106,7 @@ has_new (x ∷ xs) name = go (name_cmp name x) refl (has_new xs name)
   where
     go : (r : Ordering) → name_cmp name x ≡ r → Has (with_name xs name) name → Has (placed r name x xs (with_name xs name)) name
     go Less is later = (0, refl)
-    go Equal is later = (0, ap Some (sym (name_from_test name x (sym (tied name x) ∙ ap is_eq is))))
+    go Equal is later = (0, ap Some (sym ((same_names name x).0 (sym (tied name x) ∙ ap is_eq is))))
     go Greater is later = (suc later.0, later.1)
 
 -- one more at most

@@ -10,7 +10,10 @@ use Rattle.provider_core.proofs.StoryLaws.{stories_only_grow}
 use Rattle.provider_core.proofs.TableLaws.{go_on_staying, tables_stay_whole, answers_show_facts}
 use Rattle.source_csv.specs.Records.{row_name, row_revision}
 use Rattle.source_csv.specs.declared.rows.Row.{Row}
-use Rattle.source_book.specs.Accepting.{IsNewer}
+use Rattle.source_book.proofs.Acceptance.{new_is_newer}
+use Rattle.source_book.proofs.Rising.{goes_on}
+use Rattle.source_book.specs.Accepting.{accepting}
+use Rattle.source_book.specs.History.{AllRise}
 use Rattle.source_book.specs.declared.accepting.Verdict.{Verdict}
 use Rattle.source_book.specs.declared.accepting.Verdict.TheVariants as verdicts
 use Rattle.connector_core.specs.Asking.{asking}
@@ -21,7 +24,7 @@ use Rattle.connector_core.specs.declared.knowledge.Known.{Known}
 use Rattle.world_model.specs.World.{World, Message, Asked, Answered, Event, Changes, Sends, Delivers, Cuts, Restarts_provider, Restarts_connector, changes, sends, arrives, delivers, message_at, happens, empty, judged, run}
 use Rattle.world_model.specs.Safe.{IsAt}
 use Rattle.world_model.proofs.Judging.{Follows, event_follows, judged_by_source}
-use Rattle.world_model.proofs.Accepting.{AllRise, newer_rises, rows_stay, new_by_source}
+use Rattle.world_model.proofs.Accepting.{rows_stay, new_by_source}
 use Rattle.world_model.proofs.Growing.{Grows, image_grows}
 use Rattle.world_model.proofs.Keeping.{Kept, step_grows, step_keeps}
 use Rattle.world_model.proofs.Noting.{AllNoted, all_noted_grow, row_noted, reopened_noted, learning_noted}
@@ -40,7 +43,7 @@ pub record Inv (w : World) : Type 0 where
 abbrev with_new : World → Row → World
 with_new w row = changes w row (Ok verdicts.New)
 
-module _ (w : World) (row : Row) (inv : Inv w) (newer : IsNewer w.history row) (follows : Follows (with_new w row).book (with_new w row).history) where
+module _ (w : World) (row : Row) (inv : Inv w) (new : accepting w.history row ≡ Ok verdicts.New) (follows : Follows (with_new w row).book (with_new w row).history) where
   new_grows : Grows w.history w.entries (with_new w row).history w.entries
   new_grows = record { rows = λ name r has. rows_stay w.history row name r has; entries = go_on_staying w.entries; whole = inv.kept.whole }
 
@@ -53,11 +56,11 @@ module _ (w : World) (row : Row) (inv : Inv w) (newer : IsNewer w.history row) (
   }
 
   above : (known : Known) → w.book (row_name row) ≡ Some known → row_revision known.wanted ≺ row_revision row
-  above known in_book = newer known.wanted (sym (inv.follows (row_name row)) ∙ ap (option_map (λ k. k.wanted)) in_book)
+  above known in_book = new_is_newer w.history row new known.wanted (sym (inv.follows (row_name row)) ∙ ap (option_map (λ k. k.wanted)) in_book)
 
   new_inv : Inv (with_new w row)
   new_inv = record {
-    rising = newer_rises w.history row newer inv.rising;
+    rising = (goes_on w.history row new).rises inv.rising;
     follows = follows;
     kept = new_kept;
     noted = row_noted w.entries w.book row above inv.noted;

@@ -5,6 +5,7 @@ use Rattle.std.proofs.lemmas.List.{append-nil}
 use Rattle.std.proofs.lemmas.List.Elements.{filter-append}
 use Rattle.std.specs.List.{last_or, position_from}
 use Rattle.std.specs.Option.{option_map}
+use Rattle.scim_key.proofs.RecordLaws.{same as same_names}
 use Rattle.scim_key.specs.Outcome.{◌>>=◌}
 use Rattle.scim_key.specs.declared.records.RecordName.{RecordName}
 use Rattle.scim_message.specs.declared.messages.Request.{Request}
@@ -24,7 +25,7 @@ use Rattle.connector_core.specs.declared.learning.LearnFault.TheVariants.{Unfit,
 use Rattle.connector_core.specs.Learning.{or_fault, Finding, Shows, Shows_none, Taken, Stale, Sight, fit, sighted, none_sighted, forgetting, is_absent, is_under, Lesson, lesson, finding, subject, Learning, noted, learn, after_learning}
 use Rattle.connector_core.specs.declared.changing.ChangeFault.{ChangeFault}
 use Rattle.connector_core.specs.Changing.{verdict, unknown_member, is_full, history_after, book_after}
-use Rattle.world_model.proofs.Naming.{name_from_test}
+use Rattle.world_model.proofs.Learned.{Learns, Learns.sees, Learns.misses, Learns.is_taken, Learns.is_stale, learnt_by}
 use Rattle.world_model.specs.World.{World, Message, Asked, Answered, Event, Changes, Sends, Delivers, Cuts, Restarts_provider, Restarts_connector, sends, delivers, message_at, happens, empty, names, judged, run}
 use Rattle.world_model.specs.Safe.{JudgesBySource}
 
@@ -74,18 +75,6 @@ reopened_wants : (o : Option Known) → wants (option_map forgotten o) ≡ wants
 reopened_wants None = refl
 reopened_wants (Some known) = refl
 
-module _ (book : Book) where
-  abbrev Keeps : Result Learning LearnFault → Type 0
-  Keeps r = (q : RecordName) → wanted_row (after_learning book r) q ≡ wanted_row book q
-
-  then_keeps : {A : Type 0} (r : Result A LearnFault) (f : A → Result Learning LearnFault) → ((x : A) → r ≡ Ok x → Keeps (f x)) → Keeps (r >>= f)
-  then_keeps (Ok x) f keeps = keeps x refl
-  then_keeps (Err fault) f keeps = λ q. refl
-
-pub from_or_fault : {A : Type 0} (fault : LearnFault) (o : Option A) (x : A) → or_fault fault o ≡ Ok x → o ≡ Some x
-from_or_fault fault None x e = absurd (cc)
-from_or_fault fault (Some y) x e = cc
-
 none_sighted_wants : (id : Option (List ℕ)) (known : Known) → (none_sighted id known).known.wanted ≡ known.wanted
 none_sighted_wants None known = refl
 none_sighted_wants (Some id) known = refl
@@ -94,42 +83,26 @@ forgetting_wants : (concerned : Bool) (known : Known) → (forgetting concerned 
 forgetting_wants true known = refl
 forgetting_wants false known = refl
 
-sighted_wants : (known : Known) (r : Result Sight LearnFault) (l : Lesson) → (r >>= λ sight. Ok (sighted known sight)) ≡ Ok l → l.known.wanted ≡ known.wanted
-sighted_wants known (Ok sight) l e = let same : sighted known sight ≡ l = cc in subst (λ m. m.known.wanted ≡ known.wanted) same refl
-sighted_wants known (Err fault) l e = absurd (cc)
+lesson_wants : (name : RecordName) (known : Known) {said : Finding} {l : Lesson} → Learns name known said l → l.known.wanted ≡ known.wanted
+lesson_wants name known (sees s sight fits) = refl
+lesson_wants name known misses = none_sighted_wants known.id known
+lesson_wants name known is_taken = forgetting_wants (is_absent known.seen) known
+lesson_wants name known (is_stale if_match) = forgetting_wants (is_under if_match known.seen) known
 
-lesson_wants : (name : RecordName) (known : Known) (said : Finding) (l : Lesson) → lesson name known said ≡ Ok l → l.known.wanted ≡ known.wanted
-lesson_wants name known (Shows s) l e = sighted_wants known (fit name known s) l e
-lesson_wants name known Shows_none l e =
-    let same : none_sighted known.id known ≡ l = cc in subst (λ m. m.known.wanted ≡ known.wanted) same (none_sighted_wants known.id known)
-lesson_wants name known Taken l e = let same : forgetting (is_absent known.seen) known ≡ l = cc in subst (λ m. m.known.wanted ≡ known.wanted) same (forgetting_wants _ known)
-lesson_wants name known (Stale if_match) l e = let same : forgetting (is_under if_match known.seen) known ≡ l = cc in subst (λ m. m.known.wanted ≡ known.wanted) same (forgetting_wants _ known)
-
-noted_keeps : (book : Book) (name : RecordName) (known : Known) (l : Lesson) → book name ≡ Some known → l.known.wanted ≡ known.wanted → Keeps book (Ok (noted book name l))
-noted_keeps book name known l here same q = put_wants book name l.known q ∙ elim (cases_Bool (same_name name q)) [
-  | inl e ↦ rw e (ap Some same ∙ sym (ap wants (ap book (sym (name_from_test name q e)) ∙ here)))
+put_keeps : (book : Book) (name : RecordName) (known now : Known) (q : RecordName) → book name ≡ Some known → now.wanted ≡ known.wanted → wanted_row (put book name now) q ≡ wanted_row book q
+put_keeps book name known now q here same = put_wants book name now q ∙ elim (cases_Bool (same_name name q)) [
+  | inl e ↦ rw e (ap Some same ∙ sym (ap wants (ap book (sym ((same_names name q).0 e)) ∙ here)))
   | inr e ↦ rw e refl
 ]
 
--- what is learnt of a record from what the answer says
-abbrev taught : Book → RecordName → Known → Finding → Result Learning LearnFault
-taught book name known said = lesson name known said >>= λ l. Ok (noted book name l)
-
-abbrev told : Book → Request → Answer → RecordName → Known → Result Learning LearnFault
-told book request answer name known = finding request answer >>= taught book name known
-
-taught_keeps : (book : Book) (name : RecordName) (known : Known) (said : Finding) → book name ≡ Some known → Keeps book (taught book name known said)
-taught_keeps book name known said here =
-    then_keeps book (lesson name known said) (λ l. Ok (noted book name l)) (λ l is. noted_keeps book name known l here (lesson_wants name known said l is))
-
-told_keeps : (book : Book) (request : Request) (answer : Answer) (name : RecordName) (known : Known) → book name ≡ Some known → Keeps book (told book request answer name known)
-told_keeps book request answer name known here = then_keeps book (finding request answer) (taught book name known) (λ said is. taught_keeps book name known said here)
-
-learn_keeps : (book : Book) (request : Request) (answer : Answer) → Keeps book (learn book request answer)
-learn_keeps book request answer =
-    then_keeps book (or_fault Unfit (subject request)) (λ name. or_fault NoSuchRecord (book name) >>= told book request answer name) (λ name about.
-    then_keeps book (or_fault NoSuchRecord (book name)) (told book request answer name) (λ known here.
-    told_keeps book request answer name known (from_or_fault NoSuchRecord (book name) known here)))
+learn_keeps : (book : Book) (request : Request) (answer : Answer) (q : RecordName) → wanted_row (after_learning book (learn book request answer)) q ≡ wanted_row book q
+learn_keeps book request answer q = go (learn book request answer) refl
+  where
+    go : (r : Result Learning LearnFault) → learn book request answer ≡ r → wanted_row (after_learning book r) q ≡ wanted_row book q
+    go (Err fault) is = refl
+    go (Ok learning) is =
+        let t = learnt_by book request answer learning is in
+        ap (λ (b : Book). wanted_row b q) t.book_after ∙ put_keeps book t.name t.known t.teaches.known q t.in_book (lesson_wants t.name t.known t.learns)
 
 -- ---- every event
 

@@ -2,6 +2,7 @@
 use Rattle.std.proofs.Common.{◌≡◌, ℕ, zero, suc, ◌<◌, ◌≤◌, true, List, [], ◌∷◌, ◌++◌, length, Some, ◌⊎◌, inl, inr, ap, sym, ◌∙◌, subst, arith, length-append}
 use Rattle.std.proofs.lemmas.Option.{slice_get_within}
 use Rattle.std.specs.List.{slice_get}
+use Rattle.scim_key.proofs.RevisionLaws.{reflexive_up_to, up_to_before}
 use Rattle.scim_key.specs.Revisions.{RevisionValue, ◌≺◌, ◌≼◌}
 use Rattle.scim_version.proofs.Versions.{has_version-alone}
 use Rattle.scim_version.specs.Conditions.{holds_match}
@@ -21,7 +22,7 @@ use Rattle.source_book.specs.History.{History}
 use Rattle.connector_core.specs.Learning.{content_revision}
 use Rattle.world_model.specs.Safe.{IsAt, IsImage, StoryRises}
 use Rattle.world_model.proofs.Growing.{Grows, image_grows}
-use Rattle.world_model.proofs.Order.{itself, up_to, up_to_before}
+use Rattle.world_model.proofs.Order.{at_most_before}
 use Rattle.world_model.proofs.Telling.{Overwrites, AskedTruly}
 
 pub record Kept (history : History) (es : List Entry) : Type 0 where
@@ -41,11 +42,11 @@ held_revision history es kept i e at =
 pub none_above_held : (e : Entry) → StoryRises (story e) → (j : ℕ) (c : Content) (r held : RevisionValue) → IsAt (story e) j c → content_revision c ≡ Some r
     → content_revision e.held ≡ Some held → r ≼ held
 none_above_held e rises j c r held at has_r has_held = elim (at_push e.earlier e.held j c at) [
-  | inl old ↦ up_to r held (rises j (length e.earlier) c e.held r held (slice_get_within e.earlier j c old) at (held_at e) has_r has_held)
+  | inl old ↦ up_to_before r held (rises j (length e.earlier) c e.held r held (slice_get_within e.earlier j c old) at (held_at e) has_r has_held)
   | inr last ↦
       let same : Some held ≡ Some r = sym has_held ∙ ap content_revision last.1 ∙ has_r in
       let equal : held ≡ r = cc in
-      subst (λ (x : RevisionValue). r ≼ x) (sym equal) (itself r)
+      subst (λ (x : RevisionValue). r ≼ x) (sym equal) (reflexive_up_to r)
 ]
 
 -- one more content of a higher revision
@@ -133,7 +134,7 @@ module _ (history : History) (es : List Entry) (i : ℕ) (e : Entry) (content : 
   all_below j c r at has_r =
       let (held, has_held) = held_revision history es kept i e there in
       let up = none_above_held e (kept.rises i e there) j c r held at has_r has_held in
-      up_to_before r asked.older asked.newer (subst (λ (x : RevisionValue). r ≼ x) (overwritten held has_held) up) asked.rises
+      at_most_before r asked.older asked.newer (subst (λ (x : RevisionValue). r ≼ x) (overwritten held has_held) up) asked.rises
 
   renewed_story_rises : StoryRises (story (renewed e content))
   renewed_story_rises = push_rises (story e) content asked.newer (kept.rises i e there) asked.revision all_below

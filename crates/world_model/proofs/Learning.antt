@@ -4,6 +4,7 @@ use Rattle.std.proofs.lemmas.Bool.{not_from_false}
 use Rattle.std.proofs.lemmas.Slice.Eq.{bytes_eq-Decides}
 use Rattle.std.specs.List.{last_or}
 use Rattle.std.specs.Option.{option_map}
+use Rattle.scim_key.proofs.RevisionLaws.{reflexive_up_to, up_to_before, transitive_up_to}
 use Rattle.scim_key.specs.Outcome.{◌>>=◌}
 use Rattle.scim_key.specs.Revisions.{RevisionValue, before, ◌≼◌}
 use Rattle.scim_key.specs.declared.records.RecordName.{RecordName}
@@ -23,7 +24,6 @@ use Rattle.connector_core.specs.declared.learning.LearnFault.{LearnFault}
 use Rattle.connector_core.specs.declared.learning.LearnFault.TheVariants.{Unfit, Unversioned, NoSuchRecord}
 use Rattle.world_model.specs.World.{World}
 use Rattle.world_model.specs.Safe.{IsAt, Has}
-use Rattle.world_model.proofs.Order.{itself, up_to, not_above}
 use Rattle.world_model.proofs.Lists.{has_last}
 use Rattle.world_model.proofs.Growing.{id_at}
 use Rattle.world_model.proofs.Invariant.{Inv}
@@ -50,9 +50,9 @@ is_there fault o x is = ap (or_fault fault) is
 -- ---- the last row of a record is of its highest revision
 
 first_up_to : (first : Row) (rows : List Row) (last : Row) → Rises (first ∷ rows) → last_or (Some first) rows ≡ Some last → row_revision first ≼ row_revision last
-first_up_to first [] last rises is = let same : first ≡ last = cc in subst (λ (r : Row). row_revision first ≼ row_revision r) same (itself (row_revision first))
+first_up_to first [] last rises is = let same : first ≡ last = cc in subst (λ (r : Row). row_revision first ≼ row_revision r) same (reflexive_up_to (row_revision first))
 first_up_to first (r ∷ rows) last rises is =
-    not_above (row_revision first) (row_revision r) (row_revision last) (up_to (row_revision first) (row_revision r) rises.0.0) (first_up_to r rows last rises.1 is)
+    transitive_up_to (row_revision first) (row_revision r) (row_revision last) (up_to_before (row_revision first) (row_revision r) rises.0.0) (first_up_to r rows last rises.1 is)
 
 each_up_to : (rows : List Row) (i : ℕ) (row last : Row) → Rises rows → IsAt rows i row → last_or None rows ≡ Some last → row_revision row ≼ row_revision last
 each_up_to [] i row last rises at is = absurd (cc)

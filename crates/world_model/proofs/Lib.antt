@@ -1,6 +1,5 @@
 pub mod Order
 pub mod Lists
-pub mod Naming
 pub mod Judging
 pub mod Onwards
 pub mod Imaging
@@ -14,7 +13,6 @@ pub mod Sending
 pub mod Invariant
 pub mod Safety
 pub mod Headlines
-pub mod NameOrder
 pub mod Counting
 pub mod Ranking
 pub mod Searched

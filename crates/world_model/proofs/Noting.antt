@@ -2,7 +2,8 @@
 use Rattle.std.proofs.Common.{◌≡◌, ◌≢◌, ℕ, Bool, true, false, List, Option, Some, None, Result, Ok, Err, inl, inr, refl, ap, sym, ◌∙◌, subst}
 use Rattle.std.proofs.lemmas.Bool.{cases_Bool, not-true}
 use Rattle.std.specs.Option.{option_map}
-use Rattle.scim_key.proofs.RevisionLaws.{none_first}
+use Rattle.scim_key.proofs.RevisionLaws.{none_first, up_to_before, transitive_up_to, later_above_second, later_is_one}
+use Rattle.scim_key.proofs.RecordLaws.{same as same_names}
 use Rattle.scim_key.specs.Revisions.{RevisionValue, no_revision, later, ◌≺◌, ◌≼◌}
 use Rattle.scim_key.specs.declared.records.RecordName.{RecordName}
 use Rattle.scim_resource.specs.Contents.{content_name}
@@ -20,8 +21,7 @@ use Rattle.connector_core.specs.declared.knowledge.Known.{Known}
 use Rattle.connector_core.specs.declared.knowledge.Seen.TheVariants.{At}
 use Rattle.connector_core.specs.declared.learning.LearnFault.{LearnFault}
 use Rattle.world_model.specs.Safe.{id_in, IsVersion}
-use Rattle.world_model.proofs.Naming.{name_from_test}
-use Rattle.world_model.proofs.Order.{up_to, not_above, raised_to, later_is_one, later_within}
+use Rattle.world_model.proofs.Order.{later_within}
 use Rattle.world_model.proofs.Growing.{id_at, ids_grow, version_grows}
 use Rattle.world_model.proofs.Telling.{ShowsTruly}
 use Rattle.world_model.proofs.Learned.{Fits, Learns, Learns.sees, Learns.misses, Learns.is_taken, Learns.is_stale, learnt_by, shows_first}
@@ -75,7 +75,7 @@ put_noted es book name now noted here q known is = elim (cases_Bool (same_name n
   | inl e ↦
       let same : Some now ≡ Some known = rw e at is in
       let equal : now ≡ known = cc in
-      subst (λ (x : RecordName). Noted es x known) (name_from_test name q e) (subst (λ (x : Known). Noted es name x) equal here)
+      subst (λ (x : RecordName). Noted es x known) ((same_names name q).0 e) (subst (λ (x : Known). Noted es name x) equal here)
   | inr e ↦ noted q known (rw e at is)
 ]
 
@@ -97,7 +97,7 @@ wanting_noted es name (Some known) row above noted =
     record {
       id = n.id;
       confirmed = n.confirmed;
-      within = not_above known.confirmed (row_revision known.wanted) (row_revision row) n.within (up_to _ _ (above known refl));
+      within = transitive_up_to known.confirmed (row_revision known.wanted) (row_revision row) n.within (up_to_before _ _ (above known refl));
       seen = λ tag r at. let s = n.seen tag r at in record { id = s.id; has_id = s.has_id; version = s.version; counted = s.counted };
     }
 
@@ -134,7 +134,7 @@ forgetting_noted es name false known n = n
 fact_version : (es : List Entry) (name : RecordName) (known : Known) (s : ShownRecord) (sight : Sight) → IsWholeTable es → IsFact es s → Fits name known s sight
     → IsVersion es name sight.id sight.tag sight.revision
 fact_version es name known s sight whole fact fits =
-    let named : name ≡ content_name s.content = name_from_test name (content_name s.content) fits.named in
+    let named : name ≡ content_name s.content = (same_names name (content_name s.content)).0 fits.named in
     let tags : Some sight.tag ≡ Some _ = sym fits.tag ∙ fact.version in
     record {
       place = fact.place;
@@ -180,7 +180,7 @@ module _ (es : List Entry) (name : RecordName) (known : Known) (sight : Sight) (
       let same_revision : sight.revision ≡ r = cc in
       subst (λ (t : List ℕ). InSight es name (sighted known sight).known t r) same_tag
       (subst (λ (x : RevisionValue). InSight es name (sighted known sight).known sight.tag x) same_revision
-      (record { id = sight.id; has_id = refl; version = v; counted = raised_to known.confirmed sight.revision }))
+      (record { id = sight.id; has_id = refl; version = v; counted = later_above_second known.confirmed sight.revision }))
 
   sighted_noted : Noted es name (sighted known sight).known
   sighted_noted = record {

@@ -4,6 +4,8 @@ use Rattle.std.proofs.lemmas.Bool.{cases_Bool}
 use Rattle.std.proofs.lemmas.List.{append-nil}
 use Rattle.std.proofs.lemmas.List.Elements.{filter-append}
 use Rattle.std.specs.Option.{option_map}
+use Rattle.scim_key.proofs.RevisionLaws.{reflexive_up_to, transitive_up_to, later_above_first}
+use Rattle.scim_key.proofs.RecordLaws.{same as same_names}
 use Rattle.scim_key.specs.Outcome.{◌>>=◌}
 use Rattle.scim_key.specs.Revisions.{◌≼◌}
 use Rattle.scim_key.specs.declared.records.RecordName.{RecordName}
@@ -26,11 +28,9 @@ use Rattle.connector_core.specs.declared.learning.LearnFault.TheVariants.{Unfit,
 use Rattle.connector_core.specs.Learning.{or_fault, Finding, Shows, Shows_none, Taken, Stale, Sight, fit, sighted, none_sighted, forgetting, is_absent, is_under, Lesson, lesson, finding, subject, Learning, noted, learn, after_learning}
 use Rattle.connector_core.specs.declared.changing.ChangeFault.{ChangeFault}
 use Rattle.connector_core.specs.Changing.{history_after, book_after}
+use Rattle.world_model.proofs.Learned.{Learns, Learns.sees, Learns.misses, Learns.is_taken, Learns.is_stale, learnt_by}
 use Rattle.world_model.specs.World.{World, Message, Asked, Answered, Event, Changes, Sends, Delivers, Cuts, Restarts_provider, Restarts_connector, sends, delivers, message_at, happens, empty, judged, run}
 use Rattle.world_model.specs.Safe.{IsPrefixOf, Onward, AlwaysOnward}
-use Rattle.world_model.proofs.Judging.{from_or_fault}
-use Rattle.world_model.proofs.Naming.{name_from_test}
-use Rattle.world_model.proofs.Order.{itself, not_above, raised}
 use Rattle.provider_core.proofs.TableLaws.{go_on_staying, go_on_further}
 
 -- ---- lists
@@ -50,23 +50,23 @@ abbrev NoneFalls : Book → Book → Type 0
 NoneFalls early late = (name : RecordName) (known : Known) → early name ≡ Some known → StaysConfirmed known (late name)
 
 none_falls : (book : Book) → NoneFalls book book
-none_falls book name known is = (known, is, itself known.confirmed)
+none_falls book name known is = (known, is, reflexive_up_to known.confirmed)
 
 none_falls_further : (a b c : Book) → NoneFalls a b → NoneFalls b c → NoneFalls a c
 none_falls_further a b c p q name known is =
     let (mid, here, up) = p name known is in
     let (after, there, more) = q name mid here in
-    (after, there, not_above known.confirmed mid.confirmed after.confirmed up more)
+    (after, there, transitive_up_to known.confirmed mid.confirmed after.confirmed up more)
 
 put_raises : (book : Book) (name : RecordName) (now : Known) → ((known : Known) → book name ≡ Some known → known.confirmed ≼ now.confirmed) → NoneFalls book (put book name now)
 put_raises book name now up q known is = elim (cases_Bool (same_name name q)) [
-  | inl e ↦ (now, rw e refl, up known (ap book (name_from_test name q e) ∙ is))
-  | inr e ↦ (known, rw e is, itself known.confirmed)
+  | inl e ↦ (now, rw e refl, up known (ap book ((same_names name q).0 e) ∙ is))
+  | inr e ↦ (known, rw e is, reflexive_up_to known.confirmed)
 ]
 
 wanting_keeps : (o : Option Known) (row : Row) (known : Known) → o ≡ Some known → known.confirmed ≼ (wanting o row).confirmed
 wanting_keeps None row known is = absurd (cc)
-wanting_keeps (Some k) row known is = let same : k ≡ known = cc in subst (λ x. x.confirmed ≼ k.confirmed) same (itself k.confirmed)
+wanting_keeps (Some k) row known is = let same : k ≡ known = cc in subst (λ x. x.confirmed ≼ k.confirmed) same (reflexive_up_to k.confirmed)
 
 change_raises : (book : Book) (row : Row) (v : Result Verdict ChangeFault) → NoneFalls book (book_after book row v)
 change_raises book row (Ok verdicts.New) = put_raises book (row_name row) (wanting (book (row_name row)) row) (wanting_keeps (book (row_name row)) row)
@@ -78,49 +78,35 @@ abbrev Raises : Known → Lesson → Type 0
 Raises known l = known.confirmed ≼ l.known.confirmed
 
 none_sighted_raises : (id : Option (List ℕ)) (known : Known) → Raises known (none_sighted id known)
-none_sighted_raises None known = itself known.confirmed
-none_sighted_raises (Some id) known = itself known.confirmed
+none_sighted_raises None known = reflexive_up_to known.confirmed
+none_sighted_raises (Some id) known = reflexive_up_to known.confirmed
 
 forgetting_raises : (concerned : Bool) (known : Known) → Raises known (forgetting concerned known)
-forgetting_raises true known = itself known.confirmed
-forgetting_raises false known = itself known.confirmed
+forgetting_raises true known = reflexive_up_to known.confirmed
+forgetting_raises false known = reflexive_up_to known.confirmed
 
-sighted_raises : (known : Known) (r : Result Sight LearnFault) (l : Lesson) → (r >>= λ sight. Ok (sighted known sight)) ≡ Ok l → Raises known l
-sighted_raises known (Ok sight) l e = let same : sighted known sight ≡ l = cc in subst (Raises known) same (raised known.confirmed sight.revision)
-sighted_raises known (Err fault) l e = absurd (cc)
-
-lesson_raises : (name : RecordName) (known : Known) (said : Finding) (l : Lesson) → lesson name known said ≡ Ok l → Raises known l
-lesson_raises name known (Shows s) l e = sighted_raises known (fit name known s) l e
-lesson_raises name known Shows_none l e = let same : none_sighted known.id known ≡ l = cc in subst (Raises known) same (none_sighted_raises known.id known)
-lesson_raises name known Taken l e = let same : forgetting (is_absent known.seen) known ≡ l = cc in subst (Raises known) same (forgetting_raises (is_absent known.seen) known)
-lesson_raises name known (Stale m) l e = let same : forgetting (is_under m known.seen) known ≡ l = cc in subst (Raises known) same (forgetting_raises (is_under m known.seen) known)
-
-then_raises : {A : Type 0} (book : Book) (r : Result A LearnFault) (f : A → Result Learning LearnFault) → ((x : A) → r ≡ Ok x → NoneFalls book (after_learning book (f x)))
-    → NoneFalls book (after_learning book (r >>= f))
-then_raises book (Ok x) f h = h x refl
-then_raises book (Err fault) f h = none_falls book
-
-abbrev taught : Book → RecordName → Known → Finding → Result Learning LearnFault
-taught book name known said = lesson name known said >>= λ l. Ok (noted book name l)
-
-abbrev told : Book → Request → Answer → RecordName → Known → Result Learning LearnFault
-told book request answer name known = finding request answer >>= taught book name known
+lesson_raises : (name : RecordName) (known : Known) {said : Finding} {l : Lesson} → Learns name known said l → Raises known l
+lesson_raises name known (sees s sight fits) = later_above_first known.confirmed sight.revision
+lesson_raises name known misses = none_sighted_raises known.id known
+lesson_raises name known is_taken = forgetting_raises (is_absent known.seen) known
+lesson_raises name known (is_stale if_match) = forgetting_raises (is_under if_match known.seen) known
 
 noted_raises : (book : Book) (name : RecordName) (known : Known) (l : Lesson) → book name ≡ Some known → Raises known l → NoneFalls book (put book name l.known)
 noted_raises book name known l here up = put_raises book name l.known (λ k is.
     let same : known ≡ k = cc (sym here ∙ is) in subst (λ x. x.confirmed ≼ l.known.confirmed) same up)
 
 learn_raises : (book : Book) (request : Request) (answer : Answer) → NoneFalls book (after_learning book (learn book request answer))
-learn_raises book request answer =
-    then_raises book (or_fault Unfit (subject request)) (λ name. or_fault NoSuchRecord (book name) >>= told book request answer name) (λ name about.
-    then_raises book (or_fault NoSuchRecord (book name)) (told book request answer name) (λ known here.
-    then_raises book (finding request answer) (taught book name known) (λ said says.
-    then_raises book (lesson name known said) (λ l. Ok (noted book name l)) (λ l is.
-    noted_raises book name known l (from_or_fault NoSuchRecord (book name) known here) (lesson_raises name known said l is)))))
+learn_raises book request answer = go (learn book request answer) refl
+  where
+    go : (r : Result Learning LearnFault) → learn book request answer ≡ r → NoneFalls book (after_learning book r)
+    go (Err fault) is = none_falls book
+    go (Ok learning) is =
+        let t = learnt_by book request answer learning is in
+        subst (λ (b : Book). NoneFalls book b) (sym t.book_after) (noted_raises book t.name t.known t.teaches t.in_book (lesson_raises t.name t.known t.learns))
 
 reopened_raises : (o : Option Known) (known : Known) → o ≡ Some known → StaysConfirmed known (option_map forgotten o)
 reopened_raises None known is = absurd (cc)
-reopened_raises (Some k) known is = let same : k ≡ known = cc in (forgotten k, refl, subst (λ x. x.confirmed ≼ k.confirmed) same (itself k.confirmed))
+reopened_raises (Some k) known is = let same : k ≡ known = cc in (forgotten k, refl, subst (λ x. x.confirmed ≼ k.confirmed) same (reflexive_up_to k.confirmed))
 
 -- ---- every event
 

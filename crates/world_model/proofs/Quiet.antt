@@ -6,7 +6,7 @@ use Rattle.scim_message.specs.declared.messages.Answer.{Answer}
 use Rattle.scim_message.specs.declared.messages.Request.{Request}
 use Rattle.provider_core.specs.Stories.{Entry, step, Numbered}
 use Rattle.provider_core.proofs.TableLaws.{at_push, held_at}
-use Rattle.source_csv.specs.Records.{row_name}
+use Rattle.source_csv.specs.Records.{IsRow, row_name}
 use Rattle.source_csv.specs.declared.rows.Row.{Row}
 use Rattle.source_book.specs.Accepting.{accepting}
 use Rattle.source_book.specs.History.{History, rows_of, last_row}
@@ -21,7 +21,7 @@ use Rattle.connector_core.specs.declared.asking.Ask.TheVariants.{Nothing, Waits,
 use Rattle.connector_core.specs.declared.changing.ChangeFault.{ChangeFault}
 use Rattle.world_model.specs.World.{World, Message, Asked, Answered, Event, Changes, Sends, Delivers, Cuts, Restarts_provider, Restarts_connector, changes, sends, delivers, message_at, happens, empty, judged, run}
 use Rattle.world_model.specs.Safe.{IsAt, Has, id_in, IsImage}
-use Rattle.world_model.specs.Untroubled.{IsRow, IsLawful, request_content, longest_body, most_entries, Untroubled, NeverRefused}
+use Rattle.world_model.specs.Untroubled.{IsLawful, request_content, longest_body, most_entries, Untroubled, NeverRefused}
 use Rattle.world_model.proofs.Judging.{judged_by_source}
 use Rattle.world_model.proofs.Lists.{last_has}
 use Rattle.world_model.proofs.Accepting.{rows_stay}

@@ -7,14 +7,13 @@ use Rattle.scim_key.specs.Revisions.{RevisionValue, IsRevision, no_revision, ran
 use Rattle.scim_resource.specs.declared.contents.Content.{Content}
 use Rattle.provider_core.specs.Stories.{Entry, story}
 use Rattle.provider_core.proofs.TableLaws.{held_at}
-use Rattle.source_csv.specs.Records.{row_revision}
+use Rattle.source_csv.specs.Records.{IsRow, row_revision}
 use Rattle.source_csv.specs.declared.rows.Row.{Row}
 use Rattle.source_csv.specs.declared.rows.Row.TheVariants.{User, Group}
 use Rattle.source_book.specs.History.{History, same_name, rows_of}
 use Rattle.source_csv.specs.Records.{row_name}
 use Rattle.connector_core.specs.Learning.{content_revision}
 use Rattle.world_model.specs.Safe.{IsAt, Has, StoryRises}
-use Rattle.world_model.specs.Untroubled.{IsRow}
 use Rattle.world_model.proofs.Keeping.{Kept}
 use Rattle.world_model.proofs.Lists.{at_within, filter_has}
 use Rattle.scim_key.specs.declared.records.RecordName.{RecordName}

@@ -13,9 +13,11 @@ use Rattle.scim_resource.specs.Contents.{content_name}
 use Rattle.scim_resource.specs.Rows.{ShownRecord, shown}
 use Rattle.scim_resource.specs.declared.contents.Content.{Content}
 use Rattle.scim_resource.specs.declared.contents.Content.TheVariants as contents
+use Rattle.scim_filter.proofs.Keys.{keys_decide}
+use Rattle.scim_filter.specs.Matching.{satisfies}
+use Rattle.provider_core.specs.Rows.{same_kind}
 use Rattle.scim_filter.specs.Expressions.{Expression}
-use Rattle.scim_filter.specs.Matching.{some_compares, content_texts}
-use Rattle.scim_filter.specs.Names.{name_filter}
+use Rattle.scim_filter.specs.Names.{name_filter, single_key}
 use Rattle.scim_filter.specs.declared.terms.TextAttribute.TheVariants.{UserName, DisplayName}
 use Rattle.scim_filter.specs.declared.terms.TextOperator.TheVariants.{Equal}
 use Rattle.scim_message.specs.declared.messages.Answer.{Answer}
@@ -26,38 +28,12 @@ use Rattle.provider_core.specs.Searches.{listing}
 use Rattle.provider_core.specs.Stories.{Entry, Numbered, numbered_from, row_of, is_entry_hit, found_entries}
 use Rattle.provider_core.specs.Tables.{IsWholeTable}
 use Rattle.provider_core.proofs.TableLaws.{held_at, at_numbered}
-use Rattle.source_csv.specs.Records.{row_name}
+use Rattle.source_csv.specs.Records.{IsRow, row_name}
 use Rattle.source_csv.specs.declared.rows.Row.{Row}
 use Rattle.source_csv.specs.declared.rows.Row.TheVariants.{User, Group}
 use Rattle.connector_core.specs.Asking.{search_for}
 use Rattle.connector_core.specs.Learning.{Finding, Shows, Shows_none, finding, subject}
-use Rattle.world_model.specs.Untroubled.{IsRow}
 use Rattle.world_model.proofs.Lists.{two_kept, at_passes}
-
--- ---- what the filter holds of
-
-abbrev named : Kind → List ℕ → RecordName
-named kind text = record { kind = kind; key = key_of text }
-
-same_named : (kind : Kind) (a b : List ℕ) → bytes_eq (key_of a) (key_of b) ≡ true → named kind a ≡ named kind b
-same_named kind a b same = ap (λ key. the_name kind key) ((bytes_eq-Decides (key_of a) (key_of b)).0 same)
-  where
-    the_name : Kind → List ℕ → RecordName
-    the_name k key = record { kind = k; key = key }
-
-one_of : (b : Bool) → (b || false) ≡ true → b ≡ true
-one_of true is = refl
-one_of false is = is
-
-user_hit : (login : List ℕ) (c : Content) → some_compares false Equal login (content_texts UserName c) ≡ true → content_name c ≡ named kinds.User login
-unfolding some_compares
-user_hit login (contents.User u) hit = same_named kinds.User u.user_name login (one_of _ hit)
-user_hit login (contents.Group g) hit = absurd (cc)
-
-group_hit : (name : List ℕ) (c : Content) → some_compares false Equal name (content_texts DisplayName c) ≡ true → content_name c ≡ named kinds.Group name
-unfolding some_compares
-group_hit name (contents.User u) hit = absurd (cc)
-group_hit name (contents.Group g) hit = same_named kinds.Group g.display_name name (one_of _ hit)
 
 -- ---- the search for a row's name
 
@@ -80,9 +56,14 @@ search_subject (Group row) law = rw law.name refl
 abbrev hits : Row → Numbered → Bool
 hits row n = is_entry_hit (kind_of row) (Some (filter_of row)) n
 
-hit_named : (row : Row) (n : Numbered) → hits row n ≡ true → content_name n.entry.held ≡ row_name row
-hit_named (User row) n hit = user_hit row.login n.entry.held (and_parts _ _ hit).1
-hit_named (Group row) n hit = group_hit row.name n.entry.held (and_parts _ _ hit).1
+names_row : (row : Row) → IsRow row → single_key (filter_of row) ≡ Some (row_name row)
+names_row (User row) law = rw law.login refl
+names_row (Group row) law = rw law.name refl
+
+hit_named : (row : Row) (n : Numbered) → IsRow row → hits row n ≡ true → content_name n.entry.held ≡ row_name row
+hit_named row n law hit =
+    (keys_decide (filter_of row) (row_name row) (row_of n.number n.entry) (names_row row law)).0
+    (and_parts (same_kind (kind_of row) n.entry.name.kind) (satisfies (filter_of row) (row_of n.number n.entry)) hit).1
 
 -- what the answer to the search says
 pub record Says (request : Request) (said : Finding) (name : RecordName) (answer : Answer) : Type 0 where
@@ -92,7 +73,7 @@ pub record Says (request : Request) (said : Finding) (name : RecordName) (answer
 pub shown_name : (x s : ShownRecord) (name : RecordName) → Shows x ≡ Shows s → content_name x.content ≡ name → content_name s.content ≡ name
 shown_name x s name shows is = let same : x ≡ s = cc in subst (λ (r : ShownRecord). content_name r.content ≡ name) same is
 
-module _ (es : List Entry) (row : Row) (whole : IsWholeTable es) where
+module _ (es : List Entry) (row : Row) (law : IsRow row) (whole : IsWholeTable es) where
   abbrev all_hits : List Numbered
   all_hits = filter (hits row) (numbered_from 1 es)
 
@@ -107,11 +88,11 @@ module _ (es : List Entry) (row : Row) (whole : IsWholeTable es) where
       let y_there = (at_numbered 1 es j y at_y).1 in
       let x_named = whole.named i (length x.entry.earlier) x.entry x.entry.held x_there (held_at x.entry) in
       let y_named = whole.named j (length y.entry.earlier) y.entry y.entry.held y_there (held_at y.entry) in
-      let same = whole.distinct i j x.entry y.entry x_there y_there (sym x_named ∙ hit_named row x hit_x ∙ sym (hit_named row y hit_y) ∙ y_named) in
+      let same = whole.distinct i j x.entry y.entry x_there y_there (sym x_named ∙ hit_named row x law hit_x ∙ sym (hit_named row y law hit_y) ∙ y_named) in
       omega (arith, lt, same)
 
   one_hit : (n : Numbered) (more : List Numbered) → all_hits ≡ n ∷ more → content_name n.entry.held ≡ row_name row
-  one_hit n more is = hit_named row n (at_passes (hits row) (numbered_from 1 es) 0 n (ap (λ l. slice_get l 0) is))
+  one_hit n more is = hit_named row n law (at_passes (hits row) (numbered_from 1 es) 0 n (ap (λ l. slice_get l 0) is))
 
   abbrev IsSaid : List ShownRecord → Type 0
   IsSaid found = (said : Finding) × Says (Search (kind_of row) (Some (filter_of row)) (pos 1) None) said (row_name row) (answer_to found)

@@ -1,6 +1,7 @@
 -- What the connector asks for is true: a Create and a Replace carry an image, and a Replace overwrites an older version.
 use Rattle.std.proofs.Common.{◌≡◌, ℕ, Bool, true, false, not, ◌&&◌, List, Option, Some, None, refl, ap, sym, ◌∙◌, subst}
 use Rattle.std.specs.Option.{option_map, option_and_then}
+use Rattle.scim_key.proofs.RecordLaws.{same as same_names}
 use Rattle.scim_key.specs.Revisions.{RevisionValue, before, ◌≺◌, ◌≼◌}
 use Rattle.scim_key.specs.declared.records.RecordName.{RecordName}
 use Rattle.scim_resource.specs.Contents.{content_name}
@@ -22,15 +23,14 @@ use Rattle.connector_core.specs.declared.knowledge.Seen.TheVariants.{Unknown, Ab
 use Rattle.world_model.specs.Safe.{Has, id_in, IsImage, IsVersion}
 use Rattle.world_model.proofs.Judging.{Follows}
 use Rattle.world_model.proofs.Lists.{at_passes, last_has}
-use Rattle.world_model.proofs.Naming.{name_from_test}
-use Rattle.world_model.proofs.Order.{up_to_before}
+use Rattle.world_model.proofs.Order.{at_most_before}
 use Rattle.world_model.proofs.Imaging.{Knows, name_with, revision_with, image_more}
 use Rattle.world_model.proofs.Noting.{InSight, AllNoted}
 use Rattle.world_model.proofs.Telling.{AskedTruly}
 
 -- the rows of a record are of that record
 pub row_of_record : (history : History) (name : RecordName) (row : Row) → Has (rows_of history name) row → row_name row ≡ name
-row_of_record history name row has = name_from_test (row_name row) name (at_passes (λ r. same_name (row_name r) name) history has.0 row has.1)
+row_of_record history name row has = (same_names (row_name row) name).0 (at_passes (λ r. same_name (row_name r) name) history has.0 row has.1)
 
 -- what isn't confirmed is of a lower revision than the wanted row
 not_done : (c w : RevisionValue) → c ≼ w → (not (before c w) && not (before w c)) ≡ false → c ≺ w
@@ -115,7 +115,7 @@ module _ (history : History) (es : List Entry) (book : Book) (follows : Follows 
             newer = row_revision known.wanted;
             version = subst (λ (n : RecordName). IsVersion es n id tag revision) content_named (subst (λ (i : List ℕ). IsVersion es name i tag revision) same sight.version);
             revision = revision_with ids known.wanted;
-            rises = up_to_before revision known.confirmed (row_revision known.wanted) sight.counted (not_done known.confirmed (row_revision known.wanted) (noted name known in_book).within unsettled);
+            rises = at_most_before revision known.confirmed (row_revision known.wanted) sight.counted (not_done known.confirmed (row_revision known.wanted) (noted name known in_book).within unsettled);
           }
 
       request_asked : (seen : Seen) (id : Option (List ℕ)) → known.seen ≡ seen → known.id ≡ id → is_done known ≡ false → AskedTruly history es (request_for seen id known.wanted content)

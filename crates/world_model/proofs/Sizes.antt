@@ -23,13 +23,14 @@ use Rattle.scim_resource.specs.Contents.{content_kind}
 use Rattle.scim_resource.specs.Schemas.{core_user, core_group, source_extension}
 use Rattle.scim_resource.specs.Writing.{source_data, schemas_data, name_data, name_parts, email_data, email_parts, emails_data, user_data, member_data, group_members_data, group_data, content_data}
 use Rattle.scim_resource.specs.declared.contents.Content.{Content}
+use Rattle.source_csv.specs.Records.{IsRow}
 use Rattle.source_csv.specs.Rows.{UserFields, GroupFields, IsUserRow, IsGroupRow}
 use Rattle.source_csv.specs.declared.rows.Row.{Row}
 use Rattle.source_csv.specs.declared.rows.Row.TheVariants.{User, Group}
 use Rattle.source_book.specs.History.{user, members_of}
 use Rattle.mapping.specs.Images.{user_image, present, emails_of, work_email}
 use Rattle.connector_core.specs.Images.{Ready, Ids, Waits_for, and_ready, ready, once, group_image, image_with, image}
-use Rattle.world_model.specs.Untroubled.{IsRow, longest_body}
+use Rattle.world_model.specs.Untroubled.{longest_body}
 use Rattle.world_model.proofs.Imaging.{of_ready}
 
 -- ---- strings

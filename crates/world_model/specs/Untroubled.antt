@@ -15,19 +15,14 @@ use Rattle.scim_message.specs.declared.messages.Answer.TheVariants.{Error}
 use Rattle.scim_message.specs.declared.refusals.Refusal.TheVariants.{LimitReached}
 use Rattle.scim_message.specs.Refusals.{error_of}
 use Rattle.provider_core.specs.Stories.{Entry, story, step}
-use Rattle.source_csv.specs.Rows.{IsUserRow, IsGroupRow}
+use Rattle.source_csv.specs.Records.{IsRow}
 use Rattle.source_csv.specs.declared.rows.Row.{Row}
 use Rattle.source_csv.specs.declared.rows.Row.TheVariants.{User, Group}
 use Rattle.connector_core.specs.Learning.{learn}
 use Rattle.world_model.specs.World.{World, Asked, Answered, Event, Changes, Sends, Delivers, Cuts, Restarts_provider, Restarts_connector, empty, run}
 use Rattle.world_model.specs.Safe.{Has}
 
--- the row keeps the limits of the source
-abbrev pub IsRow : Row → Type 0
-IsRow (User row) = IsUserRow row
-IsRow (Group row) = IsGroupRow row
-
--- each row that is offered keeps them
+-- each row that is offered keeps the limits of the source
 abbrev pub IsLawful : Event → Type 0
 IsLawful (Changes row) = IsRow row
 IsLawful (Sends name) = Unit {0}
