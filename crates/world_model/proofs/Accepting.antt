@@ -1,22 +1,16 @@
 -- Rows that the connector accepts are those that the source accepts, and none is lost.
-use Rattle.std.proofs.Common.{◌≡◌, Bool, true, false, List, [], ◌∷◌, ◌++◌, Some, None, Result, Ok, Err, inl, inr, refl}
-use Rattle.std.proofs.lemmas.Bool.{cases_Bool}
-use Rattle.std.proofs.lemmas.List.{append-nil}
+use Rattle.std.proofs.Common.{◌≡◌, Bool, true, false, [], ◌∷◌, ◌++◌, Result, Ok, Err, refl}
 use Rattle.std.proofs.lemmas.List.Elements.{filter-append}
-use Rattle.std.specs.List.{AllByRecursion, last_or}
-use Rattle.scim_key.proofs.RevisionLaws.{transitive}
-use Rattle.scim_key.specs.Revisions.{◌≺◌}
 use Rattle.scim_key.specs.declared.records.RecordName.{RecordName}
 use Rattle.provider_core.proofs.TableLaws.{at_more}
-use Rattle.source_csv.specs.Records.{row_name, row_revision}
+use Rattle.source_csv.specs.Records.{row_name}
 use Rattle.source_csv.specs.declared.rows.Row.{Row}
-use Rattle.source_book.specs.History.{History, Rises, same_name, rows_of}
-use Rattle.source_book.specs.Accepting.{IsNewer, accepting}
+use Rattle.source_book.specs.History.{History, same_name, rows_of}
+use Rattle.source_book.specs.Accepting.{accepting}
 use Rattle.source_book.specs.declared.accepting.BookFault.{BookFault}
 use Rattle.source_book.specs.declared.accepting.BookFault.TheVariants as faults
 use Rattle.source_book.specs.declared.accepting.Verdict.{Verdict}
 use Rattle.source_book.specs.declared.accepting.Verdict.TheVariants as verdicts
-use Rattle.source_book.proofs.Acceptance.{new_is_newer}
 use Rattle.connector_core.specs.Changing.{limited, judging_by_source}
 use Rattle.world_model.specs.Safe.{Has}
 

@@ -1,12 +1,11 @@
 -- The book judges each row as the history alone does.
-use Rattle.std.proofs.Common.{◌≡◌, ℕ, ◌+◌, Bool, true, false, not, cond, List, [], ◌∷◌, ◌++◌, Option, Some, None, Result, Ok, Err, is_some, is_none, refl, ap, sym, ◌∙◌, subst, inl, inr}
+use Rattle.std.proofs.Common.{◌≡◌, ℕ, ◌+◌, Bool, true, false, not, cond, List, [], ◌∷◌, ◌++◌, Option, Some, None, Result, Ok, Err, is_some, is_none, refl, ap, sym, ◌∙◌, inl, inr}
 use Rattle.std.proofs.lemmas.Bool.{cases_Bool}
 use Rattle.std.proofs.lemmas.List.{append-nil}
 use Rattle.std.proofs.lemmas.List.Elements.{filter-append}
 use Rattle.std.specs.List.{last_or, position_from}
 use Rattle.std.specs.Option.{option_map}
 use Rattle.scim_key.proofs.RecordLaws.{same as same_names}
-use Rattle.scim_key.specs.Outcome.{◌>>=◌}
 use Rattle.scim_key.specs.declared.records.RecordName.{RecordName}
 use Rattle.scim_message.specs.declared.messages.Request.{Request}
 use Rattle.scim_message.specs.declared.messages.Answer.{Answer}
@@ -21,8 +20,7 @@ use Rattle.connector_core.specs.declared.asking.Ask.{Ask}
 use Rattle.connector_core.specs.declared.asking.Ask.TheVariants.{Nothing, Waits, Send}
 use Rattle.connector_core.specs.declared.knowledge.Known.{Known}
 use Rattle.connector_core.specs.declared.learning.LearnFault.{LearnFault}
-use Rattle.connector_core.specs.declared.learning.LearnFault.TheVariants.{Unfit, NoSuchRecord}
-use Rattle.connector_core.specs.Learning.{or_fault, Finding, Shows, Shows_none, Taken, Stale, Sight, fit, sighted, none_sighted, forgetting, is_absent, is_under, Lesson, lesson, finding, subject, Learning, noted, learn, after_learning}
+use Rattle.connector_core.specs.Learning.{Finding, none_sighted, forgetting, is_absent, is_under, Lesson, Learning, learn, after_learning}
 use Rattle.connector_core.specs.declared.changing.ChangeFault.{ChangeFault}
 use Rattle.connector_core.specs.Changing.{verdict, unknown_member, is_full, history_after, book_after}
 use Rattle.world_model.proofs.Learned.{Learns, Learns.sees, Learns.misses, Learns.is_taken, Learns.is_stale, learnt_by}

@@ -6,7 +6,6 @@ use Rattle.std.proofs.lemmas.List.Elements.{filter-append}
 use Rattle.std.specs.Option.{option_map}
 use Rattle.scim_key.proofs.RevisionLaws.{reflexive_up_to, transitive_up_to, later_above_first}
 use Rattle.scim_key.proofs.RecordLaws.{same as same_names}
-use Rattle.scim_key.specs.Outcome.{◌>>=◌}
 use Rattle.scim_key.specs.Revisions.{◌≼◌}
 use Rattle.scim_key.specs.declared.records.RecordName.{RecordName}
 use Rattle.scim_message.specs.declared.messages.Request.{Request}
@@ -24,8 +23,7 @@ use Rattle.connector_core.specs.declared.asking.Ask.{Ask}
 use Rattle.connector_core.specs.declared.asking.Ask.TheVariants.{Nothing, Waits, Send}
 use Rattle.connector_core.specs.declared.knowledge.Known.{Known}
 use Rattle.connector_core.specs.declared.learning.LearnFault.{LearnFault}
-use Rattle.connector_core.specs.declared.learning.LearnFault.TheVariants.{Unfit, NoSuchRecord}
-use Rattle.connector_core.specs.Learning.{or_fault, Finding, Shows, Shows_none, Taken, Stale, Sight, fit, sighted, none_sighted, forgetting, is_absent, is_under, Lesson, lesson, finding, subject, Learning, noted, learn, after_learning}
+use Rattle.connector_core.specs.Learning.{Finding, none_sighted, forgetting, is_absent, is_under, Lesson, Learning, learn, after_learning}
 use Rattle.connector_core.specs.declared.changing.ChangeFault.{ChangeFault}
 use Rattle.connector_core.specs.Changing.{history_after, book_after}
 use Rattle.world_model.proofs.Learned.{Learns, Learns.sees, Learns.misses, Learns.is_taken, Learns.is_stale, learnt_by}

@@ -1,5 +1,5 @@
 -- More of the order of revisions.
-use Rattle.std.proofs.Common.{◌≡◌, inl, inr}
+use Rattle.std.proofs.Common.{inl, inr}
 use Rattle.std.proofs.lemmas.Bool.{cases_Bool}
 use Rattle.scim_key.proofs.RevisionLaws.{transitive_up_to}
 use Rattle.scim_key.specs.Revisions.{RevisionValue, before, later, ◌≺◌, ◌≼◌}

@@ -1,25 +1,19 @@
 -- What a Search for a record's name finds: its entry alone, or none.
-use Rattle.std.proofs.Common.{◌≡◌, ℕ, ◌||◌, Bool, true, false, List, [], ◌∷◌, map, length, Some, None, Ok, refl, ap, sym, ◌∙◌, subst, arith}
+use Rattle.std.proofs.Common.{◌≡◌, Bool, true, List, [], ◌∷◌, map, length, Some, None, Ok, refl, ap, sym, ◌∙◌, subst, arith}
 use Rattle.std.specs.List.{filter, slice_get}
 use Rattle.std.specs.Prelude.{pos}
-use Rattle.std.specs.Str.{bytes_eq}
 use Rattle.std.proofs.lemmas.Bool.{and_parts}
-use Rattle.std.proofs.lemmas.Slice.Eq.{bytes_eq-Decides}
-use Rattle.scim_key.specs.Names.{key_of}
 use Rattle.scim_key.specs.declared.records.Kind.{Kind}
 use Rattle.scim_key.specs.declared.records.Kind.TheVariants as kinds
 use Rattle.scim_key.specs.declared.records.RecordName.{RecordName}
 use Rattle.scim_resource.specs.Contents.{content_name}
 use Rattle.scim_resource.specs.Rows.{ShownRecord, shown}
-use Rattle.scim_resource.specs.declared.contents.Content.{Content}
-use Rattle.scim_resource.specs.declared.contents.Content.TheVariants as contents
 use Rattle.scim_filter.proofs.Keys.{keys_decide}
 use Rattle.scim_filter.specs.Matching.{satisfies}
 use Rattle.provider_core.specs.Rows.{same_kind}
 use Rattle.scim_filter.specs.Expressions.{Expression}
 use Rattle.scim_filter.specs.Names.{name_filter, single_key}
 use Rattle.scim_filter.specs.declared.terms.TextAttribute.TheVariants.{UserName, DisplayName}
-use Rattle.scim_filter.specs.declared.terms.TextOperator.TheVariants.{Equal}
 use Rattle.scim_message.specs.declared.messages.Answer.{Answer}
 use Rattle.scim_message.specs.declared.messages.Answer.TheVariants as answers
 use Rattle.scim_message.specs.declared.messages.Request.{Request}

@@ -16,8 +16,6 @@ use Rattle.scim_message.specs.declared.refusals.Refusal.TheVariants.{LimitReache
 use Rattle.scim_message.specs.Refusals.{error_of}
 use Rattle.provider_core.specs.Stories.{Entry, story, step}
 use Rattle.source_csv.specs.Records.{IsRow}
-use Rattle.source_csv.specs.declared.rows.Row.{Row}
-use Rattle.source_csv.specs.declared.rows.Row.TheVariants.{User, Group}
 use Rattle.connector_core.specs.Learning.{learn}
 use Rattle.world_model.specs.World.{World, Asked, Answered, Event, Changes, Sends, Delivers, Cuts, Restarts_provider, Restarts_connector, empty, run}
 use Rattle.world_model.specs.Safe.{Has}
