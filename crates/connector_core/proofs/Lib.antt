@@ -1,2 +1,4 @@
 pub mod BookLaws
 pub mod Keeping
+pub mod Verdicts
+pub mod Writing
