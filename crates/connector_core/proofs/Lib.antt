@@ -2,3 +2,4 @@ pub mod BookLaws
 pub mod Keeping
 pub mod Verdicts
 pub mod Writing
+pub mod LawProofs

@@ -1,14 +1,13 @@
 -- What a verdict tells of the book.
-use Rattle.std.proofs.Common.{◌≡◌, ℕ, ◌<◌, ◌≤◌, ◌+◌, Bool, true, false, cond, not, ◌&&◌, List, [], ◌∷◌, Option, Some, None, IsSome, is_some, is_none, Result, Ok, Err, refl, ap, sym, subst, ◌∙◌, arith, rules, tests, inl, inr, nat_le}
+use Rattle.std.proofs.Common.{◌≡◌, ℕ, ◌<◌, ◌+◌, Bool, true, false, cond, ◌&&◌, List, [], ◌∷◌, Option, Some, None, IsSome, is_none, Result, Ok, Err, refl, ap, sym, subst, ◌∙◌, arith, inl, inr, nat_le}
 use Rattle.std.proofs.lemmas.Bool.{cases_Bool}
 use Rattle.std.proofs.lemmas.Bool.Decides.{nat_tests}
 use Rattle.std.proofs.lemmas.List.Elements.{All-cons, All-nil, All-weaker}
 use Rattle.std.specs.FinMap.{get, keys}
 use Rattle.std.specs.List.{All, position_from}
 use Rattle.std.specs.Option.{option_map}
-use Rattle.scim_key.proofs.RevisionLaws.{irreflexive, transitive, total}
+use Rattle.scim_key.proofs.RevisionLaws.{transitive}
 use Rattle.scim_key.specs.Revisions.{RevisionValue, before, ◌≺◌, ◌≼◌}
-use Rattle.scim_key.specs.declared.records.RecordName.{RecordName}
 use Rattle.source_csv.specs.Records.{row_name, row_revision, same_row}
 use Rattle.source_csv.specs.declared.rows.Row.{Row}
 use Rattle.source_book.specs.Accepting.{accepted, newer}
@@ -19,10 +18,9 @@ use Rattle.source_book.specs.declared.accepting.Verdict.{Verdict}
 use Rattle.source_book.specs.declared.accepting.Verdict.TheVariants as verdicts
 use Rattle.journal_core.specs.Entries.{EntryMap, CanPutRow, count_of, most_records}
 use Rattle.journal_core.specs.declared.entries.Entry.{Entry}
-use Rattle.connector_core.specs.Changing.{is_full, judging, limited, unknown_member, verdict}
+use Rattle.connector_core.specs.Changing.{is_full, judging, limited, unknown_member}
 use Rattle.connector_core.specs.Maps.{BookMap, book_of}
 use Rattle.connector_core.specs.State.{IsKept, entry_of}
-use Rattle.connector_core.specs.declared.changing.ChangeFault.{ChangeFault}
 use Rattle.connector_core.specs.declared.knowledge.Known.{Known}
 
 -- where one revision is not above another, which is below a third, it is not above that

@@ -1,5 +1,5 @@
 -- A call of the connector that leaves the journal as it was.
-use Rattle.std.proofs.Common.{◌≡◌, ℕ, ◌+◌, ◌≤◌, Result, Ok, Err, refl, sym, arith, inl, inr}
+use Rattle.std.proofs.Common.{◌≡◌, ℕ, Result, Ok, Err, refl, sym, arith, inl}
 use Rattle.source_book.specs.declared.accepting.Verdict.{Verdict}
 use Rattle.journal_core.specs.Entries.{EntryMap}
 use Rattle.journal_core.specs.Stores.{WritesOnce}
