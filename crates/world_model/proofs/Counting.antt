@@ -14,7 +14,8 @@ use Rattle.scim_key.specs.declared.records.RecordName.{RecordName}
 use Rattle.source_csv.specs.Records.{row_name}
 use Rattle.source_csv.specs.declared.rows.Row.{Row}
 use Rattle.source_book.specs.History.{History, same_kind}
-use Rattle.connector_core.specs.Changing.{is_full, is_of_kind, most_records, names_of, names_with}
+use Rattle.connector_core.specs.Changing.{is_full, names_of, names_with}
+use Rattle.journal_core.specs.Entries.{count_of, most_records}
 use Rattle.connector_core.specs.Maps.{name_cmp}
 use Rattle.world_model.specs.Safe.{IsAt, Has}
 use Rattle.world_model.specs.Untroubled.{most_entries}
@@ -23,6 +24,9 @@ use Rattle.world_model.proofs.Naming.{name_from_test}
 use Rattle.world_model.proofs.NameOrder.{names_total, tied}
 
 -- ---- names in their order
+
+abbrev is_of_kind : Kind → RecordName → Bool
+is_of_kind kind name = same_kind kind name.kind
 
 abbrev Comes : RecordName → RecordName → Type 0
 Comes a b = name_cmp a b ≡ Less
@@ -185,8 +189,8 @@ module _ (history : History) (row : Row) (counted : Counted history) where
         omega (arith, up, none, counted.few kind)
     | inr same ↦
         let P : Kind → Type 0 = λ k. is_full k before_row ≡ false in
-        let below = not_full (most_records kind) (count_by (is_of_kind kind) before_row) (subst P (sym same) room) in
-        let counts : many (is_of_kind kind) before_row ≡ count_by (is_of_kind kind) before_row = length-filter (is_of_kind kind) before_row in
+        let below = not_full (most_records kind) (count_of kind before_row) (subst P (sym same) room) in
+        let counts : many (is_of_kind kind) before_row ≡ count_of kind before_row = length-filter (is_of_kind kind) before_row in
         let up = many_with (is_of_kind kind) before_row (row_name row) in
         let most = one_if_small (is_of_kind kind (row_name row)) in
         omega (arith, up, below, most, counts)

@@ -20,4 +20,5 @@ pub mod Ranking
 pub mod Searched
 pub mod Answering
 pub mod Learning
+pub mod Sizes
 pub mod Quiet

@@ -1,10 +1,10 @@
 -- Where every row that is offered keeps the limits of the source, no reply is refused and no limit is met.
-use Rattle.std.proofs.Common.{◌≡◌, ℕ, ◌≤◌, ◌&&◌, Bool, true, false, List, [], ◌∷◌, ◌++◌, length, Option, Some, None, Result, Ok, Err, is_none, ◌⊎◌, inl, inr, refl, ap, sym, ◌∙◌, subst, arith}
+use Rattle.std.proofs.Common.{◌<◌, ◌≡◌, ℕ, ◌≤◌, ◌&&◌, Bool, true, false, List, [], ◌∷◌, ◌++◌, length, Option, Some, None, Result, Ok, Err, is_none, ◌⊎◌, inl, inr, refl, ap, sym, ◌∙◌, subst, arith}
 use Rattle.std.specs.List.{AllByRecursion}
 use Rattle.scim_key.specs.declared.records.RecordName.{RecordName}
 use Rattle.scim_message.specs.declared.messages.Answer.{Answer}
 use Rattle.scim_message.specs.declared.messages.Request.{Request}
-use Rattle.provider_core.specs.Stories.{Entry, step}
+use Rattle.provider_core.specs.Stories.{Entry, step, Numbered}
 use Rattle.provider_core.proofs.TableLaws.{at_push, held_at}
 use Rattle.source_csv.specs.Records.{row_name}
 use Rattle.source_csv.specs.declared.rows.Row.{Row}
@@ -20,14 +20,24 @@ use Rattle.connector_core.specs.declared.asking.Ask.{Ask}
 use Rattle.connector_core.specs.declared.asking.Ask.TheVariants.{Nothing, Waits, Send}
 use Rattle.connector_core.specs.declared.changing.ChangeFault.{ChangeFault}
 use Rattle.world_model.specs.World.{World, Message, Asked, Answered, Event, Changes, Sends, Delivers, Cuts, Restarts_provider, Restarts_connector, changes, sends, delivers, message_at, happens, empty, judged, run}
-use Rattle.world_model.specs.Safe.{IsAt, Has}
-use Rattle.world_model.specs.Untroubled.{IsRow, IsLawful, most_entries, Untroubled, NeverRefused}
+use Rattle.world_model.specs.Safe.{IsAt, Has, id_in, IsImage}
+use Rattle.world_model.specs.Untroubled.{IsRow, IsLawful, request_content, longest_body, most_entries, Untroubled, NeverRefused}
 use Rattle.world_model.proofs.Judging.{judged_by_source}
 use Rattle.world_model.proofs.Lists.{last_has}
 use Rattle.world_model.proofs.Accepting.{rows_stay}
 use Rattle.world_model.proofs.Sending.{row_of_record}
 use Rattle.world_model.proofs.Counting.{Counted, none_counted, push_counted, no_more, few_names}
-use Rattle.world_model.proofs.Ranking.{AllLawful, row_there, versions_few}
+use Rattle.world_model.proofs.Ranking.{AllLawful, row_there, row_lawful, versions_few}
+use Rattle.world_model.proofs.Sizes.{image_size}
+use Rattle.world_model.proofs.Telling.{AskedTruly}
+use Rattle.serde_json.specs.Written.{compact_text}
+use Rattle.std.specs.Option.{option_map}
+use Rattle.scim_key.specs.Identifiers.{id_text}
+use Rattle.scim_resource.specs.Contents.{content_kind, content_name}
+use Rattle.scim_resource.specs.Writing.{content_data}
+use Rattle.scim_resource.specs.declared.contents.Content.{Content}
+use Rattle.scim_message.specs.declared.messages.Request.TheVariants.{Create, Retrieve, Search, Replace}
+use Rattle.provider_core.specs.Tables.{entry_named}
 use Rattle.world_model.proofs.Answering.{Answers, request_answers, no_limit}
 use Rattle.world_model.proofs.Learning.{learns}
 use Rattle.world_model.proofs.Invariant.{Inv, event_inv, empty_inv, message_there}
@@ -58,12 +68,34 @@ few_entries w q =
 answers_now : (w : World) → Quiet w → (i : ℕ) (request : Request) → IsAt w.messages i (Asked request) → Answers w.history request (step w.entries request).answer
 answers_now w q i request at = request_answers w.history w.entries q.inv.kept q.lawful (few_entries w q) request (q.inv.told i (Asked request) at)
 
+abbrev IsShort : Content → Type 0
+IsShort c = length (compact_text (content_data c)) < longest_body (content_kind c)
+
+-- the ids of the table are spelled from numbers
+id_spelled : (es : List Entry) (name : RecordName) (id : List ℕ) → id_in es name ≡ Some id → (n : ℕ) × (id ≡ id_text n)
+id_spelled es name id is = go (entry_named name es) is
+  where
+    go : (o : Option Numbered) → option_map (λ n. id_text n.number) o ≡ Some id → (n : ℕ) × (id ≡ id_text n)
+    go None was = absurd (cc)
+    go (Some n) was = (n.number, cc)
+
+image_short : (w : World) → Quiet w → (name : RecordName) (c : Content) → IsImage w.history w.entries name c → length (compact_text (content_data c)) < longest_body (content_kind c)
+image_short w q name c is = image_size (id_in w.entries) (id_spelled w.entries) is.row c (row_lawful w.history q.lawful name is.row is.accepted) is.image
+
+body_size : (w : World) → Quiet w → (request : Request) (content : Content) → AskedTruly w.history w.entries request → request_content request ≡ Some content
+    → length (compact_text (content_data content)) < longest_body (content_kind content)
+body_size w q (Create c) content asked is = let same : c ≡ content = cc in subst IsShort same (image_short w q (content_name c) c asked)
+body_size w q (Retrieve kind id m n) content asked is = absurd asked
+body_size w q (Search kind wanted start count) content asked is = absurd (cc)
+body_size w q (Replace id c m n) content asked is = let same : c ≡ content = cc in subst IsShort same (image_short w q (content_name c) c asked.image)
+
 untroubled : (w : World) → Quiet w → Untroubled w
 untroubled w q = record {
   learns = λ request answer has. learns w request answer q.inv (q.inv.told has.0 (Answered request answer) has.1) (q.answered has.0 request answer has.1);
   room = λ request has. no_limit w.history request (step w.entries request).answer (answers_now w q has.0 request has.1);
   versions = λ e has. versions_few w.history w.entries q.inv.kept q.lawful has.0 e has.1;
   entries = few_entries w q;
+  bodies = λ request content has is. body_size w q request content (q.inv.told has.0 (Asked request) has.1) is;
 }
 
 -- ---- a row is offered
