@@ -19,8 +19,7 @@ use Rattle.scim_message.specs.declared.messages.Answer.TheVariants as answers
 use Rattle.scim_filter.specs.Expressions.{Expression}
 use Rattle.provider_core.specs.Rows.{same_kind, same_record, is_named, has_id, row_with_id, resource, with_row}
 use Rattle.provider_core.specs.Searches.{is_wanted, is_hit, listing}
-use Rattle.provider_core.specs.Outcomes.{Outcome, outcome, creating, reading, retrieving, writing, replacing, next_row, changed_rows}
-use Rattle.provider_core.specs.declared.outcomes.TheConstants.{MOST_RESOURCES}
+use Rattle.provider_core.specs.Outcomes.{Outcome, outcome, creating, reading, retrieving, writing, replacing, next_row, changed_rows, most_resources}
 use Rattle.provider_core.specs.Stories.{Entry, story, row_of, rows_from, rows_of, is_entry_of, first_entry, renewed, Numbered, numbered_from, has_entry_id, entry_with_id, is_entry_hit, renew_at, Step, creating_entry, writing_entry, replacing_entry, reading_entry, retrieving_entry, step, IsTable, RowsFollowStories, GoesOn, AllGoOn, StoriesGrow}
 use Rattle.provider_core.proofs.RowLaws.{same_record-eq}
 
@@ -236,8 +235,8 @@ replace_same row (Some n) es content if_match if_none_match meets table =
 
 same : (es : List Entry) (request : Request) → IsTable es → Same es (outcome (rows_of es) request) (step es request)
 same es (Create content) table =
-    let P : ℕ → Type 0 = λ count. Same es (outcome (rows_of es) (Create content)) (creating_entry (find (is_entry_of (content_name content)) es) (nat_le MOST_RESOURCES count) es content) in
-    subst P (length-rows_from 1 es) (create_same _ _ (nat_le MOST_RESOURCES (length (rows_of es))) es content (same_taken (content_name content) 1 es table) table)
+    let P : ℕ → Type 0 = λ count. Same es (outcome (rows_of es) (Create content)) (creating_entry (find (is_entry_of (content_name content)) es) (nat_le most_resources count) es content) in
+    subst P (length-rows_from 1 es) (create_same _ _ (nat_le most_resources (length (rows_of es))) es content (same_taken (content_name content) 1 es table) table)
 same es (Retrieve kind id if_match if_none_match) table = retrieve_same _ _ es if_match if_none_match (resource-meets kind id es table) table
 same es (Search kind wanted start count) table =
     record { answer = ap (λ resources. answers.List (listing start count resources)) (found-same kind wanted 1 es table); rows = refl; table = table }

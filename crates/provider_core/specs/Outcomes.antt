@@ -26,6 +26,10 @@ pub record Outcome : Type 0 where
   pub change : Change
   pub answer : Answer
 
+-- how many resources a provider holds at most
+abbrev pub most_resources : ℕ
+most_resources = MOST_RESOURCES
+
 -- nothing changes
 abbrev pub replied : Answer → Outcome
 replied answer = record { change = Unchanged; answer = answer }
@@ -85,7 +89,7 @@ retrieving (Some row) if_match if_none_match = reading (holds_match if_match (So
 
 -- What the provider does at a request, on the rows that stand
 abbrev pub outcome : List StoredRecord → Request → Outcome
-outcome rows (Create content) = creating (row_named (content_name content) rows) (nat_le MOST_RESOURCES (length rows)) (length rows) content
+outcome rows (Create content) = creating (row_named (content_name content) rows) (nat_le most_resources (length rows)) (length rows) content
 outcome rows (Retrieve kind id if_match if_none_match) = retrieving (resource kind id rows) if_match if_none_match
 outcome rows (Search kind wanted start count) = replied (answers.List (listing start count (found kind wanted rows)))
 outcome rows (Replace id content if_match if_none_match) = replacing (resource (content_kind content) id rows) content if_match if_none_match

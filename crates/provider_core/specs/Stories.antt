@@ -22,8 +22,7 @@ use Rattle.scim_message.specs.declared.refusals.Refusal.TheVariants.{NameTaken, 
 use Rattle.scim_message.specs.Refusals.{error_of}
 use Rattle.provider_core.specs.Rows.{same_kind, same_record}
 use Rattle.provider_core.specs.Searches.{is_wanted, listing}
-use Rattle.provider_core.specs.Outcomes.{outcome, changed_rows}
-use Rattle.provider_core.specs.declared.outcomes.TheConstants.{MOST_RESOURCES}
+use Rattle.provider_core.specs.Outcomes.{outcome, changed_rows, most_resources}
 
 -- A record's entry: what it held before, in order, and what it holds. All of this is its story, which is never empty
 pub record Entry : Type 0 where
@@ -137,7 +136,7 @@ retrieving_entry (Some n) es if_match if_none_match =
 
 -- What the provider does at a request, on entries
 abbrev pub step : List Entry → Request → Step
-step es (Create content) = creating_entry (find (is_entry_of (content_name content)) es) (nat_le MOST_RESOURCES (length es)) es content
+step es (Create content) = creating_entry (find (is_entry_of (content_name content)) es) (nat_le most_resources (length es)) es content
 step es (Retrieve kind id if_match if_none_match) = retrieving_entry (entry_with_id kind id es) es if_match if_none_match
 step es (Search kind wanted start count) = replied_on es (answers.List (listing start count (found_entries kind wanted es)))
 step es (Replace id content if_match if_none_match) = replacing_entry (entry_with_id (content_kind content) id es) es content if_match if_none_match
