@@ -180,7 +180,7 @@ fn first_known(row: Row) -> Known
 {
     Known {
         wanted: row,
-        confirmed: Revision::NONE,
+        confirmed: Revision::none(),
         id: None,
         seen: Seen::Unknown,
     }
