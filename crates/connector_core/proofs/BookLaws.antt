@@ -1,16 +1,15 @@
 -- Two trees by key as one book by name.
-use Rattle.std.proofs.Common.{◌≡◌, ℕ, suc, ◌+◌, Bool, true, false, cond, length, not, ◌&&◌, List, [], ◌∷◌, ◌++◌, Option, Some, None, IsSome, map, refl, ap, sym, subst, ◌∙◌, arith}
+use Rattle.std.proofs.Common.{◌≡◌, ℕ, suc, ◌+◌, cond, length, List, [], ◌∷◌, ◌++◌, Option, Some, None, IsSome, map, refl, ap, sym, subst, ◌∙◌, arith}
 use Rattle.std.specs.BTreeMap as tree
-use Rattle.std.specs.BTreeMap.{BTreeMap, Updates, IsOrdered}
-use Rattle.std.specs.FinMap.{entries, from_entries, get, insert, keys, remove, get-insert, get-remove, get-from_entries, same_map}
+use Rattle.std.specs.BTreeMap.{Updates, IsOrdered}
+use Rattle.std.specs.FinMap.{get, insert, keys, remove, get-insert, get-remove, get-from_entries, same_map}
 use Rattle.std.specs.FinMap.Entries.{find}
 use Rattle.std.specs.List.{AllByRecursion, count_by}
 use Rattle.std.specs.List.Sorted.{IsStrictlySortedBy}
 use Rattle.std.specs.Map.{lookup}
 use Rattle.std.specs.Option.{option_map}
-use Rattle.std.specs.Ordering.{eq_by_cmp, is_eq}
-use Rattle.std.specs.declared.cmp.Ordering.{Ordering}
-use Rattle.std.specs.declared.cmp.Ordering.TheVariants.{Less, Equal, Greater}
+use Rattle.std.specs.Ordering.{is_eq}
+use Rattle.std.specs.declared.cmp.Ordering.TheVariants.{Less}
 use Rattle.std.proofs.lemmas.List.Sums.{sum_by-cons}
 use Rattle.scim_key.specs.declared.records.Kind.{Kind}
 use Rattle.scim_key.specs.declared.records.Kind.TheVariants.{User, Group}

@@ -1,28 +1,25 @@
 -- What the journal keeps of the book: when the connector is opened, and when a row is put.
-use Rattle.std.proofs.Common.{◌≡◌, ℕ, suc, ◌+◌, ◌<◌, Bool, true, false, cond, not, T, ◌&&◌, List, [], ◌∷◌, Option, Some, None, IsSome, is_none, Result, Ok, Err, map, refl, ap, sym, subst, ◌∙◌, arith, inl, inr, nat_le}
-use Rattle.std.proofs.lemmas.Bool.{cases_Bool}
+use Rattle.std.proofs.Common.{◌≡◌, Bool, true, false, cond, T, ◌&&◌, List, [], ◌∷◌, Option, Some, None, IsSome, map, refl, ap, sym, subst, ◌∙◌}
 use Rattle.std.proofs.lemmas.List.Elements.{All-head, All-tail}
 use Rattle.std.specs.BTreeSet.{insert_key}
-use Rattle.std.specs.Cmp.{IsTotalOrder}
-use Rattle.std.specs.FinMap.{FinMap, entries, from_entries, get, insert, keys, remove, entries-insert, entries_sorted, get-entries, get-insert, get-remove, get-from_entries, same_map}
+use Rattle.std.specs.FinMap.{FinMap, entries, get, insert, keys, remove, entries-insert, entries_sorted, get-entries, get-insert, get-remove, get-from_entries, same_map}
 use Rattle.std.specs.FinMap.Entries.{below_all, by_order, find, is_sorted, put}
 use Rattle.std.specs.List.{All, AllByRecursion}
 use Rattle.std.specs.List.Sorted.{IsStrictlySortedBy}
 use Rattle.std.specs.Option.{option_map}
-use Rattle.std.specs.Ordering.{eq_by_cmp, is_eq, is_lt, match_ordering}
+use Rattle.std.specs.Ordering.{is_eq, is_lt, match_ordering}
 use Rattle.std.specs.declared.cmp.Ordering.{Ordering}
 use Rattle.std.specs.declared.cmp.Ordering.TheVariants.{Less, Equal, Greater}
 use Rattle.scim_key.proofs.RevisionLaws.{none_first}
-use Rattle.scim_key.specs.Revisions.{RevisionValue, before, ◌≺◌, ◌≼◌}
+use Rattle.scim_key.specs.Revisions.{◌≼◌}
 use Rattle.scim_key.specs.declared.records.RecordName.{RecordName}
 use Rattle.source_csv.specs.Records.{row_name, row_revision}
 use Rattle.source_csv.specs.declared.rows.Row.{Row}
-use Rattle.source_book.specs.History.{same_name}
 use Rattle.journal_core.specs.Entries.{EntryMap, IsListOf, entry_with, name_cmp, named, with_row}
 use Rattle.journal_core.specs.declared.entries.Entry.{Entry}
 use Rattle.journal_core.proofs.Trees.{listed, name_from_test, names_same, names_total, tied, turned}
-use Rattle.connector_core.specs.Book.{put as put_in_book, wanting}
-use Rattle.connector_core.specs.Maps.{BookMap, MapsAreBooks, book_of}
+use Rattle.connector_core.specs.Book.{put as put_in_book, wanting, wanting_now}
+use Rattle.connector_core.specs.Maps.{BookMap, MapsAreBooks, book_of, changed, changed_at}
 use Rattle.connector_core.specs.State.{IsKept, IsOpened, entry_of, opened, opened_book, opened_named}
 use Rattle.connector_core.specs.declared.knowledge.Known.{Known}
 
@@ -172,3 +169,23 @@ pub undone : (book : BookMap) (name : RecordName) (known : Known) → get book n
 undone book name known none = same_map names_total names_same _ _ (λ q.
     get-remove names_total (insert book name known) name q ∙ ap (cond (is_eq (name_cmp q name)) None) (get-insert names_total book name known q)
     ∙ undone-cond (is_eq (name_cmp q name)) known (get book q) (get book name) (λ same. ap (get book) (name_from_test q name (sym (tied q name) ∙ same))) none)
+
+-- ---- the book with a row that is new
+
+next-at : (book : BookMap) (name : RecordName) (row : Row) (o : Option Known) → IsSome o → changed_at (wanting_now row) book name o ≡ insert book name (wanting o row)
+next-at book name row None there = absurd (cc)
+next-at book name row (Some known) there = refl
+
+pub next-book : (book : BookMap) (name : RecordName) (row : Row) → name ≡ row_name row → IsSome (get book name)
+    → changed (wanting_now row) book name ≡ insert book (row_name row) (wanting (get book (row_name row)) row)
+next-book book name row is there = next-at book name row (get book name) there ∙ ap (λ n. insert book n (wanting (get book n) row)) is
+
+pub first-book : (book new : BookMap) (name copied : RecordName) (row copy : Row) (known : Known) → name ≡ row_name row → get book name ≡ None → copied ≡ name → copy ≡ row → known ≡ wanting None copy
+    → new ≡ insert book copied known → new ≡ insert book (row_name row) (wanting (get book (row_name row)) row)
+first-book book new name copied row copy known is none same-name same-row first put =
+    put ∙ ap (λ k. insert book copied k) (first ∙ ap (wanting None) same-row) ∙ ap (λ n. insert book n (wanting None row)) same-name
+    ∙ ap (λ o. insert book name (wanting o row)) (sym none) ∙ ap (λ n. insert book n (wanting (get book n) row)) is
+
+pub first-undone : (book new out : BookMap) (name copied : RecordName) (known : Known) → get book name ≡ None → copied ≡ name → new ≡ insert book copied known → out ≡ remove new name → out ≡ book
+first-undone book new out name copied known none same put taken =
+    taken ∙ ap (λ b. remove b name) (put ∙ ap (λ n. insert book n known) same) ∙ undone book name known none

@@ -1,2 +1,5 @@
 pub mod BookLaws
 pub mod Keeping
+pub mod Verdicts
+pub mod Writing
+pub mod LawProofs

@@ -6,3 +6,4 @@ pub mod Images
 pub mod Asking
 pub mod Learning
 pub mod Changing
+pub mod Laws

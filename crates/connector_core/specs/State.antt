@@ -1,5 +1,5 @@
 -- The connector: its journal and its book.
-use Rattle.std.specs.Prelude.{◌≡◌, ◌≤◌, ℕ, List, Option, Some, Result, Ok, Err, map}
+use Rattle.std.specs.Prelude.{◌≡◌, ◌≤◌, ℕ, List, Some, Result, Ok, Err, map}
 use Rattle.std.specs.FinMap.{from_entries, get, keys}
 use Rattle.std.specs.Option.{option_map}
 use Rattle.scim_key.specs.Revisions.{◌≼◌}

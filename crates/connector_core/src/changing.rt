@@ -1,5 +1,27 @@
 //! Rows that the source offers.
-use scim_key::Key;
+ghost use Rattle.std.specs.Prelude.{◌≡◌, ◌≢◌, ℕ, IfErr, IfOk, IsSome, None, Ok, Err, OnErr, OnOk, is_none};
+ghost use Rattle.std.specs.FinMap.{get, insert, keys};
+ghost use Rattle.std.specs.List.{position_from};
+ghost use Rattle.std.specs.Option.{option_copied};
+ghost use Rattle.scim_key.specs.Outcome.{Gives};
+ghost use Rattle.source_csv.specs.Records.{row_name};
+ghost use Rattle.source_book.specs.History.{user};
+ghost use Rattle.source_book.specs.declared.accepting.Verdict.TheVariants as verdicts;
+ghost use Rattle.journal_core.specs.Entries.{with_row};
+ghost use Rattle.journal_core.specs.Stores.{WritesOnce};
+ghost use Rattle.connector_core.specs.Book.{wanted_row, wanting};
+ghost use Rattle.connector_core.specs.Changing.{CountsChange, IsNoVerdict, accepted_entries, accepted_map, is_full, judging, limited, member_at, unknown_member};
+ghost use Rattle.connector_core.specs.Maps.{GivesUnless, book_of};
+ghost use Rattle.connector_core.specs.State.{IsKept};
+
+use crate::books::Book;
+use crate::connectors::Connector;
+use crate::knowledge::{Known, Seen};
+use journal_core::{Journal, JournalFault};
+use scim_key::{Key, Kind, RecordName, Revision};
+use source_book::{BookFault, Verdict, accept};
+use source_csv::{GroupRow, Row};
+use std::alloc::{AllocError, AllocFailed, Global};
 use thiserror::Error;
 
 /// Why a row isn't accepted. Nothing has changed then.
@@ -19,4 +41,224 @@ pub enum ChangeFault {
     Store,
     #[error("C6")]
     Memory,
+}
+
+impl From<AllocError> for ChangeFault {
+    ghost use Rattle.connector_core.specs.declared.changing.ChangeFault.TheVariants.{Memory};
+
+    ghost from_gives = { λ _ fault. fault ≡ Memory };
+
+    fn from(_: AllocError) -> ChangeFault {
+        ChangeFault::Memory
+    }
+}
+
+impl<T: Drop> From<AllocFailed<T>> for ChangeFault {
+    ghost use Rattle.connector_core.specs.declared.changing.ChangeFault.TheVariants.{Memory};
+
+    ghost from_gives = { λ _ fault. fault ≡ Memory };
+
+    fn from(_: AllocFailed<T>) -> ChangeFault {
+        ChangeFault::Memory
+    }
+}
+
+impl From<JournalFault> for ChangeFault {
+    ghost use Rattle.connector_core.specs.Changing.{change_fault};
+
+    ghost from_gives = { λ from fault. fault ≡ change_fault from };
+
+    fn from(fault: JournalFault) -> ChangeFault {
+        match fault {
+            JournalFault::Store => ChangeFault::Store,
+            JournalFault::Memory => ChangeFault::Memory,
+        }
+    }
+}
+
+/// The place, from 0, of the first of a group's members that is no user of the book.
+fn missing_user(book: &Book, row: &GroupRow) -> Option<usize>
+    ensures { result ≡ position_from (λ key. is_none (get book.now (user key))) 0 row.now.members }
+{
+    row.members()
+        .iter()
+        .position(|key| book.user(key).is_none())
+}
+
+/// The place, from 0, of a row's first member by key that is no user of the book.
+fn missing_member(book: &Book, row: &Row) -> Option<usize>
+    ensures { result ≡ unknown_member (book_of book.now) row.now }
+{
+    match row {
+        Row::User(_) => None,
+        Row::Group(row) => missing_user(book, row),
+    }
+}
+
+/// The last row of a record, if there is one.
+fn last_row<'a>(book: &'a Book, name: &RecordName) -> Option<&'a Row>
+    ensures { option_copied result ≡ wanted_row (book_of book.now) name.now }
+{
+    match book.get(name) {
+        Some(known) => Some(&known.wanted),
+        None => None,
+    }
+}
+
+/// Whether there are as many records of a type as there may be.
+fn is_full(book: &Book, kind: Kind) -> bool
+    ensures { result ≡ is_full kind (keys book.now) }
+{
+    let most = match kind {
+        Kind::User => 100_000,
+        Kind::Group => 10_000,
+    };
+    most <= book.count(kind)
+}
+
+/// The member of a row at a place.
+fn member_at(alloc: Global, row: &Row, place: usize) -> Result<Key, AllocError>
+    ensures { IfOk result (λ key. key ≡ member_at row.now place) }
+{
+    match row {
+        Row::Group(row) if place < row.members().len() => row.members()[place].clone(),
+        _ => Key::of(alloc, ""),
+    }
+}
+
+/// The refusal of a row by its fields or its members.
+fn refusal(
+    alloc: Global,
+    no_room: bool,
+    row: &Row,
+    fault: BookFault,
+) -> Result<Verdict, ChangeFault>
+    ensures gives { Gives ChangeFault.Memory result (limited no_room row.now (Err fault)) }
+    ensures counted { IfErr result (λ fault. (n : ℕ) → CountsChange n n fault) }
+{
+    match fault {
+        BookFault::Differs => Err(ChangeFault::Differs),
+        BookFault::NoSuchMember { place } => {
+            Err(ChangeFault::NoSuchMember(member_at(alloc, row, place)?))
+        }
+    }
+}
+
+/// The verdict on a row by its book's, and by whether it would be the first of its record without
+/// there being room for one.
+fn limit(
+    alloc: Global,
+    no_room: bool,
+    row: &Row,
+    verdict: Result<Verdict, BookFault>,
+) -> Result<Verdict, ChangeFault>
+    ensures gives { Gives ChangeFault.Memory result (limited no_room row.now verdict) }
+    ensures counted { IfErr result (λ fault. (n : ℕ) → CountsChange n n fault) }
+{
+    match verdict {
+        Ok(Verdict::New) if no_room => Err(ChangeFault::TooMany),
+        Ok(verdict) => Ok(verdict),
+        Err(fault) => refusal(alloc, no_room, row, fault),
+    }
+}
+
+/// The verdict on a row by the book.
+fn judge(alloc: Global, book: &Book, name: &RecordName, row: &Row) -> Result<Verdict, ChangeFault>
+    requires { name.now ≡ row_name row.now }
+    ensures gives { Gives ChangeFault.Memory result (judging (book_of book.now) (keys book.now) row.now) }
+    ensures counted { IfErr result (λ fault. (n : ℕ) → CountsChange n n fault) }
+{
+    let last = last_row(book, name);
+    let no_room = last.is_none() && is_full(book, name.kind);
+    let verdict = accept(last, row, missing_member(book, row));
+    limit(alloc, no_room, row, verdict)
+}
+
+/// What is known of a record at its first row.
+fn first_known(row: Row) -> Known
+    ensures { result ≡ wanting None row }
+{
+    Known {
+        wanted: row,
+        confirmed: Revision::none(),
+        id: None,
+        seen: Seen::Unknown,
+    }
+}
+
+impl<J: Journal> Connector<J> {
+    /// Takes a row that the source offers.
+    pub fn change(&mut self, row: Row) -> Result<Verdict, ChangeFault>
+        ensures verdict { GivesUnless IsNoVerdict result (judging (book_of self.old.book) (keys self.old.book) row) }
+        ensures ok { OnOk result (self.new.book ≡ accepted_map self.old.book row (judging (book_of self.old.book) (keys self.old.book) row)) }
+        ensures err { OnErr result (self.new.book ≡ self.old.book) }
+        ensures kept { J.is_faithful self.new.journal → IsKept (J.entries self.new.journal) self.new.book }
+        ensures journal { WritesOnce J.entries J.is_faithful J.is_honest J.may_hold J.faults J.writes CountsChange self.old.journal self.new.journal (accepted_entries (J.entries self.old.journal) row (judging (book_of self.old.book) (keys self.old.book) row)) result }
+        ensures quiet { IfOk result (λ verdict. verdict ≢ verdicts.New → J.writes self.new.journal ≡ J.writes self.old.journal) }
+    {
+        let name = row.record_name(self.alloc)?;
+        match judge(self.alloc, &self.book, &name, &row) {
+            Ok(Verdict::New) => self.accept_row(name, row),
+            Ok(Verdict::Known) => Ok(Verdict::Known),
+            Ok(Verdict::Older) => Ok(Verdict::Older),
+            Err(fault) => Err(fault),
+        }
+    }
+
+    /// Takes a row that is new.
+    fn accept_row(&mut self, name: RecordName, row: Row) -> Result<Verdict, ChangeFault>
+        requires named { name ≡ row_name row }
+        requires new { judging (book_of self.old.book) (keys self.old.book) row ≡ Ok verdicts.New }
+        ensures new { IfOk result (λ verdict. verdict ≡ verdicts.New) }
+        ensures fault { IfErr result IsNoVerdict }
+        ensures ok { OnOk result (self.new.book ≡ insert self.old.book (row_name row) (wanting (get self.old.book (row_name row)) row)) }
+        ensures err { OnErr result (self.new.book ≡ self.old.book) }
+        ensures kept { J.is_faithful self.new.journal → IsKept (J.entries self.new.journal) self.new.book }
+        ensures journal { WritesOnce J.entries J.is_faithful J.is_honest J.may_hold J.faults J.writes CountsChange self.old.journal self.new.journal (with_row (J.entries self.old.journal) row) result }
+    {
+        if self.book.get(&name).is_some() {
+            self.accept_next(&name, row)
+        } else {
+            self.accept_first(name, row)
+        }
+    }
+
+    /// Takes a new row of a record that is there.
+    fn accept_next(&mut self, name: &RecordName, row: Row) -> Result<Verdict, ChangeFault>
+        requires named { name.now ≡ row_name row }
+        requires new { judging (book_of self.old.book) (keys self.old.book) row ≡ Ok verdicts.New }
+        requires there { IsSome (get self.old.book name.now) }
+        ensures new { IfOk result (λ verdict. verdict ≡ verdicts.New) }
+        ensures fault { IfErr result IsNoVerdict }
+        ensures ok { OnOk result (self.new.book ≡ insert self.old.book (row_name row) (wanting (get self.old.book (row_name row)) row)) }
+        ensures err { OnErr result (self.new.book ≡ self.old.book) }
+        ensures kept { J.is_faithful self.new.journal → IsKept (J.entries self.new.journal) self.new.book }
+        ensures journal { WritesOnce J.entries J.is_faithful J.is_honest J.may_hold J.faults J.writes CountsChange self.old.journal self.new.journal (with_row (J.entries self.old.journal) row) result }
+    {
+        self.journal.put_row(&row)?;
+        self.book.want(name, row);
+        Ok(Verdict::New)
+    }
+
+    /// Takes the first row of a record.
+    fn accept_first(&mut self, name: RecordName, row: Row) -> Result<Verdict, ChangeFault>
+        requires named { name ≡ row_name row }
+        requires new { judging (book_of self.old.book) (keys self.old.book) row ≡ Ok verdicts.New }
+        requires free { get self.old.book name ≡ None }
+        ensures new { IfOk result (λ verdict. verdict ≡ verdicts.New) }
+        ensures fault { IfErr result IsNoVerdict }
+        ensures ok { OnOk result (self.new.book ≡ insert self.old.book (row_name row) (wanting (get self.old.book (row_name row)) row)) }
+        ensures err { OnErr result (self.new.book ≡ self.old.book) }
+        ensures kept { J.is_faithful self.new.journal → IsKept (J.entries self.new.journal) self.new.book }
+        ensures journal { WritesOnce J.entries J.is_faithful J.is_honest J.may_hold J.faults J.writes CountsChange self.old.journal self.new.journal (with_row (J.entries self.old.journal) row) result }
+    {
+        self.book.put(name.clone()?, first_known(row.clone()?))?;
+        match self.journal.put_row(&row) {
+            Ok(()) => Ok(Verdict::New),
+            Err(fault) => {
+                self.book.take_out(&name);
+                Err(ChangeFault::from(fault))
+            }
+        }
+    }
 }

@@ -7,6 +7,7 @@ mod books;
 mod changing;
 mod connectors;
 mod knowledge;
+mod laws;
 mod learning;
 mod opening;
 
@@ -14,5 +15,6 @@ pub use asking::{Ask, AskFault};
 pub use changing::ChangeFault;
 pub use connectors::Connector;
 pub use knowledge::{Known, Seen};
+pub use laws::{maps_are_books, memory_never_faults};
 pub use learning::{LearnFault, Learnt};
 pub use opening::OpenFault;

@@ -15,3 +15,4 @@ pub mod SendLemmas
 pub mod SpanLemmas
 pub mod TextLemmas
 pub mod TurnLemmas
+pub mod WholeLemmas

@@ -25,6 +25,6 @@ pub use limits::{BODY_LIMIT, FIELD_LIMIT, HEAD_LIMIT, RESPONSE_BODY_LIMIT, TURN_
 pub use output::Output;
 pub use request::{messages_are_apart, read_request};
 pub use response::{FieldLine, write_response};
-pub use response_reading::{read_response, responses_are_apart};
+pub use response_reading::{read_response, response_in, responses_are_apart};
 pub use sending::send;
 pub use texts::{texts_are_read, write_request};

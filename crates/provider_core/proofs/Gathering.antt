@@ -94,12 +94,12 @@ past n m xs short =
     let same : min (min n m) (length xs) ≡ min n (length xs) = omega arith in
     sym (take_min (min n m) xs) ∙ ap (λ k. take k xs) same ∙ take_min n xs
 
--- 200 rows more
-pub goes-further : (kind : Kind) (wanted : Option Expression) (most all after : ℕ) (rows : List StoredRecord) (old middle new : Gathered) → all ≤ most → length rows ≤ all
-    → GoesThrough kind wanted (take after rows) old middle → GoesThrough kind wanted (take 200 (drop after rows)) middle new → GoesThrough kind wanted (take (min (after + 200) most) rows) old new
-goes-further kind wanted most all after rows old middle new within short before page =
-    let parts : take (min (after + 200) most) rows ≡ take after rows ++ take 200 (drop after rows) = past (after + 200) most rows (omega arith) ∙ take-add after 200 rows in
-    subst (λ (part : List StoredRecord). GoesThrough kind wanted part old new) (sym parts) (goes-on kind wanted (take after rows) (take 200 (drop after rows)) old middle new before page)
+-- some rows more
+pub goes-further : (kind : Kind) (wanted : Option Expression) (most all after more : ℕ) (rows : List StoredRecord) (old middle new : Gathered) → all ≤ most → length rows ≤ all
+    → GoesThrough kind wanted (take after rows) old middle → GoesThrough kind wanted (take more (drop after rows)) middle new → GoesThrough kind wanted (take (min (after + more) most) rows) old new
+goes-further kind wanted most all after more rows old middle new within short before page =
+    let parts : take (min (after + more) most) rows ≡ take after rows ++ take more (drop after rows) = past (after + more) most rows (omega arith) ∙ take-add after more rows in
+    subst (λ (part : List StoredRecord). GoesThrough kind wanted part old new) (sym parts) (goes-on kind wanted (take after rows) (take more (drop after rows)) old middle new before page)
 
 -- all rows
 pub goes-all : (kind : Kind) (wanted : Option Expression) (all after : ℕ) (rows : List StoredRecord) (old new : Gathered) → all ≤ after → length rows ≤ all

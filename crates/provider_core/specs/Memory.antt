@@ -4,7 +4,7 @@ use Rattle.std.specs.BTreeMap.{BTreeMap, get}
 use Rattle.std.specs.declared.cmp.Ordering.{Ordering}
 use Rattle.scim_key.specs.Identifiers.{last_number}
 use Rattle.scim_key.specs.declared.records.RecordName.{RecordName}
-use Rattle.scim_key.specs.contracts.records.RecordNameOrd.TheImpl as names
+use Rattle.scim_key.specs.Records as names
 use Rattle.scim_resource.specs.Rows.{StoredRecord}
 use Rattle.provider_core.specs.Rows.{row_named, IsNumberedFrom, AreNamedApart}
 
@@ -15,7 +15,7 @@ pub record MemoryRecord : Type 0 where
 
 -- the order of names
 abbrev pub name_cmp : RecordName → RecordName → Ordering
-name_cmp = (names.ghosts).cmp
+name_cmp = names.name_cmp
 
 -- The rows are numbered from 1, no two of one record, and the index has for every name the number of its row
 pub record IsIndexed (numbers : BTreeMap RecordName ℕ) (rows : List StoredRecord) : Type 0 where

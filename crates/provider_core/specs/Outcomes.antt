@@ -17,6 +17,7 @@ use Rattle.scim_message.specs.declared.refusals.Refusal.TheVariants.{NameTaken, 
 use Rattle.scim_message.specs.Refusals.{error_of}
 use Rattle.provider_core.specs.Rows.{same_record, row_named, resource, with_row}
 use Rattle.provider_core.specs.Searches.{found, listing}
+use Rattle.provider_core.specs.declared.outcomes.TheConstants.{MOST_RESOURCES}
 use Rattle.provider_core.specs.declared.pending.Change.{Change}
 use Rattle.provider_core.specs.declared.pending.Change.TheVariants.{Unchanged, Insert, Update}
 
@@ -27,7 +28,7 @@ pub record Outcome : Type 0 where
 
 -- how many resources a provider holds at most
 abbrev pub most_resources : ℕ
-most_resources = 1_000_000
+most_resources = MOST_RESOURCES
 
 -- nothing changes
 abbrev pub replied : Answer → Outcome

@@ -6,18 +6,9 @@ use Rattle.scim_key.specs.declared.records.Kind.{Kind}
 use Rattle.scim_key.specs.declared.records.Kind.TheVariants.{User, Group}
 use Rattle.scim_key.specs.declared.records.RecordName.{RecordName}
 use Rattle.scim_key.specs.Identifiers.{id_text}
+pub use Rattle.scim_key.specs.Records.{same_kind, same_name as same_record}
 use Rattle.scim_resource.specs.Contents.{content_kind, content_name}
 use Rattle.scim_resource.specs.Rows.{StoredRecord}
-
-abbrev pub same_kind : Kind → Kind → Bool
-same_kind User User = true
-same_kind User Group = false
-same_kind Group User = false
-same_kind Group Group = true
-
--- the same type and the same key
-abbrev pub same_record : RecordName → RecordName → Bool
-same_record a b = same_kind a.kind b.kind && bytes_eq a.key b.key
 
 -- whether a row is of this record
 abbrev pub is_named : RecordName → StoredRecord → Bool

@@ -8,6 +8,7 @@ use Rattle.scim_filter.specs.Expressions.{Expression}
 use Rattle.scim_filter.specs.Matching.{satisfies}
 use Rattle.scim_message.specs.declared.lists.ListResponse.{ListResponse}
 use Rattle.provider_core.specs.Rows.{same_kind}
+use Rattle.provider_core.specs.declared.searching.TheConstants.{MOST_LISTED}
 
 -- whether a filter holds of a row; where there is none, all rows are wanted
 abbrev pub is_wanted : Option Expression → StoredRecord → Bool
@@ -21,10 +22,6 @@ is_hit kind wanted row = same_kind kind (content_kind row.content) && is_wanted 
 abbrev pub found : Kind → Option Expression → List StoredRecord → List ShownRecord
 found kind wanted rows = map shown (filter (is_hit kind wanted) rows)
 
--- how many resources one list shows at most
-abbrev pub most_listed : ℕ
-most_listed = 200
-
 -- the place of the first that is shown, counted from 1: a start below 1 counts as 1
 abbrev pub first_place : ℤ → ℕ
 first_place (pos n) = max 1 n
@@ -32,8 +29,8 @@ first_place (negsuc n) = 1
 
 -- how many are shown at most: where no count is given, as many as there may be; a count below 0 counts as 0
 abbrev pub page_size : Option ℤ → ℕ
-page_size None = most_listed
-page_size (Some (pos n)) = min n most_listed
+page_size None = MOST_LISTED
+page_size (Some (pos n)) = min n MOST_LISTED
 page_size (Some (negsuc n)) = 0
 
 -- those at the places from `first` on, counted from 1, `size` of them at most

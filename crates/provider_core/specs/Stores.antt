@@ -66,6 +66,15 @@ pub record WritesOnce {S T F : Type 0} (rows : S → List StoredRecord) (is_fait
   pub written : writes new ≤ writes old + 1
   pub unwritten : OnErr result (writes new ≡ writes old)
 
+-- A call that opens the store again: it holds what a stop may have left, and nothing is written
+pub record Reopens {S T F : Type 0} (rows : S → List StoredRecord) (is_faithful is_honest : S → Type 0) (may_hold : S → List StoredRecord → Type 0) (faults writes : S → ℕ) (counts : ℕ → ℕ → F → Type 0) (old new : S) (result : Result T F) : Type 0 where
+  pub found : is_honest new → OnOk result (may_hold old (rows new))
+  pub honest : is_honest new → is_honest old
+  pub opened : is_honest new → OnOk result (is_faithful new)
+  pub stop : is_honest new → LeavesNoMore (may_hold old) (may_hold new)
+  pub counted : CountsFaults counts (faults old) (faults new) result
+  pub unwritten : writes new ≡ writes old
+
 -- what every call keeps: a store that returns what was committed now did so before, and no count falls
 pub record IsQuiet {S : Type 0} (is_faithful : S → Type 0) (faults : S → ℕ) (old new : S) : Type 0 where
   pub was : is_faithful new → is_faithful old

@@ -16,8 +16,10 @@ pub use laws::{
     tables_stay_whole,
 };
 pub use memory::MemoryRegistry;
+pub use outcomes::MOST_RESOURCES;
 pub use pending::{Change, Pending};
 pub use provider::{Provider, ProviderFault};
 pub use registry::{Registry, RegistryFault};
 pub use reopening::Reopen;
 pub use scim_message::{Answer, ErrorResponse, ListResponse, Request, Resources};
+pub use searching::MOST_LISTED;

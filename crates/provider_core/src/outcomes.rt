@@ -11,6 +11,9 @@ use scim_resource::{Content, Shown, Stored};
 use scim_version::{Condition, EntityTag};
 use std::alloc::{AllocError, Global};
 
+/// How many resources a provider holds at most.
+pub const MOST_RESOURCES: u32 = 1_000_000;
+
 /// What is pending where a request is refused.
 pub(crate) fn refusal(alloc: Global, refusal: Refusal) -> Result<Pending, AllocError>
     ensures { IfOk result (λ pending. pending ≡ refused refusal) }
@@ -23,7 +26,7 @@ pub(crate) fn refusal(alloc: Global, refusal: Refusal) -> Result<Pending, AllocE
 
 /// What is pending where a content becomes a new row, `count` of them being there.
 pub(crate) fn insertion(alloc: Global, count: u32, content: &Content) -> Result<Pending, AllocError>
-    requires { count < 1_000_000 }
+    requires { count < MOST_RESOURCES }
     ensures { IfOk result (λ pending. pending ≡ creating None false count content.now) }
 {
     let row = Stored::new(count + 1, 1, content.clone()?);

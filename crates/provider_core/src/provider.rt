@@ -5,13 +5,14 @@ ghost use Rattle.scim_filter.specs.Names.{single_key};
 ghost use Rattle.provider_core.specs.Outcomes.{outcome, changed_rows, IsChange, IsOutcome};
 ghost use Rattle.provider_core.specs.Gathering.{Gathers, GoesThrough};
 ghost use Rattle.provider_core.specs.Rows.{resource};
-ghost use Rattle.provider_core.specs.Stores.{WritesOnce, CountsFault};
+ghost use Rattle.provider_core.specs.Stores.{WritesOnce, Reopens, CountsFault, CountsProviderFault};
 ghost use Rattle.provider_core.specs.Calls.{Reads, Writes};
 ghost use Rattle.provider_core.specs.declared.provider.ProviderFault.TheVariants as provider_faults;
 
-use crate::outcomes::{insertion, is_of_kind, refusal, replacement, retrieval};
+use crate::outcomes::{MOST_RESOURCES, insertion, is_of_kind, refusal, replacement, retrieval};
 use crate::pending::{Change, Pending};
 use crate::registry::{Registry, RegistryFault};
+use crate::reopening::Reopen;
 use crate::searching::{Gathered, first_place, page_size, single_key};
 use scim_filter::Filter;
 use scim_key::{Kind, RecordName, ResourceId};
@@ -21,6 +22,9 @@ use scim_version::Condition;
 use std::alloc::{AllocError, Global};
 use std::marker::Model;
 use thiserror::Error;
+
+/// How many rows a search asks the store for at a time.
+const ROWS_AT_ONCE: u32 = 200;
 
 /// Why a request got no answer. Nothing has changed then.
 #[derive(Clone, Copy, Debug, PartialEq, Eq, Error)]
@@ -119,7 +123,7 @@ impl<R: Registry> Provider<R> {
             return Ok(refusal(alloc, Refusal::NameTaken)?);
         }
         let count = self.registry.count()?;
-        if count >= 1_000_000 {
+        if count >= MOST_RESOURCES {
             return Ok(refusal(alloc, Refusal::LimitReached)?);
         }
         Ok(insertion(alloc, count, content)?)
@@ -227,12 +231,12 @@ impl<R: Registry> Provider<R> {
         let mut after = 0;
         while after < all {
             self.gather_page(kind, filter, after, gathered)?;
-            after = after.saturating_add(200);
+            after = after.saturating_add(ROWS_AT_ONCE);
         }
         Ok(())
     }
 
-    /// Looks through at most 200 rows after the first `after`.
+    /// Looks through some rows after the first `after`.
     fn gather_page(
         &mut self,
         kind: Kind,
@@ -241,10 +245,10 @@ impl<R: Registry> Provider<R> {
         gathered: &mut Gathered,
     ) -> Result<(), ProviderFault>
         ensures ok { R.is_faithful self.new →
-            OnOk result (GoesThrough kind filter.now (take 200 (drop after (R.rows self.old))) gathered.old gathered.new) }
+            OnOk result (GoesThrough kind filter.now (take ROWS_AT_ONCE (drop after (R.rows self.old))) gathered.old gathered.new) }
         ensures reads { Reads R.Registry self.old self.new result }
     {
-        let rows = self.registry.scan(after, 200)?;
+        let rows = self.registry.scan(after, ROWS_AT_ONCE as usize)?;
         gathered.look_through(kind, filter, &rows)?;
         Ok(())
     }
@@ -308,5 +312,15 @@ impl<R: Registry> Provider<R> {
     {
         let pending = self.prepare(alloc, request)?;
         self.commit(pending)
+    }
+}
+
+impl<R: Reopen> Provider<R> {
+    /// Opens the registry again.
+    pub fn reopen(&mut self) -> Result<(), ProviderFault>
+        ensures { Reopens R.rows R.is_faithful R.is_honest R.may_hold R.faults R.writes
+            CountsProviderFault self.old self.new result }
+    {
+        Ok(self.registry.reopen()?)
     }
 }

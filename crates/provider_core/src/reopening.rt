@@ -1,6 +1,6 @@
 //! Registries that can be opened again.
-ghost use Rattle.std.specs.Prelude.{◌≡◌, IsOk, OnOk};
-ghost use Rattle.provider_core.specs.Stores.{CountsFault, CountsFaults, LeavesNoMore};
+ghost use Rattle.std.specs.Prelude.{◌≡◌, IsOk};
+ghost use Rattle.provider_core.specs.Stores.{CountsFault, Reopens};
 
 use crate::memory::MemoryRegistry;
 use crate::registry::{Registry, RegistryFault};
@@ -9,12 +9,7 @@ use crate::registry::{Registry, RegistryFault};
 pub trait Reopen: Registry {
     /// Opens the store again. After a stop it holds what the stop left.
     fn reopen(&mut self) -> Result<(), RegistryFault>
-        ensures found { Self.is_honest self.new → OnOk result (Self.may_hold self.old (Self.rows self.new)) }
-        ensures open { Self.is_honest self.new → OnOk result (Self.is_faithful self.new) }
-        ensures honest { Self.is_honest self.new → Self.is_honest self.old }
-        ensures stop { Self.is_honest self.new → LeavesNoMore (Self.may_hold self.old) (Self.may_hold self.new) }
-        ensures counted { CountsFaults CountsFault (Self.faults self.old) (Self.faults self.new) result }
-        ensures unwritten { Self.writes self.new ≡ Self.writes self.old };
+        ensures reopens { Reopens Self.rows Self.is_faithful Self.is_honest Self.may_hold Self.faults Self.writes CountsFault self.old self.new result };
 }
 
 impl Reopen for MemoryRegistry {

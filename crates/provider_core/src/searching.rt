@@ -16,6 +16,9 @@ use scim_resource::{Shown, Stored};
 use std::alloc::{AllocError, Global};
 use std::marker::Model;
 
+/// How many resources one list shows at most.
+pub const MOST_LISTED: usize = 200;
+
 /// The place of the first resource that is shown, counted from 1.
 pub(crate) fn first_place(start: i64) -> u64
     ensures place { result ≡ spec.first_place start }
@@ -29,9 +32,13 @@ pub(crate) fn page_size(count: Option<i64>) -> usize
     ensures { result ≡ spec.page_size count }
 {
     match count {
-        None => 200,
+        None => MOST_LISTED,
         Some(count) if count < 0 => 0,
-        Some(count) => if count < 200 { count as usize } else { 200 }
+        Some(count) => if count < MOST_LISTED as i64 {
+            count as usize
+        } else {
+            MOST_LISTED
+        }
     }
 }
 

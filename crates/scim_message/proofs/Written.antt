@@ -9,6 +9,8 @@ use Rattle.serde_json.specs.declared.value.Value.{Value, Object}
 use Rattle.serde_json.proofs.Views.{view-Object}
 use Rattle.scim_json.specs.Writing.{put_if}
 use Rattle.scim_json.proofs.Parts.{put_all, put_all-rising}
+use Rattle.scim_resource.specs.Rows.{ShownRecord}
+use Rattle.scim_message.specs.Fitting.{IsLawful, AreLawful}
 use Rattle.scim_message.specs.Bodies.{error_message, error_parts, error_data, list_message, page_data, list_parts, list_data}
 use Rattle.scim_message.specs.declared.lists.ListResponse.{ListResponse}
 use Rattle.scim_message.specs.Refusals.{ErrorRecord}
@@ -59,3 +61,7 @@ items_have_float-append (e ∷ ds) d none whole =
 pub list_has_no_float : (base : List ℕ) (l : ListResponse) → items_have_float (page_data base l.resources) ≡ false → has_float (list_data base l) ≡ false
 unfolding list_data
 list_has_no_float base l h = ap (λ b. b || false) h
+
+pub AreLawful-push : (page : List ShownRecord) (s : ShownRecord) → AreLawful page → IsLawful s → AreLawful (page ++ s ∷ [])
+AreLawful-push [] s h one = (one, tt)
+AreLawful-push (x ∷ xs) s h one = (h.0, AreLawful-push xs s h.1 one)

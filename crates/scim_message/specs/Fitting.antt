@@ -4,8 +4,8 @@ use Rattle.scim_key.specs.declared.records.Kind.{Kind}
 use Rattle.scim_version.specs.Tags.{IsEntityTag}
 use Rattle.scim_version.specs.declared.conditions.Condition.{Condition}
 use Rattle.scim_filter.specs.Expressions.{Expression}
-use Rattle.scim_resource.specs.Contents.{content_kind}
-use Rattle.scim_resource.specs.Rows.{ShownRecord, IsShownOf}
+use Rattle.scim_resource.specs.Contents.{IsContent, content_kind}
+use Rattle.scim_resource.specs.Rows.{ShownRecord, IsShown, IsShownOf}
 use Rattle.scim_resource.specs.declared.contents.Content.{Content}
 use Rattle.scim_message.specs.Refusals.{ErrorRecord, IsErrorStatus}
 use Rattle.scim_message.specs.declared.lists.ListResponse.{ListResponse}
@@ -14,6 +14,24 @@ use Rattle.scim_message.specs.declared.messages.Answer.TheVariants.{Created, Fou
 use Rattle.scim_message.specs.declared.messages.Answer.TheVariants as answers
 use Rattle.scim_message.specs.declared.messages.Request.{Request}
 use Rattle.scim_message.specs.declared.messages.Request.TheVariants.{Create, Retrieve, Search, Replace}
+
+-- a shown resource as some reading gives it, and a page of such
+pub record IsLawful (s : ShownRecord) : Type 0 where
+  pub shown : IsShown s
+  pub content : IsContent s.content
+
+abbrev pub AreLawful : List ShownRecord → Type 0
+AreLawful [] = Unit {0}
+AreLawful (s ∷ page) = IsLawful s × AreLawful page
+
+-- every resource that the answer shows is lawful
+abbrev pub ShowsLawfully : Answer → Type 0
+ShowsLawfully (Created s) = IsLawful s
+ShowsLawfully (Found s) = IsLawful s
+ShowsLawfully (Replaced s) = IsLawful s
+ShowsLawfully (answers.List list) = AreLawful list.resources
+ShowsLawfully (NotModified kind id tag) = Unit {0}
+ShowsLawfully (Error error) = Unit {0}
 
 abbrev pub AreShownOf : Kind → List ShownRecord → Type 0
 AreShownOf kind [] = Unit {0}

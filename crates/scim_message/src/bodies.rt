@@ -1,10 +1,11 @@
 //! The bodies of answers.
-ghost use Rattle.std.specs.Prelude.{◌≡◌, false, map, IfOk, IfSome, option_map, string_bytes};
+ghost use Rattle.std.specs.Prelude.{◌≡◌, false, map, IfOk, IfSome, OnOk, option_map, string_bytes};
 ghost use Rattle.std.specs.Str.{IsUtf8};
 ghost use Rattle.serde_json.specs.Data.{array, item, no_items, string};
 ghost use Rattle.serde_json.specs.View.{items_view, view};
 ghost use Rattle.serde_json.specs.Written.{has_float, items_have_float};
 ghost use Rattle.scim_resource.specs.Writing.{shown_data};
+ghost use Rattle.scim_message.specs.Fitting.{AreLawful, ShowsLawfully};
 ghost use Rattle.scim_message.specs.Bodies.{body_data, body_text, error_data, error_message, list_data, list_message};
 
 use crate::lists::ListResponse;
@@ -20,6 +21,7 @@ use std::alloc::{AllocError, Global};
 pub fn body_of(alloc: Global, answer: &Answer, base: &Base) -> Result<Vec<u8>, AllocError>
     ensures text { IfOk result (λ body. body.items ≡ body_text base.now answer.now) }
     ensures utf8 { IfOk result (λ body. IsUtf8 body.items) }
+    ensures lawful { OnOk result (ShowsLawfully answer.now) }
 {
     match body_value(alloc, answer, base)? {
         Some(value) => compact(alloc, &value),
@@ -30,6 +32,7 @@ pub fn body_of(alloc: Global, answer: &Answer, base: &Base) -> Result<Vec<u8>, A
 fn body_value(alloc: Global, answer: &Answer, base: &Base) -> Result<Option<Value>, AllocError>
     ensures value { IfOk result (λ value. option_map view value ≡ body_data base.now answer.now) }
     ensures whole { IfOk result (λ value. IfSome value (λ v. has_float (view v) ≡ false)) }
+    ensures lawful { OnOk result (ShowsLawfully answer.now) }
 {
     match answer {
         Answer::Created(shown) | Answer::Found(shown) | Answer::Replaced(shown) => {
@@ -68,6 +71,7 @@ fn schemas_with(alloc: Global, schema: &str) -> Result<Value, AllocError>
 fn list_value(alloc: Global, list: &ListResponse, base: &Base) -> Result<Value, AllocError>
     ensures value { IfOk result (λ value. view value ≡ list_data base.now list.now) }
     ensures whole { IfOk result (λ value. has_float (view value) ≡ false) }
+    ensures lawful { OnOk result (AreLawful list.now.resources) }
 {
     let page = list.resources.as_slice();
     let mut members = Map::new(alloc);
@@ -88,6 +92,7 @@ fn list_value(alloc: Global, list: &ListResponse, base: &Base) -> Result<Value, 
 fn shown_values(alloc: Global, shown: &[Shown], base: &Base) -> Result<Vec<Value>, AllocError>
     ensures value { IfOk result (λ values. map view values.items ≡ map (shown_data base.now) shown.now) }
     ensures whole { IfOk result (λ values. items_have_float (items_view values.items) ≡ false) }
+    ensures lawful { OnOk result (AreLawful shown.now) }
 {
     let mut values = Vec::with_capacity(alloc, shown.len())?;
     for resource in shown {

@@ -4,7 +4,7 @@ use Rattle.std.proofs.lemmas.List.{map-append}
 use Rattle.serde_json.specs.View.{items_of, view}
 use Rattle.serde_json.specs.Written.{has_float, items_have_float}
 use Rattle.scim_resource.specs.Writing.{shown_data}
-use Rattle.scim_message.proofs.Written.{items_have_float-append}
+use Rattle.scim_message.proofs.Written.{AreLawful-push, items_have_float-append}
 use Rattle.scim_message.proofs.bodies.shown_values.Goals as goal
 
 pub loop-resource-preserved : goal.loop-resource-preserved
@@ -22,4 +22,5 @@ loop-resource-preserved c =
       refl,
       items_have_float-append (map shows (take i shown)) (shows c.resource-item.result)
           (ap (λ ds. items_have_float (items_of ds)) (sym c.loop-resource.invariant.0) ∙ c.loop-resource.invariant.1) (ap has_float (sym c.in_ok-to_value.ensures.value) ∙ c.in_ok-to_value.ensures.whole),
+      AreLawful-push (take i shown) c.resource-item.result c.loop-resource.invariant.2 (record { shown = c.in_ok-to_value.ensures.shown; content = c.in_ok-to_value.ensures.lawful }),
     )

@@ -1,4 +1,4 @@
-use Rattle.std.proofs.Common.{◌∙◌, ap, sym, refl}
+use Rattle.std.proofs.Common.{◌∙◌}
 use Rattle.connector_core.proofs.BookLaws.{user-is, group-is}
 use Rattle.connector_core.proofs.books.Book.get.Goals as goal
 

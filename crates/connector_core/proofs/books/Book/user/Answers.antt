@@ -1,4 +1,4 @@
-use Rattle.std.proofs.Common.{◌∙◌, ap, sym, refl}
+use Rattle.std.proofs.Common.{◌∙◌, refl}
 use Rattle.scim_key.specs.declared.records.Kind.TheVariants.{User}
 use Rattle.connector_core.specs.Trees.{of}
 use Rattle.connector_core.proofs.BookLaws.{user-is}

@@ -2,6 +2,7 @@ use Rattle.std.proofs.Common.{◌≡◌, ◌≤◌, ◌^◌, ◌-◌, List, take
 use Rattle.std.specs.Prelude.{Ok}
 use Rattle.scim_resource.specs.Rows.{StoredRecord}
 use Rattle.provider_core.specs.Gathering.{GoesThrough}
+use Rattle.provider_core.specs.declared.provider.TheConstants.{ROWS_AT_ONCE}
 use Rattle.provider_core.proofs.CallLaws.{reads-on}
 use Rattle.provider_core.proofs.Gathering.{goes-further, goes-all, gathers-few}
 use Rattle.provider_core.proofs.provider.Provider.gather_all.Goals as goal
@@ -17,9 +18,9 @@ loop-after-preserved g c =
       reads = reads-on {result = Ok (tt {0})} before.reads page.reads;
       through = λ faithful short.
           let earlier = page.reads.was faithful in
-          let through = subst (λ (all : List StoredRecord). GoesThrough kind wanted (take 200 (drop c.loop-after.after all)) c.loop-after.gathered c.gather_page.new.gathered) (before.reads.same earlier) (page.ok faithful) in
+          let through = subst (λ (all : List StoredRecord). GoesThrough kind wanted (take ROWS_AT_ONCE (drop c.loop-after.after all)) c.loop-after.gathered c.gather_page.new.gathered) (before.reads.same earlier) (page.ok faithful) in
           subst (λ after. GoesThrough kind wanted (take after rows) c.args.gathered.now c.gather_page.new.gathered) (sym c.saturating_add-after.ensures)
-          (goes-further kind wanted (2 ^ 32 - 1) c.in_ok-all.all c.loop-after.after rows c.args.gathered.now c.loop-after.gathered c.gather_page.new.gathered (omega arith) short (before.through earlier short) through);
+          (goes-further kind wanted (2 ^ 32 - 1) c.in_ok-all.all c.loop-after.after ROWS_AT_ONCE rows c.args.gathered.now c.loop-after.gathered c.gather_page.new.gathered (omega arith) short (before.through earlier short) through);
     }
 
 pub returns-clause-ok : goal.returns-clause-ok

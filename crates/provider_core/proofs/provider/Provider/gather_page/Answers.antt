@@ -1,6 +1,7 @@
 use Rattle.std.proofs.Common.{◌≡◌, List, take, drop, sym, subst, ◌∙◌}
 use Rattle.scim_resource.specs.Rows.{StoredRecord}
 use Rattle.provider_core.specs.Gathering.{GoesThrough}
+use Rattle.provider_core.specs.declared.provider.TheConstants.{ROWS_AT_ONCE}
 use Rattle.provider_core.proofs.MemoryLaws.{page-dropped}
 use Rattle.provider_core.proofs.provider.Provider.gather_page.Goals as goal
 
@@ -8,6 +9,6 @@ pub returns-clause-ok : goal.returns-clause-ok
 returns-clause-ok g c =
     rw (← c.self.view_is) (λ faithful.
     let rows = g.R.Registry.rows c.self.inside.registry in
-    let page : c.deref.result.now ≡ take 200 (drop c.args.after rows) =
-    c.deref.ensures.value ∙ c.in_ok-rows.ensures.ok faithful ∙ sym (page-dropped c.args.after 200 rows (c.in_ok-rows.ensures.numbered faithful)) in
+    let page : c.deref.result.now ≡ take ROWS_AT_ONCE (drop c.args.after rows) =
+    c.deref.ensures.value ∙ c.in_ok-rows.ensures.ok faithful ∙ sym (page-dropped c.args.after ROWS_AT_ONCE rows (c.in_ok-rows.ensures.numbered faithful)) in
     subst (λ (part : List StoredRecord). GoesThrough c.args.kind c.args.filter.now part c.args.gathered.now c.look_through.new.self) page c.in_ok-look_through.ensures)

@@ -1,0 +1,41 @@
+use Rattle.std.proofs.Common.{◌≡◌, Ok, Err, ap, subst, sym, inl, inr}
+use Rattle.std.specs.FinMap.{keys}
+use Rattle.source_book.specs.declared.accepting.Verdict.TheVariants as verdicts
+use Rattle.connector_core.specs.Changing.{IsNoVerdict, accepted_entries, accepted_map, judging}
+use Rattle.connector_core.specs.Maps.{BookMap, book_of}
+use Rattle.connector_core.proofs.Writing.{unchanged}
+use Rattle.connector_core.proofs.connectors.Connector.change.Goals as goal
+
+pub returns-in-Ok-Known-clause-verdict : goal.returns-in-Ok-Known-clause-verdict
+returns-in-Ok-Known-clause-verdict g c =
+    let J : BookMap → Type 0 = λ book. judging (book_of book) (keys book) c.args.row ≡ Ok verdicts.Known in
+    subst J (ap (λ s. s.book) c.self.view_is) (rw c.in-Ok-Known.field-0-is at c.in-Ok-Known.ensures.gives)
+
+pub returns-in-Ok-Known-clause-ok : goal.returns-in-Ok-Known-clause-ok
+returns-in-Ok-Known-clause-ok g c = ap (accepted_map c.args.self.now.book c.args.row) (sym (returns-in-Ok-Known-clause-verdict g c))
+
+pub returns-in-Ok-Known-clause-journal : goal.returns-in-Ok-Known-clause-journal
+returns-in-Ok-Known-clause-journal g c =
+    unchanged g.J.Journal.entries g.J.Journal.is_faithful g.J.Journal.is_honest g.J.Journal.may_hold g.J.Journal.faults g.J.Journal.writes c.args.self.now.journal _ verdicts.Known
+    (ap (accepted_entries (g.J.Journal.entries c.args.self.now.journal) c.args.row) (returns-in-Ok-Known-clause-verdict g c))
+
+pub returns-in-Ok-Older-clause-verdict : goal.returns-in-Ok-Older-clause-verdict
+returns-in-Ok-Older-clause-verdict g c =
+    let J : BookMap → Type 0 = λ book. judging (book_of book) (keys book) c.args.row ≡ Ok verdicts.Older in
+    subst J (ap (λ s. s.book) c.self.view_is) (rw c.in-Ok-Older.field-0-is at c.in-Ok-Older.ensures.gives)
+
+pub returns-in-Ok-Older-clause-ok : goal.returns-in-Ok-Older-clause-ok
+returns-in-Ok-Older-clause-ok g c = ap (accepted_map c.args.self.now.book c.args.row) (sym (returns-in-Ok-Older-clause-verdict g c))
+
+pub returns-in-Ok-Older-clause-journal : goal.returns-in-Ok-Older-clause-journal
+returns-in-Ok-Older-clause-journal g c =
+    unchanged g.J.Journal.entries g.J.Journal.is_faithful g.J.Journal.is_honest g.J.Journal.may_hold g.J.Journal.faults g.J.Journal.writes c.args.self.now.journal _ verdicts.Older
+    (ap (accepted_entries (g.J.Journal.entries c.args.self.now.journal) c.args.row) (returns-in-Ok-Older-clause-verdict g c))
+
+pub returns-in-Err-clause-verdict : goal.returns-in-Err-clause-verdict
+returns-in-Err-clause-verdict g c =
+    let J : BookMap → Type 0 = λ book. judging (book_of book) (keys book) c.args.row ≡ Err c.in-Err.fault in
+    elim c.in-Err.ensures.gives [
+      | inl e ↦ inl (subst IsNoVerdict (sym e) tt)
+      | inr e ↦ inr (subst J (ap (λ s. s.book) c.self.view_is) e)
+    ]
