@@ -1,5 +1,7 @@
 //! Users are created.
-use crate::support::{BOB_CREATED, CREATE_BOB, answers, asked, empty, ends, exchange, post, tells};
+use crate::support::{
+    BOB_CREATED, BOB_FOUND, CREATE_BOB, answers, asked, empty, ends, exchange, post, tells,
+};
 use provider_core::Registry;
 use scim_server::Served;
 use std::test::Fail;
@@ -30,6 +32,9 @@ fn a_taken_name_is_refused_in_any_case(rt: HostRuntime) -> Result<(), Fail> {
         409,
         expected,
     )?;
+    let read =
+        b"GET /v2/Users/5c1a0000-0000-8000-8000-000000000001 HTTP/1.1\r\nHost: localhost:8080\r\n\r\n";
+    answers(&rt, rt.alloc(), &mut provider, read, 200, BOB_FOUND)?;
     assert_eq!(rt; provider.close().count()?, 1);
     Ok(())
 }

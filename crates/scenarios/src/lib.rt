@@ -2,15 +2,23 @@
 #![tactic(auto)]
 
 #[cfg(test)]
+mod codes;
+#[cfg(test)]
 mod creating;
 #[cfg(test)]
 mod grouping;
+#[cfg(test)]
+mod limits;
+#[cfg(test)]
+mod lines;
 #[cfg(test)]
 mod refusing;
 #[cfg(test)]
 mod registries;
 #[cfg(test)]
 mod replacing;
+#[cfg(test)]
+mod scripts;
 #[cfg(test)]
 mod searching;
 #[cfg(test)]

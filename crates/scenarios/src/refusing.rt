@@ -94,6 +94,18 @@ static PATHS_AND_METHODS: &[Refused] = &[
         "no such path",
     ),
     (
+        "GET /v2/Users/ HTTP/1.1\r\nHost: h\r\n\r\n",
+        404,
+        "404 Not Found",
+        "no such path",
+    ),
+    (
+        "GET /v2/Users/a/b HTTP/1.1\r\nHost: h\r\n\r\n",
+        404,
+        "404 Not Found",
+        "no such path",
+    ),
+    (
         "PATCH /v2/Users HTTP/1.1\r\nHost: h\r\n\r\n",
         501,
         "501 Not Implemented",
@@ -164,6 +176,12 @@ static HEADS: &[Refused] = &[
         400,
         "400 Bad Request",
         "the request is malformed",
+    ),
+    (
+        "GET /v2/Users HTTP/1.1\r\n\r\n",
+        400,
+        "400 Bad Request",
+        "the Host field is missing or repeated",
     ),
     (
         "POST /v2/Users HTTP/1.1\r\nContent-Length: 32769\r\n\r\n",

@@ -6,9 +6,12 @@ use provider_core::{Registry, RegistryFault};
 use scim_key::{RecordName, ResourceId};
 use scim_resource::Stored;
 
-/// Holds as many rows as a provider may, and finds none of them.
+/// Holds as many rows as a provider may but for so many, and finds none of them.
 #[derive(Drop)]
-pub struct FullRegistry;
+pub struct FullRegistry {
+    pub inserts: u64,
+    pub room: u64,
+}
 
 impl Registry for FullRegistry {
     ghost rows = { λ _. [] };
@@ -21,10 +24,14 @@ impl Registry for FullRegistry {
 
     ghost faults = { λ _. 0 };
 
-    ghost writes = { λ _. 0 };
+    ghost writes = { λ r. r.inserts };
 
     fn count(&mut self) -> Result<u32, RegistryFault> {
-        Ok(1_000_000)
+        Ok(if self.inserts < self.room {
+            999_999
+        } else {
+            1_000_000
+        })
     }
 
     fn by_key(&mut self, _: &RecordName) -> Result<Option<Stored>, RegistryFault> {
@@ -40,7 +47,8 @@ impl Registry for FullRegistry {
     }
 
     fn insert(&mut self, _: Stored) -> Result<(), RegistryFault> {
-        Err(RegistryFault::Memory)
+        self.inserts = self.inserts.saturating_add(1);
+        Ok(())
     }
 
     fn update(&mut self, _: &Stored) -> Result<(), RegistryFault> {

@@ -1,9 +1,8 @@
 //! Users are retrieved and replaced, under conditions.
-use crate::support::{CREATE_BOB, answers, empty, ends, exchange, tells};
+use crate::support::{BOB_FOUND, CREATE_BOB, answers, empty, ends, exchange, tells};
 use provider_core::{MemoryRegistry, Provider, Registry};
 use scim_key::{Revision, UserName};
 use scim_resource::{Content, Stored, User};
-use scim_server::Served;
 use std::alloc::Global;
 use std::process::Abort;
 use std::test::Fail;
@@ -33,24 +32,27 @@ fn put(alloc: Global, path: &str, lines: &str, body: &str) -> Result<Vec<u8>, Fa
     Ok(text.into_bytes())
 }
 
-/// Asserts that a new provider with bob answers so to a PUT of him at revision 2, with further
-/// field lines.
-fn puts(rt: &impl Abort, alloc: Global, lines: &str, status: u16) -> Result<(), Fail> {
+/// Further field lines of a request, and the status and the end of its answer.
+type Answered = (&'static str, u16, &'static str);
+
+/// Asserts that a new provider with bob answers so to a PUT of him at revision 2.
+fn puts(rt: &impl Abort, alloc: Global, answered: &Answered) -> Result<(), Fail> {
+    let (lines, status, end) = answered;
     let mut provider = with_bob(alloc)?;
     let body = user(alloc, "bob", 2)?;
     let request = put(alloc, BOB, lines, body.as_str())?;
-    let (served, _) = exchange(alloc, &mut provider, request.as_slice())?;
-    assert_eq!(rt; served, Served::Answered { status });
-    Ok(())
+    ends(rt, alloc, &mut provider, request.as_slice(), *status, end)
 }
 
-static BOB_FOUND: &[u8] =
-    b"HTTP/1.1 200 OK\r\nConnection: close\r\nContent-Length: 388\r\nContent-Location: http://localhost:8080/v2/Users/5c1a0000-0000-8000-8000-000000000001\r\nContent-Type: application/scim+json\r\nETag: \"1\"\r\n\r\n{\"active\":true,\"id\":\"5c1a0000-0000-8000-8000-000000000001\",\"meta\":{\"location\":\"http://localhost:8080/v2/Users/5c1a0000-0000-8000-8000-000000000001\",\"resourceType\":\"User\",\"version\":\"\\\"1\\\"\"},\"schemas\":[\"urn:ietf:params:scim:schemas:core:2.0:User\",\"urn:example:params:scim:schemas:extension:source:1.0\"],\"urn:example:params:scim:schemas:extension:source:1.0\":{\"revision\":1},\"userName\":\"bob\"}";
+/// A GET of bob, with further field lines.
+fn get(alloc: Global, lines: &str) -> Result<String, Fail> {
+    Ok(format!(in alloc; "GET {BOB} HTTP/1.1\r\nHost: localhost:8080\r\n{lines}\r\n")?)
+}
 
 #[test]
 fn a_user_is_retrieved(rt: HostRuntime) -> Result<(), Fail> {
     let mut provider = with_bob(rt.alloc())?;
-    let request = format!(in rt.alloc(); "GET {BOB} HTTP/1.1\r\nHost: localhost:8080\r\n\r\n")?;
+    let request = get(rt.alloc(), "")?;
     let asked = request.as_bytes();
     answers(&rt, rt.alloc(), &mut provider, asked, 200, BOB_FOUND)
 }
@@ -61,9 +63,7 @@ static NOT_MODIFIED: &[u8] =
 #[test]
 fn a_version_that_is_known_is_not_sent_again(rt: HostRuntime) -> Result<(), Fail> {
     let mut provider = with_bob(rt.alloc())?;
-    let request = format!(in rt.alloc();
-        "GET {BOB} HTTP/1.1\r\nHost: localhost:8080\r\nIf-None-Match: W/\"1\"\r\n\r\n"
-    )?;
+    let request = get(rt.alloc(), "If-None-Match: W/\"1\"\r\n")?;
     let asked = request.as_bytes();
     answers(&rt, rt.alloc(), &mut provider, asked, 304, NOT_MODIFIED)
 }
@@ -71,33 +71,70 @@ fn a_version_that_is_known_is_not_sent_again(rt: HostRuntime) -> Result<(), Fail
 static ANOTHER_VERSION: &[u8] =
     b"HTTP/1.1 412 Precondition Failed\r\nConnection: close\r\nContent-Length: 118\r\nContent-Type: application/scim+json\r\n\r\n{\"detail\":\"the resource has another version\",\"schemas\":[\"urn:ietf:params:scim:api:messages:2.0:Error\"],\"status\":\"412\"}";
 
+static BOB_REPLACED: &[u8] =
+    b"HTTP/1.1 200 OK\r\nConnection: close\r\nContent-Length: 388\r\nContent-Location: http://localhost:8080/v2/Users/5c1a0000-0000-8000-8000-000000000001\r\nContent-Type: application/scim+json\r\nETag: \"2\"\r\n\r\n{\"active\":true,\"id\":\"5c1a0000-0000-8000-8000-000000000001\",\"meta\":{\"location\":\"http://localhost:8080/v2/Users/5c1a0000-0000-8000-8000-000000000001\",\"resourceType\":\"User\",\"version\":\"\\\"2\\\"\"},\"schemas\":[\"urn:ietf:params:scim:schemas:core:2.0:User\",\"urn:example:params:scim:schemas:extension:source:1.0\"],\"urn:example:params:scim:schemas:extension:source:1.0\":{\"revision\":2},\"userName\":\"bob\"}";
+
 #[test]
 fn a_replacement_comes_once(rt: HostRuntime) -> Result<(), Fail> {
     let mut provider = with_bob(rt.alloc())?;
     let body = user(rt.alloc(), "bob", 2)?;
     let request = put(rt.alloc(), BOB, "If-Match: \"1\"\r\n", body.as_str())?;
     let asked = request.as_slice();
-    let fields =
-        "Content-Length: 388\r\nContent-Location: http://localhost:8080/v2/Users/5c1a0000-0000-8000-8000-000000000001\r\nContent-Type: application/scim+json\r\nETag: \"2\"\r\n";
-    tells(&rt, rt.alloc(), &mut provider, asked, 200, fields)?;
+    answers(&rt, rt.alloc(), &mut provider, asked, 200, BOB_REPLACED)?;
     answers(&rt, rt.alloc(), &mut provider, asked, 412, ANOTHER_VERSION)
 }
 
-static CONDITIONS: &[(&str, u16)] = &[
-    ("If-Match: W/\"1\"\r\n", 412),
-    ("If-Match: *\r\n", 200),
-    ("If-Match: \"7\", ,\"1\"\r\n", 200),
-    ("If-Match: \"7\"\r\nIf-Match: \"1\"\r\n", 200),
-    ("If-Match: 1\r\n", 400),
-    ("If-None-Match: \"1\"\r\n", 412),
-    ("If-None-Match: *\r\n", 412),
-    ("", 200),
+const REPLACED: &str = "\"revision\":2},\"userName\":\"bob\"}";
+
+const OTHER: &str =
+    "{\"detail\":\"the resource has another version\",\"schemas\":[\"urn:ietf:params:scim:api:messages:2.0:Error\"],\"status\":\"412\"}";
+
+const MALFORMED: &str =
+    "{\"detail\":\"a value is missing or not allowed\",\"schemas\":[\"urn:ietf:params:scim:api:messages:2.0:Error\"],\"scimType\":\"invalidValue\",\"status\":\"400\"}";
+
+const FOUND: &str = "\"revision\":1},\"userName\":\"bob\"}";
+
+static CONDITIONS: &[Answered] = &[
+    ("If-Match: W/\"1\"\r\n", 412, OTHER),
+    ("If-Match: *\r\n", 200, REPLACED),
+    ("If-Match: \"7\", ,\"1\"\r\n", 200, REPLACED),
+    ("If-Match: \"7\"\r\nIf-Match: \"1\"\r\n", 200, REPLACED),
+    ("If-Match: 1\r\n", 400, MALFORMED),
+    ("If-None-Match: \"1\"\r\n", 412, OTHER),
+    ("If-None-Match: *\r\n", 412, OTHER),
+    ("", 200, REPLACED),
 ];
 
 #[test]
 fn conditions_of_a_replacement(rt: HostRuntime) -> Result<(), Fail> {
-    for (lines, status) in CONDITIONS {
-        puts(&rt, rt.alloc(), lines, *status)?;
+    for answered in CONDITIONS {
+        puts(&rt, rt.alloc(), answered)?;
+    }
+    Ok(())
+}
+
+static RETRIEVALS: &[Answered] = &[
+    ("If-Match: \"1\"\r\n", 200, FOUND),
+    ("If-Match: *\r\n", 200, FOUND),
+    ("If-Match: \"2\"\r\n", 412, OTHER),
+    ("If-Match: W/\"1\"\r\n", 412, OTHER),
+    ("If-Match: 1\r\n", 400, MALFORMED),
+    ("If-None-Match: \"1\"\r\nIf-Match: \"2\"\r\n", 412, OTHER),
+    (
+        "If-None-Match: \"1\"\r\nIf-Match: \"1\"\r\n",
+        304,
+        "ETag: \"1\"\r\n\r\n",
+    ),
+    ("If-None-Match: \"2\"\r\n", 200, FOUND),
+];
+
+#[test]
+fn conditions_of_a_retrieval(rt: HostRuntime) -> Result<(), Fail> {
+    let mut provider = with_bob(rt.alloc())?;
+    for (lines, status, end) in RETRIEVALS {
+        let request = get(rt.alloc(), lines)?;
+        let asked = request.as_bytes();
+        ends(&rt, rt.alloc(), &mut provider, asked, *status, end)?;
     }
     Ok(())
 }
@@ -143,6 +180,9 @@ fn a_resource_is_not_deleted(rt: HostRuntime) -> Result<(), Fail> {
     tells(&rt, rt.alloc(), &mut provider, delete.as_bytes(), 501, part)
 }
 
+static BOB_AT_3: &[u8] =
+    b"HTTP/1.1 200 OK\r\nConnection: close\r\nContent-Length: 388\r\nContent-Location: http://localhost:8080/v2/Users/5c1a0000-0000-8000-8000-000000000001\r\nContent-Type: application/scim+json\r\nETag: \"3\"\r\n\r\n{\"active\":true,\"id\":\"5c1a0000-0000-8000-8000-000000000001\",\"meta\":{\"location\":\"http://localhost:8080/v2/Users/5c1a0000-0000-8000-8000-000000000001\",\"resourceType\":\"User\",\"version\":\"\\\"3\\\"\"},\"schemas\":[\"urn:ietf:params:scim:schemas:core:2.0:User\",\"urn:example:params:scim:schemas:extension:source:1.0\"],\"urn:example:params:scim:schemas:extension:source:1.0\":{\"revision\":3},\"userName\":\"BOB\"}";
+
 #[test]
 fn a_lower_revision_replaces_too(rt: HostRuntime) -> Result<(), Fail> {
     let mut provider = with_bob(rt.alloc())?;
@@ -152,33 +192,47 @@ fn a_lower_revision_replaces_too(rt: HostRuntime) -> Result<(), Fail> {
         let end = "\"userName\":\"BOB\"}";
         ends(&rt, rt.alloc(), &mut provider, request.as_slice(), 200, end)?;
     }
-    Ok(())
+    let request = get(rt.alloc(), "")?;
+    let asked = request.as_bytes();
+    answers(&rt, rt.alloc(), &mut provider, asked, 200, BOB_AT_3)
 }
 
-/// A provider with bob at the last version.
-fn with_bob_at_last(alloc: Global) -> Result<Provider<MemoryRegistry>, Fail> {
+/// A provider with bob at the last version but one.
+fn with_bob_before_last(alloc: Global) -> Result<Provider<MemoryRegistry>, Fail> {
     let mut registry = MemoryRegistry::new(alloc);
     let name = UserName::read(alloc, "bob")?;
     let content = Content::User(User::new(alloc, name, true, Revision::of_number(1)));
-    registry.insert(Stored::new(1, 9_007_199_254_740_991, content))?;
+    registry.insert(Stored::new(1, 9_007_199_254_740_990, content))?;
     Ok(Provider::new(registry))
 }
 
+/// What PUTs of bob are answered by, one after the other: the second one meets the limit.
+static LAST_VERSIONS: &[Answered] = &[
+    ("If-Match: \"9007199254740990\"\r\n", 200, REPLACED),
+    ("", 500, LIMIT),
+    ("If-Match: \"1\"\r\n", 500, LIMIT),
+];
+
+const LIMIT: &str =
+    "{\"detail\":\"a limit of the provider is reached\",\"schemas\":[\"urn:ietf:params:scim:api:messages:2.0:Error\"],\"status\":\"500\"}";
+
 #[test]
 fn the_last_version_is_not_replaced(rt: HostRuntime) -> Result<(), Fail> {
-    let mut provider = with_bob_at_last(rt.alloc())?;
+    let mut provider = with_bob_before_last(rt.alloc())?;
     let body = user(rt.alloc(), "bob", 2)?;
-    for lines in ["", "If-Match: \"1\"\r\n"] {
+    for (lines, status, end) in LAST_VERSIONS {
         let request = put(rt.alloc(), BOB, lines, body.as_str())?;
-        let part = "a limit of the provider is reached";
-        tells(
-            &rt,
-            rt.alloc(),
-            &mut provider,
-            request.as_slice(),
-            500,
-            part,
-        )?;
+        let asked = request.as_slice();
+        ends(&rt, rt.alloc(), &mut provider, asked, *status, end)?;
     }
-    Ok(())
+    let request = get(rt.alloc(), "")?;
+    let part = "ETag: \"9007199254740991\"\r\n";
+    tells(
+        &rt,
+        rt.alloc(),
+        &mut provider,
+        request.as_bytes(),
+        200,
+        part,
+    )
 }

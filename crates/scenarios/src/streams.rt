@@ -1,36 +1,139 @@
 //! Broken streams and registries.
-use crate::registries::{FaultyRegistry, FullRegistry};
-use crate::support::{
-    BOB_CREATED, CREATE_BOB, FailingReader, FailingWriter, GIVEN_UP, asked, base, empty, exchange,
-};
+use crate::registries::FaultyRegistry;
+use crate::scripts::{Event, Script, ScriptedReader, ScriptedWriter, Turn};
+use crate::support::{BOB_CREATED, CREATE_BOB, GIVEN_UP, asked, base, empty, exchange};
 use http_text::{Input, Output, ReadFault};
 use provider_core::{Provider, Registry};
 use scim_server::{Served, serve};
 use std::alloc::Global;
 use std::io::ErrorKind;
+use std::process::Abort;
 use std::test::Fail;
 
-/// Creates bob with this writer: what became of it, what was written, and how many rows there are.
-fn created_through(
+/// Creates bob with a reader that follows a script: what became of it, what was written, and how
+/// many rows there are.
+fn created_from(
     alloc: Global,
-    room: usize,
-    flush_fault: Option<ErrorKind>,
+    step: usize,
+    events: &[Event],
 ) -> Result<(Served, Vec<u8>, u32), Fail> {
     let mut provider = empty(alloc);
     let base = base(alloc)?;
-    let mut reader = Input::new(CREATE_BOB);
-    let mut writer = Output::new(FailingWriter {
-        taken: Vec::new(alloc),
-        room,
-        flush_fault,
+    let mut reader = Input::new(ScriptedReader {
+        bytes: CREATE_BOB,
+        script: Script::new(step, events),
     });
+    let mut writer = Output::new(Vec::new(alloc));
     let served = serve(alloc, &mut provider, &base, &mut reader, &mut writer);
-    let FailingWriter {
-        taken,
-        room: _,
-        flush_fault: _,
-    } = writer.into_inner();
-    Ok((served, taken, provider.close().count()?))
+    Ok((served, writer.into_inner(), provider.close().count()?))
+}
+
+/// Asserts that bob is created, or that nothing is, by a fault.
+fn is_read(
+    rt: &impl Abort,
+    alloc: Global,
+    step: usize,
+    events: &[Event],
+    fault: Option<ReadFault>,
+) -> Result<(), Fail> {
+    let (served, written, rows) = created_from(alloc, step, events)?;
+    let (wanted, bytes, count) = match fault {
+        None => (Served::Answered { status: 201 }, BOB_CREATED, 1),
+        Some(fault) => (Served::NoRequest(fault), &[] as &[u8], 0),
+    };
+    assert_eq!(rt; served, wanted);
+    assert!(rt; written.as_slice() == bytes);
+    assert_eq!(rt; rows, count);
+    Ok(())
+}
+
+/// At most how many bytes a read gives, what happens at which byte, and the fault that it leads to.
+type Reading = (usize, &'static [Event], Option<ReadFault>);
+
+const INTERRUPTED: Turn = Turn::Fails(ErrorKind::Interrupted);
+
+const BROKEN: Turn = Turn::Fails(ErrorKind::BrokenPipe);
+
+/// A head of 157 bytes and a body of 214 take 371 reads of a byte, of 100,000 in all.
+static READINGS: &[Reading] = &[
+    (1, &[], None),
+    (7, &[], None),
+    (1_000, &[], None),
+    (1, &[(0, 1, INTERRUPTED)], None),
+    (
+        1_000,
+        &[
+            (0, 2, INTERRUPTED),
+            (1, 3, INTERRUPTED),
+            (157, 1, INTERRUPTED),
+            (370, 1, INTERRUPTED),
+        ],
+        None,
+    ),
+    (1_000, &[(0, 1, BROKEN)], Some(ReadFault::ReadFailed)),
+    (1_000, &[(100, 1, BROKEN)], Some(ReadFault::ReadFailed)),
+    (1_000, &[(157, 1, BROKEN)], Some(ReadFault::ReadFailed)),
+    (1_000, &[(370, 1, BROKEN)], Some(ReadFault::ReadFailed)),
+    (
+        1_000,
+        &[(200, 1, Turn::Fails(ErrorKind::WouldBlock))],
+        Some(ReadFault::ReadFailed),
+    ),
+    (
+        1_000,
+        &[(200, 1, Turn::Fails(ErrorKind::TimedOut))],
+        Some(ReadFault::ReadFailed),
+    ),
+    (
+        1_000,
+        &[(5, 2, INTERRUPTED), (5, 1, BROKEN)],
+        Some(ReadFault::ReadFailed),
+    ),
+    (1_000, &[(0, 1, Turn::Nothing)], Some(ReadFault::EndedEarly)),
+    (
+        1_000,
+        &[(100, 1, Turn::Nothing)],
+        Some(ReadFault::EndedEarly),
+    ),
+    (
+        1_000,
+        &[(157, 1, Turn::Nothing)],
+        Some(ReadFault::EndedEarly),
+    ),
+    (
+        1_000,
+        &[(370, 1, Turn::Nothing)],
+        Some(ReadFault::EndedEarly),
+    ),
+    (1, &[(0, 99_629, INTERRUPTED)], None),
+    (
+        1,
+        &[(0, 99_630, INTERRUPTED)],
+        Some(ReadFault::TurnsExhausted),
+    ),
+    (
+        1_000,
+        &[(370, 1_000_000, INTERRUPTED)],
+        Some(ReadFault::TurnsExhausted),
+    ),
+];
+
+#[test]
+fn readers_that_follow_a_script(rt: HostRuntime) -> Result<(), Fail> {
+    for (step, events, fault) in READINGS {
+        is_read(&rt, rt.alloc(), *step, events, *fault)?;
+    }
+    Ok(())
+}
+
+#[test]
+fn a_read_that_fails_once_at_each_place(rt: HostRuntime) -> Result<(), Fail> {
+    for place in 0..CREATE_BOB.len() {
+        let events = [(place, 1, BROKEN)];
+        let fault = Some(ReadFault::ReadFailed);
+        is_read(&rt, rt.alloc(), 1, &events, fault)?;
+    }
+    Ok(())
 }
 
 #[test]
@@ -59,72 +162,104 @@ fn what_follows_a_request_stays_unread(rt: HostRuntime) -> Result<(), Fail> {
     Ok(())
 }
 
-#[test]
-fn one_byte_a_write_is_enough(rt: HostRuntime) -> Result<(), Fail> {
-    let (served, taken, rows) = created_through(rt.alloc(), 666, None)?;
-    assert_eq!(rt; served, Served::Answered { status: 201 });
-    assert!(rt; taken.as_slice() == BOB_CREATED);
-    assert_eq!(rt; rows, 1);
-    Ok(())
-}
-
-#[test]
-fn a_write_that_fails_at_each_place(rt: HostRuntime) -> Result<(), Fail> {
-    for room in 0..666usize {
-        let (served, taken, rows) = created_through(rt.alloc(), room, None)?;
-        assert_eq!(rt; served, Served::Lost { status: 201 });
-        assert!(rt; Some(taken.as_slice()) == BOB_CREATED.get(..room));
-        assert_eq!(rt; rows, 1);
-    }
-    Ok(())
-}
-
-#[test]
-fn a_flush_that_fails(rt: HostRuntime) -> Result<(), Fail> {
-    for kind in [ErrorKind::BrokenPipe, ErrorKind::Interrupted] {
-        let (served, taken, rows) = created_through(rt.alloc(), 666, Some(kind))?;
-        assert_eq!(rt; served, Served::Lost { status: 201 });
-        assert!(rt; taken.as_slice() == BOB_CREATED);
-        assert_eq!(rt; rows, 1);
-    }
-    Ok(())
-}
-
-/// Creates bob with a reader that fails so after some bytes.
-fn created_from(
+/// Asserts that bob is created with a writer that follows a script, and that so many bytes of the
+/// answer are written and so many flushes made: all 666 and one, or the answer is lost.
+fn is_written(
+    rt: &impl Abort,
     alloc: Global,
-    left: usize,
-    kind: ErrorKind,
-) -> Result<(Served, Vec<u8>, u32), Fail> {
+    writing: &Writing,
+    events: &[Event],
+) -> Result<(), Fail> {
+    let (step, _, flush_faults, is_whole, bytes, flush_count) = writing;
     let mut provider = empty(alloc);
     let base = base(alloc)?;
-    let mut reader = Input::new(FailingReader {
-        bytes: CREATE_BOB,
-        left,
-        kind,
+    let mut reader = Input::new(CREATE_BOB);
+    let mut writer = Output::new(ScriptedWriter {
+        taken: Vec::new(alloc),
+        script: Script::new(*step, events),
+        flush_faults,
+        flushes: 0,
     });
-    let mut writer = Output::new(Vec::new(alloc));
     let served = serve(alloc, &mut provider, &base, &mut reader, &mut writer);
-    Ok((served, writer.into_inner(), provider.close().count()?))
+    let ScriptedWriter { taken, flushes, .. } = writer.into_inner();
+    let wanted = if *is_whole {
+        Served::Answered { status: 201 }
+    } else {
+        Served::Lost { status: 201 }
+    };
+    assert_eq!(rt; served, wanted);
+    assert!(rt; Some(taken.as_slice()) == BOB_CREATED.get(..*bytes));
+    assert_eq!(rt; flushes, *flush_count);
+    assert_eq!(rt; provider.close().count()?, 1);
+    Ok(())
 }
 
+/// At most how many bytes a write takes, what happens at which byte, with what the first flushes
+/// fail, whether the answer is written whole, and how many bytes and flushes there are.
+type Writing = (
+    usize,
+    &'static [Event],
+    &'static [ErrorKind],
+    bool,
+    usize,
+    usize,
+);
+
+/// An answer that is taken whole by one write takes two turns of 100,000.
+static WRITINGS: &[Writing] = &[
+    (1, &[], &[], true, 666, 1),
+    (7, &[], &[], true, 666, 1),
+    (1_000, &[], &[], true, 666, 1),
+    (1, &[(0, 1, INTERRUPTED)], &[], true, 666, 1),
+    (
+        1_000,
+        &[
+            (0, 2, INTERRUPTED),
+            (1, 3, INTERRUPTED),
+            (665, 1, INTERRUPTED),
+        ],
+        &[],
+        true,
+        666,
+        1,
+    ),
+    (1_000, &[(0, 1, BROKEN)], &[], false, 0, 0),
+    (1_000, &[(300, 1, BROKEN)], &[], false, 300, 0),
+    (
+        1_000,
+        &[(300, 1, Turn::Fails(ErrorKind::WouldBlock))],
+        &[],
+        false,
+        300,
+        0,
+    ),
+    (1_000, &[(0, 1, Turn::Nothing)], &[], false, 0, 0),
+    (1_000, &[(300, 1, Turn::Nothing)], &[], false, 300, 0),
+    (1_000, &[(665, 1, Turn::Nothing)], &[], false, 665, 0),
+    (1_000, &[], &[ErrorKind::BrokenPipe], false, 666, 1),
+    (1_000, &[], &[ErrorKind::Interrupted], false, 666, 1),
+    (1_000, &[], &[ErrorKind::OutOfMemory], false, 666, 1),
+    (1_000, &[(0, 99_998, INTERRUPTED)], &[], true, 666, 1),
+    (1_000, &[(0, 99_999, INTERRUPTED)], &[], false, 666, 0),
+    (1_000, &[(0, 100_000, INTERRUPTED)], &[], false, 0, 0),
+];
+
 #[test]
-fn a_read_that_fails_at_each_place(rt: HostRuntime) -> Result<(), Fail> {
-    for left in 0..CREATE_BOB.len() {
-        let (served, written, rows) = created_from(rt.alloc(), left, ErrorKind::BrokenPipe)?;
-        assert_eq!(rt; served, Served::NoRequest(ReadFault::ReadFailed));
-        assert!(rt; written.is_empty());
-        assert_eq!(rt; rows, 0);
+fn writers_that_follow_a_script(rt: HostRuntime) -> Result<(), Fail> {
+    for writing in WRITINGS {
+        let (_, events, _, _, _, _) = writing;
+        is_written(&rt, rt.alloc(), writing, events)?;
     }
     Ok(())
 }
 
 #[test]
-fn a_reader_that_is_interrupted_without_end(rt: HostRuntime) -> Result<(), Fail> {
-    let (served, written, rows) = created_from(rt.alloc(), 0, ErrorKind::Interrupted)?;
-    assert_eq!(rt; served, Served::NoRequest(ReadFault::TurnsExhausted));
-    assert!(rt; written.is_empty());
-    assert_eq!(rt; rows, 0);
+fn a_write_that_fails_once_at_each_place(rt: HostRuntime) -> Result<(), Fail> {
+    for place in 0..666usize {
+        let events = [(place, 1, BROKEN)];
+        let writing = (1, &[] as &[Event], &[] as &[ErrorKind], false, place, 0);
+        is_written(&rt, rt.alloc(), &writing, &events)?;
+    }
     Ok(())
 }
 
@@ -136,16 +271,5 @@ fn a_store_that_fails(rt: HostRuntime) -> Result<(), Fail> {
     assert!(rt; written.as_slice() == GIVEN_UP);
     let FaultyRegistry { faults } = provider.close();
     assert_eq!(rt; faults, 1);
-    Ok(())
-}
-
-#[test]
-fn a_full_provider_refuses(rt: HostRuntime) -> Result<(), Fail> {
-    let mut provider = Provider::new(FullRegistry);
-    let (served, written) = exchange(rt.alloc(), &mut provider, CREATE_BOB)?;
-    assert_eq!(rt; served, Served::Answered { status: 500 });
-    let body =
-        b"{\"detail\":\"a limit of the provider is reached\",\"schemas\":[\"urn:ietf:params:scim:api:messages:2.0:Error\"],\"status\":\"500\"}";
-    assert!(rt; written.as_slice().ends_with(body));
     Ok(())
 }

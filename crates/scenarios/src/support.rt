@@ -1,11 +1,9 @@
-//! Readers, writers and registries that fail where a test wants it, and whole exchanges.
+//! Whole exchanges, and what they are answered by.
 use http_text::{Input, Output};
 use provider_core::{MemoryRegistry, Provider, Registry};
 use scim_key::Base;
 use scim_server::{Served, serve};
 use std::alloc::Global;
-use std::io;
-use std::io::{Read, Write};
 use std::process::Abort;
 use std::test::Fail;
 
@@ -16,6 +14,10 @@ pub static CREATE_BOB: &[u8] =
 /// The answer to it.
 pub static BOB_CREATED: &[u8] =
     b"HTTP/1.1 201 Created\r\nConnection: close\r\nContent-Length: 388\r\nContent-Location: http://localhost:8080/v2/Users/5c1a0000-0000-8000-8000-000000000001\r\nContent-Type: application/scim+json\r\nETag: \"1\"\r\nLocation: http://localhost:8080/v2/Users/5c1a0000-0000-8000-8000-000000000001\r\n\r\n{\"active\":true,\"id\":\"5c1a0000-0000-8000-8000-000000000001\",\"meta\":{\"location\":\"http://localhost:8080/v2/Users/5c1a0000-0000-8000-8000-000000000001\",\"resourceType\":\"User\",\"version\":\"\\\"1\\\"\"},\"schemas\":[\"urn:ietf:params:scim:schemas:core:2.0:User\",\"urn:example:params:scim:schemas:extension:source:1.0\"],\"urn:example:params:scim:schemas:extension:source:1.0\":{\"revision\":1},\"userName\":\"bob\"}";
+
+/// The answer to a GET of bob then.
+pub static BOB_FOUND: &[u8] =
+    b"HTTP/1.1 200 OK\r\nConnection: close\r\nContent-Length: 388\r\nContent-Location: http://localhost:8080/v2/Users/5c1a0000-0000-8000-8000-000000000001\r\nContent-Type: application/scim+json\r\nETag: \"1\"\r\n\r\n{\"active\":true,\"id\":\"5c1a0000-0000-8000-8000-000000000001\",\"meta\":{\"location\":\"http://localhost:8080/v2/Users/5c1a0000-0000-8000-8000-000000000001\",\"resourceType\":\"User\",\"version\":\"\\\"1\\\"\"},\"schemas\":[\"urn:ietf:params:scim:schemas:core:2.0:User\",\"urn:example:params:scim:schemas:extension:source:1.0\"],\"urn:example:params:scim:schemas:extension:source:1.0\":{\"revision\":1},\"userName\":\"bob\"}";
 
 /// The fixed response, which takes no memory.
 pub static GIVEN_UP: &[u8] =
@@ -105,59 +107,4 @@ pub fn post(alloc: Global, body: &str) -> Result<Vec<u8>, Fail> {
         "POST /v2/Users HTTP/1.1\r\nHost: localhost:8080\r\nContent-Length: {length}\r\nContent-Type: application/scim+json\r\n\r\n{body}"
     )?;
     Ok(text.into_bytes())
-}
-
-/// Gives one byte a call, and fails once it gave so many.
-#[derive(Drop)]
-pub struct FailingReader<'a> {
-    pub bytes: &'a [u8],
-    pub left: usize,
-    pub kind: io::ErrorKind,
-}
-
-impl<'a> Read for FailingReader<'a> {
-    fn read(&mut self, buffer: &mut [u8]) -> io::Result<usize> {
-        if self.left == 0 {
-            return Err(io::Error::from(self.kind));
-        }
-        match (self.bytes.first(), buffer.first_mut()) {
-            (Some(byte), Some(place)) => {
-                *place = *byte;
-                self.bytes = self.bytes.get(1..).unwrap_or(&[]);
-                self.left = self.left.saturating_sub(1);
-                Ok(1)
-            }
-            _ => Ok(0),
-        }
-    }
-}
-
-/// Takes at most one byte a call, fails once it took so many, and fails to flush where it is told to.
-#[derive(Drop)]
-pub struct FailingWriter {
-    pub taken: Vec<u8>,
-    pub room: usize,
-    pub flush_fault: Option<io::ErrorKind>,
-}
-
-impl Write for FailingWriter {
-    fn write(&mut self, bytes: &[u8]) -> io::Result<usize> {
-        if self.taken.len() >= self.room {
-            return Err(io::Error::from(io::ErrorKind::BrokenPipe));
-        }
-        match bytes.first() {
-            Some(byte) => {
-                self.taken.push(*byte)?;
-                Ok(1)
-            }
-            None => Ok(0),
-        }
-    }
-
-    fn flush(&mut self) -> io::Result<()> {
-        match self.flush_fault {
-            Some(kind) => Err(io::Error::from(kind)),
-            None => Ok(()),
-        }
-    }
 }

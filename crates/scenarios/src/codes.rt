@@ -1,0 +1,87 @@
+//! The codes that faults and refusals are printed as.
+use http_text::{ReadFault, SendFault};
+use provider_core::{ProviderFault, RegistryFault};
+use scim_message::Refusal;
+use scim_server::MeaningFault;
+use std::alloc::Global;
+use std::fmt::Display;
+use std::process::Abort;
+use std::test::Fail;
+
+/// Asserts that each of these is printed as the text beside it.
+fn are_printed<F: Display>(
+    rt: &impl Abort,
+    alloc: Global,
+    table: &[(F, &str)],
+) -> Result<(), Fail> {
+    for (fault, code) in table {
+        let text = fault.to_string(alloc)?;
+        assert!(rt; text.as_str() == *code, "{text} and not {code}");
+    }
+    Ok(())
+}
+
+static REFUSALS: &[(Refusal, &str)] = &[
+    (Refusal::UnreadableBody, "P1"),
+    (Refusal::ValueNotAllowed, "P2"),
+    (Refusal::FilterNotSupported, "P3"),
+    (Refusal::NameFixed, "P4"),
+    (Refusal::NoSuchResource, "P5"),
+    (Refusal::NameTaken, "P6"),
+    (Refusal::OtherVersion, "P7"),
+    (Refusal::MethodNotSupported, "P8"),
+    (Refusal::LimitReached, "P9"),
+    (Refusal::Malformed, "H1"),
+    (Refusal::Host, "H2"),
+    (Refusal::LengthMissing, "H3"),
+    (Refusal::BodyTooLong, "H4"),
+    (Refusal::HeadTooLong, "H5"),
+    (Refusal::TransferCoding, "H6"),
+    (Refusal::Expectation, "H7"),
+    (Refusal::MediaType, "H8"),
+    (Refusal::NoSuchPath, "H9"),
+];
+
+static READ_FAULTS: &[(ReadFault, &str)] = &[
+    (ReadFault::Malformed, "H1"),
+    (ReadFault::HostMissingOrRepeated { is_head: false }, "H2"),
+    (ReadFault::LengthMissing { is_head: false }, "H3"),
+    (ReadFault::BodyTooLong { is_head: false }, "H4"),
+    (ReadFault::HeadTooLong, "H5"),
+    (ReadFault::TransferCoding { is_head: false }, "H6"),
+    (ReadFault::Expectation { is_head: false }, "H7"),
+    (ReadFault::EndedEarly, "H10"),
+    (ReadFault::ReadFailed, "H11"),
+    (ReadFault::OutOfMemory, "H13"),
+    (ReadFault::TurnsExhausted, "H14"),
+];
+
+static SEND_FAULTS: &[(SendFault, &str)] = &[
+    (SendFault::WriteFailed { sent: 7 }, "H12"),
+    (SendFault::TurnsExhausted { sent: 7 }, "H14"),
+];
+
+static MEANING_FAULTS: &[(MeaningFault, &str)] = &[
+    (MeaningFault::Refused(Refusal::MediaType), "H8"),
+    (MeaningFault::OutOfMemory, "H13"),
+];
+
+static REGISTRY_FAULTS: &[(RegistryFault, &str)] = &[
+    (RegistryFault::Store, "store"),
+    (RegistryFault::Memory, "memory"),
+];
+
+static PROVIDER_FAULTS: &[(ProviderFault, &str)] = &[
+    (ProviderFault::Store, "P10"),
+    (ProviderFault::Memory, "P11"),
+];
+
+#[test]
+fn codes(rt: HostRuntime) -> Result<(), Fail> {
+    are_printed(&rt, rt.alloc(), REFUSALS)?;
+    are_printed(&rt, rt.alloc(), READ_FAULTS)?;
+    are_printed(&rt, rt.alloc(), SEND_FAULTS)?;
+    are_printed(&rt, rt.alloc(), MEANING_FAULTS)?;
+    are_printed(&rt, rt.alloc(), REGISTRY_FAULTS)?;
+    are_printed(&rt, rt.alloc(), PROVIDER_FAULTS)
+}

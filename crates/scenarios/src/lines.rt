@@ -1,0 +1,92 @@
+//! The lines of a file's images, through writers that follow a script.
+use crate::scripts::{Event, Script, ScriptedWriter, Turn};
+use mapping::{WriteFault, write_images};
+use source_csv::read_users;
+use std::alloc::Global;
+use std::io::{BufWriter, ErrorKind};
+use std::process::Abort;
+use std::test::Fail;
+
+static USERS: &[u8] =
+    b"login,revision,number,given,family,mail,status\nann,7,1001,Ann,Lee,ann@example.com,active\nbob,1,,,,,left\n";
+
+static LINES: &[u8] =
+    b"{\"active\":true,\"emails\":[{\"primary\":true,\"type\":\"work\",\"value\":\"ann@example.com\"}],\"externalId\":\"1001\",\"name\":{\"familyName\":\"Lee\",\"givenName\":\"Ann\"},\"schemas\":[\"urn:ietf:params:scim:schemas:core:2.0:User\",\"urn:example:params:scim:schemas:extension:source:1.0\"],\"urn:example:params:scim:schemas:extension:source:1.0\":{\"revision\":7},\"userName\":\"ann\"}\n{\"active\":false,\"schemas\":[\"urn:ietf:params:scim:schemas:core:2.0:User\",\"urn:example:params:scim:schemas:extension:source:1.0\"],\"urn:example:params:scim:schemas:extension:source:1.0\":{\"revision\":1},\"userName\":\"bob\"}\n";
+
+/// A writer that follows a script.
+fn writer<'a>(
+    alloc: Global,
+    step: usize,
+    events: &'a [Event],
+    flush_faults: &'a [ErrorKind],
+) -> ScriptedWriter<'a> {
+    ScriptedWriter {
+        taken: Vec::new(alloc),
+        script: Script::new(step, events),
+        flush_faults,
+        flushes: 0,
+    }
+}
+
+/// At most how many bytes a write takes, what happens at which byte, with what the first flushes
+/// fail, how many bytes are written, and what `write_images` answers.
+type Writing = (
+    usize,
+    &'static [Event],
+    &'static [ErrorKind],
+    usize,
+    Result<(), WriteFault>,
+);
+
+const INTERRUPTED: Turn = Turn::Fails(ErrorKind::Interrupted);
+
+const BROKEN: Turn = Turn::Fails(ErrorKind::BrokenPipe);
+
+const FULL: Turn = Turn::Fails(ErrorKind::OutOfMemory);
+
+const FAILED: Result<(), WriteFault> = Err(WriteFault::Output);
+
+const NO_MEMORY: Result<(), WriteFault> = Err(WriteFault::Memory);
+
+/// The first line has 349 bytes, and both have 565.
+static WRITINGS: &[Writing] = &[
+    (1, &[], &[], 565, Ok(())),
+    (1_000, &[(0, 1, INTERRUPTED)], &[], 565, Ok(())),
+    (7, &[(348, 2, INTERRUPTED)], &[], 565, Ok(())),
+    (1_000, &[(0, 1, BROKEN)], &[], 0, FAILED),
+    (1_000, &[(1, 1, BROKEN)], &[], 1, FAILED),
+    (1_000, &[(349, 1, BROKEN)], &[], 349, FAILED),
+    (1_000, &[(564, 1, BROKEN)], &[], 564, FAILED),
+    (1_000, &[(349, 1, Turn::Nothing)], &[], 349, FAILED),
+    (1_000, &[(349, 1, FULL)], &[], 349, NO_MEMORY),
+    (1_000, &[], &[ErrorKind::BrokenPipe], 565, FAILED),
+    (1_000, &[], &[ErrorKind::OutOfMemory], 565, NO_MEMORY),
+];
+
+fn writes(rt: &impl Abort, alloc: Global, writing: &Writing) -> Result<(), Fail> {
+    let (step, events, flush_faults, bytes, wanted) = writing;
+    let rows = read_users(alloc, USERS)?;
+    let mut out = writer(alloc, *step, events, flush_faults);
+    let written = write_images(alloc, rows.as_slice(), &mut out);
+    assert_eq!(rt; written, *wanted);
+    assert!(rt; Some(out.taken.as_slice()) == LINES.get(..*bytes));
+    Ok(())
+}
+
+#[test]
+fn writers_that_follow_a_script(rt: HostRuntime) -> Result<(), Fail> {
+    for writing in WRITINGS {
+        writes(&rt, rt.alloc(), writing)?;
+    }
+    Ok(())
+}
+
+#[test]
+fn a_buffer_that_cannot_be_flushed(rt: HostRuntime) -> Result<(), Fail> {
+    let rows = read_users(rt.alloc(), USERS)?;
+    let unflushed = writer(rt.alloc(), 1_000, &[], &[ErrorKind::BrokenPipe]);
+    let mut buffer = BufWriter::new(rt.alloc(), unflushed)?;
+    let written = write_images(rt.alloc(), rows.as_slice(), &mut buffer);
+    assert_eq!(rt; written, FAILED);
+    Ok(())
+}
