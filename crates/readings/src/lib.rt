@@ -10,6 +10,8 @@ mod filter_texts;
 #[cfg(test)]
 mod filters;
 #[cfg(test)]
+mod groups;
+#[cfg(test)]
 mod names;
 #[cfg(test)]
 mod sources;
