@@ -2,11 +2,15 @@
 #![tactic(auto)]
 
 #[cfg(test)]
+mod answers;
+#[cfg(test)]
 mod codes;
 #[cfg(test)]
 mod creating;
 #[cfg(test)]
 mod grouping;
+#[cfg(test)]
+mod index;
 #[cfg(test)]
 mod limits;
 #[cfg(test)]
