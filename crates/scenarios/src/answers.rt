@@ -1,0 +1,149 @@
+//! What a provider answers to each kind of request, for users and groups, as responses.
+use crate::support::{BOB_CREATED, base, empty};
+use provider_core::{MemoryRegistry, Provider, Request};
+use scim_filter::Filter;
+use scim_key::{GroupName, Kind, ResourceId};
+use scim_resource::Content;
+use scim_server::response_of;
+use scim_version::Condition;
+use serde_json::Value;
+use std::alloc::Global;
+use std::process::Abort;
+use std::test::Fail;
+
+static BOB_ID: &str = "5c1a0000-0000-8000-8000-000000000001";
+
+static CREW_ID: &str = "5c1a0000-0000-8000-8000-000000000002";
+
+static BOB: &str =
+    "{\"schemas\":[\"urn:ietf:params:scim:schemas:core:2.0:User\"],\"userName\":\"bob\",\"urn:example:params:scim:schemas:extension:source:1.0\":{\"revision\":1}}";
+
+static BOB_LATER: &str =
+    "{\"schemas\":[\"urn:ietf:params:scim:schemas:core:2.0:User\"],\"userName\":\"bob\",\"externalId\":\"7\"}";
+
+static CREW: &str =
+    "{\"schemas\":[\"urn:ietf:params:scim:schemas:core:2.0:Group\"],\"displayName\":\"crew\",\"members\":[{\"value\":\"b\"},{\"value\":\"a\"}]}";
+
+static CREW_LATER: &str =
+    "{\"schemas\":[\"urn:ietf:params:scim:schemas:core:2.0:Group\"],\"displayName\":\"Crew\",\"externalId\":\"x\"}";
+
+static CREW_CREATED: &[u8] =
+    b"HTTP/1.1 201 Created\r\nConnection: close\r\nContent-Length: 296\r\nContent-Location: http://localhost:8080/v2/Groups/5c1a0000-0000-8000-8000-000000000002\r\nContent-Type: application/scim+json\r\nETag: \"1\"\r\nLocation: http://localhost:8080/v2/Groups/5c1a0000-0000-8000-8000-000000000002\r\n\r\n{\"displayName\":\"crew\",\"id\":\"5c1a0000-0000-8000-8000-000000000002\",\"members\":[{\"value\":\"b\"},{\"value\":\"a\"}],\"meta\":{\"location\":\"http://localhost:8080/v2/Groups/5c1a0000-0000-8000-8000-000000000002\",\"resourceType\":\"Group\",\"version\":\"\\\"1\\\"\"},\"schemas\":[\"urn:ietf:params:scim:schemas:core:2.0:Group\"]}";
+
+static BOB_FOUND: &[u8] =
+    b"HTTP/1.1 200 OK\r\nConnection: close\r\nContent-Length: 388\r\nContent-Location: http://localhost:8080/v2/Users/5c1a0000-0000-8000-8000-000000000001\r\nContent-Type: application/scim+json\r\nETag: \"1\"\r\n\r\n{\"active\":true,\"id\":\"5c1a0000-0000-8000-8000-000000000001\",\"meta\":{\"location\":\"http://localhost:8080/v2/Users/5c1a0000-0000-8000-8000-000000000001\",\"resourceType\":\"User\",\"version\":\"\\\"1\\\"\"},\"schemas\":[\"urn:ietf:params:scim:schemas:core:2.0:User\",\"urn:example:params:scim:schemas:extension:source:1.0\"],\"urn:example:params:scim:schemas:extension:source:1.0\":{\"revision\":1},\"userName\":\"bob\"}";
+
+static CREW_REPLACED: &[u8] =
+    b"HTTP/1.1 200 OK\r\nConnection: close\r\nContent-Length: 273\r\nContent-Location: http://localhost:8080/v2/Groups/5c1a0000-0000-8000-8000-000000000002\r\nContent-Type: application/scim+json\r\nETag: \"2\"\r\n\r\n{\"displayName\":\"Crew\",\"externalId\":\"x\",\"id\":\"5c1a0000-0000-8000-8000-000000000002\",\"meta\":{\"location\":\"http://localhost:8080/v2/Groups/5c1a0000-0000-8000-8000-000000000002\",\"resourceType\":\"Group\",\"version\":\"\\\"2\\\"\"},\"schemas\":[\"urn:ietf:params:scim:schemas:core:2.0:Group\"]}";
+
+static BOB_REPLACED: &[u8] =
+    b"HTTP/1.1 200 OK\r\nConnection: close\r\nContent-Length: 280\r\nContent-Location: http://localhost:8080/v2/Users/5c1a0000-0000-8000-8000-000000000001\r\nContent-Type: application/scim+json\r\nETag: \"2\"\r\n\r\n{\"active\":true,\"externalId\":\"7\",\"id\":\"5c1a0000-0000-8000-8000-000000000001\",\"meta\":{\"location\":\"http://localhost:8080/v2/Users/5c1a0000-0000-8000-8000-000000000001\",\"resourceType\":\"User\",\"version\":\"\\\"2\\\"\"},\"schemas\":[\"urn:ietf:params:scim:schemas:core:2.0:User\"],\"userName\":\"bob\"}";
+
+static CREW_NOT_MODIFIED: &[u8] =
+    b"HTTP/1.1 304 Not Modified\r\nConnection: close\r\nContent-Location: http://localhost:8080/v2/Groups/5c1a0000-0000-8000-8000-000000000002\r\nETag: \"1\"\r\n\r\n";
+
+static CREW_LISTED: &[u8] =
+    b"HTTP/1.1 200 OK\r\nConnection: close\r\nContent-Length: 426\r\nContent-Type: application/scim+json\r\n\r\n{\"Resources\":[{\"displayName\":\"crew\",\"id\":\"5c1a0000-0000-8000-8000-000000000002\",\"members\":[{\"value\":\"b\"},{\"value\":\"a\"}],\"meta\":{\"location\":\"http://localhost:8080/v2/Groups/5c1a0000-0000-8000-8000-000000000002\",\"resourceType\":\"Group\",\"version\":\"\\\"1\\\"\"},\"schemas\":[\"urn:ietf:params:scim:schemas:core:2.0:Group\"]}],\"itemsPerPage\":1,\"schemas\":[\"urn:ietf:params:scim:api:messages:2.0:ListResponse\"],\"startIndex\":1,\"totalResults\":1}";
+
+static NO_SUCH_RESOURCE: &[u8] =
+    b"HTTP/1.1 404 Not Found\r\nConnection: close\r\nContent-Length: 102\r\nContent-Type: application/scim+json\r\n\r\n{\"detail\":\"no such resource\",\"schemas\":[\"urn:ietf:params:scim:api:messages:2.0:Error\"],\"status\":\"404\"}";
+
+fn content(alloc: Global, text: &str, kind: Kind) -> Result<Content, Fail> {
+    Ok(Content::read(alloc, &Value::from_str(alloc, text)?, kind)?)
+}
+
+/// A creation of this content.
+fn creation(alloc: Global, text: &str, kind: Kind) -> Result<Request, Fail> {
+    Ok(Request::Create {
+        content: content(alloc, text, kind)?,
+    })
+}
+
+/// A replacement by this content, under no condition.
+fn replacement(alloc: Global, id: &str, text: &str, kind: Kind) -> Result<Request, Fail> {
+    Ok(Request::Replace {
+        id: ResourceId::read(alloc, id)?,
+        content: content(alloc, text, kind)?,
+        if_match: Condition::Always,
+        if_none_match: Condition::Always,
+    })
+}
+
+/// A retrieval, where its version isn't one of these.
+fn retrieval(alloc: Global, id: &str, kind: Kind, known: Condition) -> Result<Request, Fail> {
+    Ok(Request::Retrieve {
+        kind,
+        id: ResourceId::read(alloc, id)?,
+        if_match: Condition::Always,
+        if_none_match: known,
+    })
+}
+
+/// A search for all resources of a type that a filter hits.
+fn search(kind: Kind, filter: Option<Filter>) -> Request {
+    Request::Search {
+        kind,
+        filter,
+        start: 1,
+        count: None,
+    }
+}
+
+/// Asserts that a request is answered so.
+fn answers(
+    rt: &impl Abort,
+    alloc: Global,
+    provider: &mut Provider<MemoryRegistry>,
+    request: Request,
+    expected: &[u8],
+) -> Result<(), Fail> {
+    let answer = provider.answer(alloc, &request)?;
+    let response = response_of(alloc, &answer, &base(alloc)?)?;
+    assert!(rt; response.as_slice() == expected);
+    Ok(())
+}
+
+/// A provider with bob and the crew.
+fn with_both(rt: &impl Abort, alloc: Global) -> Result<Provider<MemoryRegistry>, Fail> {
+    let mut provider = empty(alloc);
+    let bob = creation(alloc, BOB, Kind::User)?;
+    answers(rt, alloc, &mut provider, bob, BOB_CREATED)?;
+    let crew = creation(alloc, CREW, Kind::Group)?;
+    answers(rt, alloc, &mut provider, crew, CREW_CREATED)?;
+    Ok(provider)
+}
+
+#[test]
+fn resources_are_retrieved(rt: HostRuntime) -> Result<(), Fail> {
+    let alloc = rt.alloc();
+    let mut provider = with_both(&rt, alloc)?;
+    let bob = retrieval(alloc, BOB_ID, Kind::User, Condition::Always)?;
+    answers(&rt, alloc, &mut provider, bob, BOB_FOUND)?;
+    let known = Condition::read_list(alloc, b"\"1\"")?;
+    let crew = retrieval(alloc, CREW_ID, Kind::Group, known)?;
+    answers(&rt, alloc, &mut provider, crew, CREW_NOT_MODIFIED)?;
+    let nobody = retrieval(alloc, "x", Kind::User, Condition::Always)?;
+    answers(&rt, alloc, &mut provider, nobody, NO_SUCH_RESOURCE)
+}
+
+#[test]
+fn resources_are_replaced(rt: HostRuntime) -> Result<(), Fail> {
+    let alloc = rt.alloc();
+    let mut provider = with_both(&rt, alloc)?;
+    let bob = replacement(alloc, BOB_ID, BOB_LATER, Kind::User)?;
+    answers(&rt, alloc, &mut provider, bob, BOB_REPLACED)?;
+    let crew = replacement(alloc, CREW_ID, CREW_LATER, Kind::Group)?;
+    answers(&rt, alloc, &mut provider, crew, CREW_REPLACED)
+}
+
+#[test]
+fn resources_are_listed(rt: HostRuntime) -> Result<(), Fail> {
+    let alloc = rt.alloc();
+    let mut provider = with_both(&rt, alloc)?;
+    let all = search(Kind::Group, None);
+    answers(&rt, alloc, &mut provider, all, CREW_LISTED)?;
+    let name = GroupName::read(alloc, "CREW")?;
+    let filter = Filter::eq_display_name(alloc, &name)?;
+    let named = search(Kind::Group, Some(filter));
+    answers(&rt, alloc, &mut provider, named, CREW_LISTED)
+}
