@@ -4,7 +4,6 @@ ghost use Rattle.csv.specs.Records.{fields_of};
 ghost use Rattle.scim_key.specs.Names.{IsGroupName, IsUserName};
 ghost use Rattle.scim_key.specs.Revisions.{IsRevision};
 ghost use Rattle.source_csv.specs.Fields.{Reads, ReadsBy, field, read_group_name, read_login, read_revision, read_status, read_texts, read_value};
-ghost use Rattle.source_csv.specs.Rows.{};
 
 use crate::faults::{Refusal, RowCode};
 use crate::users::VALUE_LIMIT;
