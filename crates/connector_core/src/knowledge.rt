@@ -26,7 +26,7 @@ pub struct Known {
     pub seen: Seen,
 }
 
-/// One call wherever it is let go, as for a row.
+/// One call wherever it is dropped, as for a row.
 impl Drop for Known {
     fn drop(self) {
         let Known {

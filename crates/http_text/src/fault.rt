@@ -33,7 +33,7 @@ pub enum ReadFault {
     /// A read failed.
     #[error("H11")]
     ReadFailed,
-    /// Memory was wanting.
+    /// Out of memory.
     #[error("H13")]
     OutOfMemory,
     /// 100,000 reads didn't give the whole request.

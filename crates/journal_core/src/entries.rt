@@ -14,7 +14,7 @@ pub struct Entry {
     pub id: Option<ResourceId>,
 }
 
-/// One call wherever it is let go, as for a row.
+/// One call wherever it is dropped, as for a row.
 impl Drop for Entry {
     fn drop(self) {
         let Entry {

@@ -1,7 +1,7 @@
--- What a call may answer where its definition says one thing and memory may be wanting.
+-- What a call may answer where its definition says one thing and it may run out of memory.
 use Rattle.std.specs.Prelude.{◌≡◌, ℕ, List, Option, None, Some, Result, Ok, Err, ◌⊎◌}
 
--- what came is exactly the answer, or want of memory
+-- what came is exactly the answer, or out of memory
 abbrev pub Gives : {X F : Type 0} → F → Result X F → Result X F → Type 0
 Gives memory (Ok x) answer = answer ≡ Ok x
 Gives memory (Err e) answer = (e ≡ memory) ⊎ (answer ≡ Err e)
@@ -11,7 +11,7 @@ abbrev pub GivesBy : {X Y F : Type 0} → (X → Y) → F → Result X F → Res
 GivesBy view memory (Ok x) answer = answer ≡ Ok (view x)
 GivesBy view memory (Err e) answer = (e ≡ memory) ⊎ (answer ≡ Err e)
 
--- a text was taken as it stands, or its fault came; memory may be wanting for a lawful text alone
+-- a text was taken as it stands, or its fault came; out of memory comes for a lawful text alone
 abbrev pub Takes : {F : Type 0} → F → Option F → List ℕ → Result (List ℕ) F → Type 0
 Takes memory fault text (Ok x) = (fault ≡ None) × (x ≡ text)
 Takes memory fault text (Err e) = ((fault ≡ None) × (e ≡ memory)) ⊎ (fault ≡ Some e)

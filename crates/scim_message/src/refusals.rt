@@ -131,7 +131,7 @@ impl Model for ErrorResponse {
     ghost invariant = { λ e. IsErrorStatus e.status };
 }
 
-/// One call wherever an error message is let go, and not a step for each field: a proof is as long
+/// One call wherever an error message is dropped, and not a step for each field: a proof is as long
 /// as the steps that it goes through.
 impl Drop for ErrorResponse {
     fn drop(self) {

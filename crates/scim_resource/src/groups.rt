@@ -116,7 +116,7 @@ impl Model for Group {
     ghost invariant = { λ g. IsGroup (record { display_name = g.display_name; external_id = g.external_id; members = g.members; revision = g.revision }) };
 }
 
-/// One call wherever a group is let go, as for a user.
+/// One call wherever a group is dropped, as for a user.
 impl Drop for Group {
     fn drop(self) {
         let Group {

@@ -31,7 +31,7 @@ impl Model for Stored {
     ghost invariant = { λ s. IsStored (record { number = s.number; version = s.version; content = s.content }) };
 }
 
-/// One call wherever a row is let go, as for a user.
+/// One call wherever a row is dropped, as for a user.
 impl Drop for Stored {
     fn drop(self) {
         let Stored {
@@ -121,7 +121,7 @@ impl Model for Shown {
     ghost invariant = { λ s. IsShown (record { id = s.id; version = s.version; content = s.content }) };
 }
 
-/// One call wherever it is let go, as for a user.
+/// One call wherever it is dropped, as for a user.
 impl Drop for Shown {
     fn drop(self) {
         let Shown {

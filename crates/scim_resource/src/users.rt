@@ -34,7 +34,7 @@ impl Model for User {
     ghost invariant = { λ u. IsUser (record { user_name = u.user_name; external_id = u.external_id; given_name = u.given_name; family_name = u.family_name; emails = u.emails; active = u.active; revision = u.revision }) };
 }
 
-/// One call wherever a user is let go, and not a step for each field: a proof is as long as the
+/// One call wherever a user is dropped, and not a step for each field: a proof is as long as the
 /// steps that it goes through.
 impl Drop for User {
     fn drop(self) {

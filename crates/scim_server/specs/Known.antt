@@ -21,7 +21,7 @@ use Rattle.scim_server.specs.Serving.{AnswersMeaning, GivesUp, Sends, IsSilent, 
 abbrev pub IsReaderFault : ReadFault → Type 0
 IsReaderFault fault = (fault ≡ ReadFailed) ⊎ (fault ≡ TurnsExhausted)
 
--- the store failed or memory was wanting, and the fixed text was sent; or the reader failed, and nothing was
+-- the store failed or it was out of memory, and the fixed text was sent; or the reader failed, and nothing was
 abbrev pub IsHindered : (faithful : Type 0) → (old new : List StoredRecord) → (before after : Writing) → Served → Type 0
 IsHindered faithful old new before after served =
     Sends before after (GivesUp faithful old new) served

@@ -134,13 +134,13 @@ IsAsked (by_query kind query) answer = IsSearch kind query answer
 abbrev pub Asks : Message → Result Request Refusal → Type 0
 Asks m answer = IsAsked (routed_asked (route_of (path_of (target_of m.head.start))) m) answer
 
--- what came is exactly what the definition says, or want of memory
+-- what came is exactly what the definition says, or out of memory
 abbrev pub Tells : {X : Type 0} → Result X MeaningFault → Result X Refusal → Type 0
 Tells (Ok x) answer = answer ≡ Ok x
 Tells (Err (Refused refusal)) answer = answer ≡ Err refusal
 Tells (Err OutOfMemory) answer = ⊤
 
--- the same of a relation: what came is what the definition allows, or want of memory
+-- the same of a relation: what came is what the definition allows, or out of memory
 abbrev pub TellsOf : {X : Type 0} → (Result X Refusal → Type 0) → Result X MeaningFault → Type 0
 TellsOf Allows (Ok x) = Allows (Ok x)
 TellsOf Allows (Err (Refused refusal)) = Allows (Err refusal)

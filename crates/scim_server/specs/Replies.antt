@@ -104,7 +104,7 @@ pub record ReplyRecord : Type 0 where
 abbrev pub reply_of : List ℕ → (leaves_body_out : Bool) → Answer → ReplyRecord
 reply_of base leaves_body_out answer = record { status = answer_status answer; text = answer_text base leaves_body_out answer }
 
--- The one text that stands for an answer where the store failed or memory was wanting
+-- The one text that stands for an answer where the store failed or there was no memory
 unfoldable pub fixed_text : List ℕ
 fixed_text =
     response_text 500

@@ -84,7 +84,7 @@ Reacts base before after fault (Refuse refusal leaves_body_out) served = Sends b
 Reacts base before after fault GiveUp served = Sends before after (λ reply. reply ≡ fixed_reply) served
 Reacts base before after fault StaySilent served = IsSilent before after fault served
 
--- What became of what was read: a message has its answer, or the fixed one where the store failed or memory was wanting;
+-- What became of what was read: a message has its answer, or the fixed one where the store failed or there was no memory;
 -- a fault has its reaction, and the rows are as they were
 abbrev pub Serves : (faithful : Type 0) → List ℕ → (old new : List StoredRecord) → (before after : Writing) → Result Message ReadFault → Served → Type 0
 Serves faithful base old new before after (Ok m) served =

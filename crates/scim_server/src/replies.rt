@@ -66,7 +66,7 @@ pub fn response_of(alloc: Global, answer: &Answer, base: &Base) -> Result<Vec<u8
     text_of(alloc, answer, base, false)
 }
 
-/// The one response that stands for an answer where the store failed or memory was wanting.
+/// The one response that stands for an answer where the store failed or there was no memory.
 #[tactic(auto, unfolding(crate::specs::Replies::fixed_text))]
 pub(crate) fn fixed_response() -> &'static [u8]
     ensures { result.now ≡ spec.fixed_text }

@@ -35,7 +35,7 @@ pub enum Served {
 
 /// Reads one request, answers it and makes its change. What follows the request stays unread. The
 /// bytes of the answer are formed before the change is made and sent after it. Where the store
-/// fails or memory is wanting, one fixed response is sent, which takes no memory, and the rows
+/// fails or it is out of memory, one fixed response is sent, which takes no memory, and the rows
 /// stay as they were.
 pub fn serve<R: Registry, I: Read, O: Write>(
     alloc: Global,
@@ -204,7 +204,7 @@ fn sent<O: Write>(writer: &mut Output<O>, status: u16, text: &[u8]) -> Served
     }
 }
 
-/// Sends the response that stands for every other where the store failed or memory was wanting.
+/// Sends the response that stands for every other where the store failed or there was no memory.
 fn send_fixed<O: Write>(writer: &mut Output<O>) -> Served
     ensures sent { spec.IsSent writer.old writer.new fixed_reply result }
     ensures turns { CountsTurns writer.old.calls writer.new.calls }

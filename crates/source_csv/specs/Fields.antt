@@ -123,7 +123,7 @@ read_group fields = Err code.FieldCount
 abbrev pub field : Record → ℕ → List ℕ
 field fields place = unwrap_or (field_at fields place) []
 
--- what came is exactly what is read, or want of memory
+-- what came is exactly what is read, or out of memory
 abbrev pub Reads : {X : Type 0} → Result X Refusal → Result X RowCode → Type 0
 Reads (Ok x) answer = answer ≡ Ok x
 Reads (Err (Refused c)) answer = answer ≡ Err c

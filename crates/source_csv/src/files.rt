@@ -134,7 +134,7 @@ fn records_of(alloc: Global, bytes: &[u8]) -> ByteRecordsIntoIter<&[u8]>
         .into_byte_records()
 }
 
-/// The record that the reader gave. Where it gave none, memory was wanting: over bytes in memory, with
+/// The record that the reader gave. Where it gave none, it was out of memory: over bytes in memory, with
 /// records of any number of fields, no other error is left.
 fn record_of(given: Result<ByteRecord, csv::Error>) -> Result<ByteRecord, SourceFault>
     requires { ForErr given (λ error. stops_reader (error_kind error) ≡ true) }

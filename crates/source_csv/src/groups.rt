@@ -37,7 +37,7 @@ impl Model for GroupRow {
     ghost invariant = { λ g. IsGroupRow (record { name = g.name; revision = g.revision; members = g.members.items }) };
 }
 
-/// One call wherever a row is let go, as for a user.
+/// One call wherever a row is dropped, as for a user.
 impl Drop for GroupRow {
     fn drop(self) {
         let GroupRow {

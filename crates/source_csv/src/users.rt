@@ -41,7 +41,7 @@ impl Model for UserRow {
     ghost invariant = { λ u. IsUserRow (record { login = u.login; revision = u.revision; number = string_bytes u.number; given = string_bytes u.given; family = string_bytes u.family; mail = string_bytes u.mail; active = u.active }) };
 }
 
-/// One call wherever a row is let go, and not a step for each field: a proof is as long as the
+/// One call wherever a row is dropped, and not a step for each field: a proof is as long as the
 /// steps that it goes through.
 impl Drop for UserRow {
     fn drop(self) {
