@@ -2,7 +2,6 @@ pub mod Book
 pub mod Maps
 pub mod Trees
 pub mod State
-pub mod Images
 pub mod Asking
 pub mod Learning
 pub mod Changing
