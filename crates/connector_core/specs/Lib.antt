@@ -5,5 +5,6 @@ pub mod State
 pub mod Images
 pub mod Asking
 pub mod Learning
+pub mod Noting
 pub mod Changing
 pub mod Laws
