@@ -4,5 +4,6 @@ pub mod Trees
 pub mod State
 pub mod Asking
 pub mod Learning
+pub mod Noting
 pub mod Changing
 pub mod Laws
