@@ -28,7 +28,7 @@ use Rattle.provider_core.proofs.TableLaws.{at_push}
 abbrev is_of_kind : Kind → RecordName → Bool
 is_of_kind kind name = same_kind kind name.kind
 
-abbrev Comes : RecordName → RecordName → Type 0
+abbrev pub Comes : RecordName → RecordName → Type 0
 Comes a b = name_cmp a b ≡ Less
 
 abbrev pub InOrder : List RecordName → Type 0
@@ -74,7 +74,7 @@ order_with (x ∷ xs) name order = go (name_cmp name x) refl (order_with xs name
     go Equal is more = order
     go Greater is more = (all_with (Comes x) xs name order.0 (turned name x Greater is), more)
 
-all_has : (P : RecordName → Type 0) (names : List RecordName) (i : ℕ) (name : RecordName) → AllByRecursion P names → IsAt names i name → P name
+pub all_has : (P : RecordName → Type 0) (names : List RecordName) (i : ℕ) (name : RecordName) → AllByRecursion P names → IsAt names i name → P name
 all_has P [] i name all at = absurd (cc)
 all_has P (x ∷ xs) zero name all at = let same : x ≡ name = cc in subst P same all.0
 all_has P (x ∷ xs) (suc i) name all at = all_has P xs i name all.1 at
