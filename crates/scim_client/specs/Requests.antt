@@ -70,13 +70,17 @@ content_sent (Replace id content if_match if_none_match) = Some content
 abbrev pub content_text : Content → List ℕ
 content_text content = compact_text (content_data content)
 
--- the compact text of that content, or nothing
-abbrev pub body_text : Request → List ℕ
-body_text request = option_map_or content_text (content_sent request) []
+-- the compact text of that content
+abbrev pub body_sent : Request → Option (List ℕ)
+body_sent request = option_map content_text (content_sent request)
 
--- the length of the body, where there is one
+-- a request that sends no content has an empty body
+abbrev pub body_text : Request → List ℕ
+body_text request = option_map_or (λ text. text) (body_sent request) []
+
+-- and states no length
 abbrev pub stated_length : Request → Option (List ℕ)
-stated_length request = option_map (λ content. decimal (length (content_text content))) (content_sent request)
+stated_length request = option_map (λ text. decimal (length text)) (body_sent request)
 
 -- ---- the field lines
 

@@ -1,9 +1,11 @@
 //! The bytes of a request (RFC 7644 sections 3.3 to 3.5, RFC 9112 section 3).
 ghost use Rattle.std.specs.Prelude.{◌≡◌, ◌++◌, [], codes, decimal, length, map, IfOk, OnOk, option_map, string_bytes};
-ghost use Rattle.std.specs.List.{join_by};
+ghost use Rattle.std.specs.Fmt.{signed_decimal};
+ghost use Rattle.std.specs.List.{flat_map, join_by};
 ghost use Rattle.std.specs.Option.{option_map_or};
 ghost use Rattle.http_text.specs.Response.{named_value};
 ghost use Rattle.scim_version.specs.declared.conditions.Condition.TheVariants.{Always};
+ghost use Rattle.scim_filter.specs.Texts.{filter_text};
 ghost use Rattle.scim_server.specs.Laws as paths;
 ghost use Rattle.scim_server.specs.Replies.{line_with, written_lines, stated_type};
 ghost use Rattle.scim_server.specs.Routes as routes;
@@ -164,23 +166,38 @@ fn condition_value(
 fn tags_text(alloc: Global, tags: &[EntityTag]) -> Result<Vec<u8>, AllocError>
     ensures { IfOk result (λ text. text.items ≡ join_by (λ tag. tag) (codes ", ") tags.now) }
 {
-    let mut text = Vec::new(alloc);
-    if let [first, others @ ..] = tags {
-        text.extend_from_slice(first.text())?;
-        for tag in others {
-            text.extend_from_slice(b", ")?;
-            text.extend_from_slice(tag.text())?;
+    match tags {
+        [] => Ok(Vec::new(alloc)),
+        [first, others @ ..] => {
+            let mut text = Vec::from_slice(alloc, first.text())?;
+            push_tags(&mut text, others)?;
+            Ok(text)
         }
     }
-    Ok(text)
+}
+
+fn push_tags(text: &mut Vec<u8>, tags: &[EntityTag]) -> Result<(), AllocError>
+    ensures { OnOk result (text.new.items
+        ≡ text.old.items ++ flat_map (λ tag. codes ", " ++ tag) tags.now) }
+{
+    for tag in tags {
+        push_tag(text, tag)?;
+    }
+    Ok(())
+}
+
+fn push_tag(text: &mut Vec<u8>, tag: &EntityTag) -> Result<(), AllocError>
+    ensures { OnOk result (text.new.items ≡ text.old.items ++ (codes ", " ++ tag.now)) }
+{
+    text.extend_from_slice(b", ")?;
+    text.extend_from_slice(tag.text())
 }
 
 // ---- the body
 
 /// The compact text of the content that a request sends, where it sends one.
 fn body_of(alloc: Global, request: &Request) -> Result<Option<Vec<u8>>, AllocError>
-    ensures { IfOk result (λ body. option_map (λ t. t.items) body
-        ≡ option_map spec.content_text (spec.content_sent request.now)) }
+    ensures { IfOk result (λ body. option_map (λ t. t.items) body ≡ spec.body_sent request.now) }
 {
     match request {
         Request::Create { content } | Request::Replace { content, .. } => {
@@ -264,16 +281,66 @@ fn query_of(
     ensures { IfOk result (λ text. string_bytes text
         ≡ spec.query_text (option_map (λ t. t.now) filter.entry) start count) }
 {
+    let filter = filter_text_of(alloc, filter)?;
     let mut form = Serializer::new(String::new(alloc));
-    if let Some(filter) = filter {
-        let text = filter.to_text(alloc)?;
-        form.append_pair("filter", text.as_str())?;
-    }
-    if start != 1 {
-        form.append_pair("startIndex", Buffer::new().format(start))?;
-    }
-    if let Some(count) = count {
-        form.append_pair("count", Buffer::new().format(count))?;
-    }
+    push_parameter(&mut form, "filter", lent_text(&filter))?;
+    push_parameter(
+        &mut form,
+        "startIndex",
+        start_value(start, &mut Buffer::new()),
+    )?;
+    push_parameter(&mut form, "count", count_value(count, &mut Buffer::new()))?;
     Ok(form.finish())
+}
+
+/// Adds a parameter where it has a value.
+fn push_parameter(form: &mut Serializer, name: &str, value: Option<&str>) -> Result<(), AllocError>
+    ensures { OnOk result (form.new ≡ record {
+      prefix = form.old.prefix;
+      form = spec.with_parameter form.old.form name.now (option_map (λ t. t.now) value.entry);
+    }) }
+{
+    match value {
+        Some(value) => form.append_pair(name, value),
+        None => Ok(()),
+    }
+}
+
+fn filter_text_of(alloc: Global, filter: Option<&Filter>) -> Result<Option<String>, AllocError>
+    ensures { IfOk result (λ text. option_map string_bytes text
+        ≡ option_map filter_text (option_map (λ t. t.now) filter.entry)) }
+{
+    match filter {
+        Some(filter) => Ok(Some(filter.to_text(alloc)?)),
+        None => Ok(None),
+    }
+}
+
+fn lent_text(text: &Option<String>) -> Option<&str>
+    ensures { option_map (λ t. t.now) result ≡ option_map string_bytes text.now }
+{
+    match text {
+        Some(text) => Some(text.as_str()),
+        None => None,
+    }
+}
+
+/// The start, where it isn't the first place.
+fn start_value(start: i64, buffer: &mut Buffer) -> Option<&str>
+    ensures { option_map (λ t. t.now) result ≡ spec.start_value start }
+{
+    if start == 1 {
+        None
+    } else {
+        Some(buffer.format(start))
+    }
+}
+
+fn count_value(count: Option<i64>, buffer: &mut Buffer) -> Option<&str>
+    ensures { option_map (λ t. t.now) result ≡ option_map signed_decimal count }
+{
+    match count {
+        Some(count) => Some(buffer.format(count)),
+        None => None,
+    }
 }

@@ -106,10 +106,14 @@ pub struct CreateRequest<'a> {
 }
 
 impl<'a> Model for CreateRequest<'a> {
+    ghost use Rattle.std.specs.Coded.{codes};
+    ghost use Rattle.scim_filter.specs.Codes.{expression_code};
     ghost use Rattle.scim_client.specs.Requests.{Planned};
     ghost use Rattle.scim_message.specs.declared.messages.Request.TheVariants.{Create};
 
     ghost Value = { Planned };
+
+    ghost coded = { Prim.hlevel (codes, expression_code) };
 
     ghost view = { λ r. record { base = r.service.now; request = Create r.content.now } };
 }
@@ -141,11 +145,15 @@ pub struct RetrieveRequest<'a> {
 }
 
 impl<'a> Model for RetrieveRequest<'a> {
+    ghost use Rattle.std.specs.Coded.{codes};
+    ghost use Rattle.scim_filter.specs.Codes.{expression_code};
     ghost use Rattle.scim_client.specs.Requests.{Planned};
     ghost use Rattle.scim_message.specs.declared.messages.Request.TheVariants.{Retrieve};
     ghost use Rattle.scim_version.specs.declared.conditions.Condition.TheVariants.{Always};
 
     ghost Value = { Planned };
+
+    ghost coded = { Prim.hlevel (codes, expression_code) };
 
     ghost view = { λ r. record { base = r.service.now; request = Retrieve r.kind r.id.now Always Always } };
 }
@@ -181,10 +189,14 @@ pub struct SearchRequest<'a> {
 
 impl<'a> Model for SearchRequest<'a> {
     ghost use Rattle.std.specs.Prelude.{None, option_map, pos};
+    ghost use Rattle.std.specs.Coded.{codes};
+    ghost use Rattle.scim_filter.specs.Codes.{expression_code};
     ghost use Rattle.scim_client.specs.Requests.{Planned};
     ghost use Rattle.scim_message.specs.declared.messages.Request.TheVariants.{Search};
 
     ghost Value = { Planned };
+
+    ghost coded = { Prim.hlevel (codes, expression_code) };
 
     ghost view = { λ r. record {
       base = r.service.now;
@@ -195,7 +207,7 @@ impl<'a> Model for SearchRequest<'a> {
 impl<'a> SearchRequest<'a> {
     /// Only the resources that this filter finds.
     pub fn filter(self, filter: &'a Filter) -> SearchRequest<'a>
-        ensures { result ≡ record { base = self.base; request = through_filter filter.now self.request } }
+        ensures { result ≡ record { base = self.entry.base; request = through_filter filter.now self.entry.request } }
     {
         SearchRequest {
             filter: Some(filter),
@@ -238,11 +250,15 @@ pub struct ReplaceRequest<'a> {
 
 impl<'a> Model for ReplaceRequest<'a> {
     ghost use Rattle.std.specs.Prelude.{option_map};
+    ghost use Rattle.std.specs.Coded.{codes};
+    ghost use Rattle.scim_filter.specs.Codes.{expression_code};
     ghost use Rattle.scim_client.specs.Requests.{Planned, tag_alone};
     ghost use Rattle.scim_message.specs.declared.messages.Request.TheVariants.{Replace};
     ghost use Rattle.scim_version.specs.declared.conditions.Condition.TheVariants.{Always};
 
     ghost Value = { Planned };
+
+    ghost coded = { Prim.hlevel (codes, expression_code) };
 
     ghost view = { λ r. record {
       base = r.service.now;
@@ -253,7 +269,7 @@ impl<'a> Model for ReplaceRequest<'a> {
 impl<'a> ReplaceRequest<'a> {
     /// Only where the resource has the version with this tag (RFC 7232 section 3.1).
     pub fn if_match(self, tag: &'a EntityTag) -> ReplaceRequest<'a>
-        ensures { result ≡ record { base = self.base; request = under_tag tag.now self.request } }
+        ensures { result ≡ record { base = self.entry.base; request = under_tag tag.now self.entry.request } }
     {
         ReplaceRequest {
             if_match: Some(tag),
