@@ -1,5 +1,5 @@
 -- Bytes are one response at most, so they say one thing.
-use Rattle.std.proofs.Common.{◌≡◌, ◌≢◌, ℕ, ◌⊎◌, inl, inr, List, [], ◌++◌, Result, Ok, Err, refl, ap, sym, ◌∙◌, subst}
+use Rattle.std.proofs.Common.{◌≡◌, ◌≢◌, ℕ, inl, inr, List, [], Result, Ok, Err, refl, ap, sym, ◌∙◌, subst}
 use Rattle.std.specs.Prelude.{IfOk, IfErr, ⊤}
 use Rattle.std.proofs.lemmas.List.{append-nil}
 use Rattle.http_text.specs.Message.{Message}
@@ -25,14 +25,14 @@ abbrev IsSaid : Result Answer BodyFault → Type 0
 IsSaid (Ok a) = ⊤
 IsSaid (Err fault) = ⊥
 
-refused_is_not_said : (a : Answer) (fault : BodyFault) (r : Result Answer BodyFault) → r ≡ Ok a → r ≡ Err fault → ⊥
+pub refused_is_not_said : (a : Answer) (fault : BodyFault) (r : Result Answer BodyFault) → r ≡ Ok a → r ≡ Err fault → ⊥
 refused_is_not_said a fault r x y = subst IsSaid (sym x ∙ y) tt
 
 abbrev said_or : Answer → Result Answer BodyFault → Answer
 said_or other (Ok a) = a
 said_or other (Err fault) = other
 
-same_said : (a b : Answer) (r : Result Answer BodyFault) → r ≡ Ok a → r ≡ Ok b → a ≡ b
+pub same_said : (a b : Answer) (r : Result Answer BodyFault) → r ≡ Ok a → r ≡ Ok b → a ≡ b
 same_said a b r x y = ap (said_or a) (sym x ∙ y)
 
 abbrev fault_or : BodyFault → Result Answer BodyFault → BodyFault
@@ -44,7 +44,7 @@ IsWrongShape bodies.NotJson = ⊥
 IsWrongShape bodies.WrongShape = ⊤
 IsWrongShape bodies.Memory = ⊥
 
-not_both : (r : Result Answer BodyFault) → r ≡ Err bodies.WrongShape → r ≡ Err bodies.NotJson → ⊥
+pub not_both : (r : Result Answer BodyFault) → r ≡ Err bodies.WrongShape → r ≡ Err bodies.NotJson → ⊥
 not_both r x y = subst IsWrongShape (ap (fault_or bodies.NotJson) (sym x ∙ y)) tt
 
 -- ---- what one response says

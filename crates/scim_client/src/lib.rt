@@ -2,5 +2,7 @@
 #![tactic(auto)]
 
 mod answers;
+mod exchange;
 
 pub use answers::{AnswerFault, read_answer};
+pub use exchange::ExchangeFault;
