@@ -1,9 +1,15 @@
-//! The client of a SCIM provider (RFC 7644): the bytes of its requests.
+//! The client of a SCIM provider (RFC 7644): what is sent for a request, and what comes back for it.
 #![tactic(auto)]
 
+mod answer_laws;
+mod answers;
+mod exchange;
 mod request_laws;
 mod requests;
 mod service;
 
+pub use answer_laws::{answers_are_read, one_answer};
+pub use answers::{AnswerFault, read_answer};
+pub use exchange::ExchangeFault;
 pub use request_laws::one_request;
 pub use service::{CreateRequest, ReplaceRequest, RetrieveRequest, ScimService, SearchRequest};

@@ -1,0 +1,27 @@
+-- Facts about what the bytes of responses say.
+use Rattle.std.specs.Prelude.{◌≡◌, ℕ, ◌+◌, ◌≤◌, false, List, length}
+use Rattle.std.specs.Str.{IsUtf8}
+use Rattle.scim_key.specs.Bases.{IsBase}
+use Rattle.scim_message.specs.Bodies.{body_text}
+use Rattle.scim_message.specs.Fitting.{Fits}
+use Rattle.scim_message.specs.declared.messages.Answer.{Answer}
+use Rattle.scim_message.specs.declared.messages.Request.{Request}
+use Rattle.http_text.specs.Message.{head_limit, response_body_limit}
+use Rattle.scim_server.specs.Laws.{HasLawfulParts}
+use Rattle.scim_server.specs.Replies.{answer_text}
+use Rattle.scim_client.specs.Answers.{AnswersSo}
+
+-- Bytes are one answer to a request at most
+abbrev pub OneAnswer : Type 0
+OneAnswer = (text : List ℕ) (request : Request) (one two : Answer) → AnswersSo text request one → AnswersSo text request two → one ≡ two
+
+-- the head and the body of an answer's text keep the limits of responses
+pub record KeepsAnswerLimits (base : List ℕ) (a : Answer) : Type 0 where
+  pub head : length (answer_text base false a) ≤ head_limit + length (body_text base a)
+  pub body : length (body_text base a) ≤ response_body_limit
+
+-- What a server at this base writes for an answer that fits the request is that answer and no other
+abbrev pub AnswersAreRead : Type 0
+AnswersAreRead =
+    (base : List ℕ) (request : Request) (a : Answer) → IsBase base → Fits request a → HasLawfulParts a → IsUtf8 (body_text base a) → KeepsAnswerLimits base a
+    → AnswersSo (answer_text base false a) request a

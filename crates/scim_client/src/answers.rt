@@ -1,0 +1,74 @@
+//! Answers read from the bytes of responses (RFC 7644 section 3, RFC 9112).
+ghost use Rattle.std.specs.Prelude.{◌≡◌, ◌≢◌, option_map, Ok, Err, IfOk, IfErr};
+ghost use Rattle.scim_message.specs.declared.messages.Answer.{Answer};
+ghost use Rattle.scim_client.specs.declared.answers.AnswerFault.{AnswerFault};
+ghost use Rattle.scim_client.specs.declared.answers.AnswerFault.TheVariants.{OutOfMemory};
+ghost use Rattle.scim_client.specs.Answers as spec;
+ghost use Rattle.scim_client.specs.Answers.{AnswersSo, RefusesSo, IsOrMemory};
+
+use http_text::{Incoming, response_in};
+use scim_message::{Answer, BodyFault, Request, read_body};
+use std::alloc::Global;
+use thiserror::Error;
+
+/// Why bytes are no answer. Its text is its code.
+#[derive(Clone, Copy, Debug, PartialEq, Eq, Error)]
+pub enum AnswerFault {
+    /// They aren't exactly one whole response: a part of one, or more than one, or one without a
+    /// readable length, with a transfer coding or past a limit.
+    #[error("K1")]
+    NotOneResponse,
+    /// The body isn't JSON in UTF-8. It is looked at before the status.
+    #[error("K2")]
+    NotJson,
+    /// The body isn't what was asked for, or the status doesn't fit the request.
+    #[error("K3")]
+    WrongShape,
+    #[error("K4")]
+    OutOfMemory,
+}
+
+/// The answer to a request that these bytes are, from the first to the last.
+pub fn read_answer(alloc: Global, request: &Request, bytes: &[u8]) -> Result<Answer, AnswerFault>
+    ensures ok { IfOk result (AnswersSo bytes.now request.now) }
+    ensures refused { IfErr result (RefusesSo bytes.now request.now) }
+
+    // What the bytes say is what comes, or out of memory.
+    ensures only { (a : Answer) → AnswersSo bytes.now request.now a → IsOrMemory (Ok a) result }
+    ensures only_refusal { (fault : AnswerFault) → fault ≢ OutOfMemory
+        → RefusesSo bytes.now request.now fault → IsOrMemory (Err fault) result }
+{
+    match response_in(alloc, bytes) {
+        Ok(Some(response)) => answer_in(alloc, request, &response),
+        Ok(None) => Err(AnswerFault::NotOneResponse),
+        Err(_) => Err(AnswerFault::OutOfMemory),
+    }
+}
+
+/// What a response says to a request.
+pub(crate) fn answer_in(
+    alloc: Global,
+    request: &Request,
+    response: &Incoming,
+) -> Result<Answer, AnswerFault>
+    ensures { spec.SaysSo request.now response.now result }
+{
+    let tag = etag_of(response);
+    match read_body(alloc, request, response.status(), tag, response.body()) {
+        Ok(answer) => Ok(answer),
+        Err(BodyFault::NotJson) => Err(AnswerFault::NotJson),
+        Err(BodyFault::WrongShape) => Err(AnswerFault::WrongShape),
+        Err(BodyFault::Memory) => Err(AnswerFault::OutOfMemory),
+    }
+}
+
+/// The entity tag that a response states once.
+fn etag_of(response: &Incoming) -> Option<&[u8]>
+    ensures { option_map (λ t. t.now) result ≡ spec.etag_of response.now.head }
+{
+    let mut tags = response.fields("etag");
+    match (tags.next(), tags.next()) {
+        (Some(tag), None) => Some(tag),
+        _ => None,
+    }
+}

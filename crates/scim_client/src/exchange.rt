@@ -1,0 +1,95 @@
+//! One exchange with a service: a request is sent, and one response is read.
+ghost use Rattle.std.specs.Prelude.{◌≡◌, Result};
+ghost use Rattle.http_text.specs.Counts.{CountsTurns};
+ghost use Rattle.http_text.specs.Message.{Message};
+ghost use Rattle.http_text.specs.declared.fault.ReadFault.{ReadFault};
+ghost use Rattle.scim_client.specs.Exchanges as spec;
+
+use crate::answers::{AnswerFault, answer_in};
+use http_text::{Input, Output, ReadFault, SendFault, read_response, send};
+use scim_message::{Answer, Request};
+use std::alloc::Global;
+use std::io::{Read, Write};
+use thiserror::Error;
+
+/// Why no answer came. Its text is its code.
+#[derive(Clone, Copy, Debug, PartialEq, Eq, Error)]
+pub enum ExchangeFault {
+    /// The request wasn't sent whole (H12, H14), and nothing was read.
+    #[error("{0}")]
+    Unsent(SendFault),
+    /// The bytes ended before the response did.
+    #[error("H10")]
+    EndedEarly,
+    /// A read failed.
+    #[error("H11")]
+    ReadFailed,
+    /// Out of memory while the response was read.
+    #[error("H13")]
+    OutOfMemory,
+    /// 100,000 reads didn't give the whole response.
+    #[error("H14")]
+    TurnsExhausted,
+    /// What came is no answer (K1 to K3), or it was out of memory before the request was sent or
+    /// after the response was read (K4).
+    #[error("{0}")]
+    NoAnswer(AnswerFault),
+}
+
+/// Sends the text of a request, and reads the answer to it.
+pub(crate) fn ask<R: Read, W: Write>(
+    alloc: Global,
+    request: &Request,
+    text: &[u8],
+    reader: &mut Input<R>,
+    writer: &mut Output<W>,
+) -> Result<Answer, ExchangeFault>
+    ensures sent { spec.Sends text.now writer.old writer.new result }
+    ensures read { spec.Reads request.now reader.old reader.new result }
+    ensures known { spec.ExchangesKnown request.now reader.old.remaining reader.new.remaining
+        result }
+    ensures writes { CountsTurns writer.old.calls writer.new.calls }
+    ensures reads { CountsTurns reader.old.calls reader.new.calls }
+{
+    match send(writer, text) {
+        Ok(()) => receive(alloc, request, reader),
+        Err(fault) => Err(ExchangeFault::Unsent(fault)),
+    }
+}
+
+/// Reads the answer to a request.
+fn receive<R: Read>(
+    alloc: Global,
+    request: &Request,
+    reader: &mut Input<R>,
+) -> Result<Answer, ExchangeFault>
+    ensures { (r : Result Message ReadFault) × spec.HasRead reader.old reader.new r
+        × spec.ComesOf request.now r result }
+{
+    match read_response(alloc, reader) {
+        Ok(response) => match answer_in(alloc, request, &response) {
+            Ok(answer) => Ok(answer),
+            Err(fault) => Err(ExchangeFault::NoAnswer(fault)),
+        },
+        Err(fault) => Err(fault_of(fault)),
+    }
+}
+
+/// What a fault of reading a response is as one of an exchange.
+fn fault_of(fault: ReadFault) -> ExchangeFault
+    ensures { result ≡ spec.fault_of fault }
+{
+    match fault {
+        ReadFault::EndedEarly => ExchangeFault::EndedEarly,
+        ReadFault::ReadFailed => ExchangeFault::ReadFailed,
+        ReadFault::OutOfMemory => ExchangeFault::OutOfMemory,
+        ReadFault::TurnsExhausted => ExchangeFault::TurnsExhausted,
+        ReadFault::Malformed
+        | ReadFault::HostMissingOrRepeated { .. }
+        | ReadFault::LengthMissing { .. }
+        | ReadFault::BodyTooLong { .. }
+        | ReadFault::HeadTooLong
+        | ReadFault::TransferCoding { .. }
+        | ReadFault::Expectation { .. } => ExchangeFault::NoAnswer(AnswerFault::NotOneResponse),
+    }
+}
