@@ -5,5 +5,5 @@ mod request_laws;
 mod requests;
 mod service;
 
-pub use request_laws::one_request;
+pub use request_laws::{one_request, requests_are_spelled};
 pub use service::{CreateRequest, ReplaceRequest, RetrieveRequest, ScimService, SearchRequest};
