@@ -1,10 +1,11 @@
 //! The connections of a provider, one after another.
-ghost use Rattle.std.specs.Prelude.{◌≡◌};
+ghost use Rattle.std.specs.Prelude.{◌≡◌, []};
+ghost use Rattle.provider_core.specs.Memory.{MemoryRecord};
 ghost use Rattle.connection.specs.Turns.{IsServed, TakesTurn, ServesTurns, answered};
 
 use crate::listening::Listen;
 use http_text::{Input, Output};
-use provider_core::{Provider, Registry};
+use provider_core::{MemoryRegistry, Provider, Registry};
 use scim_key::Base;
 use scim_server::{Served, serve};
 use std::alloc::Global;
@@ -38,6 +39,23 @@ pub fn serve_connections<R: Registry, L: Listen>(
         outcome = outcome.and(served);
     }
     outcome
+}
+
+/// Serves so many connections, as `serve_connections` does, by a provider in memory that has no
+/// resource at first.
+pub fn serve_from_memory<L: Listen>(
+    rt: &impl Eprint,
+    alloc: Global,
+    listener: &mut L,
+    count: u32,
+    base: &Base,
+) -> Result<(), ConnectionFault>
+    ensures { (held : MemoryRecord) × ServesTurns L.waiting L.Reader.remaining L.Writer.contents
+        ⟦<MemoryRegistry as Registry>⟧ base.now listener.old listener.new
+        (record { rows = []; writes = 0 }) held count result }
+{
+    let mut provider = Provider::new(MemoryRegistry::new(alloc));
+    serve_connections(rt, alloc, listener, count, base, &mut provider)
 }
 
 /// Tells a fault on standard error.
