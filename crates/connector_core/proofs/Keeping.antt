@@ -11,13 +11,15 @@ use Rattle.std.specs.Ordering.{is_eq, is_lt, match_ordering}
 use Rattle.std.specs.declared.cmp.Ordering.{Ordering}
 use Rattle.std.specs.declared.cmp.Ordering.TheVariants.{Less, Equal, Greater}
 use Rattle.scim_key.proofs.RevisionLaws.{none_first}
+use Rattle.scim_key.specs.RecordOrder.{names_total, tied}
+use Rattle.scim_key.specs.Records.{name_cmp}
 use Rattle.scim_key.specs.Revisions.{◌≼◌}
 use Rattle.scim_key.specs.declared.records.RecordName.{RecordName}
 use Rattle.source_csv.specs.Records.{row_name, row_revision}
 use Rattle.source_csv.specs.declared.rows.Row.{Row}
-use Rattle.journal_core.specs.Entries.{EntryMap, IsListOf, entry_with, name_cmp, named, with_row}
+use Rattle.journal_core.specs.Entries.{EntryMap, IsListOf, entry_with, named, with_row}
 use Rattle.journal_core.specs.declared.entries.Entry.{Entry}
-use Rattle.journal_core.proofs.Trees.{listed, name_from_test, names_same, names_total, tied, turned}
+use Rattle.journal_core.proofs.Trees.{listed, name_from_test, names_same, turned}
 use Rattle.connector_core.specs.Book.{put as put_in_book, wanting, wanting_now}
 use Rattle.connector_core.specs.Maps.{BookMap, MapsAreBooks, book_of, changed, changed_at}
 use Rattle.connector_core.specs.State.{IsKept, IsOpened, entry_of, opened, opened_book, opened_named}

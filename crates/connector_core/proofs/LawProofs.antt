@@ -7,9 +7,12 @@ use Rattle.journal_core.specs.Stores.{HasRisen}
 use Rattle.connector_core.specs.Book.{wanting}
 use Rattle.connector_core.specs.Changing.{CountsChange, MapsAccept}
 use Rattle.connector_core.specs.Laws.{NoStoreFaults}
+use Rattle.connector_core.specs.Noting.{CountsLearn}
 use Rattle.connector_core.specs.State.{CountsOpen}
 use Rattle.connector_core.specs.declared.changing.ChangeFault.{ChangeFault}
 use Rattle.connector_core.specs.declared.changing.ChangeFault.TheVariants as change
+use Rattle.connector_core.specs.declared.learning.LearnFault.{LearnFault}
+use Rattle.connector_core.specs.declared.learning.LearnFault.TheVariants as learn
 use Rattle.connector_core.specs.declared.opening.OpenFault.{OpenFault}
 use Rattle.connector_core.specs.declared.opening.OpenFault.TheVariants as opening
 use Rattle.connector_core.proofs.Keeping.{maps_are_books}
@@ -35,8 +38,17 @@ change-counts change.TooMany counts = λ e. cc
 change-counts change.Store counts = λ _. never-risen counts.1
 change-counts change.Memory counts = λ e. cc
 
+learn-counts : (fault : LearnFault) → CountsLearn 0 0 fault → fault ≢ learn.Store
+learn-counts learn.Unfit counts = λ e. cc
+learn-counts learn.Unversioned counts = λ e. cc
+learn-counts (learn.Refused status) counts = λ e. cc
+learn-counts learn.NoSuchRecord counts = λ e. cc
+learn-counts learn.Store counts = λ _. never-risen counts.1
+learn-counts learn.Memory counts = λ e. cc
+
 pub no_store_faults : NoStoreFaults
 no_store_faults = record {
   opening = λ old new fault counts. opening-counts fault counts;
   changing = λ old new fault counts. change-counts fault counts;
+  learning = λ old new fault counts. learn-counts fault counts;
 }

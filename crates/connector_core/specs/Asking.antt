@@ -1,7 +1,7 @@
 -- What the connector asks for next of a record.
-use Rattle.std.specs.Prelude.{ℕ, pos, Bool, true, false, not, ◌&&◌, List, [], ◌∷◌, Option, Some, None}
+use Rattle.std.specs.Prelude.{ℕ, pos, Bool, List, [], ◌∷◌, Option, Some, None, Result, Ok, Err, if◌then◌else◌}
 use Rattle.std.specs.Option.{option_map}
-use Rattle.scim_key.specs.Revisions.{RevisionValue, before}
+use Rattle.scim_key.specs.Revisions.{same_revision}
 use Rattle.scim_key.specs.declared.records.Kind.TheVariants as kinds
 use Rattle.scim_key.specs.declared.records.RecordName.{RecordName}
 use Rattle.scim_version.specs.declared.conditions.Condition.TheVariants.{Always, Tags}
@@ -13,9 +13,11 @@ use Rattle.scim_message.specs.declared.messages.Request.TheVariants.{Create, Sea
 use Rattle.source_csv.specs.Records.{row_revision}
 use Rattle.source_csv.specs.declared.rows.Row.{Row}
 use Rattle.source_csv.specs.declared.rows.Row.TheVariants.{User, Group}
-use Rattle.source_book.specs.History.{members_of}
+use Rattle.mapping.specs.Images.{imaged}
+use Rattle.mapping.specs.declared.groups.ImageFault.{ImageFault}
+use Rattle.mapping.specs.declared.groups.ImageFault.TheVariants.{MemberWithoutId, Memory}
 use Rattle.connector_core.specs.Book.{Book, known_id}
-use Rattle.connector_core.specs.Images.{Ready, Ids, Waits_for, ready, image_with}
+use Rattle.connector_core.specs.Changing.{member_at}
 use Rattle.connector_core.specs.declared.asking.Ask.{Ask}
 use Rattle.connector_core.specs.declared.asking.Ask.TheVariants.{Nothing, Waits, Send}
 use Rattle.connector_core.specs.declared.knowledge.Known.{Known}
@@ -38,19 +40,19 @@ request_for Absent id row content = Create content
 request_for (At tag revision) (Some id) row content = replacement id tag content
 request_for (At tag revision) None row content = search_for row
 
--- by whether the wanted revision is confirmed, and whether each member has an id
-abbrev pub asking_for : (done : Bool) → Ready → Known → Ask
-asking_for true members known = Nothing
-asking_for false (Waits_for member) known = Waits member
-asking_for false (Ids ids) known = Send (request_for known.seen known.id known.wanted (image_with ids known.wanted))
+-- by the image of the wanted row, or the place of its first member without an id. (No image is out of memory, so the last case doesn't come.)
+abbrev pub asking_with : Result Content ImageFault → Known → Ask
+asking_with (Ok content) known = Send (request_for known.seen known.id known.wanted content)
+asking_with (Err (MemberWithoutId place)) known = Waits (member_at known.wanted place)
+asking_with (Err Memory) known = Nothing
 
--- the same revision: neither comes before the other
-abbrev pub same_revision : RevisionValue → RevisionValue → Bool
-same_revision a b = not (before a b) && not (before b a)
-
+-- whether the wanted revision is confirmed
 abbrev pub is_done : Known → Bool
 is_done known = same_revision known.confirmed (row_revision known.wanted)
 
+abbrev pub asking_of : Book → Known → Ask
+asking_of book known = if is_done known then Nothing else asking_with (imaged (known_id book) known.wanted) known
+
 -- What is asked for next of a record, or none where the book lacks it
 abbrev pub asking : Book → RecordName → Option Ask
-asking book name = option_map (λ known. asking_for (is_done known) (ready (known_id book) (members_of known.wanted)) known) (book name)
+asking book name = option_map (asking_of book) (book name)

@@ -2,6 +2,7 @@
 use Rattle.std.specs.Prelude.{◌≡◌, ◌≤◌, ℕ, Bool, true, false, ◌&&◌, List, [], ◌∷◌, ◌++◌, Option, Result, Ok, Err, is_none, nat_le, unwrap_or}
 use Rattle.std.specs.List.{position_from, slice_get}
 use Rattle.std.specs.BTreeSet.{insert_key}
+use Rattle.scim_key.specs.Records.{name_cmp}
 use Rattle.scim_key.specs.declared.records.Kind.{Kind}
 use Rattle.scim_key.specs.declared.records.RecordName.{RecordName}
 use Rattle.source_csv.specs.Records.{row_name}
@@ -18,7 +19,7 @@ use Rattle.journal_core.specs.Stores.{HasRisen}
 use Rattle.journal_core.specs.declared.journals.JournalFault.{JournalFault}
 use Rattle.journal_core.specs.declared.journals.JournalFault.TheVariants as journal
 use Rattle.connector_core.specs.Book.{Book, wanted_row, wanting, with_row}
-use Rattle.connector_core.specs.Maps.{BookMap, book_of, name_cmp}
+use Rattle.connector_core.specs.Maps.{BookMap, book_of}
 use Rattle.connector_core.specs.declared.changing.ChangeFault.{ChangeFault}
 use Rattle.connector_core.specs.declared.changing.ChangeFault.TheVariants.{Differs, NoSuchMember, TooMany, Store, Memory}
 

@@ -9,9 +9,8 @@ use Rattle.scim_key.specs.declared.records.RecordName.{RecordName}
 use Rattle.scim_version.specs.declared.conditions.Condition.{Condition}
 use Rattle.scim_version.specs.declared.conditions.Condition.TheVariants.{Always, AnyTag, Tags}
 use Rattle.scim_resource.specs.Contents.{content_name}
+pub use Rattle.scim_resource.specs.Contents.{content_revision}
 use Rattle.scim_resource.specs.Rows.{ShownRecord}
-use Rattle.scim_resource.specs.declared.contents.Content.{Content}
-use Rattle.scim_resource.specs.declared.contents.Content.TheVariants.{User, Group}
 use Rattle.scim_filter.specs.Expressions.{Expression}
 use Rattle.scim_filter.specs.Names.{single_key}
 use Rattle.scim_message.specs.declared.messages.Request.{Request}
@@ -109,10 +108,6 @@ finding (Search kind wanted start count) answer = found_searching answer
 finding (Replace id content if_match if_none_match) answer = found_replacing if_match answer
 
 -- ---- whether a shown resource is the record's
-
-abbrev pub content_revision : Content → Option RevisionValue
-content_revision (User u) = u.revision
-content_revision (Group g) = g.revision
 
 -- any id fits where none is known
 abbrev pub fits_id : (known : Option (List ℕ)) → (id : List ℕ) → Bool

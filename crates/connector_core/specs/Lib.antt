@@ -2,8 +2,8 @@ pub mod Book
 pub mod Maps
 pub mod Trees
 pub mod State
-pub mod Images
 pub mod Asking
 pub mod Learning
+pub mod Noting
 pub mod Changing
 pub mod Laws

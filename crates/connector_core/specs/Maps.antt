@@ -2,8 +2,8 @@
 use Rattle.std.specs.Prelude.{◌≡◌, ◌⊎◌, Option, Some, None, Result, Ok, Err}
 use Rattle.std.specs.BTreeSet.{insert_key}
 use Rattle.std.specs.FinMap.{FinMap, get, insert, keys}
+use Rattle.scim_key.specs.Records.{name_cmp}
 use Rattle.scim_key.specs.declared.records.RecordName.{RecordName}
-pub use Rattle.journal_core.specs.Entries.{name_cmp}
 use Rattle.connector_core.specs.Book.{Book, put}
 use Rattle.connector_core.specs.declared.knowledge.Known.{Known}
 

@@ -17,7 +17,7 @@ ghost use Rattle.connector_core.specs.State.{IsKept};
 use crate::books::Book;
 use crate::connectors::Connector;
 use crate::knowledge::{Known, Seen};
-use journal_core::{Journal, JournalFault};
+use journal_core::{GROUP_LIMIT, Journal, JournalFault, USER_LIMIT};
 use scim_key::{Key, Kind, RecordName, Revision};
 use source_book::{BookFault, Verdict, accept};
 use source_csv::{GroupRow, Row};
@@ -110,14 +110,14 @@ fn is_full(book: &Book, kind: Kind) -> bool
     ensures { result ≡ is_full kind (keys book.now) }
 {
     let most = match kind {
-        Kind::User => 100_000,
-        Kind::Group => 10_000,
+        Kind::User => USER_LIMIT,
+        Kind::Group => GROUP_LIMIT,
     };
     most <= book.count(kind)
 }
 
 /// The member of a row at a place.
-fn member_at(alloc: Global, row: &Row, place: usize) -> Result<Key, AllocError>
+pub(crate) fn member_at(alloc: Global, row: &Row, place: usize) -> Result<Key, AllocError>
     ensures { IfOk result (λ key. key ≡ member_at row.now place) }
 {
     match row {

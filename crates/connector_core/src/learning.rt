@@ -1,5 +1,22 @@
 //! What is learnt from an answer.
-use scim_key::Revision;
+ghost use Rattle.std.specs.Prelude.{◌≡◌, ℕ, IfErr, IfOk, OnErr, OnOk};
+ghost use Rattle.std.specs.FinMap.{get, keys};
+ghost use Rattle.scim_key.specs.Outcome.{Gives};
+ghost use Rattle.journal_core.specs.Stores.{WritesOnce};
+ghost use Rattle.connector_core.specs.Learning.{after_learning, learn, named_alone, or_fault, subject};
+ghost use Rattle.connector_core.specs.Maps.{GivesUnless, book_of, changed};
+ghost use Rattle.connector_core.specs.Noting.{CountsLearn, IsNewsAt, IsNoted, IsNotNoted, IsOfJournal, IsPassing, KeepsEntries, MayStandFor, after_news, entries_with, learnt_of, news_learnt, note, noted_entries};
+ghost use Rattle.connector_core.specs.State.{IsKept};
+
+use crate::books::Book;
+use crate::connectors::Connector;
+use crate::findings::news_in;
+use crate::fitting::News;
+use journal_core::{Journal, JournalFault};
+use scim_filter::Filter;
+use scim_key::{Kind, RecordName, Revision};
+use scim_message::{Answer, Request};
+use std::alloc::{AllocError, Global};
 use thiserror::Error;
 
 /// What is learnt of a record.
@@ -37,4 +54,124 @@ pub enum LearnFault {
     Store,
     #[error("C6")]
     Memory,
+}
+
+impl From<AllocError> for LearnFault {
+    ghost use Rattle.connector_core.specs.declared.learning.LearnFault.TheVariants.{Memory};
+
+    ghost from_gives = { λ _ fault. fault ≡ Memory };
+
+    fn from(_: AllocError) -> LearnFault {
+        LearnFault::Memory
+    }
+}
+
+impl From<JournalFault> for LearnFault {
+    ghost use Rattle.connector_core.specs.Noting.{learn_fault};
+
+    ghost from_gives = { λ from fault. fault ≡ learn_fault from };
+
+    fn from(fault: JournalFault) -> LearnFault {
+        match fault {
+            JournalFault::Store => LearnFault::Store,
+            JournalFault::Memory => LearnFault::Memory,
+        }
+    }
+}
+
+/// The record of this type that a filter names alone.
+fn sought(
+    alloc: Global,
+    kind: Kind,
+    filter: &Option<Filter>,
+) -> Result<Option<RecordName>, AllocError>
+    ensures { IfOk result (λ name. name ≡ named_alone kind filter.now) }
+{
+    match filter {
+        None => Ok(None),
+        Some(filter) => match filter.single_key(alloc)? {
+            Some(name) if kind == name.kind => Ok(Some(name)),
+            _ => Ok(None),
+        }
+    }
+}
+
+/// The record that a request is about: that of its content, or the one that is searched for by name.
+fn subject(alloc: Global, request: &Request) -> Result<RecordName, LearnFault>
+    ensures gives { Gives LearnFault.Memory result (or_fault LearnFault.Unfit (subject request.now)) }
+    ensures counted { IfErr result (λ fault. (n : ℕ) → CountsLearn n n fault) }
+{
+    match request {
+        Request::Create { content } | Request::Replace { content, .. } => Ok(content.name(alloc)?),
+        Request::Retrieve { .. } => Err(LearnFault::Unfit),
+        Request::Search { kind, filter, .. } => match sought(alloc, *kind, filter)? {
+            Some(name) => Ok(name),
+            None => Err(LearnFault::Unfit),
+        }
+    }
+}
+
+/// What is new in the answer to a request, by the book, and the record of which it is new.
+fn judge(
+    alloc: Global,
+    book: &Book,
+    request: &Request,
+    answer: &Answer,
+) -> Result<(RecordName, News), LearnFault>
+    ensures noted { IfOk result (λ found. IsNoted book.now request.now answer.now found.0 found.1) }
+    ensures fault { IfErr result (IsNotNoted book.now request.now answer.now) }
+    ensures counted { IfErr result (λ fault. (n : ℕ) → CountsLearn n n fault) }
+{
+    let name = subject(alloc, request)?;
+    let Some(known) = book.get(&name) else {
+        return Err(LearnFault::NoSuchRecord);
+    };
+    let news = news_in(alloc, &name, known, request, answer)?;
+    Ok((name, news))
+}
+
+impl<J: Journal> Connector<J> {
+    /// Takes the answer to a request, which may be an old one.
+    pub fn learn(&mut self, request: &Request, answer: &Answer) -> Result<Learnt, LearnFault>
+        ensures learnt { GivesUnless (MayStandFor (learn (book_of self.old.book) request.now answer.now)) result (learnt_of (learn (book_of self.old.book) request.now answer.now)) }
+        ensures ok { OnOk result (book_of self.new.book ≡ after_learning (book_of self.old.book) (learn (book_of self.old.book) request.now answer.now)) }
+        ensures err { OnErr result (self.new.book ≡ self.old.book) }
+        ensures names { keys self.new.book ≡ keys self.old.book }
+        ensures kept { J.is_faithful self.new.journal → IsKept (J.entries self.new.journal) self.new.book }
+        ensures journal { WritesOnce J.entries J.is_faithful J.is_honest J.may_hold J.faults J.writes CountsLearn self.old.journal self.new.journal (noted_entries (J.entries self.old.journal) (note (book_of self.old.book) request.now answer.now)) result }
+        ensures quiet { KeepsEntries self.old.book self.new.book → J.writes self.new.journal ≡ J.writes self.old.journal }
+    {
+        let (name, news) = judge(self.alloc, &self.book, request, answer)?;
+        self.take_news(&name, news)
+    }
+
+    /// Takes what is new of a record that is there.
+    fn take_news(&mut self, name: &RecordName, news: News) -> Result<Learnt, LearnFault>
+        requires { IsNewsAt (get self.old.book name.now) news }
+        ensures learnt { IfOk result (λ learnt. learnt ≡ news_learnt news) }
+        ensures fault { IfErr result IsOfJournal }
+        ensures ok { OnOk result (self.new.book ≡ changed (after_news news) self.old.book name.now) }
+        ensures err { OnErr result (self.new.book ≡ self.old.book) }
+        ensures kept { J.is_faithful self.new.journal → IsKept (J.entries self.new.journal) self.new.book }
+        ensures journal { WritesOnce J.entries J.is_faithful J.is_honest J.may_hold J.faults J.writes CountsLearn self.old.journal self.new.journal (entries_with (J.entries self.old.journal) name.now news) result }
+        ensures quiet { IsPassing news → J.writes self.new.journal ≡ J.writes self.old.journal }
+    {
+        match news {
+            News::Lasting {
+                confirmed,
+                id,
+                seen,
+                learnt,
+            } => {
+                self.journal.put_learnt(name, confirmed, &id)?;
+                self.book.learn(name, confirmed, id, seen);
+                Ok(learnt)
+            }
+            News::Passing { seen, learnt } => {
+                self.book.see(name, seen);
+                Ok(learnt)
+            }
+            News::Nothing => Ok(Learnt::Nothing),
+        }
+    }
 }

@@ -8,17 +8,19 @@ use Rattle.std.specs.List.{All}
 use Rattle.std.specs.Option.{option_map}
 use Rattle.std.specs.Ordering.{is_eq}
 use Rattle.scim_key.proofs.RevisionLaws.{none_first}
+use Rattle.scim_key.specs.RecordOrder.{tied}
+use Rattle.scim_key.specs.Records.{name_cmp}
 use Rattle.scim_key.specs.Revisions.{RevisionValue, ◌≼◌}
 use Rattle.scim_key.specs.declared.records.RecordName.{RecordName}
 use Rattle.source_csv.specs.Records.{row_name, row_revision}
 use Rattle.source_csv.specs.declared.rows.Row.{Row}
-use Rattle.journal_core.specs.Entries.{EntryMap, IsEntryOf, IsListOf, CanPutRow, CanPutLearnt, entry_learnt, entry_with, learnt_at, name_cmp, named, with_learnt, with_row}
+use Rattle.journal_core.specs.Entries.{EntryMap, IsEntryOf, IsListOf, CanPutRow, CanPutLearnt, entry_learnt, entry_with, learnt_at, named, with_learnt, with_row}
 use Rattle.journal_core.specs.Memory.{AreLawful, MemoryRecord, entries_in}
 use Rattle.journal_core.specs.Stores.{CountsFault, WritesOnce}
 use Rattle.journal_core.specs.contracts.memory.MemoryJournalJournal.TheImpl as impl
 use Rattle.journal_core.specs.declared.journals.JournalFault.{JournalFault}
 use Rattle.journal_core.specs.declared.entries.Entry.{Entry}
-use Rattle.journal_core.proofs.Trees.{get-tree, insert-tree, entries-tree, name_from_test, tied}
+use Rattle.journal_core.proofs.Trees.{get-tree, insert-tree, entries-tree, name_from_test}
 
 abbrev Tree : Type 0
 Tree = BTreeMap RecordName Entry

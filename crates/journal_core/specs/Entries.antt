@@ -2,20 +2,16 @@
 use Rattle.std.specs.Prelude.{◌≡◌, ◌<◌, ℕ, List, Option, Some, None, map, IsSome}
 use Rattle.std.specs.FinMap.{FinMap, entries, get, insert, keys}
 use Rattle.std.specs.List.{All, count_by}
-use Rattle.std.specs.declared.cmp.Ordering.{Ordering}
 use Rattle.scim_key.specs.Revisions.{RevisionValue, no_revision, ◌≺◌, ◌≼◌}
 use Rattle.scim_key.specs.declared.records.Kind.{Kind}
 use Rattle.scim_key.specs.declared.records.Kind.TheVariants.{User, Group}
+use Rattle.scim_key.specs.Records.{name_cmp}
 use Rattle.scim_key.specs.declared.records.RecordName.{RecordName}
-use Rattle.scim_key.specs.contracts.records.RecordNameOrd.TheImpl as names
 use Rattle.source_csv.specs.Records.{row_name, row_revision}
 use Rattle.source_csv.specs.declared.rows.Row.{Row}
 use Rattle.source_book.specs.History.{same_kind, members_of, user}
 use Rattle.journal_core.specs.declared.entries.Entry.{Entry}
-
--- the order of names
-abbrev pub name_cmp : RecordName → RecordName → Ordering
-name_cmp = (names.ghosts).cmp
+use Rattle.journal_core.specs.declared.entries.TheConstants.{USER_LIMIT, GROUP_LIMIT}
 
 -- the entries of the records, each under its name
 abbrev pub EntryMap : Type 0
@@ -60,8 +56,8 @@ pub record IsListOf (map_ : EntryMap) (list : List Entry) : Type 0 where
 
 -- how many records of a type there may be
 abbrev pub most_records : Kind → ℕ
-most_records User = 100_000
-most_records Group = 10_000
+most_records User = USER_LIMIT
+most_records Group = GROUP_LIMIT
 
 -- how many records of a type there are
 abbrev pub count_of : Kind → List RecordName → ℕ

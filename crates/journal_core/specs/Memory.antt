@@ -2,8 +2,9 @@
 use Rattle.std.specs.Prelude.{◌≡◌, ℕ, Some}
 use Rattle.std.specs.BTreeMap.{BTreeMap, get}
 use Rattle.std.specs.FinMap.{from_entries}
+use Rattle.scim_key.specs.Records.{name_cmp}
 use Rattle.scim_key.specs.declared.records.RecordName.{RecordName}
-use Rattle.journal_core.specs.Entries.{EntryMap, IsEntryOf, name_cmp}
+use Rattle.journal_core.specs.Entries.{EntryMap, IsEntryOf}
 use Rattle.journal_core.specs.declared.entries.Entry.{Entry}
 
 -- the entries, and how many writes there were

@@ -3,6 +3,12 @@ use scim_key::{ResourceId, Revision};
 use source_csv::Row;
 use std::alloc::AllocError;
 
+/// How many users a connector keeps at most.
+pub const USER_LIMIT: usize = 100_000;
+
+/// How many groups a connector keeps at most.
+pub const GROUP_LIMIT: usize = 10_000;
+
 /// What a journal keeps of a record.
 #[derive(Debug)]
 pub struct Entry {

@@ -6,7 +6,7 @@ mod journals;
 mod laws;
 mod memory;
 
-pub use entries::Entry;
+pub use entries::{Entry, GROUP_LIMIT, USER_LIMIT};
 pub use journals::{Journal, JournalFault};
 pub use laws::journals_in_memory_stay;
 pub use memory::MemoryJournal;

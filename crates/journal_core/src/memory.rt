@@ -4,7 +4,8 @@ ghost use Rattle.std.specs.BTreeMap.{IsOrdered, Updates, get, values};
 ghost use Rattle.std.specs.FinMap.{empty};
 ghost use Rattle.std.specs.List.{All};
 ghost use Rattle.std.specs.Option.{option_map};
-ghost use Rattle.journal_core.specs.Entries.{entry_learnt, entry_with, name_cmp};
+ghost use Rattle.scim_key.specs.Records.{name_cmp};
+ghost use Rattle.journal_core.specs.Entries.{entry_learnt, entry_with};
 
 use crate::entries::Entry;
 use crate::journals::{Journal, JournalFault};

@@ -1,3 +1,5 @@
+pub mod Requests
+pub mod Spelling
 pub mod Answers
 pub mod Exchanges
 pub mod AnswerLaws

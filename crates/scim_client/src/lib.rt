@@ -1,10 +1,15 @@
-//! A SCIM client over bytes (RFC 7644): what is sent for a request, and what comes back for it.
+//! The client of a SCIM provider (RFC 7644): what is sent for a request, and what comes back for it.
 #![tactic(auto)]
 
 mod answer_laws;
 mod answers;
 mod exchange;
+mod request_laws;
+mod requests;
+mod service;
 
 pub use answer_laws::{answers_are_read, one_answer};
 pub use answers::{AnswerFault, read_answer};
 pub use exchange::ExchangeFault;
+pub use request_laws::one_request;
+pub use service::{CreateRequest, ReplaceRequest, RetrieveRequest, ScimService, SearchRequest};

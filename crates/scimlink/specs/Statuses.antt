@@ -7,6 +7,7 @@ use Rattle.scim_key.specs.declared.names.NameFault.{NameFault}
 use Rattle.scim_key.specs.declared.names.NameFault.TheVariants as name
 use Rattle.scim_server.specs.declared.serving.Served.{Served}
 use Rattle.scim_server.specs.declared.serving.Served.TheVariants.{Answered, NoRequest, Lost}
+use Rattle.connection.specs.declared.serving.ConnectionFault.{ConnectionFault}
 use Rattle.source_csv.specs.declared.faults.RowFault.{RowFault}
 use Rattle.source_csv.specs.declared.faults.SourceFault.{SourceFault}
 use Rattle.source_csv.specs.declared.faults.SourceFault.TheVariants as source
@@ -29,10 +30,12 @@ abbrev pub fault_status : RunFault → Status
 fault_status fault.Words = Usage
 fault_status fault.Subcommand = Usage
 fault_status fault.Base = Usage
+fault_status fault.Address = Usage
+fault_status fault.Requests = Usage
 fault_status (fault.Users source.Header) = Refused
 fault_status (fault.Users source.Memory) = Fault
 fault_status fault.File = Fault
-fault_status fault.Connection = Fault
+fault_status (fault.Connection why) = Fault
 fault_status fault.Memory = Fault
 
 -- What the parser of the command line told in place of a choice: help and the version are no fault, but where they
@@ -53,8 +56,13 @@ base_fault other = fault.Base
 -- a connection is done where a response was written whole
 abbrev pub served_status : Served → Result Status RunFault
 served_status (Answered status) = Ok Done
-served_status (NoRequest why) = Err fault.Connection
-served_status (Lost status) = Err fault.Connection
+served_status (NoRequest why) = Err (fault.Connection (record {}))
+served_status (Lost status) = Err (fault.Connection (record {}))
+
+-- each fault of these connections was told when it came
+abbrev pub outcome_status : Result (Unit {0}) ConnectionFault → Status
+outcome_status (Ok done) = Done
+outcome_status (Err why) = Fault
 
 -- a file of users that gives no rows
 abbrev pub users_fault : SourceFault → RunFault

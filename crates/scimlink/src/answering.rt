@@ -4,6 +4,7 @@ ghost use Rattle.scimlink.specs.Connections.{AnswersOne};
 ghost use Rattle.scimlink.specs.Statuses.{served_status};
 
 use crate::status::{RunFault, Status};
+use connection::answered;
 use http_text::{Input, Output};
 use provider_core::{MemoryRegistry, Provider};
 use scim_key::Base;
@@ -38,8 +39,8 @@ fn answer_one<I: Read, O: Write>(
 fn served_status(served: Served) -> Result<Status, RunFault>
     ensures { result ≡ served_status served }
 {
-    match served {
-        Served::Answered { .. } => Ok(Status::Done),
-        Served::NoRequest(_) | Served::Lost { .. } => Err(RunFault::Connection),
+    match answered(served) {
+        Ok(()) => Ok(Status::Done),
+        Err(fault) => Err(RunFault::Connection(fault)),
     }
 }

@@ -1,23 +1,36 @@
 //! The command line.
-ghost use Rattle.std.specs.Prelude.{◌≡◌, IfOk, Some, codes, string_bytes};
+ghost use Rattle.std.specs.Prelude.{◌≡◌, ◌<◌, ◌≤◌, IfOk, Some, codes, string_bytes};
 ghost use Rattle.clap.specs.Matches.{first_value, found_of};
 ghost use Rattle.scimlink.specs.Statuses.{base_fault, words_status};
 
 use crate::status::{RunFault, Status};
 use clap::error::ErrorKind;
-use clap::{Arg, ArgMatches, Command, Error};
+use clap::{Arg, ArgMatches, Command, Error, value_parser};
 use scim_key::{Base, NameFault};
 use std::alloc::{AllocError, Global};
 use std::env;
 use std::rt::Runtime;
 
+/// How many connections one run serves at most.
+const MOST_REQUESTS: u32 = 1_000_000;
+
 /// What the command line asks for.
 #[derive(Debug, Drop)]
 pub enum Choice {
     /// One request from standard input is answered on standard output.
-    Answer { base: Base },
+    Answer {
+        base: Base,
+    },
     /// The image of each row of a users file is printed.
-    Map { file: String },
+    Map {
+        file: String,
+    },
+    /// So many connections to an address are served.
+    Serve {
+        address: String,
+        requests: u32,
+        base: Base,
+    },
     /// Help, the version or what is wrong with the words was told, and so the run ends.
     Told(Status),
 }
@@ -37,15 +50,19 @@ pub fn choose<R: Runtime + AllocGlobal>(rt: &R, words: &[String]) -> Result<Choi
     }
 }
 
-fn answer_command<'a>(alloc: Global) -> Result<Command<'a>, AllocError> {
-    let base = Arg::new(alloc, "base")
+/// The option of the commands that answer requests.
+fn base_option<'a>(alloc: Global) -> Arg<'a> {
+    Arg::new(alloc, "base")
         .long("base")
         .value_name("URL")
         .help("the base of the service: http://HOST/v2")
-        .default_value("http://localhost:8080/v2");
+        .default_value("http://localhost:8080/v2")
+}
+
+fn answer_command<'a>(alloc: Global) -> Result<Command<'a>, AllocError> {
     Command::new(alloc, "answer")
         .about("answers one HTTP request from standard input on standard output")
-        .arg(base)
+        .arg(base_option(alloc))
 }
 
 fn map_command<'a>(alloc: Global) -> Result<Command<'a>, AllocError> {
@@ -57,30 +74,46 @@ fn map_command<'a>(alloc: Global) -> Result<Command<'a>, AllocError> {
         .arg(file)
 }
 
-fn command<'a>(alloc: Global) -> Result<Command<'a>, AllocError> {
-    let answer = answer_command(alloc)?;
-    match map_command(alloc) {
-        Ok(map) => with_subcommands(alloc, answer, map),
-        Err(fault) => {
-            drop(answer);
-            Err(fault)
-        }
-    }
+fn serve_command<'a>(alloc: Global) -> Result<Command<'a>, AllocError> {
+    let listen = Arg::new(alloc, "listen")
+        .long("listen")
+        .value_name("ADDR")
+        .help("the address to listen on: HOST:PORT, where port 0 takes a free one")
+        .required(true);
+    let requests = Arg::new(alloc, "requests")
+        .long("requests")
+        .value_name("N")
+        .help("how many connections to serve: 1 to 1000000")
+        .value_parser(value_parser!(u32))
+        .required(true);
+    Command::new(alloc, "serve")
+        .about("serves HTTP connections to an address, one after another")
+        .arg(listen)?
+        .arg(requests)?
+        .arg(base_option(alloc))
 }
 
-fn with_subcommands<'a>(
-    alloc: Global,
-    answer: Command<'a>,
-    map: Command<'a>,
-) -> Result<Command<'a>, AllocError> {
-    let command = Command::new(alloc, "scimlink")
+fn program<'a>(alloc: Global) -> Command<'a> {
+    Command::new(alloc, "scimlink")
         .version("0.1.0")
         .about("SCIM 2.0 provisioning, proved")
-        .subcommand_required(true);
-    match command.subcommand(answer) {
-        Ok(command) => command.subcommand(map),
+        .subcommand_required(true)
+}
+
+fn command<'a>(alloc: Global) -> Result<Command<'a>, AllocError> {
+    let answering = with_subcommand(program(alloc), answer_command(alloc))?;
+    let mapping = with_subcommand(answering, map_command(alloc))?;
+    with_subcommand(mapping, serve_command(alloc))
+}
+
+fn with_subcommand<'a>(
+    program: Command<'a>,
+    subcommand: Result<Command<'a>, AllocError>,
+) -> Result<Command<'a>, AllocError> {
+    match subcommand {
+        Ok(subcommand) => program.subcommand(subcommand),
         Err(fault) => {
-            drop(map);
+            drop(program);
             Err(fault)
         }
     }
@@ -93,6 +126,11 @@ fn chosen(alloc: Global, matches: &ArgMatches<'_>) -> Result<Choice, RunFault> {
         }),
         Some(("map", map)) => Ok(Choice::Map {
             file: file(alloc, map)?,
+        }),
+        Some(("serve", serve)) => Ok(Choice::Serve {
+            address: address(alloc, serve)?,
+            requests: requests(serve)?,
+            base: base(alloc, serve)?,
         }),
         _ => Err(RunFault::Subcommand),
     }
@@ -127,6 +165,27 @@ fn file(alloc: Global, matches: &ArgMatches<'_>) -> Result<String, RunFault>
     match matches.get_str("FILE") {
         Some(text) => Ok(String::from_str(alloc, text)?),
         None => Err(RunFault::File),
+    }
+}
+
+/// The address that the words name.
+fn address(alloc: Global, matches: &ArgMatches<'_>) -> Result<String, RunFault>
+    ensures { IfOk result
+        (λ address. first_value (found_of matches.now) (codes "listen") ≡ Some (string_bytes address)) }
+{
+    match matches.get_str("listen") {
+        Some(text) => Ok(String::from_str(alloc, text)?),
+        None => Err(RunFault::Address),
+    }
+}
+
+/// How many connections the words ask for.
+fn requests(matches: &ArgMatches<'_>) -> Result<u32, RunFault>
+    ensures { IfOk result (λ count. (0 < count) × (count ≤ MOST_REQUESTS)) }
+{
+    match matches.get_one("requests") {
+        Some(count) if (1..=MOST_REQUESTS).contains(&count) => Ok(count),
+        _ => Err(RunFault::Requests),
     }
 }
 

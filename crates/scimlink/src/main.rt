@@ -4,10 +4,12 @@
 mod answering;
 mod command;
 mod map_users;
+mod serving;
 mod status;
 
 use command::{Choice, choose};
 use status::{RunFault, Status, told};
+use std::net::Net;
 use std::process::ExitCode;
 use std::rt::Runtime;
 
@@ -16,18 +18,23 @@ fn main(rt: HostRuntime) -> ExitCode {
 }
 
 /// Reads the command line and does what it says. A fault is told on standard error.
-fn run<R: Runtime + AllocGlobal>(rt: &R) -> Status {
+fn run<R: Runtime + Net + AllocGlobal>(rt: &R) -> Status {
     match done(rt) {
         Ok(status) => status,
         Err(fault) => told(rt, fault),
     }
 }
 
-fn done<R: Runtime + AllocGlobal>(rt: &R) -> Result<Status, RunFault> {
+fn done<R: Runtime + Net + AllocGlobal>(rt: &R) -> Result<Status, RunFault> {
     let words = command::words(rt)?;
     match choose(rt, words.as_slice())? {
         Choice::Answer { base } => answering::answer(rt, &base),
         Choice::Map { file } => map_users::map(rt, file.as_str()),
+        Choice::Serve {
+            address,
+            requests,
+            base,
+        } => serving::serve(rt, address.as_str(), requests, &base),
         Choice::Told(status) => Ok(status),
     }
 }

@@ -3,6 +3,7 @@ ghost use Rattle.std.specs.Prelude.{◌≡◌, ◌≢◌};
 ghost use Rattle.scimlink.specs.Statuses.{fault_status, lines_fault, status_code, users_fault};
 ghost use Rattle.scimlink.specs.declared.status.RunFault.TheVariants.{Memory};
 
+use connection::ConnectionFault;
 use mapping::WriteFault;
 use source_csv::SourceFault;
 use std::alloc::AllocError;
@@ -47,15 +48,19 @@ pub enum RunFault {
     Subcommand,
     #[error("error: --base is http://HOST/v2")]
     Base,
+    #[error("error: --listen is HOST:PORT")]
+    Address,
+    #[error("error: --requests is 1 to 1000000")]
+    Requests,
     /// The users file as a whole.
     #[error("users: {0}")]
     Users(SourceFault),
     /// A file couldn't be read, or standard output not be written.
     #[error("file fault")]
     File,
-    /// No request came, or its answer couldn't be written whole.
-    #[error("connection fault")]
-    Connection,
+    /// No request came, its answer couldn't be written whole, or nothing can be listened to.
+    #[error("{0}")]
+    Connection(ConnectionFault),
     #[error("memory fault")]
     Memory,
 }
@@ -66,10 +71,11 @@ impl RunFault {
         ensures { result ≡ fault_status self }
     {
         match self {
-            RunFault::Words | RunFault::Subcommand | RunFault::Base => Status::Usage,
+            RunFault::Words | RunFault::Subcommand => Status::Usage,
+            RunFault::Base | RunFault::Address | RunFault::Requests => Status::Usage,
             RunFault::Users(SourceFault::Header) => Status::Refused,
             RunFault::Users(SourceFault::Memory) => Status::Fault,
-            RunFault::File | RunFault::Connection | RunFault::Memory => Status::Fault,
+            RunFault::File | RunFault::Connection(_) | RunFault::Memory => Status::Fault,
         }
     }
 }

@@ -75,17 +75,17 @@ with_id id m (f ∷ es) (suc i) e at is none =
     let number : m + suc i ≡ suc m + i = omega arith in
     with_id id (suc m) es i e at (is ∙ ap id_text number) parts.1
 
-kind_itself : (k : Kind) → same_kind k k ≡ true
+pub kind_itself : (k : Kind) → same_kind k k ≡ true
 kind_itself kinds.User = refl
 kind_itself kinds.Group = refl
 
 -- the entry at a place, found by its id
-record Found (es : List Entry) (id : List ℕ) (e : Entry) : Type 0 where
-  n : Numbered
-  found : find (has_entry_id id) (numbered_from 1 es) ≡ Some n
-  same : n.entry ≡ e
+pub record Found (es : List Entry) (id : List ℕ) (e : Entry) : Type 0 where
+  pub n : Numbered
+  pub found : find (has_entry_id id) (numbered_from 1 es) ≡ Some n
+  pub same : n.entry ≡ e
 
-found_by_id : (es : List Entry) (i : ℕ) (e : Entry) (id : List ℕ) → length es ≤ most_entries → IsAt es i e → id ≡ id_text (suc i) → Found es id e
+pub found_by_id : (es : List Entry) (i : ℕ) (e : Entry) (id : List ℕ) → length es ≤ most_entries → IsAt es i e → id ≡ id_text (suc i) → Found es id e
 found_by_id es i e id few at is = go (find (has_entry_id id) (numbered_from 1 es)) refl
   where
     first : suc i ≡ 1 + i
@@ -103,7 +103,7 @@ found_by_id es i e id few at is = go (find (has_entry_id id) (numbered_from 1 es
         let entries : Some n.entry ≡ Some e = sym there ∙ ap (slice_get es) place ∙ at in
         record { n = n; found = found; same = cc }
 
-of_its_kind : (kind : Kind) (n : Numbered) → n.entry.name.kind ≡ kind → if_entry_of_kind kind (Some n) ≡ Some n
+pub of_its_kind : (kind : Kind) (n : Numbered) → n.entry.name.kind ≡ kind → if_entry_of_kind kind (Some n) ≡ Some n
 of_its_kind kind n is = ap (λ k. cond (same_kind kind k) (Some n) None) is ∙ ap (λ b. cond b (Some n) None) (kind_itself kind)
 
 write_said : (same at_last holds : Bool) (n : Numbered) (es : List Entry) (id : List ℕ) (content : Content) (if_match if_none_match : Condition) → same ≡ true → at_last ≡ false
@@ -115,7 +115,7 @@ write_said true false true n es id content if_match if_none_match is_same short 
     let x = shown (row_of n.number (renewed n.entry content)) in
     (Shows x, record { says = refl; its = λ s shows. shown_name x s (content_name content) shows refl })
 
-below_last : (count : ℕ) → count ≤ most_revisions → count < last_version
+pub below_last : (count : ℕ) → count ≤ most_revisions → count < last_version
 below_last count few = omega (arith, few)
 
 abbrev Replaces : List Entry → List ℕ → Content → Condition → Condition → Option Numbered → Type 0

@@ -10,6 +10,7 @@ use Rattle.std.specs.declared.cmp.Ordering.{Ordering}
 use Rattle.std.specs.declared.cmp.Ordering.TheVariants.{Less, Equal, Greater}
 use Rattle.scim_key.proofs.RecordLaws.{same as same_names}
 use Rattle.scim_key.specs.RecordOrder.{names_total, tied}
+use Rattle.scim_key.specs.Records.{name_cmp}
 use Rattle.scim_key.specs.declared.records.Kind.{Kind}
 use Rattle.scim_key.specs.declared.records.Kind.TheVariants.{User, Group}
 use Rattle.scim_key.specs.declared.records.RecordName.{RecordName}
@@ -18,7 +19,6 @@ use Rattle.source_csv.specs.declared.rows.Row.{Row}
 use Rattle.source_book.specs.History.{History, same_kind}
 use Rattle.connector_core.specs.Changing.{is_full, names_of, names_with}
 use Rattle.journal_core.specs.Entries.{count_of, most_records}
-use Rattle.connector_core.specs.Maps.{name_cmp}
 use Rattle.world_model.specs.Safe.{IsAt, Has}
 use Rattle.world_model.specs.Untroubled.{most_entries}
 use Rattle.provider_core.proofs.TableLaws.{at_push}
@@ -28,7 +28,7 @@ use Rattle.provider_core.proofs.TableLaws.{at_push}
 abbrev is_of_kind : Kind → RecordName → Bool
 is_of_kind kind name = same_kind kind name.kind
 
-abbrev Comes : RecordName → RecordName → Type 0
+abbrev pub Comes : RecordName → RecordName → Type 0
 Comes a b = name_cmp a b ≡ Less
 
 abbrev pub InOrder : List RecordName → Type 0
@@ -74,7 +74,7 @@ order_with (x ∷ xs) name order = go (name_cmp name x) refl (order_with xs name
     go Equal is more = order
     go Greater is more = (all_with (Comes x) xs name order.0 (turned name x Greater is), more)
 
-all_has : (P : RecordName → Type 0) (names : List RecordName) (i : ℕ) (name : RecordName) → AllByRecursion P names → IsAt names i name → P name
+pub all_has : (P : RecordName → Type 0) (names : List RecordName) (i : ℕ) (name : RecordName) → AllByRecursion P names → IsAt names i name → P name
 all_has P [] i name all at = absurd (cc)
 all_has P (x ∷ xs) zero name all at = let same : x ≡ name = cc in subst P same all.0
 all_has P (x ∷ xs) (suc i) name all at = all_has P xs i name all.1 at

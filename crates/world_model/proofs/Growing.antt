@@ -11,8 +11,9 @@ use Rattle.provider_core.specs.Tables.{entry_named, IsWholeTable, IsFact}
 use Rattle.provider_core.proofs.TableLaws.{at_more, go_on_at, named_found, entry_here}
 use Rattle.source_csv.specs.declared.rows.Row.{Row}
 use Rattle.source_book.specs.History.{History, rows_of}
+use Rattle.group_sync.specs.Laws.{GoesOn}
 use Rattle.world_model.specs.Safe.{IsAt, Has, id_in, IsImage, IsVersion}
-use Rattle.world_model.proofs.Imaging.{Knows, image_more}
+use Rattle.world_model.proofs.Imaging.{image_more}
 
 -- no accepted row is lost, and every story goes on in a whole table
 pub record Grows (history : History) (es : List Entry) (history' : History) (fs : List Entry) : Type 0 where
@@ -31,7 +32,7 @@ mapped (Some n) id is = (n, refl, cc)
 pub id_at : (es : List Entry) (name : RecordName) (i : ℕ) (e : Entry) → IsWholeTable es → IsAt es i e → e.name ≡ name → id_in es name ≡ Some (id_text (suc i))
 id_at es name i e whole at named = ap (option_map id_of) (entry_here name es i e whole at named)
 
-pub ids_grow : (es fs : List Entry) → AllGoOn es fs → IsWholeTable fs → Knows (id_in es) (id_in fs)
+pub ids_grow : (es fs : List Entry) → AllGoOn es fs → IsWholeTable fs → GoesOn (id_in es) (id_in fs)
 ids_grow es fs all whole name id is =
     let (n, found, same) = mapped (entry_named name es) id is in
     let (i, number, there, of_name) = named_found name es n found in

@@ -20,3 +20,11 @@ pub mod Answering
 pub mod Learning
 pub mod Sizes
 pub mod Quiet
+pub mod Exchanging
+pub mod Finding
+pub mod Asked
+pub mod Leading
+pub mod Phases
+pub mod Calm
+pub mod Done
+pub mod Settling

@@ -60,7 +60,7 @@ entry_named_there w q i e at =
     let there = row_there w.history e.name image.row image.accepted in
     subst (λ (n : RecordName). Has (names_of w.history) n) (row_of_record w.history e.name image.row image.accepted) (q.counted.every there.0 image.row there.1)
 
-few_entries : (w : World) → Quiet w → length w.entries ≤ most_entries
+pub few_entries : (w : World) → Quiet w → length w.entries ≤ most_entries
 few_entries w q =
     let below = no_more (λ (e : Entry). e.name) w.entries (names_of w.history) q.inv.kept.whole.distinct (entry_named_there w q) in
     omega (arith, below, few_names w.history q.counted)
@@ -197,7 +197,7 @@ event_quiet w Restarts_connector law q = record { inv = event_inv w Restarts_con
 empty_quiet : Quiet empty
 empty_quiet = record { inv = empty_inv; lawful = λ i row at. absurd (cc); counted = none_counted; answered = λ i request answer at. absurd (cc) }
 
-run_quiet : (w : World) (events : List Event) → AllByRecursion IsLawful events → Quiet w → Quiet (run w events)
+pub run_quiet : (w : World) (events : List Event) → AllByRecursion IsLawful events → Quiet w → Quiet (run w events)
 run_quiet w [] law q = q
 run_quiet w (event ∷ events) law q = run_quiet (happens w event) events law.1 (event_quiet w event law.0 q)
 

@@ -50,7 +50,7 @@ few_versions e rises lawful =
 abbrev pub AllLawful : History → Type 0
 AllLawful history = (i : ℕ) (row : Row) → IsAt history i row → IsRow row
 
-lawful_revision : (row : Row) → IsRow row → IsRevision (row_revision row)
+pub lawful_revision : (row : Row) → IsRow row → IsRevision (row_revision row)
 lawful_revision (User row) law = law.revision
 lawful_revision (Group row) law = law.revision
 

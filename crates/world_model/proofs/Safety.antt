@@ -11,15 +11,14 @@ use Rattle.provider_core.proofs.TableLaws.{held_at}
 use Rattle.source_csv.specs.Records.{row_revision}
 use Rattle.source_csv.specs.declared.rows.Row.{Row}
 use Rattle.source_csv.specs.declared.rows.Row.TheVariants.{User, Group}
-use Rattle.source_book.specs.History.{members_of, rows_of}
-use Rattle.connector_core.specs.Images.{ready, image_with}
+use Rattle.source_book.specs.History.{rows_of}
 use Rattle.connector_core.specs.Learning.{content_revision}
 use Rattle.connector_core.specs.declared.knowledge.Known.{Known}
 use Rattle.connector_core.specs.declared.knowledge.Seen.{Seen}
 use Rattle.connector_core.specs.declared.knowledge.Seen.TheVariants.{Unknown, Absent, At}
 use Rattle.world_model.specs.World.{World, empty, run}
 use Rattle.world_model.specs.Safe.{Has, id_in, IsEntryOf, HasReached, IsImage, is_leaver, is_inactive, HasLeftSince, IsVersion, SeenTruly, IsReached, KnownTruly, Safe, AlwaysSafe}
-use Rattle.world_model.proofs.Imaging.{of_ready}
+use Rattle.world_model.proofs.Imaging.{image_with, of_image}
 use Rattle.world_model.proofs.Keeping.{held_revision, none_above_held}
 use Rattle.world_model.proofs.Noting.{HasVersion, InSight, Noted}
 use Rattle.world_model.proofs.Invariant.{Inv, always_inv}
@@ -98,7 +97,7 @@ module _ (w : World) (inv : Inv w) (name : RecordName) (known : Known) (in_book 
   inactive : HasLeftSince w.history name known.confirmed → is_inactive e.held ≡ true
   inactive left =
       let row = held_image.row in
-      let (ids, same, _) = of_ready (ready (id_in w.entries) (members_of row)) row e.held held_image.image in
+      let (ids, same, _) = of_image (id_in w.entries) row e.held held_image.image in
       let accepted : Has (rows_of w.history name) row = subst (λ (n : RecordName). Has (rows_of w.history n) row) of_record.1 held_image.accepted in
       subst (λ (c : Content). is_inactive c ≡ true) same (leaver_image ids row (left row accepted held_reached))
 

@@ -31,11 +31,11 @@ use Rattle.world_model.proofs.Lists.{two_kept, at_passes}
 
 -- ---- the search for a row's name
 
-abbrev kind_of : Row → Kind
+abbrev pub kind_of : Row → Kind
 kind_of (User row) = kinds.User
 kind_of (Group row) = kinds.Group
 
-abbrev filter_of : Row → Expression
+abbrev pub filter_of : Row → Expression
 filter_of (User row) = name_filter UserName row.login
 filter_of (Group row) = name_filter DisplayName row.name
 
@@ -47,10 +47,10 @@ pub search_subject : (row : Row) → IsRow row → subject (search_for row) ≡ 
 search_subject (User row) law = rw law.login refl
 search_subject (Group row) law = rw law.name refl
 
-abbrev hits : Row → Numbered → Bool
+abbrev pub hits : Row → Numbered → Bool
 hits row n = is_entry_hit (kind_of row) (Some (filter_of row)) n
 
-names_row : (row : Row) → IsRow row → single_key (filter_of row) ≡ Some (row_name row)
+pub names_row : (row : Row) → IsRow row → single_key (filter_of row) ≡ Some (row_name row)
 names_row (User row) law = rw law.login refl
 names_row (Group row) law = rw law.name refl
 
@@ -68,14 +68,14 @@ pub shown_name : (x s : ShownRecord) (name : RecordName) → Shows x ≡ Shows s
 shown_name x s name shows is = let same : x ≡ s = cc in subst (λ (r : ShownRecord). content_name r.content ≡ name) same is
 
 module _ (es : List Entry) (row : Row) (law : IsRow row) (whole : IsWholeTable es) where
-  abbrev all_hits : List Numbered
+  abbrev pub all_hits : List Numbered
   all_hits = filter (hits row) (numbered_from 1 es)
 
-  abbrev answer_to : List ShownRecord → Answer
+  abbrev pub answer_to : List ShownRecord → Answer
   answer_to found = answers.List (listing (pos 1) None found)
 
   -- no two entries are found
-  only_one : (x y : Numbered) (more : List Numbered) → all_hits ≡ x ∷ y ∷ more → ⊥
+  pub only_one : (x y : Numbered) (more : List Numbered) → all_hits ≡ x ∷ y ∷ more → ⊥
   only_one x y more is =
       let (i, j, lt, at_x, at_y, hit_x, hit_y) = two_kept (hits row) (numbered_from 1 es) x y more is in
       let x_there = (at_numbered 1 es i x at_x).1 in
@@ -85,7 +85,7 @@ module _ (es : List Entry) (row : Row) (law : IsRow row) (whole : IsWholeTable e
       let same = whole.distinct i j x.entry y.entry x_there y_there (sym x_named ∙ hit_named row x law hit_x ∙ sym (hit_named row y law hit_y) ∙ y_named) in
       omega (arith, lt, same)
 
-  one_hit : (n : Numbered) (more : List Numbered) → all_hits ≡ n ∷ more → content_name n.entry.held ≡ row_name row
+  pub one_hit : (n : Numbered) (more : List Numbered) → all_hits ≡ n ∷ more → content_name n.entry.held ≡ row_name row
   one_hit n more is = hit_named row n law (at_passes (hits row) (numbered_from 1 es) 0 n (ap (λ l. slice_get l 0) is))
 
   abbrev IsSaid : List ShownRecord → Type 0

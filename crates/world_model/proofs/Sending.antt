@@ -1,8 +1,10 @@
 -- What the connector asks for is true: a Create and a Replace carry an image, and a Replace overwrites an older version.
-use Rattle.std.proofs.Common.{◌≡◌, ℕ, Bool, true, false, not, ◌&&◌, List, Option, Some, None, refl, ap, sym, ◌∙◌, subst}
+use Rattle.std.proofs.Common.{◌≡◌, ℕ, Bool, true, false, cond, List, Option, Some, None, Result, Ok, Err, refl, ap, sym, ◌∙◌, subst}
 use Rattle.std.specs.Option.{option_map, option_and_then}
+use Rattle.std.specs.Result.{result_ok}
 use Rattle.scim_key.proofs.RecordLaws.{same as same_names}
-use Rattle.scim_key.specs.Revisions.{RevisionValue, before, ◌≺◌, ◌≼◌}
+use Rattle.scim_key.proofs.RevisionLaws.{same, total}
+use Rattle.scim_key.specs.Revisions.{RevisionValue, before, same_revision, ◌≺◌, ◌≼◌}
 use Rattle.scim_key.specs.declared.records.RecordName.{RecordName}
 use Rattle.scim_resource.specs.Contents.{content_name}
 use Rattle.scim_resource.specs.declared.contents.Content.{Content}
@@ -11,12 +13,16 @@ use Rattle.provider_core.specs.Stories.{Entry}
 use Rattle.source_csv.specs.Records.{row_name, row_revision}
 use Rattle.source_csv.specs.declared.rows.Row.{Row}
 use Rattle.source_csv.specs.declared.rows.Row.TheVariants.{User, Group}
-use Rattle.source_book.specs.History.{History, same_name, rows_of, members_of}
+use Rattle.source_book.specs.History.{History, same_name, rows_of}
+use Rattle.group_sync.specs.Laws.{GoesOn}
+use Rattle.mapping.specs.Images.{image, imaged}
+use Rattle.mapping.specs.declared.groups.ImageFault.{ImageFault}
+use Rattle.mapping.specs.declared.groups.ImageFault.TheVariants.{MemberWithoutId, Memory}
 use Rattle.connector_core.specs.Book.{Book, known_id}
-use Rattle.connector_core.specs.Images.{Ready, Ids, Waits_for, ready, image_with, if_ready}
-use Rattle.connector_core.specs.Asking.{asking, asking_for, is_done, request_for, search_for, replacement}
+use Rattle.connector_core.specs.Asking.{asking, asking_of, asking_with, is_done, request_for, search_for, replacement}
 use Rattle.connector_core.specs.declared.asking.Ask.{Ask}
-use Rattle.connector_core.specs.declared.asking.Ask.TheVariants.{Send}
+use Rattle.connector_core.specs.declared.asking.Ask.TheVariants.{Nothing, Send}
+use Rattle.connector_core.specs.Learning.{content_revision}
 use Rattle.connector_core.specs.declared.knowledge.Known.{Known}
 use Rattle.connector_core.specs.declared.knowledge.Seen.{Seen}
 use Rattle.connector_core.specs.declared.knowledge.Seen.TheVariants.{Unknown, Absent, At}
@@ -24,7 +30,7 @@ use Rattle.world_model.specs.Safe.{Has, id_in, IsImage, IsVersion}
 use Rattle.world_model.proofs.Judging.{Follows}
 use Rattle.world_model.proofs.Lists.{at_passes, last_has}
 use Rattle.world_model.proofs.Order.{at_most_before}
-use Rattle.world_model.proofs.Imaging.{Knows, name_with, revision_with, image_more}
+use Rattle.world_model.proofs.Imaging.{image_name, image_revision, image_more}
 use Rattle.world_model.proofs.Noting.{InSight, AllNoted}
 use Rattle.world_model.proofs.Telling.{AskedTruly}
 
@@ -33,31 +39,32 @@ pub row_of_record : (history : History) (name : RecordName) (row : Row) → Has 
 row_of_record history name row has = (same_names (row_name row) name).0 (at_passes (λ r. same_name (row_name r) name) history has.0 row has.1)
 
 -- what isn't confirmed is of a lower revision than the wanted row
-not_done : (c w : RevisionValue) → c ≼ w → (not (before c w) && not (before w c)) ≡ false → c ≺ w
+not_done : (c w : RevisionValue) → c ≼ w → same_revision c w ≡ false → c ≺ w
 not_done c w within unsettled = go (before c w) refl
   where
     go : (b : Bool) → before c w ≡ b → before c w ≡ true
     go true is = is
     go false is =
-        let both : (not (before c w) && not (before w c)) ≡ true = rw (is, within) refl in
+        let settled : same_revision c w ≡ true = (same c w).1 (total c w within is) in
         absurd (cc)
 
 -- the case in which something is sent
 record Sends (book : Book) (known : Known) (request : Request) : Type 0 where
   unsettled : is_done known ≡ false
-  ids : List (List ℕ)
-  has_ids : ready (known_id book) (members_of known.wanted) ≡ Ids ids
-  is : request_for known.seen known.id known.wanted (image_with ids known.wanted) ≡ request
+  content : Content
+  has_image : image (known_id book) known.wanted ≡ Some content
+  is : request_for known.seen known.id known.wanted content ≡ request
 
-sends_of : (book : Book) (known : Known) (done : Bool) (r : Ready) (request : Request) → is_done known ≡ done → ready (known_id book) (members_of known.wanted) ≡ r
-    → asking_for done r known ≡ Send request → Sends book known request
-sends_of book known true r request unsettled has is = absurd (cc)
-sends_of book known false (Waits_for member) request unsettled has is = absurd (cc)
-sends_of book known false (Ids ids) request unsettled has is = record { unsettled = unsettled; ids = ids; has_ids = has; is = cc }
+sends_of : (book : Book) (known : Known) (done : Bool) (found : Result Content ImageFault) (request : Request) → is_done known ≡ done → imaged (known_id book) known.wanted ≡ found
+    → cond done Nothing (asking_with found known) ≡ Send request → Sends book known request
+sends_of book known true found request unsettled has is = absurd (cc)
+sends_of book known false (Err (MemberWithoutId place)) request unsettled has is = absurd (cc)
+sends_of book known false (Err Memory) request unsettled has is = absurd (cc)
+sends_of book known false (Ok content) request unsettled has is = record { unsettled = unsettled; content = content; has_image = ap result_ok has; is = cc }
 
-asking_of : (o : Option Known) (f : Known → Ask) (ask : Ask) → option_map f o ≡ Some ask → (known : Known) × (o ≡ Some known) × (f known ≡ ask)
-asking_of None f ask is = absurd (cc)
-asking_of (Some known) f ask is = (known, refl, cc)
+asked_of : (o : Option Known) (f : Known → Ask) (ask : Ask) → option_map f o ≡ Some ask → (known : Known) × (o ≡ Some known) × (f known ≡ ask)
+asked_of None f ask is = absurd (cc)
+asked_of (Some known) f ask is = (known, refl, cc)
 
 wanted_of : (o : Option Known) (known : Known) → o ≡ Some known → option_map (λ k. k.wanted) o ≡ Some known.wanted
 wanted_of o known is = ap (option_map (λ k. k.wanted)) is
@@ -67,7 +74,7 @@ search_asked history es (User row) has = record { row = User row; accepted = has
 search_asked history es (Group row) has = record { row = Group row; accepted = has; is = refl }
 
 module _ (history : History) (es : List Entry) (book : Book) (follows : Follows book history) (noted : AllNoted es book) where
-  knows : Knows (known_id book) (id_in es)
+  knows : GoesOn (known_id book) (id_in es)
   knows name id is = go (book name) refl is
     where
       go : (o : Option Known) → book name ≡ o → option_and_then (λ known. known.id) o ≡ Some id → id_in es name ≡ Some id
@@ -84,19 +91,19 @@ module _ (history : History) (es : List Entry) (book : Book) (follows : Follows 
     wanted_there : Has (rows_of history (row_name known.wanted)) known.wanted
     wanted_there = subst (λ (n : RecordName). Has (rows_of history n) known.wanted) (sym its_name) accepted
 
-    module _ (ids : List (List ℕ)) (has_ids : ready (known_id book) (members_of known.wanted) ≡ Ids ids) where
-      abbrev content : Content
-      content = image_with ids known.wanted
+    module _ (content : Content) (has_image : image (known_id book) known.wanted ≡ Some content) where
+      at_revision : content_revision content ≡ Some (row_revision known.wanted)
+      at_revision = image_revision (known_id book) known.wanted content has_image
 
       content_named : name ≡ content_name content
-      content_named = sym (name_with ids known.wanted ∙ its_name)
+      content_named = sym (image_name (known_id book) known.wanted content has_image ∙ its_name)
 
       is_image : IsImage history es name content
       is_image = record {
         row = known.wanted;
         accepted = accepted;
-        revision = revision_with ids known.wanted;
-        image = image_more (known_id book) (id_in es) knows known.wanted content (ap (λ r. if_ready r known.wanted) has_ids);
+        revision = at_revision;
+        image = image_more (known_id book) (id_in es) knows known.wanted content has_image;
       }
 
       wanted_image : IsImage history es (content_name content) content
@@ -114,7 +121,7 @@ module _ (history : History) (es : List Entry) (book : Book) (follows : Follows 
             older = revision;
             newer = row_revision known.wanted;
             version = subst (λ (n : RecordName). IsVersion es n id tag revision) content_named (subst (λ (i : List ℕ). IsVersion es name i tag revision) same sight.version);
-            revision = revision_with ids known.wanted;
+            revision = at_revision;
             rises = at_most_before revision known.confirmed (row_revision known.wanted) sight.counted (not_done known.confirmed (row_revision known.wanted) (noted name known in_book).within unsettled);
           }
 
@@ -126,6 +133,6 @@ module _ (history : History) (es : List Entry) (book : Book) (follows : Follows 
 
   pub what_is_asked : (name : RecordName) (request : Request) → asking book name ≡ Some (Send request) → AskedTruly history es request
   what_is_asked name request is =
-      let (known, in_book, asks) = asking_of (book name) (λ known. asking_for (is_done known) (ready (known_id book) (members_of known.wanted)) known) (Send request) is in
-      let sends = sends_of book known (is_done known) (ready (known_id book) (members_of known.wanted)) request refl refl asks in
-      subst (λ (r : Request). AskedTruly history es r) sends.is (request_asked name known in_book sends.ids sends.has_ids known.seen known.id refl refl sends.unsettled)
+      let (known, in_book, asks) = asked_of (book name) (asking_of book) (Send request) is in
+      let sends = sends_of book known (is_done known) (imaged (known_id book) known.wanted) request refl refl asks in
+      subst (λ (r : Request). AskedTruly history es r) sends.is (request_asked name known in_book sends.content sends.has_image known.seen known.id refl refl sends.unsettled)

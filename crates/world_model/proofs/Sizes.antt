@@ -28,10 +28,11 @@ use Rattle.source_csv.specs.Rows.{UserFields, GroupFields, IsUserRow, IsGroupRow
 use Rattle.source_csv.specs.declared.rows.Row.{Row}
 use Rattle.source_csv.specs.declared.rows.Row.TheVariants.{User, Group}
 use Rattle.source_book.specs.History.{user, members_of}
-use Rattle.mapping.specs.Images.{user_image, present, emails_of, work_email}
-use Rattle.connector_core.specs.Images.{Ready, Ids, Waits_for, and_ready, ready, once, group_image, image_with, image}
+use Rattle.group_sync.specs.Laws.{HaveIds}
+use Rattle.group_sync.proofs.ReadyLemmas.{means}
+use Rattle.mapping.specs.Images.{user_image, present, emails_of, work_email, once, group_image, image}
 use Rattle.world_model.specs.Untroubled.{longest_body}
-use Rattle.world_model.proofs.Imaging.{of_ready}
+use Rattle.world_model.proofs.Imaging.{image_with, of_image}
 
 -- ---- strings
 
@@ -322,10 +323,10 @@ members_part (id ∷ ids) all few d is =
     just (array (items_of (map member_data (id ∷ ids)))) d 19602 (omega (arith, array_most (items_of (map member_data (id ∷ ids))) (49 * length (id ∷ ids) + 1) (members_most (id ∷ ids) all), few)) is
 
 group_size : (row : GroupFields) (ids : List (List ℕ)) → IsGroupRow row → AllByRecursion IsSpelled (once ids) → length (once ids) ≤ 400
-    → length (compact_text (content_data (group_image row ids))) < 21_000
+    → length (compact_text (content_data (group_image ids row))) < 21_000
 unfolding group_data
 group_size row ids law all few =
-    let whole : length (compact_text (content_data (group_image row ids))) ≤ 20604 = object_most _ 20603 (with_part (codes "displayName") (Some (string row.name)) _ 13 770 19818 key_display_name
+    let whole : length (compact_text (content_data (group_image ids row))) ≤ 20604 = object_most _ 20603 (with_part (codes "displayName") (Some (string row.name)) _ 13 770 19818 key_display_name
     (λ d is. just (string row.name) d 770 (omega (arith, quoted_most row.name, group_name_short row.name law.name)) is)
     (with_part (codes "members") (group_members_data (once ids)) _ 9 19602 205 key_members (members_part (once ids) all few)
     (with_part (codes "schemas") (Some (array (schemas_data core_group (Some row.revision)))) _ 9 103 91 key_schemas (schemas_part core_group 45 row.revision (omega (arith, core_group_length)))
@@ -355,19 +356,14 @@ record AllReady (P : List ℕ → Type 0) (keys ids : List (List ℕ)) : Type 0 
   all : AllByRecursion P ids
   count : length ids ≡ length keys
 
-ready_all : (P : List ℕ → Type 0) (f : RecordName → Option (List ℕ)) → ((name : RecordName) (id : List ℕ) → f name ≡ Some id → P id) → (keys ids : List (List ℕ))
-    → ready f keys ≡ Ids ids → AllReady P keys ids
-ready_all P f each [] ids is = let same : [] ≡ ids = cc in subst (λ (l : List (List ℕ)). AllReady P [] l) same (record { all = tt; count = refl })
-ready_all P f each (key ∷ keys) ids is = go (f (user key)) refl (ready f keys) refl (ready_all P f each keys) is
-  where
-    go : (o : Option (List ℕ)) → f (user key) ≡ o → (r : Ready) → ready f keys ≡ r → ((more : List (List ℕ)) → ready f keys ≡ Ids more → AllReady P keys more)
-        → and_ready key o r ≡ Ids ids → AllReady P (key ∷ keys) ids
-    go None has r rest later was = absurd (cc)
-    go (Some id) has (Waits_for other) rest later was = absurd (cc)
-    go (Some id) has (Ids more) rest later was =
-        let m = later more rest in
-        let same : id ∷ more ≡ ids = cc in
-        subst (λ (l : List (List ℕ)). AllReady P (key ∷ keys) l) same (record { all = (each (user key) id has, m.all); count = ap suc m.count })
+have_all : (P : List ℕ → Type 0) (f : RecordName → Option (List ℕ)) → ((name : RecordName) (id : List ℕ) → f name ≡ Some id → P id) → (keys ids : List (List ℕ)) → HaveIds f keys ids
+    → AllReady P keys ids
+have_all P f each [] [] all = record { all = tt; count = refl }
+have_all P f each [] (id ∷ ids) all = absurd (cc all)
+have_all P f each (key ∷ keys) [] all = absurd (cc all)
+have_all P f each (key ∷ keys) (id ∷ ids) all =
+    let more = have_all P f each keys ids (cc all) in
+    record { all = (each (user key) id (cc all), more.all); count = ap suc more.count }
 
 with_size : (row : Row) (ids : List (List ℕ)) → IsRow row → AllReady IsSpelled (members_of row) ids
     → length (compact_text (content_data (image_with ids row))) < longest_body (content_kind (image_with ids row))
@@ -378,6 +374,6 @@ with_size (Group row) ids law all = group_size row ids law (once_all IsSpelled i
 pub image_size : (f : RecordName → Option (List ℕ)) → ((name : RecordName) (id : List ℕ) → f name ≡ Some id → IsSpelled id) → (row : Row) (c : Content) → IsRow row → image f row ≡ Some c
     → length (compact_text (content_data c)) < longest_body (content_kind c)
 image_size f each row c law is =
-    let (ids, same, has_ids) = of_ready (ready f (members_of row)) row c is in
+    let (ids, same, has_ids) = of_image f row c is in
     subst (λ (x : Content). length (compact_text (content_data x)) < longest_body (content_kind x)) same
-    (with_size row ids law (ready_all IsSpelled f each (members_of row) ids has_ids))
+    (with_size row ids law (have_all IsSpelled f each (members_of row) ids ((means.ids f (members_of row) ids).0 has_ids)))

@@ -3,3 +3,4 @@ pub mod Safe
 pub mod Reports
 pub mod Views
 pub mod Untroubled
+pub mod Settled

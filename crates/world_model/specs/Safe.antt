@@ -17,8 +17,8 @@ use Rattle.source_csv.specs.Records.{row_revision}
 use Rattle.source_csv.specs.declared.rows.Row.{Row}
 use Rattle.source_csv.specs.declared.rows.Row.TheVariants.{User, Group}
 use Rattle.source_book.specs.History.{History, rows_of, last_row, Rises}
+use Rattle.mapping.specs.Images.{image}
 use Rattle.connector_core.specs.Book.{wanted_row}
-use Rattle.connector_core.specs.Images.{image}
 use Rattle.connector_core.specs.Learning.{content_revision}
 use Rattle.connector_core.specs.Changing.{judging_by_source}
 use Rattle.connector_core.specs.declared.knowledge.Known.{Known}

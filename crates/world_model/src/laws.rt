@@ -1,5 +1,6 @@
 //! Laws of all runs, with nothing to run.
 ghost use Rattle.world_model.specs.Safe.{AlwaysOnward, AlwaysSafe, HeadlineHolds, JudgesBySource};
+ghost use Rattle.world_model.specs.Settled.{Settles};
 ghost use Rattle.world_model.specs.Untroubled.{NeverRefused};
 
 /// After every run the connector judges each row as the history of the source alone does.
@@ -32,4 +33,12 @@ pub fn headline_holds()
 /// body of a request is under 9,000 bytes for a User, and under 21,000 for a Group.
 pub fn never_refused()
     ensures { NeverRefused }
+{}
+
+/// Where each row that is offered keeps the limits of the source: from every world that a run reaches, at most
+/// three exchanges for each record, in the order of names, so users before groups, settle it. In an exchange
+/// what is asked for is sent, the request arrives, and so does its reply. Then the wanted revision of each
+/// record is confirmed, and the provider holds the image of its last row.
+pub fn settles()
+    ensures { Settles }
 {}

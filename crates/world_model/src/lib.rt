@@ -3,4 +3,6 @@
 
 mod laws;
 
-pub use laws::{always_onward, always_safe, headline_holds, judges_by_source, never_refused};
+pub use laws::{
+    always_onward, always_safe, headline_holds, judges_by_source, never_refused, settles,
+};

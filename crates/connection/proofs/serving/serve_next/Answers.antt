@@ -1,0 +1,10 @@
+use Rattle.connection.specs.Turns.{taken}
+use Rattle.connection.proofs.serving.serve_next.Goals as goal
+
+pub returns : goal.returns
+returns g c = record {
+  turn = taken c.in-Ok.reader c.in-Ok.writer c.serve_opened-served.result.0;
+  takes = c.in-Ok.ensures;
+  served = c.serve_opened-served.ensures;
+  result_is = c.answered.ensures;
+}

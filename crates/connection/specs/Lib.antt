@@ -1,0 +1,3 @@
+pub mod Deadlines
+pub mod Listening
+pub mod Turns

@@ -1,0 +1,90 @@
+-- Connections that a provider served, one after another.
+use Rattle.std.specs.Prelude.{◌≡◌, ◌≤◌, ◌+◌, ℕ, List, [], ◌∷◌, ◌++◌, length, Option, Result, Ok, Err}
+use Rattle.std.specs.Result.{result_and}
+use Rattle.provider_core.specs.declared.registry.Registry.{Ghosts}
+use Rattle.provider_core.specs.Stores.{IsQuiet}
+use Rattle.http_text.specs.declared.fault.ReadFault.{ReadFault}
+use Rattle.http_text.specs.Counts.{Reading, Writing}
+use Rattle.http_text.specs.Message.{Message}
+use Rattle.scim_server.specs.declared.serving.Served.{Served}
+use Rattle.scim_server.specs.declared.serving.Served.TheVariants.{Answered, NoRequest, Lost}
+use Rattle.scim_server.specs.Serving.{HasRead, Serves}
+use Rattle.connection.specs.declared.serving.ConnectionFault.{ConnectionFault}
+use Rattle.connection.specs.Listening.{Takes}
+
+-- one turn of a listener: a connection was taken, and this became of it; or none could be
+pub data Turn (I O : Type 0) : Type 0 where
+  taken : (reader : I) (writer : O) (served : Served) → Turn I O
+  unopened : Turn I O
+
+-- ---- outcomes
+
+-- a connection is without a fault where a response was written whole
+abbrev pub answered : Served → Result (Unit {0}) ConnectionFault
+answered (Answered status) = Ok tt
+answered (NoRequest why) = Err (record {})
+answered (Lost status) = Err (record {})
+
+abbrev pub turn_outcome : {I O : Type 0} → Turn I O → Result (Unit {0}) ConnectionFault
+turn_outcome (taken reader writer served) = answered served
+turn_outcome unopened = Err (record {})
+
+-- all are without a fault where each is
+abbrev pub outcome : {I O : Type 0} → List (Turn I O) → Result (Unit {0}) ConnectionFault
+outcome [] = Ok tt
+outcome (turn ∷ turns) = result_and (turn_outcome turn) (outcome turns)
+
+-- ---- which connections were taken
+
+abbrev pub opened : {I O : Type 0} → Turn I O → List (I × O)
+opened (taken reader writer served) = (reader, writer) ∷ []
+opened unopened = []
+
+abbrev pub all_opened : {I O : Type 0} → List (Turn I O) → List (I × O)
+all_opened [] = []
+all_opened (turn ∷ turns) = opened turn ++ all_opened turns
+
+-- ---- what the provider did
+
+-- a stream of which nothing is counted yet
+abbrev pub fresh_reading : Option (List ℕ) → Reading
+fresh_reading remaining = record { remaining = remaining; ahead = []; calls = 0; failures = 0 }
+
+abbrev pub fresh_writing : Option (List ℕ) → Writing
+fresh_writing contents = record { contents = contents; calls = 0; failures = 0; flushes = 0 }
+
+-- What a peer sent was read from the connection's start, and became this; the provider went from one state to the other
+pub record IsServed {I O R : Type 0} (remaining : I → Option (List ℕ)) (contents : O → Option (List ℕ)) (g : Ghosts R) (base : List ℕ) (old new : R) (reader : I) (writer : O) (served : Served) : Type 0 where
+  pub left : Reading
+  pub written : Writing
+  pub read : Result Message ReadFault
+  pub has_read : HasRead (fresh_reading (remaining reader)) left read
+  pub serves : Serves (g.is_faithful new) base (g.rows old) (g.rows new) (fresh_writing (contents writer)) written read served
+  pub quiet : IsQuiet g.is_faithful g.faults old new
+  pub writes : g.writes new ≤ g.writes old + 1
+
+module _ {I O R : Type 0} (remaining : I → Option (List ℕ)) (contents : O → Option (List ℕ)) (g : Ghosts R) (base : List ℕ) where
+  -- a turn without a connection leaves the provider as it is
+  abbrev pub IsTurn : Turn I O → (old new : R) → Type 0
+  IsTurn (taken reader writer served) old new = IsServed remaining contents g base old new reader writer served
+  IsTurn unopened old new = new ≡ old
+
+  -- each turn on the provider that the one before left, and nothing else
+  abbrev pub AreTurns : List (Turn I O) → (old new : R) → Type 0
+  AreTurns [] old new = new ≡ old
+  AreTurns (turn ∷ turns) old new = (between : R) × IsTurn turn old between × AreTurns turns between new
+
+-- one turn of a listener
+pub record TakesTurn {L I O R : Type 0} (waiting : L → Option (List (I × O))) (remaining : I → Option (List ℕ)) (contents : O → Option (List ℕ)) (g : Ghosts R) (base : List ℕ) (before after : L) (old new : R) (result : Result (Unit {0}) ConnectionFault) : Type 0 where
+  pub turn : Turn I O
+  pub takes : Takes (waiting before) (waiting after) (opened turn)
+  pub served : IsTurn remaining contents g base turn old new
+  pub result_is : result ≡ turn_outcome turn
+
+-- so many turns of a listener, in the order in which its connections waited
+pub record ServesTurns {L I O R : Type 0} (waiting : L → Option (List (I × O))) (remaining : I → Option (List ℕ)) (contents : O → Option (List ℕ)) (g : Ghosts R) (base : List ℕ) (before after : L) (old new : R) (count : ℕ) (result : Result (Unit {0}) ConnectionFault) : Type 0 where
+  pub turns : List (Turn I O)
+  pub count_is : length turns ≡ count
+  pub takes : Takes (waiting before) (waiting after) (all_opened turns)
+  pub served : AreTurns remaining contents g base turns old new
+  pub result_is : result ≡ outcome turns

@@ -1,0 +1,14 @@
+//! The connections of a provider, one after another, each within its time.
+#![tactic(auto)]
+
+mod deadline;
+mod listening;
+mod serving;
+mod sockets;
+mod timed;
+
+pub use deadline::Deadline;
+pub use listening::Listen;
+pub use serving::{ConnectionFault, answered, serve_connections};
+pub use sockets::Sockets;
+pub use timed::TimedStream;

@@ -1,0 +1,24 @@
+//! What connections come from.
+ghost use Rattle.std.specs.Prelude.{List, Option, None};
+ghost use Rattle.connection.specs.Listening.{Accepts};
+
+use std::io;
+use std::io::{Read, Write};
+
+/// What connections come from, one after another. A connection is a reader of what its peer sends
+/// and a writer of what it's answered.
+pub trait Listen {
+    type Reader: Read + Drop;
+
+    type Writer: Write + Drop;
+
+    /// The connections that will be taken from here on, where they are known.
+    ghost waiting: { Self → Option (List (Self.Reader × Self.Writer)) } = { λ _. None };
+
+    /// Takes the next connection.
+    fn accept(&mut self) -> io::Result<(Self::Reader, Self::Writer)>
+        ensures { Accepts (waiting self.old) (waiting self.new) result };
+
+    /// Ends a connection that was served.
+    fn end(&self, reader: Self::Reader, writer: Self::Writer);
+}

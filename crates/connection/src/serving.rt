@@ -1,0 +1,93 @@
+//! The connections of a provider, one after another.
+ghost use Rattle.std.specs.Prelude.{◌≡◌};
+ghost use Rattle.connection.specs.Turns.{IsServed, TakesTurn, ServesTurns, answered};
+
+use crate::listening::Listen;
+use http_text::{Input, Output};
+use provider_core::{Provider, Registry};
+use scim_key::Base;
+use scim_server::{Served, serve};
+use std::alloc::Global;
+use std::io::{Eprint, Read, Write};
+use thiserror::Error;
+
+/// A connection that couldn't be opened, on which no request came, or whose answer couldn't be
+/// written whole.
+#[derive(Clone, Copy, Debug, PartialEq, Eq, Error)]
+#[error("connection fault")]
+pub struct ConnectionFault;
+
+/// Takes so many connections, serves each by one request to the provider, and ends it before the
+/// next is taken. Each fault is told on standard error when it comes, and the next connection is
+/// served all the same; at last it is a fault where any connection had one.
+pub fn serve_connections<R: Registry, L: Listen>(
+    rt: &impl Eprint,
+    alloc: Global,
+    listener: &mut L,
+    count: u32,
+    base: &Base,
+    provider: &mut Provider<R>,
+) -> Result<(), ConnectionFault>
+    ensures { ServesTurns L.waiting L.Reader.remaining L.Writer.contents R.Registry base.now
+        listener.old listener.new provider.old provider.new count result }
+{
+    let mut outcome = Ok(());
+    for _turn in 0..count {
+        let served = serve_next(alloc, listener, base, provider);
+        tell(rt, served);
+        outcome = outcome.and(served);
+    }
+    outcome
+}
+
+/// Tells a fault on standard error.
+fn tell(rt: &impl Eprint, served: Result<(), ConnectionFault>) {
+    if let Err(fault) = served {
+        let _ = eprintln!(rt; "{fault}");
+    }
+}
+
+/// Takes the next connection, serves it and ends it.
+fn serve_next<R: Registry, L: Listen>(
+    alloc: Global,
+    listener: &mut L,
+    base: &Base,
+    provider: &mut Provider<R>,
+) -> Result<(), ConnectionFault>
+    ensures { TakesTurn L.waiting L.Reader.remaining L.Writer.contents R.Registry base.now
+        listener.old listener.new provider.old provider.new result }
+{
+    let Ok((reader, writer)) = listener.accept() else {
+        return Err(ConnectionFault);
+    };
+    let (served, reader, writer) = serve_opened(alloc, base, provider, reader, writer);
+    listener.end(reader, writer);
+    answered(served)
+}
+
+/// Serves a connection, and gives it back.
+fn serve_opened<R: Registry, I: Read, O: Write>(
+    alloc: Global,
+    base: &Base,
+    provider: &mut Provider<R>,
+    reader: I,
+    writer: O,
+) -> (Served, I, O)
+    ensures { IsServed I.remaining O.contents R.Registry base.now provider.old provider.new
+        reader writer result.0 }
+{
+    let mut input = Input::new(reader);
+    let mut output = Output::new(writer);
+    let served = serve(alloc, provider, base, &mut input, &mut output);
+    (served, input.into_inner(), output.into_inner())
+}
+
+/// A connection is without a fault where a response was written whole.
+pub fn answered(served: Served) -> Result<(), ConnectionFault>
+    ensures { result ≡ answered served }
+{
+    match served {
+        Served::Answered { .. } => Ok(()),
+        Served::NoRequest(_) | Served::Lost { .. } => Err(ConnectionFault),
+    }
+}

@@ -1,0 +1,167 @@
+-- What is learnt of which record, and what becomes of the book and of the journal.
+use Rattle.std.specs.Prelude.{◌≡◌, ◌≤◌, ◌⊎◌, ℕ, true, Option, Some, None, Result, Ok, Err, IsOk, if◌then◌else◌}
+use Rattle.std.specs.FinMap.{get, insert}
+use Rattle.std.specs.Option.{option_map}
+use Rattle.scim_key.specs.Outcome.{◌>>=◌}
+use Rattle.scim_key.specs.Revisions.{IsRevision, RevisionValue, before, no_revision, ◌≺◌, ◌≼◌}
+use Rattle.scim_key.specs.declared.records.RecordName.{RecordName}
+use Rattle.scim_message.specs.declared.messages.Answer.{Answer}
+use Rattle.scim_message.specs.declared.messages.Request.{Request}
+use Rattle.source_csv.specs.Records.{row_revision}
+use Rattle.journal_core.specs.Entries.{EntryMap, with_learnt}
+use Rattle.journal_core.specs.Stores.{HasRisen}
+use Rattle.journal_core.specs.declared.journals.JournalFault.{JournalFault}
+use Rattle.journal_core.specs.declared.journals.JournalFault.TheVariants as journal
+use Rattle.connector_core.specs.Book.{Book, learning, seeing}
+use Rattle.connector_core.specs.Learning.{Finding, Learning, Lesson, Sight, finding, fits_id, learn, lesson, noted, or_fault, subject}
+use Rattle.connector_core.specs.Maps.{BookMap, book_of}
+use Rattle.connector_core.specs.State.{entry_of}
+use Rattle.connector_core.specs.declared.fitting.News.{News}
+use Rattle.connector_core.specs.declared.fitting.News.TheVariants.{Lasting, Passing, Nothing}
+use Rattle.connector_core.specs.declared.knowledge.Known.{Known}
+use Rattle.connector_core.specs.declared.learning.LearnFault.{LearnFault}
+use Rattle.connector_core.specs.declared.learning.LearnFault.TheVariants.{Unfit, Unversioned, Refused, NoSuchRecord, Store, Memory}
+use Rattle.connector_core.specs.declared.learning.Learnt.{Learnt}
+use Rattle.connector_core.specs.declared.learning.Learnt.TheVariants as learnt
+
+-- ---- what is learnt of which record
+
+pub record Note : Type 0 where
+  pub name : RecordName
+  pub lesson : Lesson
+
+-- What is learnt from the answer to a request, under the name of its record
+abbrev pub note : Book → Request → Answer → Result Note LearnFault
+note book request answer = do
+  name ← or_fault Unfit (subject request)
+  known ← or_fault NoSuchRecord (book name)
+  said ← finding request answer
+  l ← lesson name known said
+  Ok (record { name = name; lesson = l })
+
+abbrev pub noted_in : Book → Result Note LearnFault → Result Learning LearnFault
+noted_in book (Ok n) = Ok (noted book n.name n.lesson)
+noted_in book (Err fault) = Err fault
+
+-- what the connector learns is this note, put into its book
+abbrev pub LearnsByNotes : Type 0
+LearnsByNotes = (book : Book) (request : Request) (answer : Answer) → learn book request answer ≡ noted_in book (note book request answer)
+
+-- what was learnt
+abbrev pub learnt_of : Result Learning LearnFault → Result Learnt LearnFault
+learnt_of (Ok l) = Ok l.learnt
+learnt_of (Err fault) = Err fault
+
+-- the entries of the journal with what is known of the record afterwards
+abbrev pub noted_entries : EntryMap → Result Note LearnFault → EntryMap
+noted_entries entries (Ok n) = insert entries n.name (entry_of n.lesson.known)
+noted_entries entries (Err fault) = entries
+
+-- of each record the row, the confirmed revision and the id stay
+abbrev pub KeepsEntries : (old new : BookMap) → Type 0
+KeepsEntries old new = (name : RecordName) → option_map entry_of (get new name) ≡ option_map entry_of (get old name)
+
+-- ---- faults
+
+-- in place of an answer the store's fault comes only where there is something to be learnt, and out of memory at any time
+abbrev pub MayStandFor : Result Learning LearnFault → LearnFault → Type 0
+MayStandFor answer Unfit = ⊥
+MayStandFor answer Unversioned = ⊥
+MayStandFor answer (Refused status) = ⊥
+MayStandFor answer NoSuchRecord = ⊥
+MayStandFor answer Store = IsOk answer
+MayStandFor answer Memory = Unit {0}
+
+-- a store fault is counted, and no other fault is one
+abbrev pub CountsLearn : (old new : ℕ) → LearnFault → Type 0
+CountsLearn old new Unfit = new ≡ old
+CountsLearn old new Unversioned = new ≡ old
+CountsLearn old new (Refused status) = new ≡ old
+CountsLearn old new NoSuchRecord = new ≡ old
+CountsLearn old new Store = (old ≤ new) × HasRisen old new
+CountsLearn old new Memory = new ≡ old
+
+-- the connector's fault at a fault of its journal
+abbrev pub learn_fault : JournalFault → LearnFault
+learn_fault journal.Store = Store
+learn_fault journal.Memory = Memory
+
+-- ---- news of a record
+
+-- what is learnt of a record from what an answer says, if it says something
+abbrev pub lesson_if : RecordName → Known → Result Finding LearnFault → Result Lesson LearnFault
+lesson_if name known (Ok said) = lesson name known said
+lesson_if name known (Err fault) = Err fault
+
+-- what is known afterwards
+abbrev pub after_news : News → Known → Known
+after_news (Lasting confirmed id seen learnt) known = learning confirmed id seen known
+after_news (Passing seen learnt) known = seeing seen known
+after_news Nothing known = known
+
+abbrev pub news_learnt : News → Learnt
+news_learnt (Lasting confirmed id seen learnt) = learnt
+news_learnt (Passing seen learnt) = learnt
+news_learnt Nothing = learnt.Nothing
+
+abbrev pub lesson_of : Known → News → Lesson
+lesson_of known news = record { known = after_news news known; learnt = news_learnt news }
+
+-- the entries of the journal afterwards
+abbrev pub entries_with : EntryMap → RecordName → News → EntryMap
+entries_with entries name (Lasting confirmed id seen learnt) = with_learnt entries name confirmed id
+entries_with entries name (Passing seen learnt) = entries
+entries_with entries name Nothing = entries
+
+-- the journal is to keep this: a revision that may be confirmed, with an id where none was known, or higher than before
+pub record IsToBeKept (known : Known) (confirmed : RevisionValue) : Type 0 where
+  pub confirms : no_revision ≺ confirmed
+  pub within : known.confirmed ≼ row_revision known.wanted → confirmed ≼ row_revision known.wanted
+  pub changes : (known.id ≡ None) ⊎ (known.confirmed ≺ confirmed)
+
+-- the journal is written only for what it is to keep
+abbrev pub IsNewsOf : Known → News → Type 0
+IsNewsOf known (Lasting confirmed id seen learnt) = IsToBeKept known confirmed
+IsNewsOf known (Passing seen learnt) = Unit {0}
+IsNewsOf known Nothing = Unit {0}
+
+-- a revision, where it is there and isn't above the wanted one
+abbrev pub within : Known → Option RevisionValue → Option RevisionValue
+within known None = None
+within known (Some revision) = if before (row_revision known.wanted) revision then None else Some revision
+
+-- a lawful revision up to the wanted one, with the known id
+pub record IsFit (known : Known) (sight : Sight) : Type 0 where
+  pub id : fits_id known.id sight.id ≡ true
+  pub lawful : IsRevision sight.revision
+  pub within : sight.revision ≼ row_revision known.wanted
+
+-- the same of the record that this is known of
+abbrev pub IsNewsAt : Option Known → News → Type 0
+IsNewsAt None news = ⊥
+IsNewsAt (Some known) news = IsNewsOf known news
+
+-- what is noted is news of a record of the book
+pub record IsNoted (book : BookMap) (request : Request) (answer : Answer) (name : RecordName) (news : News) : Type 0 where
+  pub known : Known
+  pub there : get book name ≡ Some known
+  pub noted : note (book_of book) request answer ≡ Ok (record { name = name; lesson = lesson_of known news })
+  pub is_news : IsNewsOf known news
+
+-- nothing is noted: by the definition, or because memory ran out
+abbrev pub IsNotNoted : BookMap → Request → Answer → LearnFault → Type 0
+IsNotNoted book request answer fault = (fault ≡ Memory) ⊎ (note (book_of book) request answer ≡ Err fault)
+
+-- the fault of the store, or out of memory
+abbrev pub IsOfJournal : LearnFault → Type 0
+IsOfJournal Unfit = ⊥
+IsOfJournal Unversioned = ⊥
+IsOfJournal (Refused status) = ⊥
+IsOfJournal NoSuchRecord = ⊥
+IsOfJournal Store = Unit {0}
+IsOfJournal Memory = Unit {0}
+
+abbrev pub IsPassing : News → Type 0
+IsPassing (Lasting confirmed id seen learnt) = ⊥
+IsPassing (Passing seen learnt) = Unit {0}
+IsPassing Nothing = Unit {0}

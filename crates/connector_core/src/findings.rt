@@ -1,0 +1,170 @@
+//! What an answer says of a record.
+ghost use Rattle.std.specs.Prelude.{◌≡◌, ℕ, IfErr, IfOk};
+ghost use Rattle.scim_key.specs.Outcome.{GivesBy};
+ghost use Rattle.connector_core.specs.Learning as spec;
+ghost use Rattle.connector_core.specs.Noting.{CountsLearn, IsNewsOf, lesson_if, lesson_of};
+ghost use Rattle.connector_core.specs.declared.knowledge.Known.{Known as KnownRecord};
+
+use crate::fitting::{News, shown};
+use crate::knowledge::{Known, Seen};
+use crate::learning::{LearnFault, Learnt};
+use scim_key::RecordName;
+use scim_message::{Answer, ListResponse, Request};
+use scim_version::{Condition, EntityTag, TagList};
+use std::alloc::Global;
+
+/// What is new where the provider has no such resource: nothing where an id is known.
+fn none_shown(known: &Known) -> News
+    ensures gives { lesson_of known.now result ≡ spec.none_sighted known.now.id known.now }
+    ensures news { IsNewsOf known.now result }
+{
+    match &known.id {
+        None => News::Passing {
+            seen: Seen::Absent,
+            learnt: Learnt::Absent,
+        },
+        Some(_) => News::Nothing,
+    }
+}
+
+/// What is new where an answer says that what was seen stands no longer, if it is about what was seen.
+fn forgetting(is_concerned: bool) -> News
+    ensures gives { (known : KnownRecord) → lesson_of known result ≡ spec.forgetting is_concerned known }
+    ensures news { (known : KnownRecord) → IsNewsOf known result }
+{
+    if is_concerned {
+        News::Passing {
+            seen: Seen::Unknown,
+            learnt: Learnt::Forgotten,
+        }
+    } else {
+        News::Nothing
+    }
+}
+
+/// Whether the provider was seen to have no resource of the record.
+fn is_absent(seen: &Seen) -> bool
+    ensures { result ≡ spec.is_absent seen.now }
+{
+    matches!(seen, Seen::Absent)
+}
+
+/// Whether a tag is the only one of a list, byte for byte.
+fn is_alone(tags: &TagList, tag: &EntityTag) -> bool
+    ensures { result ≡ spec.is_alone tags.now tag.now }
+{
+    matches!(tags.as_slice(), [only] if only.text() == tag.text())
+}
+
+/// Whether the tag that was seen is the only one of a condition.
+fn is_under(if_match: &Condition, seen: &Seen) -> bool
+    ensures { result ≡ spec.is_under if_match.now seen.now }
+{
+    match (if_match, seen) {
+        (Condition::Tags(tags), Seen::At { tag, .. }) => is_alone(tags, tag),
+        _ => false,
+    }
+}
+
+/// What is new where a search is answered by a list: the resource that was found, or none.
+fn listed(
+    alloc: Global,
+    name: &RecordName,
+    known: &Known,
+    list: &ListResponse,
+) -> Result<News, LearnFault>
+    ensures gives { GivesBy (lesson_of known.now) LearnFault.Memory result (lesson_if name.now known.now (spec.listed list.now.total list.now.resources)) }
+    ensures news { IfOk result (IsNewsOf known.now) }
+    ensures counted { IfErr result (λ fault. (n : ℕ) → CountsLearn n n fault) }
+{
+    match list.resources.as_slice() {
+        [] if list.total == 0 => Ok(none_shown(known)),
+        [only] if list.total == 1 => shown(alloc, name, known, only),
+        _ => Err(LearnFault::Unfit),
+    }
+}
+
+/// What is new in the answer to a Create.
+fn from_creating(
+    alloc: Global,
+    name: &RecordName,
+    known: &Known,
+    answer: &Answer,
+) -> Result<News, LearnFault>
+    ensures gives { GivesBy (lesson_of known.now) LearnFault.Memory result (lesson_if name.now known.now (spec.found_creating answer.now)) }
+    ensures news { IfOk result (IsNewsOf known.now) }
+    ensures counted { IfErr result (λ fault. (n : ℕ) → CountsLearn n n fault) }
+{
+    match answer {
+        Answer::Created(resource) => shown(alloc, name, known, resource),
+        Answer::Error(error) if error.status() == 409 => Ok(forgetting(is_absent(&known.seen))),
+        Answer::Error(error) => Err(LearnFault::Refused {
+            status: error.status(),
+        }),
+        _ => Err(LearnFault::Unfit),
+    }
+}
+
+/// What is new in the answer to a Search.
+fn from_searching(
+    alloc: Global,
+    name: &RecordName,
+    known: &Known,
+    answer: &Answer,
+) -> Result<News, LearnFault>
+    ensures gives { GivesBy (lesson_of known.now) LearnFault.Memory result (lesson_if name.now known.now (spec.found_searching answer.now)) }
+    ensures news { IfOk result (IsNewsOf known.now) }
+    ensures counted { IfErr result (λ fault. (n : ℕ) → CountsLearn n n fault) }
+{
+    match answer {
+        Answer::List(list) => listed(alloc, name, known, list),
+        Answer::Error(error) => Err(LearnFault::Refused {
+            status: error.status(),
+        }),
+        _ => Err(LearnFault::Unfit),
+    }
+}
+
+/// What is new in the answer to a Replace under a condition.
+fn from_replacing(
+    alloc: Global,
+    name: &RecordName,
+    known: &Known,
+    if_match: &Condition,
+    answer: &Answer,
+) -> Result<News, LearnFault>
+    ensures gives { GivesBy (lesson_of known.now) LearnFault.Memory result (lesson_if name.now known.now (spec.found_replacing if_match.now answer.now)) }
+    ensures news { IfOk result (IsNewsOf known.now) }
+    ensures counted { IfErr result (λ fault. (n : ℕ) → CountsLearn n n fault) }
+{
+    match answer {
+        Answer::Replaced(resource) => shown(alloc, name, known, resource),
+        Answer::Error(error) if error.status() == 412 => {
+            Ok(forgetting(is_under(if_match, &known.seen)))
+        }
+        Answer::Error(error) => Err(LearnFault::Refused {
+            status: error.status(),
+        }),
+        _ => Err(LearnFault::Unfit),
+    }
+}
+
+/// What is new of a record in the answer to a request.
+pub(crate) fn news_in(
+    alloc: Global,
+    name: &RecordName,
+    known: &Known,
+    request: &Request,
+    answer: &Answer,
+) -> Result<News, LearnFault>
+    ensures gives { GivesBy (lesson_of known.now) LearnFault.Memory result (lesson_if name.now known.now (spec.finding request.now answer.now)) }
+    ensures news { IfOk result (IsNewsOf known.now) }
+    ensures counted { IfErr result (λ fault. (n : ℕ) → CountsLearn n n fault) }
+{
+    match request {
+        Request::Create { .. } => from_creating(alloc, name, known, answer),
+        Request::Search { .. } => from_searching(alloc, name, known, answer),
+        Request::Replace { if_match, .. } => from_replacing(alloc, name, known, if_match, answer),
+        Request::Retrieve { .. } => Err(LearnFault::Unfit),
+    }
+}

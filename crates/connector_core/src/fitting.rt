@@ -1,0 +1,143 @@
+//! Whether a shown resource is a record's, and what is new in it.
+ghost use Rattle.std.specs.Prelude.{◌≡◌, ℕ, IfErr, IfOk, IfSome};
+ghost use Rattle.scim_key.specs.Outcome.{Gives, GivesBy};
+ghost use Rattle.scim_key.specs.Revisions.{IsRevision, ◌≼◌};
+ghost use Rattle.scim_resource.specs.Contents.{content_name, content_revision};
+ghost use Rattle.source_csv.specs.Records.{row_revision};
+ghost use Rattle.source_book.specs.History.{same_name};
+ghost use Rattle.connector_core.specs.Learning as spec;
+ghost use Rattle.connector_core.specs.Noting.{CountsLearn, IsFit, IsNewsOf, lesson_of, within};
+
+use crate::knowledge::{Known, Seen};
+use crate::learning::{LearnFault, Learnt};
+use scim_key::{RecordName, ResourceId, Revision};
+use scim_resource::{Content, Shown};
+use scim_version::EntityTag;
+use std::alloc::{AllocError, Global};
+use std::marker::Model;
+
+/// What is new of a record.
+#[derive(Debug, Drop)]
+pub(crate) enum News {
+    /// An id that wasn't known, or a higher revision: for the journal too.
+    Lasting {
+        confirmed: Revision,
+        id: ResourceId,
+        seen: Seen,
+        learnt: Learnt,
+    },
+    /// What was seen, which the journal doesn't keep.
+    Passing {
+        seen: Seen,
+        learnt: Learnt,
+    },
+    Nothing,
+}
+
+/// A resource at a revision, under an entity tag.
+#[derive(Debug, Drop)]
+pub(crate) struct Sight {
+    id: ResourceId,
+    revision: Revision,
+    tag: EntityTag,
+}
+
+impl Model for Sight {
+    ghost use Rattle.connector_core.specs.Learning as spec;
+
+    ghost Value = { spec.Sight };
+
+    ghost view = { λ s. record { id = s.id; revision = s.revision; tag = s.tag } };
+}
+
+/// Whether a content is a record's.
+fn is_named(alloc: Global, name: &RecordName, content: &Content) -> Result<bool, AllocError>
+    ensures { IfOk result (λ same. same ≡ same_name name.now (content_name content.now)) }
+{
+    Ok(*name == content.name(alloc)?)
+}
+
+/// Whether an id may be a record's: any may where none is known.
+fn fits_id(known: &Known, id: &ResourceId) -> bool
+    ensures { result ≡ spec.fits_id known.now.id id.now }
+{
+    match &known.id {
+        None => true,
+        Some(known) => known.as_str() == id.as_str(),
+    }
+}
+
+/// The revision of a content, where it is one up to the wanted one.
+fn revision_within(known: &Known, content: &Content) -> Option<Revision>
+    ensures value { result ≡ within known.now (content_revision content.now) }
+    ensures lawful { IfSome result IsRevision }
+    ensures within { IfSome result (λ revision. revision ≼ row_revision known.now.wanted) }
+{
+    match content.revision() {
+        Some(revision) if !known.wanted.revision().is_before(revision) => Some(revision),
+        _ => None,
+    }
+}
+
+/// What is in sight where a resource is shown: one with the record's name and known id, a revision
+/// up to the wanted one, and an entity tag.
+fn fit(alloc: Global, name: &RecordName, known: &Known, shown: &Shown) -> Result<Sight, LearnFault>
+    ensures gives { Gives LearnFault.Memory result (spec.fit name.now known.now shown.now) }
+    ensures fit { IfOk result (IsFit known.now) }
+    ensures counted { IfErr result (λ fault. (n : ℕ) → CountsLearn n n fault) }
+{
+    if !is_named(alloc, name, shown.content())? || !fits_id(known, shown.id()) {
+        return Err(LearnFault::Unfit);
+    }
+    let Some(revision) = revision_within(known, shown.content()) else {
+        return Err(LearnFault::Unfit);
+    };
+    let Some(tag) = shown.version() else {
+        return Err(LearnFault::Unversioned);
+    };
+    Ok(Sight {
+        id: shown.id().clone()?,
+        revision,
+        tag: tag.clone()?,
+    })
+}
+
+/// What is new with a resource in sight.
+fn sighted(known: &Known, sight: Sight) -> News
+    requires { IsFit known.now sight }
+    ensures gives { lesson_of known.now result ≡ spec.sighted known.now sight }
+    ensures news { IsNewsOf known.now result }
+{
+    let Sight { id, revision, tag } = sight;
+    let is_higher = known.confirmed.is_before(revision);
+    let seen = Seen::At { tag, revision };
+    let learnt = if is_higher {
+        Learnt::Confirmed(revision)
+    } else {
+        Learnt::Seen
+    };
+    if is_higher || known.id.is_none() {
+        News::Lasting {
+            confirmed: known.confirmed.later(revision),
+            id,
+            seen,
+            learnt,
+        }
+    } else {
+        News::Passing { seen, learnt }
+    }
+}
+
+/// What is new where a resource is shown.
+pub(crate) fn shown(
+    alloc: Global,
+    name: &RecordName,
+    known: &Known,
+    shown: &Shown,
+) -> Result<News, LearnFault>
+    ensures gives { GivesBy (lesson_of known.now) LearnFault.Memory result (spec.lesson name.now known.now (spec.Shows shown.now)) }
+    ensures news { IfOk result (IsNewsOf known.now) }
+    ensures counted { IfErr result (λ fault. (n : ℕ) → CountsLearn n n fault) }
+{
+    Ok(sighted(known, fit(alloc, name, known, shown)?))
+}

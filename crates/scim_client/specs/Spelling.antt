@@ -1,0 +1,79 @@
+-- Which texts spell a request, by the server's own reading, and that the client's text does.
+use Rattle.std.specs.Prelude.{◌≡◌, ℕ, ℤ, pos, negsuc, suc, ◌+◌, ◌^◌, ◌<◌, ◌≤◌, List, length, Option, Ok, IfSome, ⊤}
+use Rattle.std.specs.List.{AllByRecursion}
+use Rattle.std.specs.Str.{IsUtf8}
+use Rattle.scim_key.specs.Bases.{IsBase}
+use Rattle.scim_key.specs.Identifiers.{IsId}
+use Rattle.scim_version.specs.declared.conditions.Condition.{Condition}
+use Rattle.scim_version.specs.declared.conditions.Condition.TheVariants.{Always, AnyTag, Tags}
+use Rattle.scim_version.specs.Tags.{IsEntityTag}
+use Rattle.scim_resource.specs.Contents.{IsContent}
+use Rattle.scim_resource.specs.declared.contents.Content.{Content}
+use Rattle.scim_filter.specs.Expressions.{Expression}
+use Rattle.scim_filter.specs.Grammar.{text_limit, depth_limit}
+use Rattle.scim_filter.specs.Texts.{filter_text, nesting}
+use Rattle.scim_message.specs.declared.messages.Request.{Request}
+use Rattle.scim_message.specs.declared.messages.Request.TheVariants.{Create, Retrieve, Search, Replace}
+use Rattle.http_text.specs.Message.{Message, head_limit, body_limit}
+use Rattle.http_text.specs.Forms.{IsRequestMessage, IsAccepted}
+use Rattle.scim_server.specs.Meaning.{Asks}
+use Rattle.scim_client.specs.Requests.{content_text, body_text, text_of}
+
+-- the text is a message that isn't refused, and what it asks for is this request
+pub record SpellsRequest (text : List ℕ) (request : Request) : Type 0 where
+  pub message : Message
+  pub is : IsRequestMessage text message
+  pub accepted : IsAccepted message
+  pub asks : Asks message (Ok request)
+
+-- ---- what the types of a request's parts say of them
+
+abbrev pub IsByte : ℕ → Type 0
+IsByte byte = byte < 256
+
+-- a content that some reading gives, whose text is UTF-8
+abbrev pub IsSentContent : Content → Type 0
+IsSentContent content = IsContent content × IsUtf8 (content_text content)
+
+-- an id, in UTF-8
+abbrev pub IsIdText : List ℕ → Type 0
+IsIdText id = AllByRecursion IsByte id × IsUtf8 id × IsId id
+
+-- a condition that a field may have: some entity tag or more, where there is a list
+abbrev pub IsSentCondition : Condition → Type 0
+IsSentCondition Always = ⊤
+IsSentCondition AnyTag = ⊤
+IsSentCondition (Tags tags) = (0 < length tags) × AllByRecursion IsEntityTag tags
+
+-- a number of at most 18 digits
+abbrev pub IsShortNumber : ℤ → Type 0
+IsShortNumber (pos n) = n < 10 ^ 18
+IsShortNumber (negsuc n) = suc n < 10 ^ 18
+
+-- a filter whose text keeps the limits of filters, in UTF-8
+abbrev pub IsSentFilter : Expression → Type 0
+IsSentFilter filter =
+    AllByRecursion IsByte (filter_text filter) × IsUtf8 (filter_text filter)
+    × (length (filter_text filter) ≤ text_limit) × (nesting filter ≤ depth_limit)
+
+abbrev pub HasParts : Request → Type 0
+HasParts (Create content) = IsSentContent content
+HasParts (Retrieve kind id if_match if_none_match) = IsIdText id × IsSentCondition if_match × IsSentCondition if_none_match
+HasParts (Search kind filter start count) = IfSome filter IsSentFilter × IsShortNumber start × IfSome count IsShortNumber
+HasParts (Replace id content if_match if_none_match) =
+    IsIdText id × IsSentContent content × IsSentCondition if_match × IsSentCondition if_none_match
+
+-- the head and the body keep the limits of requests
+abbrev pub KeepsLimits : List ℕ → Request → Type 0
+KeepsLimits base request =
+    (length (text_of base request) ≤ head_limit + length (body_text request)) × (length (body_text request) ≤ body_limit)
+
+-- A request's text is a message that asks for that request
+abbrev pub RequestsAreSpelled : Type 0
+RequestsAreSpelled =
+    (base : List ℕ) (request : Request) → IsBase base → HasParts request → KeepsLimits base request
+    → SpellsRequest (text_of base request) request
+
+-- A text spells one request
+abbrev pub OneRequest : Type 0
+OneRequest = (text : List ℕ) (one two : Request) → SpellsRequest text one → SpellsRequest text two → one ≡ two

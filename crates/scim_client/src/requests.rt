@@ -1,0 +1,346 @@
+//! The bytes of a request (RFC 7644 sections 3.3 to 3.5, RFC 9112 section 3).
+ghost use Rattle.std.specs.Prelude.{◌≡◌, ◌++◌, [], codes, decimal, length, map, IfOk, OnOk, option_map, string_bytes};
+ghost use Rattle.std.specs.Fmt.{signed_decimal};
+ghost use Rattle.std.specs.List.{flat_map, join_by};
+ghost use Rattle.std.specs.Option.{option_map_or};
+ghost use Rattle.http_text.specs.Response.{named_value};
+ghost use Rattle.scim_version.specs.declared.conditions.Condition.TheVariants.{Always};
+ghost use Rattle.scim_filter.specs.Texts.{filter_text};
+ghost use Rattle.scim_server.specs.Laws as paths;
+ghost use Rattle.scim_server.specs.Replies.{line_with, written_lines, stated_type};
+ghost use Rattle.scim_server.specs.Routes as routes;
+ghost use Rattle.scim_client.specs.Requests as spec;
+
+use form_urlencoded::Serializer;
+use http_text::{FieldLine, write_request};
+use itoa::Buffer;
+use scim_filter::Filter;
+use scim_json::compact;
+use scim_key::{Base, Kind, ResourceId};
+use scim_message::Request;
+use scim_resource::{Content, location};
+use scim_version::{Condition, EntityTag};
+use std::alloc::{AllocError, Global};
+
+/// The bytes of a request to the service at this base.
+pub(crate) fn bytes_of(alloc: Global, base: &Base, request: &Request) -> Result<Vec<u8>, AllocError>
+    ensures { IfOk result (λ text. text.items ≡ spec.text_of base.now request.now) }
+{
+    let target = target_of(alloc, base, request)?;
+    let body = body_of(alloc, request)?;
+    let if_match = condition_value(alloc, if_match_of(request))?;
+    let if_none_match = condition_value(alloc, if_none_match_of(request))?;
+    let mut buffer = Buffer::new();
+    let fields = fields_of(
+        alloc,
+        base.authority(),
+        length_of(lent(&body), &mut buffer),
+        lent(&if_match),
+        lent(&if_none_match),
+    )?;
+    write_request(
+        alloc,
+        method_of(request),
+        target.as_str(),
+        &fields,
+        sent(lent(&body)),
+    )
+}
+
+fn method_of(request: &Request) -> &'static str
+    ensures { result.now ≡ spec.method_text request.now }
+{
+    match request {
+        Request::Create { .. } => "POST",
+        Request::Retrieve { .. } | Request::Search { .. } => "GET",
+        Request::Replace { .. } => "PUT",
+    }
+}
+
+fn lent(bytes: &Option<Vec<u8>>) -> Option<&[u8]>
+    ensures { option_map (λ t. t.now) result ≡ option_map (λ t. t.items) bytes.now }
+{
+    match bytes {
+        Some(bytes) => Some(bytes.as_slice()),
+        None => None,
+    }
+}
+
+// ---- the field lines
+
+/// The field lines of a request, each where it has a value.
+fn fields_of<'a>(
+    alloc: Global,
+    host: &'a [u8],
+    length: Option<&'a [u8]>,
+    if_match: Option<&'a [u8]>,
+    if_none_match: Option<&'a [u8]>,
+) -> Result<Vec<FieldLine<'a>>, AllocError>
+    ensures { IfOk result (λ fields. map named_value fields.items
+        ≡ written_lines (spec.lines_of host.now (option_map (λ t. t.now) length.entry) (option_map (λ t. t.now) if_match.entry)
+        (option_map (λ t. t.now) if_none_match.entry))) }
+{
+    let media_type = media_type(length);
+    let mut fields = Vec::new(alloc);
+    push_line(&mut fields, "Host", Some(host))?;
+    push_line(&mut fields, "Accept", Some(b"application/scim+json"))?;
+    push_line(&mut fields, "Connection", Some(b"close"))?;
+    push_line(&mut fields, "Content-Length", length)?;
+    push_line(&mut fields, "Content-Type", media_type)?;
+    push_line(&mut fields, "If-Match", if_match)?;
+    push_line(&mut fields, "If-None-Match", if_none_match)?;
+    Ok(fields)
+}
+
+/// Adds a field line where it has a value.
+fn push_line<'a>(
+    fields: &mut Vec<FieldLine<'a>>,
+    name: &'a str,
+    value: Option<&'a [u8]>,
+) -> Result<(), AllocError>
+    ensures { OnOk result (map named_value fields.new.items ≡ map named_value fields.old.items
+        ++ line_with name.now (option_map (λ t. t.now) value.entry)) }
+{
+    if let Some(value) = value {
+        fields.push(FieldLine { name, value })?;
+    }
+    Ok(())
+}
+
+/// The media type of a body that is there.
+fn media_type(length: Option<&[u8]>) -> Option<&'static [u8]>
+    ensures { option_map (λ t. t.now) result ≡ stated_type (option_map (λ t. t.now) length.entry) }
+{
+    match length {
+        Some(_) => Some(b"application/scim+json"),
+        None => None,
+    }
+}
+
+fn length_of<'a>(body: Option<&[u8]>, buffer: &'a mut Buffer) -> Option<&'a [u8]>
+    ensures { option_map (λ t. t.now) result
+        ≡ option_map (λ t. decimal (length t)) (option_map (λ t. t.now) body.entry) }
+{
+    match body {
+        Some(body) => Some(buffer.format(body.len()).as_bytes()),
+        None => None,
+    }
+}
+
+fn if_match_of(request: &Request) -> Option<&Condition>
+    ensures { option_map_or (λ t. t.now) result Always ≡ spec.if_match_of request.now }
+{
+    match request {
+        Request::Retrieve { if_match, .. } | Request::Replace { if_match, .. } => Some(if_match),
+        Request::Create { .. } | Request::Search { .. } => None,
+    }
+}
+
+fn if_none_match_of(request: &Request) -> Option<&Condition>
+    ensures { option_map_or (λ t. t.now) result Always ≡ spec.if_none_match_of request.now }
+{
+    match request {
+        Request::Retrieve { if_none_match, .. } | Request::Replace { if_none_match, .. } => {
+            Some(if_none_match)
+        }
+        Request::Create { .. } | Request::Search { .. } => None,
+    }
+}
+
+/// The value of the field that has a condition, where there is one.
+fn condition_value(
+    alloc: Global,
+    condition: Option<&Condition>,
+) -> Result<Option<Vec<u8>>, AllocError>
+    ensures { IfOk result (λ value. option_map (λ t. t.items) value
+        ≡ spec.condition_value (option_map_or (λ t. t.now) condition.entry Always)) }
+{
+    match condition {
+        None | Some(Condition::Always) => Ok(None),
+        Some(Condition::AnyTag) => Ok(Some(Vec::from_slice(alloc, b"*")?)),
+        Some(Condition::Tags(tags)) => Ok(Some(tags_text(alloc, tags.as_slice())?)),
+    }
+}
+
+/// The tags, with a comma and a space between two of them.
+fn tags_text(alloc: Global, tags: &[EntityTag]) -> Result<Vec<u8>, AllocError>
+    ensures { IfOk result (λ text. text.items ≡ join_by (λ tag. tag) (codes ", ") tags.now) }
+{
+    match tags {
+        [] => Ok(Vec::new(alloc)),
+        [first, others @ ..] => {
+            let mut text = Vec::from_slice(alloc, first.text())?;
+            push_tags(&mut text, others)?;
+            Ok(text)
+        }
+    }
+}
+
+fn push_tags(text: &mut Vec<u8>, tags: &[EntityTag]) -> Result<(), AllocError>
+    ensures { OnOk result (text.new.items
+        ≡ text.old.items ++ flat_map (λ tag. codes ", " ++ tag) tags.now) }
+{
+    for tag in tags {
+        push_tag(text, tag)?;
+    }
+    Ok(())
+}
+
+fn push_tag(text: &mut Vec<u8>, tag: &EntityTag) -> Result<(), AllocError>
+    ensures { OnOk result (text.new.items ≡ text.old.items ++ (codes ", " ++ tag.now)) }
+{
+    text.extend_from_slice(b", ")?;
+    text.extend_from_slice(tag.text())
+}
+
+// ---- the body
+
+/// The compact text of the content that a request sends, where it sends one.
+fn body_of(alloc: Global, request: &Request) -> Result<Option<Vec<u8>>, AllocError>
+    ensures { IfOk result (λ body. option_map (λ t. t.items) body ≡ spec.body_sent request.now) }
+{
+    match request {
+        Request::Create { content } | Request::Replace { content, .. } => {
+            Ok(Some(compact(alloc, &content.to_value(alloc)?)?))
+        }
+        Request::Retrieve { .. } | Request::Search { .. } => Ok(None),
+    }
+}
+
+fn sent(body: Option<&[u8]>) -> &[u8]
+    ensures { result.now ≡ option_map_or (λ t. t) (option_map (λ t. t.now) body.entry) [] }
+{
+    body.unwrap_or_default()
+}
+
+// ---- the target
+
+fn target_of(alloc: Global, base: &Base, request: &Request) -> Result<String, AllocError>
+    ensures { IfOk result (λ text. string_bytes text ≡ spec.target_text request.now) }
+{
+    match request {
+        Request::Create { content } => { String::from_str(alloc, collection_path(content.kind())) }
+        Request::Retrieve { kind, id, .. } => resource_path(alloc, base, *kind, id),
+        Request::Search {
+            kind,
+            filter,
+            start,
+            count,
+        } => {
+            let query = query_of(alloc, filter.as_ref(), *start, *count)?;
+            search_target(alloc, *kind, query.as_str())
+        }
+        Request::Replace { id, content, .. } => { resource_path(alloc, base, content.kind(), id) }
+    }
+}
+
+fn collection_path(kind: Kind) -> &'static str
+    ensures { result.now ≡ routes.collection_path kind }
+{
+    match kind {
+        Kind::User => "/v2/Users",
+        Kind::Group => "/v2/Groups",
+    }
+}
+
+/// The path of a resource: its location without the origin.
+fn resource_path(
+    alloc: Global,
+    base: &Base,
+    kind: Kind,
+    id: &ResourceId,
+) -> Result<String, AllocError>
+    ensures { IfOk result (λ text. string_bytes text ≡ paths.resource_path kind id.now) }
+{
+    let uri = location(alloc, base, kind, id)?;
+    let mut path = String::from_str(alloc, "/v2")?;
+    path.push_str(&uri.as_str()[base.as_str().len()..])?;
+    Ok(path)
+}
+
+/// The path of a collection, and the query where it isn't empty.
+fn search_target(alloc: Global, kind: Kind, query: &str) -> Result<String, AllocError>
+    ensures { IfOk result (λ text. string_bytes text
+        ≡ spec.with_query (routes.collection_path kind) query.now) }
+{
+    let mut target = String::from_str(alloc, collection_path(kind))?;
+    if !query.is_empty() {
+        target.push_str("?")?;
+        target.push_str(query)?;
+    }
+    Ok(target)
+}
+
+/// The parameters of a search that have a value, as a form writes them.
+fn query_of(
+    alloc: Global,
+    filter: Option<&Filter>,
+    start: i64,
+    count: Option<i64>,
+) -> Result<String, AllocError>
+    ensures { IfOk result (λ text. string_bytes text
+        ≡ spec.query_text (option_map (λ t. t.now) filter.entry) start count) }
+{
+    let filter = filter_text_of(alloc, filter)?;
+    let mut form = Serializer::new(String::new(alloc));
+    push_parameter(&mut form, "filter", lent_text(&filter))?;
+    push_parameter(
+        &mut form,
+        "startIndex",
+        start_value(start, &mut Buffer::new()),
+    )?;
+    push_parameter(&mut form, "count", count_value(count, &mut Buffer::new()))?;
+    Ok(form.finish())
+}
+
+/// Adds a parameter where it has a value.
+fn push_parameter(form: &mut Serializer, name: &str, value: Option<&str>) -> Result<(), AllocError>
+    ensures { OnOk result (form.new ≡ record {
+      prefix = form.old.prefix;
+      form = spec.with_parameter form.old.form name.now (option_map (λ t. t.now) value.entry);
+    }) }
+{
+    match value {
+        Some(value) => form.append_pair(name, value),
+        None => Ok(()),
+    }
+}
+
+fn filter_text_of(alloc: Global, filter: Option<&Filter>) -> Result<Option<String>, AllocError>
+    ensures { IfOk result (λ text. option_map string_bytes text
+        ≡ option_map filter_text (option_map (λ t. t.now) filter.entry)) }
+{
+    match filter {
+        Some(filter) => Ok(Some(filter.to_text(alloc)?)),
+        None => Ok(None),
+    }
+}
+
+fn lent_text(text: &Option<String>) -> Option<&str>
+    ensures { option_map (λ t. t.now) result ≡ option_map string_bytes text.now }
+{
+    match text {
+        Some(text) => Some(text.as_str()),
+        None => None,
+    }
+}
+
+/// The start, where it isn't the first place.
+fn start_value(start: i64, buffer: &mut Buffer) -> Option<&str>
+    ensures { option_map (λ t. t.now) result ≡ spec.start_value start }
+{
+    if start == 1 {
+        None
+    } else {
+        Some(buffer.format(start))
+    }
+}
+
+fn count_value(count: Option<i64>, buffer: &mut Buffer) -> Option<&str>
+    ensures { option_map (λ t. t.now) result ≡ option_map signed_decimal count }
+{
+    match count {
+        Some(count) => Some(buffer.format(count)),
+        None => None,
+    }
+}

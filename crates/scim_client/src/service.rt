@@ -1,0 +1,312 @@
+//! The service, and the requests that are built for it.
+ghost use Rattle.std.specs.Prelude.{◌≡◌, None, IfOk, option_map, pos};
+ghost use Rattle.scim_message.specs.declared.messages.Request.TheVariants as requests;
+ghost use Rattle.scim_version.specs.declared.conditions.Condition.TheVariants.{Always};
+ghost use Rattle.scim_client.specs.Requests.{tag_alone, text_of, through_filter, under_tag};
+
+use crate::requests::bytes_of;
+use scim_filter::Filter;
+use scim_key::{Base, Kind, ResourceId};
+use scim_message::Request;
+use scim_resource::Content;
+use scim_version::{Condition, EntityTag, TagList};
+use std::alloc::{AllocError, Global};
+use std::marker::Model;
+
+/// A SCIM service, to which requests are sent.
+#[derive(Debug, Drop)]
+pub struct ScimService {
+    base: Base,
+}
+
+impl Model for ScimService {
+    ghost use Rattle.std.specs.Prelude.{List, ℕ};
+
+    ghost Value = { List ℕ };
+
+    ghost view = { λ s. s.base };
+}
+
+impl ScimService {
+    /// The service at this base.
+    pub fn new(base: Base) -> ScimService
+        ensures { result ≡ base }
+    {
+        ScimService { base }
+    }
+
+    /// Its base.
+    pub fn base(&self) -> &Base
+        ensures { result.now ≡ self.now }
+    {
+        &self.base
+    }
+
+    /// The bytes of a request to it.
+    pub fn bytes_of(&self, alloc: Global, request: &Request) -> Result<Vec<u8>, AllocError>
+        ensures { IfOk result (λ text. text.items ≡ text_of self.now request.now) }
+    {
+        bytes_of(alloc, &self.base, request)
+    }
+
+    /// A new resource with this content.
+    pub fn create_request<'a>(&'a self, content: &'a Content) -> CreateRequest<'a>
+        ensures { result ≡ record { base = self.now; request = requests.Create content.now } }
+    {
+        CreateRequest {
+            service: self,
+            content,
+        }
+    }
+
+    /// The resource of this type with this id.
+    pub fn retrieve_request<'a>(&'a self, kind: Kind, id: &'a ResourceId) -> RetrieveRequest<'a>
+        ensures { result ≡ record { base = self.now; request = requests.Retrieve kind id.now Always Always } }
+    {
+        RetrieveRequest {
+            service: self,
+            kind,
+            id,
+        }
+    }
+
+    /// The resources of this type: from the first one on, as many as the provider gives at once.
+    pub fn search_request(&self, kind: Kind) -> SearchRequest<'_>
+        ensures { result ≡ record { base = self.now; request = requests.Search kind None (pos 1) None } }
+    {
+        SearchRequest {
+            service: self,
+            kind,
+            filter: None,
+        }
+    }
+
+    /// Another content for the resource with this id, whatever its version.
+    pub fn replace_request<'a>(
+        &'a self,
+        content: &'a Content,
+        id: &'a ResourceId,
+    ) -> ReplaceRequest<'a>
+        ensures { result ≡ record { base = self.now; request = requests.Replace id.now content.now Always Always } }
+    {
+        ReplaceRequest {
+            service: self,
+            content,
+            id,
+            if_match: None,
+        }
+    }
+}
+
+/// A Create that is being built.
+#[derive(Debug, Drop)]
+pub struct CreateRequest<'a> {
+    service: &'a ScimService,
+    content: &'a Content,
+}
+
+impl<'a> Model for CreateRequest<'a> {
+    ghost use Rattle.std.specs.Coded.{codes};
+    ghost use Rattle.scim_filter.specs.Codes.{expression_code};
+    ghost use Rattle.scim_client.specs.Requests.{Planned};
+    ghost use Rattle.scim_message.specs.declared.messages.Request.TheVariants.{Create};
+
+    ghost Value = { Planned };
+
+    ghost coded = { Prim.hlevel (codes, expression_code) };
+
+    ghost view = { λ r. record { base = r.service.now; request = Create r.content.now } };
+}
+
+impl<'a> CreateRequest<'a> {
+    /// The request.
+    pub fn request(&self, _alloc: Global) -> Result<Request, AllocError>
+        ensures { IfOk result (λ request. request ≡ self.now.request) }
+    {
+        Ok(Request::Create {
+            content: self.content.clone()?,
+        })
+    }
+
+    /// Its bytes.
+    pub fn build(&self, alloc: Global) -> Result<Vec<u8>, AllocError>
+        ensures { IfOk result (λ text. text.items ≡ text_of self.now.base self.now.request) }
+    {
+        self.service.bytes_of(alloc, &self.request(alloc)?)
+    }
+}
+
+/// A Retrieve that is being built.
+#[derive(Debug, Drop)]
+pub struct RetrieveRequest<'a> {
+    service: &'a ScimService,
+    kind: Kind,
+    id: &'a ResourceId,
+}
+
+impl<'a> Model for RetrieveRequest<'a> {
+    ghost use Rattle.std.specs.Coded.{codes};
+    ghost use Rattle.scim_filter.specs.Codes.{expression_code};
+    ghost use Rattle.scim_client.specs.Requests.{Planned};
+    ghost use Rattle.scim_message.specs.declared.messages.Request.TheVariants.{Retrieve};
+    ghost use Rattle.scim_version.specs.declared.conditions.Condition.TheVariants.{Always};
+
+    ghost Value = { Planned };
+
+    ghost coded = { Prim.hlevel (codes, expression_code) };
+
+    ghost view = { λ r. record { base = r.service.now; request = Retrieve r.kind r.id.now Always Always } };
+}
+
+impl<'a> RetrieveRequest<'a> {
+    /// The request.
+    pub fn request(&self, _alloc: Global) -> Result<Request, AllocError>
+        ensures { IfOk result (λ request. request ≡ self.now.request) }
+    {
+        Ok(Request::Retrieve {
+            kind: self.kind,
+            id: self.id.clone()?,
+            if_match: Condition::Always,
+            if_none_match: Condition::Always,
+        })
+    }
+
+    /// Its bytes.
+    pub fn build(&self, alloc: Global) -> Result<Vec<u8>, AllocError>
+        ensures { IfOk result (λ text. text.items ≡ text_of self.now.base self.now.request) }
+    {
+        self.service.bytes_of(alloc, &self.request(alloc)?)
+    }
+}
+
+/// A Search that is being built.
+#[derive(Debug, Drop)]
+pub struct SearchRequest<'a> {
+    service: &'a ScimService,
+    kind: Kind,
+    filter: Option<&'a Filter>,
+}
+
+impl<'a> Model for SearchRequest<'a> {
+    ghost use Rattle.std.specs.Prelude.{None, option_map, pos};
+    ghost use Rattle.std.specs.Coded.{codes};
+    ghost use Rattle.scim_filter.specs.Codes.{expression_code};
+    ghost use Rattle.scim_client.specs.Requests.{Planned};
+    ghost use Rattle.scim_message.specs.declared.messages.Request.TheVariants.{Search};
+
+    ghost Value = { Planned };
+
+    ghost coded = { Prim.hlevel (codes, expression_code) };
+
+    ghost view = { λ r. record {
+      base = r.service.now;
+      request = Search r.kind (option_map (λ t. t.now) r.filter) (pos 1) None;
+    } };
+}
+
+impl<'a> SearchRequest<'a> {
+    /// Only the resources that this filter finds.
+    pub fn filter(self, filter: &'a Filter) -> SearchRequest<'a>
+        ensures { result ≡ record { base = self.entry.base; request = through_filter filter.now self.entry.request } }
+    {
+        SearchRequest {
+            filter: Some(filter),
+            ..self
+        }
+    }
+
+    /// The request.
+    pub fn request(&self, _alloc: Global) -> Result<Request, AllocError>
+        ensures { IfOk result (λ request. request ≡ self.now.request) }
+    {
+        let filter = match self.filter {
+            Some(filter) => Some(filter.clone()?),
+            None => None,
+        };
+        Ok(Request::Search {
+            kind: self.kind,
+            filter,
+            start: 1,
+            count: None,
+        })
+    }
+
+    /// Its bytes.
+    pub fn build(&self, alloc: Global) -> Result<Vec<u8>, AllocError>
+        ensures { IfOk result (λ text. text.items ≡ text_of self.now.base self.now.request) }
+    {
+        self.service.bytes_of(alloc, &self.request(alloc)?)
+    }
+}
+
+/// A Replace that is being built.
+#[derive(Debug, Drop)]
+pub struct ReplaceRequest<'a> {
+    service: &'a ScimService,
+    content: &'a Content,
+    id: &'a ResourceId,
+    if_match: Option<&'a EntityTag>,
+}
+
+impl<'a> Model for ReplaceRequest<'a> {
+    ghost use Rattle.std.specs.Prelude.{option_map};
+    ghost use Rattle.std.specs.Coded.{codes};
+    ghost use Rattle.scim_filter.specs.Codes.{expression_code};
+    ghost use Rattle.scim_client.specs.Requests.{Planned, tag_alone};
+    ghost use Rattle.scim_message.specs.declared.messages.Request.TheVariants.{Replace};
+    ghost use Rattle.scim_version.specs.declared.conditions.Condition.TheVariants.{Always};
+
+    ghost Value = { Planned };
+
+    ghost coded = { Prim.hlevel (codes, expression_code) };
+
+    ghost view = { λ r. record {
+      base = r.service.now;
+      request = Replace r.id.now r.content.now (tag_alone (option_map (λ t. t.now) r.if_match)) Always;
+    } };
+}
+
+impl<'a> ReplaceRequest<'a> {
+    /// Only where the resource has the version with this tag (RFC 7232 section 3.1).
+    pub fn if_match(self, tag: &'a EntityTag) -> ReplaceRequest<'a>
+        ensures { result ≡ record { base = self.entry.base; request = under_tag tag.now self.entry.request } }
+    {
+        ReplaceRequest {
+            if_match: Some(tag),
+            ..self
+        }
+    }
+
+    /// The request.
+    pub fn request(&self, alloc: Global) -> Result<Request, AllocError>
+        ensures { IfOk result (λ request. request ≡ self.now.request) }
+    {
+        Ok(Request::Replace {
+            id: self.id.clone()?,
+            content: self.content.clone()?,
+            if_match: tag_alone(alloc, self.if_match)?,
+            if_none_match: Condition::Always,
+        })
+    }
+
+    /// Its bytes.
+    pub fn build(&self, alloc: Global) -> Result<Vec<u8>, AllocError>
+        ensures { IfOk result (λ text. text.items ≡ text_of self.now.base self.now.request) }
+    {
+        self.service.bytes_of(alloc, &self.request(alloc)?)
+    }
+}
+
+/// The condition of one tag alone, where there is one.
+fn tag_alone(alloc: Global, tag: Option<&EntityTag>) -> Result<Condition, AllocError>
+    ensures { IfOk result (λ condition. condition ≡ tag_alone (option_map (λ t. t.now) tag.entry)) }
+{
+    match tag {
+        None => Ok(Condition::Always),
+        Some(tag) => {
+            let mut tags = Vec::new(alloc);
+            tags.push(tag.clone()?)?;
+            Ok(Condition::Tags(TagList::from_vec(tags)))
+        }
+    }
+}

@@ -1,0 +1,69 @@
+//! `serve`: connections to a socket, answered by one provider, one after another.
+ghost use Rattle.std.specs.Prelude.{◌≡◌, ◌≢◌};
+ghost use Rattle.scimlink.specs.Statuses.{outcome_status};
+ghost use Rattle.scimlink.specs.declared.status.RunFault.TheVariants.{Memory};
+
+use crate::status::{RunFault, Status};
+use connection::{ConnectionFault, Sockets, serve_connections};
+use provider_core::{MemoryRegistry, Provider};
+use scim_key::Base;
+use std::io;
+use std::io::ErrorKind;
+use std::net::{Net, OpenListener, SocketAddr, TcpListener};
+use std::rt::Runtime;
+use std::time::Duration;
+
+/// For how many seconds a connection may take its time, in all.
+const CONNECTION_SECONDS: u64 = 30;
+
+/// Serves so many connections to an address from a provider in memory that is empty at first.
+pub fn serve<R: Runtime + Net + AllocGlobal>(
+    rt: &R,
+    address: &str,
+    requests: u32,
+    base: &Base,
+) -> Result<Status, RunFault> {
+    let mut sockets = Sockets {
+        listener: listen(rt, address)?,
+        clock: rt,
+        limit: Duration::from_secs(CONNECTION_SECONDS),
+    };
+    let mut provider = Provider::new(MemoryRegistry::new(rt.alloc()));
+    let outcome = serve_connections(rt, rt.alloc(), &mut sockets, requests, base, &mut provider);
+    Ok(outcome_status(outcome))
+}
+
+/// Listens on an address, and prints the one that was taken.
+fn listen<R: Runtime + Net>(rt: &R, address: &str) -> Result<R::Listener, RunFault> {
+    let (listener, taken) = bound(rt, address).map_err(|error| listen_fault(error.kind()))?;
+    println!(rt; "listening {taken}")?;
+    Ok(listener)
+}
+
+/// A listener on an address, and the address with the port that it took.
+fn bound<R: Net>(rt: &R, address: &str) -> io::Result<(R::Listener, SocketAddr)> {
+    let listener = TcpListener::bind(rt, address)?;
+    let taken = listener.local_addr()?;
+    Ok((listener, taken))
+}
+
+/// Why an address can't be listened on.
+fn listen_fault(kind: ErrorKind) -> RunFault
+    ensures memory { kind ≡ ErrorKind.OutOfMemory → result ≡ Memory }
+    ensures connection { kind ≢ ErrorKind.OutOfMemory → result ≡ RunFault.Connection (record {}) }
+{
+    match kind {
+        ErrorKind::OutOfMemory => RunFault::Memory,
+        _ => RunFault::Connection(ConnectionFault),
+    }
+}
+
+/// How a run ends that told each fault of its connections when it came.
+fn outcome_status(outcome: Result<(), ConnectionFault>) -> Status
+    ensures { result ≡ outcome_status outcome }
+{
+    match outcome {
+        Ok(()) => Status::Done,
+        Err(ConnectionFault) => Status::Fault,
+    }
+}

@@ -1,0 +1,73 @@
+-- A record whose wanted revision is confirmed is settled.
+use Rattle.std.proofs.Common.{◌≡◌, ◌≢◌, ℕ, zero, suc, true, List, [], ◌∷◌, length, Some, None, ◌⊎◌, inl, inr, ap, sym, ◌∙◌, subst}
+use Rattle.std.specs.List.{AllByRecursion, last_or}
+use Rattle.scim_key.proofs.RevisionLaws.{irreflexive, none_before}
+use Rattle.scim_key.specs.Revisions.{RevisionValue, no_revision, before, ◌≺◌}
+use Rattle.scim_key.specs.declared.records.RecordName.{RecordName}
+use Rattle.source_csv.specs.Records.{row_revision}
+use Rattle.source_csv.specs.declared.rows.Row.{Row}
+use Rattle.provider_core.proofs.TableLaws.{held_at}
+use Rattle.source_book.specs.History.{Rises, rows_of}
+use Rattle.mapping.specs.Images.{image}
+use Rattle.connector_core.specs.declared.knowledge.Known.{Known}
+use Rattle.world_model.specs.Safe.{IsAt, Has, id_in}
+use Rattle.world_model.specs.Settled.{IsSettledOf}
+use Rattle.world_model.specs.World.{World}
+use Rattle.world_model.proofs.Asked.{IsDone, if_done}
+use Rattle.world_model.proofs.Keeping.{none_above_held}
+use Rattle.world_model.proofs.Lists.{last_has}
+use Rattle.world_model.proofs.Noting.{HasVersion}
+use Rattle.world_model.proofs.Phases.{is_last, its_law}
+use Rattle.world_model.proofs.Quiet.{Quiet}
+use Rattle.world_model.proofs.Ranking.{lawful_revision}
+
+above_all : (r : RevisionValue) (rows : List Row) (i : ℕ) (row : Row) → AllByRecursion (λ later. r ≺ row_revision later) rows → IsAt rows i row → r ≺ row_revision row
+above_all r [] i row all at = absurd (cc)
+above_all r (s ∷ rows) zero row all at = let same : s ≡ row = cc in subst (λ (x : Row). r ≺ row_revision x) same all.0
+above_all r (s ∷ rows) (suc i) row all at = above_all r rows i row all.1 at
+
+-- each row of a record is the last, or of a lower revision
+last_or_below : (rows : List Row) (i : ℕ) (row last : Row) → Rises rows → IsAt rows i row → last_or None rows ≡ Some last → (row ≡ last) ⊎ (row_revision row ≺ row_revision last)
+last_or_below [] i row last rises at is = absurd (cc)
+last_or_below (r ∷ []) zero row last rises at is = inl (cc)
+last_or_below (r ∷ []) (suc i) row last rises at is = absurd (cc)
+last_or_below (r ∷ s ∷ rows) zero row last rises at is =
+    let same : r ≡ row = cc in
+    let there = last_has (s ∷ rows) last is in
+    inr (subst (λ (x : Row). row_revision x ≺ row_revision last) same (above_all (row_revision r) (s ∷ rows) there.0 last rises.0 there.1))
+last_or_below (r ∷ s ∷ rows) (suc i) row last rises at is = last_or_below (s ∷ rows) i row last rises.1 at is
+
+module _ (w : World) (q : Quiet w) (name : RecordName) (known : Known) (in_book : w.book name ≡ Some known) (done : IsDone known) where
+  confirmed : known.confirmed ≡ row_revision known.wanted
+  confirmed = if_done known done
+
+  is_some : known.confirmed ≢ no_revision
+  is_some none =
+      let lawful = none_before (row_revision known.wanted) (lawful_revision known.wanted (its_law w q name known in_book)) in
+      irreflexive no_revision (subst (λ (r : RevisionValue). no_revision ≺ r) (sym confirmed ∙ none) lawful)
+
+  pub has_version : HasVersion w.entries name known.id known.confirmed
+  has_version = (q.inv.noted name known in_book).confirmed is_some
+
+  -- what the entry holds is the image of the last row
+  its_image : image (id_in w.entries) known.wanted ≡ Some has_version.version.entry.held
+  its_image =
+      let v = has_version.version in
+      let is = q.inv.kept.imaged v.place (length v.entry.earlier) v.entry v.entry.held v.here (held_at v.entry) in
+      let reached = none_above_held v.entry (q.inv.kept.rises v.place v.entry v.here) v.turn v.content known.confirmed (row_revision is.row) v.held v.at_revision is.revision in
+      let there : Has (rows_of w.history name) is.row = subst (λ (n : RecordName). Has (rows_of w.history n) is.row) v.of_record is.accepted in
+      elim (last_or_below (rows_of w.history name) there.0 is.row known.wanted (q.inv.rising name) there.1 (is_last w q name known in_book)) [
+        | inl same ↦ ap (image (id_in w.entries)) (sym same) ∙ is.image
+        | inr below ↦ absurd (let up : before (row_revision is.row) known.confirmed ≡ true = subst (λ (r : RevisionValue). row_revision is.row ≺ r) (sym confirmed) below in cc)
+      ]
+
+  pub settled_of : IsSettledOf w name
+  settled_of = record {
+    known = known;
+    entry = has_version.version.entry;
+    in_book = in_book;
+    wanted = is_last w q name known in_book;
+    confirmed = confirmed;
+    of_record = ((has_version.version.place, has_version.version.here), has_version.version.of_record);
+    held = its_image;
+  }

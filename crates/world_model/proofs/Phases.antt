@@ -1,0 +1,233 @@
+-- The phases of a record on the way to its wanted revision: each exchange goes one phase on.
+use Rattle.std.proofs.Common.{◌≡◌, ℕ, suc, ◌<◌, Bool, true, false, List, [], ◌∷◌, length, Option, Some, None, refl, ap, sym, ◌∙◌, subst, arith, length-append}
+use Rattle.std.proofs.lemmas.Slice.Eq.{bytes_eq-Decides}
+use Rattle.std.specs.List.{slice_get}
+use Rattle.std.specs.Option.{option_map}
+use Rattle.scim_key.specs.Identifiers.{id_text}
+use Rattle.scim_key.specs.Revisions.{RevisionValue, later}
+use Rattle.scim_key.specs.declared.records.RecordName.{RecordName}
+use Rattle.scim_version.proofs.Versions.{has_version-alone}
+use Rattle.scim_version.specs.Conditions.{holds_match}
+use Rattle.scim_version.specs.Tags.{version_tag}
+use Rattle.scim_version.specs.declared.conditions.Condition.TheVariants.{Tags}
+use Rattle.scim_resource.specs.Contents.{content_name}
+use Rattle.scim_resource.specs.Rows.{ShownRecord, shown, last_version}
+use Rattle.scim_resource.specs.declared.contents.Content.{Content}
+use Rattle.scim_message.specs.declared.messages.Request.{Request}
+use Rattle.scim_message.specs.declared.messages.Request.TheVariants.{Create}
+use Rattle.provider_core.specs.Stories.{Entry, story, Numbered, row_of, step}
+use Rattle.provider_core.specs.Tables.{entry_named}
+use Rattle.provider_core.proofs.TableLaws.{named_found}
+use Rattle.source_csv.specs.Records.{IsRow, row_name, row_revision}
+use Rattle.source_book.specs.History.{rows_of, last_row}
+use Rattle.connector_core.specs.Asking.{asking, is_done, request_for, search_for, replacement}
+use Rattle.connector_core.specs.Learning.{Shows_none, Taken, Stale, subject, Sight, sighted, none_sighted, forgetting, is_absent, is_under, content_revision}
+use Rattle.connector_core.specs.declared.asking.Ask.TheVariants.{Send}
+use Rattle.connector_core.specs.declared.knowledge.Known.{Known}
+use Rattle.connector_core.specs.declared.knowledge.Seen.{Seen}
+use Rattle.connector_core.specs.declared.knowledge.Seen.TheVariants.{Unknown, Absent, At}
+use Rattle.world_model.specs.Safe.{IsAt, Has, id_in, IsVersion}
+use Rattle.world_model.specs.World.{World}
+use Rattle.world_model.proofs.Answering.{below_last}
+use Rattle.world_model.proofs.Asked.{IsDone, done_if, later_top, HasImage, image_named, image_revised, asked}
+use Rattle.world_model.proofs.Exchanging.{answer_to}
+use Rattle.world_model.proofs.Finding.{Lacks, Finds, Finds.finds, Finds.lacks, search_finds, search_keeps, Creates, Creates.creates, Creates.meets, create_answers, Replaces, Replaces.renews, Replaces.misses, replace_answers}
+use Rattle.world_model.proofs.Leading.{Leads, leads_to, sees}
+use Rattle.world_model.proofs.Lists.{last_has}
+use Rattle.world_model.proofs.Noting.{Noted}
+use Rattle.world_model.proofs.Quiet.{Quiet, few_entries}
+use Rattle.world_model.proofs.Ranking.{row_lawful, versions_few}
+use Rattle.world_model.proofs.Searched.{search_subject}
+use Rattle.world_model.proofs.Sending.{row_of_record}
+
+-- what was seen is so: there is no entry, or the tag is that of the entry's current version
+pub data Near (es : List Entry) (name : RecordName) (known : Known) : Type 0 where
+  truly_absent : known.seen ≡ Absent → Lacks es name → Near es name known
+  at_current : (i : ℕ) (e : Entry) (revision : RevisionValue) → IsAt es i e → e.name ≡ name → known.seen ≡ At (version_tag (suc (length e.earlier))) revision → Near es name known
+
+-- what an exchange makes of what was known: the wanted revision is confirmed; or, where nothing was seen, what is so was seen;
+-- or what was seen and isn't so is forgotten
+pub data Goes (es : List Entry) (name : RecordName) (known : Known) (fs : List Entry) (now : Known) : Type 0 where
+  ends : IsDone now → Goes es name known fs now
+  nears : known.seen ≡ Unknown → Near fs name now → Goes es name known fs now
+  forgets : now.seen ≡ Unknown → (known.seen ≡ Unknown → ⊥) → (Near es name known → ⊥) → Goes es name known fs now
+
+pub record Exchanged (w : World) (name : RecordName) (known : Known) : Type 0 where
+  pub now : Known
+  pub request : Request
+  pub leads : Leads w name request now
+  pub goes : Goes w.entries name known (step w.entries request).entries now
+
+-- a record with a known id has an entry
+id_entry : (es : List Entry) (name : RecordName) (id : List ℕ) → id_in es name ≡ Some id → Lacks es name → ⊥
+id_entry es name id is none = go (entry_named name es) refl is
+  where
+    go : (o : Option Numbered) → entry_named name es ≡ o → option_map (λ n. id_text n.number) o ≡ Some id → ⊥
+    go None found was = cc
+    go (Some n) found was = let (i, number, at, named) = named_found name es n found in none i n.entry at named
+
+-- the tag of a version is under itself
+alone_under : (tag : List ℕ) (revision : RevisionValue) → is_under (Tags (tag ∷ [])) (At tag revision) ≡ true
+alone_under tag revision = (bytes_eq-Decides tag tag).1 refl
+
+-- the tag of an entry's current version holds of it
+current_holds : (e : Entry) (tag : List ℕ) → length (story e) < last_version → tag ≡ version_tag (suc (length e.earlier)) → holds_match (Tags (tag ∷ [])) (Some (length (story e))) ≡ true
+current_holds e tag short is =
+    let count : suc (length e.earlier) ≡ length (story e) = omega (arith, length-append e.earlier (e.held ∷ [])) in
+    let P : List ℕ → Type 0 = λ t. holds_match (Tags (t ∷ [])) (Some (length (story e))) ≡ true in
+    subst P (sym is) ((has_version-alone (suc (length e.earlier)) (length (story e)) (omega (arith, short, count)) (omega (arith, short))).1 count)
+
+module _ (w : World) (q : Quiet w) (name : RecordName) (known : Known) (in_book : w.book name ≡ Some known) where
+  pub is_last : last_row w.history name ≡ Some known.wanted
+  is_last = sym (q.inv.follows name) ∙ ap (option_map (λ k. k.wanted)) in_book
+
+  pub accepted : Has (rows_of w.history name) known.wanted
+  accepted = last_has (rows_of w.history name) known.wanted is_last
+
+  pub its_law : IsRow known.wanted
+  its_law = row_lawful w.history q.lawful name known.wanted accepted
+
+  pub its_name : row_name known.wanted ≡ name
+  its_name = row_of_record w.history name known.wanted accepted
+
+  noted : Noted w.entries name known
+  noted = q.inv.noted name known in_book
+
+  -- the wanted revision in sight is confirmed
+  sight_ends : (sight : Sight) → sight.revision ≡ row_revision known.wanted → IsDone (sighted known sight).known
+  sight_ends sight same =
+      done_if (sighted known sight).known (ap (later known.confirmed) same ∙ later_top known.confirmed (row_revision known.wanted) noted.within)
+
+  -- ---- nothing was seen
+
+  found : known.seen ≡ Unknown → asking w.book name ≡ Some (Send (search_for known.wanted))
+      → Finds w.entries name (search_for known.wanted) (answer_to w (search_for known.wanted)) → Exchanged w name known
+  found unknown asks (finds i e at named says) =
+      let request = search_for known.wanted in
+      let s = shown (row_of (suc i) e) in
+      let about : subject request ≡ Some name = search_subject known.wanted its_law ∙ ap Some its_name in
+      let seen = sees w q name known request s asks about in_book says in
+      let tags : Some (version_tag (suc (length e.earlier))) ≡ Some seen.sight.tag = seen.fits.tag in
+      let tag : seen.sight.tag ≡ version_tag (suc (length e.earlier)) = cc in
+      let near : Near w.entries name (sighted known seen.sight).known = at_current i e seen.sight.revision at named (ap (λ (t : List ℕ). At t seen.sight.revision) tag) in
+      record {
+        now = (sighted known seen.sight).known;
+        request = request;
+        leads = seen.leads;
+        goes = nears unknown (subst (λ (es : List Entry). Near es name (sighted known seen.sight).known) (sym (search_keeps w.entries known.wanted)) near);
+      }
+  found unknown asks (lacks none says) =
+      let request = search_for known.wanted in
+      let about : subject request ≡ Some name = search_subject known.wanted its_law ∙ ap Some its_name in
+      let after = leads_to w q name known request Shows_none asks about in_book says (none_sighted known.id known).known refl in
+      go known.id refl after
+    where
+      go : (id : Option (List ℕ)) → known.id ≡ id → Leads w name (search_for known.wanted) (none_sighted id known).known → Exchanged w name known
+      go None is leads = record {
+        now = (none_sighted None known).known;
+        request = search_for known.wanted;
+        leads = leads;
+        goes = nears unknown (subst (λ (es : List Entry). Near es name (none_sighted None known).known) (sym (search_keeps w.entries known.wanted)) (truly_absent refl none));
+      }
+      go (Some id) is leads = absurd (id_entry w.entries name id (noted.id id is) none)
+
+  -- ---- the record was seen absent
+
+  module _ (content : Content) (named : content_name content ≡ name) (revised : content_revision content ≡ Some (row_revision known.wanted)) where
+    of_revision : (s : ShownRecord) (sight : Sight) → s.content ≡ content → content_revision s.content ≡ Some sight.revision → sight.revision ≡ row_revision known.wanted
+    of_revision s sight same has =
+        let revisions : Some sight.revision ≡ Some (row_revision known.wanted) = sym has ∙ ap content_revision same ∙ revised in
+        cc
+
+    made : known.seen ≡ Absent → asking w.book name ≡ Some (Send (Create content)) → Creates w.entries content (answer_to w (Create content)) → Exchanged w name known
+    made absent asks (creates s same says) =
+        let seen = sees w q name known (Create content) s asks (ap Some named) in_book says in
+        record {
+          now = (sighted known seen.sight).known;
+          request = Create content;
+          leads = seen.leads;
+          goes = ends (sight_ends seen.sight (of_revision s seen.sight same seen.fits.revision));
+        }
+    made absent asks (meets i e at e_named says) =
+        let now = (forgetting (is_absent known.seen) known).known in
+        record {
+          now = now;
+          request = Create content;
+          leads = leads_to w q name known (Create content) Taken asks (ap Some named) in_book says now refl;
+          goes = forgets (ap (λ (s : Seen). (forgetting (is_absent s) known).known.seen) absent) (λ unknown. absurd (cc)) not_near;
+        }
+      where
+        not_near : Near w.entries name known → ⊥
+        not_near (truly_absent is none) = none i e at (e_named ∙ named)
+        not_near (at_current j f r there f_named is) = absurd (cc)
+
+    -- ---- the record was seen at a version
+
+    module _ (id tag : List ℕ) (revision : RevisionValue) (is_seen : known.seen ≡ At tag revision) (v : IsVersion w.entries name id tag revision)
+        (asks : asking w.book name ≡ Some (Send (replacement id tag content))) where
+      short : length (story v.entry) < last_version
+      short = below_last (length (story v.entry)) (versions_few w.history w.entries q.inv.kept q.lawful v.place v.entry v.here)
+
+      stale_not_near : holds_match (Tags (tag ∷ [])) (Some (length (story v.entry))) ≡ false → Near w.entries name known → ⊥
+      stale_not_near fails (truly_absent is none) = absurd (cc)
+      stale_not_near fails (at_current j f r there named_f is) =
+          let seens : At (version_tag (suc (length f.earlier))) r ≡ At tag revision = sym is ∙ is_seen in
+          let tags : tag ≡ version_tag (suc (length f.earlier)) = cc in
+          let place : j ≡ v.place = q.inv.kept.whole.distinct j v.place f v.entry there v.here (named_f ∙ sym v.of_record) in
+          let entries : Some f ≡ Some v.entry = sym there ∙ ap (slice_get w.entries) place ∙ v.here in
+          let same : f ≡ v.entry = cc in
+          let holds = current_holds v.entry tag short (tags ∙ ap (λ (e : Entry). version_tag (suc (length e.earlier))) same) in
+          absurd (cc)
+
+      written : Replaces (replacement id tag content) (Tags (tag ∷ [])) content v.entry (answer_to w (replacement id tag content)) → Exchanged w name known
+      written (renews s same says) =
+          let request = replacement id tag content in
+          let seen = sees w q name known request s asks (ap Some named) in_book says in
+          record {
+            now = (sighted known seen.sight).known;
+            request = request;
+            leads = seen.leads;
+            goes = ends (sight_ends seen.sight (of_revision s seen.sight same seen.fits.revision));
+          }
+      written (misses fails says) =
+          let request = replacement id tag content in
+          let now = (forgetting (is_under (Tags (tag ∷ [])) known.seen) known).known in
+          record {
+            now = now;
+            request = request;
+            leads = leads_to w q name known request (Stale (Tags (tag ∷ []))) asks (ap Some named) in_book says now refl;
+            goes = forgets
+                (ap (λ (s : Seen). (forgetting (is_under (Tags (tag ∷ [])) s) known).known.seen) is_seen
+                ∙ ap (λ (b : Bool). (forgetting b known).known.seen) (alone_under tag revision))
+                (λ unknown. absurd (cc)) (stale_not_near fails);
+          }
+
+  -- ---- whatever was seen
+
+  module _ (undone : is_done known ≡ false) (content : Content) (has : HasImage w.book known content) where
+    its_content : content_name content ≡ name
+    its_content = image_named w.book known content has ∙ its_name
+
+    its_revision : content_revision content ≡ Some (row_revision known.wanted)
+    its_revision = image_revised w.book known content has
+
+    by_seen : (seen : Seen) (id : Option (List ℕ)) → known.seen ≡ seen → known.id ≡ id → asking w.book name ≡ Some (Send (request_for seen id known.wanted content)) → Exchanged w name known
+    by_seen Unknown id is_seen is_id asks =
+        found is_seen asks (subst (λ (n : RecordName). Finds w.entries n (search_for known.wanted) (answer_to w (search_for known.wanted))) its_name
+        (search_finds w.entries known.wanted its_law q.inv.kept.whole))
+    by_seen Absent id is_seen is_id asks = made content its_content its_revision is_seen asks (create_answers w.entries content (few_entries w q))
+    by_seen (At tag revision) (Some id) is_seen is_id asks =
+        let sight = noted.seen tag revision is_seen in
+        let ids_same : Some sight.id ≡ Some id = sym sight.has_id ∙ is_id in
+        let same : sight.id ≡ id = cc in
+        let v : IsVersion w.entries name id tag revision = subst (λ (i : List ℕ). IsVersion w.entries name i tag revision) same sight.version in
+        written content its_content its_revision id tag revision is_seen v asks
+        (replace_answers w.entries v.place v.entry id content (Tags (tag ∷ [])) (few_entries w q) v.here v.has_id (v.of_record ∙ sym its_content)
+        (short content its_content its_revision id tag revision is_seen v asks))
+    by_seen (At tag revision) None is_seen is_id asks =
+        let sight = noted.seen tag revision is_seen in
+        let clash : None ≡ Some sight.id = sym is_id ∙ sight.has_id in
+        absurd (cc)
+
+    pub one_exchange : Exchanged w name known
+    one_exchange = by_seen known.seen known.id refl refl (asked w.book name known content in_book undone has)

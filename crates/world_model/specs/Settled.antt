@@ -1,0 +1,56 @@
+-- That exchanges in which nothing is lost settle every record, by three at most for each.
+use Rattle.std.specs.Prelude.{◌≡◌, ℕ, zero, suc, ◌+◌, ◌≤◌, List, [], ◌∷◌, length, Some}
+use Rattle.std.specs.List.{AllByRecursion}
+use Rattle.scim_key.specs.declared.records.RecordName.{RecordName}
+use Rattle.scim_message.specs.declared.messages.Request.{Request}
+use Rattle.provider_core.specs.Stories.{Entry}
+use Rattle.source_csv.specs.Records.{row_revision}
+use Rattle.source_book.specs.History.{last_row}
+use Rattle.mapping.specs.Images.{image}
+use Rattle.connector_core.specs.Asking.{asking}
+use Rattle.connector_core.specs.declared.asking.Ask.TheVariants.{Nothing, Send}
+use Rattle.connector_core.specs.declared.knowledge.Known.{Known}
+use Rattle.world_model.specs.World.{World, Event, Sends, Delivers, empty, names, run}
+use Rattle.world_model.specs.Safe.{Has, IsEntryOf, id_in}
+use Rattle.world_model.specs.Untroubled.{IsLawful}
+
+-- One exchange: what is asked for of a record is sent, it arrives, and so does its reply
+abbrev pub exchange : World → RecordName → World
+exchange w name = run w (Sends name ∷ Delivers (suc (length w.messages)) ∷ Delivers (suc (suc (length w.messages))) ∷ [])
+
+-- something is to be sent of the record
+abbrev pub Wants : World → RecordName → Type 0
+Wants w name = (request : Request) × (asking w.book name ≡ Some (Send request))
+
+-- nothing is, and nothing is waited for
+abbrev pub Rests : World → RecordName → Type 0
+Rests w name = asking w.book name ≡ Some Nothing
+
+-- so many exchanges for one record lead from w to v, and each of them sends
+abbrev pub Exchanges : World → RecordName → (count : ℕ) → World → Type 0
+Exchanges w name zero v = v ≡ w
+Exchanges w name (suc count) v = Wants w name × Exchanges (exchange w name) name count v
+
+-- exchanges for each of these records in turn, until nothing is to be sent of it, lead from w to v: at most three for each, so many in all
+abbrev pub Turns : World → List RecordName → (count : ℕ) → World → Type 0
+Turns w [] count v = (v ≡ w) × (count ≡ 0)
+Turns w (name ∷ names) count v = (here there : ℕ) × (u : World) × (here ≤ 3) × Exchanges w name here u × Rests u name × Turns u names there v × (count ≡ here + there)
+
+-- the wanted revision is confirmed, and the provider holds the image of the wanted row, which is the last of its record
+pub record IsSettledOf (w : World) (name : RecordName) : Type 0 where
+  pub known : Known
+  pub entry : Entry
+  pub in_book : w.book name ≡ Some known
+  pub wanted : last_row w.history name ≡ Some known.wanted
+  pub confirmed : known.confirmed ≡ row_revision known.wanted
+  pub of_record : IsEntryOf w.entries name entry
+  pub held : image (id_in w.entries) known.wanted ≡ Some entry.held
+
+-- every record of the source is
+abbrev pub IsSettled : World → Type 0
+IsSettled w = (name : RecordName) → Has (names w) name → IsSettledOf w name
+
+-- from each world of a run, at most three exchanges for each record in the order of names, users before groups, settle it
+abbrev pub Settles : Type 0
+Settles = (events : List Event) → AllByRecursion IsLawful events
+    → (count : ℕ) × (v : World) × Turns (run empty events) (names (run empty events)) count v × IsSettled v
