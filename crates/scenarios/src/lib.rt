@@ -4,6 +4,8 @@
 #[cfg(test)]
 mod answers;
 #[cfg(test)]
+mod client;
+#[cfg(test)]
 mod codes;
 #[cfg(test)]
 mod creating;

@@ -1,5 +1,9 @@
+pub mod Lines
 pub mod Paths
+pub mod Queries
 pub mod RequestLaws
 pub mod AnswerLemmas
 pub mod ExchangeLemmas
 pub mod AnswerLaws
+pub mod Spelled
+pub mod Targets

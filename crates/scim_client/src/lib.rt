@@ -11,5 +11,5 @@ mod service;
 pub use answer_laws::{answers_are_read, one_answer};
 pub use answers::{AnswerFault, read_answer};
 pub use exchange::ExchangeFault;
-pub use request_laws::one_request;
+pub use request_laws::{one_request, requests_are_spelled};
 pub use service::{CreateRequest, ReplaceRequest, RetrieveRequest, ScimService, SearchRequest};

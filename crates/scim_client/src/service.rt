@@ -132,7 +132,8 @@ impl<'a> CreateRequest<'a> {
     pub fn build(&self, alloc: Global) -> Result<Vec<u8>, AllocError>
         ensures { IfOk result (λ text. text.items ≡ text_of self.now.base self.now.request) }
     {
-        self.service.bytes_of(alloc, &self.request(alloc)?)
+        let create = self.request(alloc)?;
+        self.service.bytes_of(alloc, &create)
     }
 }
 
@@ -175,7 +176,8 @@ impl<'a> RetrieveRequest<'a> {
     pub fn build(&self, alloc: Global) -> Result<Vec<u8>, AllocError>
         ensures { IfOk result (λ text. text.items ≡ text_of self.now.base self.now.request) }
     {
-        self.service.bytes_of(alloc, &self.request(alloc)?)
+        let retrieve = self.request(alloc)?;
+        self.service.bytes_of(alloc, &retrieve)
     }
 }
 
@@ -206,13 +208,11 @@ impl<'a> Model for SearchRequest<'a> {
 
 impl<'a> SearchRequest<'a> {
     /// Only the resources that this filter finds.
-    pub fn filter(self, filter: &'a Filter) -> SearchRequest<'a>
+    pub fn filter(mut self, filter: &'a Filter) -> SearchRequest<'a>
         ensures { result ≡ record { base = self.entry.base; request = through_filter filter.now self.entry.request } }
     {
-        SearchRequest {
-            filter: Some(filter),
-            ..self
-        }
+        self.filter = Some(filter);
+        self
     }
 
     /// The request.
@@ -235,7 +235,8 @@ impl<'a> SearchRequest<'a> {
     pub fn build(&self, alloc: Global) -> Result<Vec<u8>, AllocError>
         ensures { IfOk result (λ text. text.items ≡ text_of self.now.base self.now.request) }
     {
-        self.service.bytes_of(alloc, &self.request(alloc)?)
+        let search = self.request(alloc)?;
+        self.service.bytes_of(alloc, &search)
     }
 }
 
@@ -268,13 +269,11 @@ impl<'a> Model for ReplaceRequest<'a> {
 
 impl<'a> ReplaceRequest<'a> {
     /// Only where the resource has the version with this tag (RFC 7232 section 3.1).
-    pub fn if_match(self, tag: &'a EntityTag) -> ReplaceRequest<'a>
+    pub fn if_match(mut self, tag: &'a EntityTag) -> ReplaceRequest<'a>
         ensures { result ≡ record { base = self.entry.base; request = under_tag tag.now self.entry.request } }
     {
-        ReplaceRequest {
-            if_match: Some(tag),
-            ..self
-        }
+        self.if_match = Some(tag);
+        self
     }
 
     /// The request.
@@ -293,7 +292,8 @@ impl<'a> ReplaceRequest<'a> {
     pub fn build(&self, alloc: Global) -> Result<Vec<u8>, AllocError>
         ensures { IfOk result (λ text. text.items ≡ text_of self.now.base self.now.request) }
     {
-        self.service.bytes_of(alloc, &self.request(alloc)?)
+        let replace = self.request(alloc)?;
+        self.service.bytes_of(alloc, &replace)
     }
 }
 
