@@ -53,14 +53,14 @@ fn content(alloc: Global, text: &str, kind: Kind) -> Result<Content, Fail> {
 }
 
 /// A creation of this content.
-fn creation(alloc: Global, text: &str, kind: Kind) -> Result<Request, Fail> {
+pub fn creation(alloc: Global, text: &str, kind: Kind) -> Result<Request, Fail> {
     Ok(Request::Create {
         content: content(alloc, text, kind)?,
     })
 }
 
 /// A replacement by this content, under no condition.
-fn replacement(alloc: Global, id: &str, text: &str, kind: Kind) -> Result<Request, Fail> {
+pub fn replacement(alloc: Global, id: &str, text: &str, kind: Kind) -> Result<Request, Fail> {
     Ok(Request::Replace {
         id: ResourceId::read(alloc, id)?,
         content: content(alloc, text, kind)?,
@@ -70,7 +70,7 @@ fn replacement(alloc: Global, id: &str, text: &str, kind: Kind) -> Result<Reques
 }
 
 /// A retrieval, where its version isn't one of these.
-fn retrieval(alloc: Global, id: &str, kind: Kind, known: Condition) -> Result<Request, Fail> {
+pub fn retrieval(alloc: Global, id: &str, kind: Kind, known: Condition) -> Result<Request, Fail> {
     Ok(Request::Retrieve {
         kind,
         id: ResourceId::read(alloc, id)?,
@@ -80,7 +80,7 @@ fn retrieval(alloc: Global, id: &str, kind: Kind, known: Condition) -> Result<Re
 }
 
 /// A search for all resources of a type that a filter hits.
-fn search(kind: Kind, filter: Option<Filter>) -> Request {
+pub fn search(kind: Kind, filter: Option<Filter>) -> Request {
     Request::Search {
         kind,
         filter,

@@ -4,8 +4,10 @@ ghost use Rattle.http_text.specs.Counts.{CountsTurns};
 ghost use Rattle.http_text.specs.Message.{Message};
 ghost use Rattle.http_text.specs.declared.fault.ReadFault.{ReadFault};
 ghost use Rattle.scim_client.specs.Exchanges as spec;
+ghost use Rattle.scim_client.specs.Requests.{text_of};
 
 use crate::answers::{AnswerFault, answer_in};
+use crate::service::ScimService;
 use http_text::{Input, Output, ReadFault, SendFault, read_response, send};
 use scim_message::{Answer, Request};
 use std::alloc::Global;
@@ -36,8 +38,37 @@ pub enum ExchangeFault {
     NoAnswer(AnswerFault),
 }
 
+impl ScimService {
+    /// Sends a request, and reads the one response to it; what follows that is left. The fault tells
+    /// how far both came. Out of memory before anything is sent, it leaves both streams as they were.
+    pub fn exchange<R: Read, W: Write>(
+        &self,
+        alloc: Global,
+        request: &Request,
+        reader: &mut Input<R>,
+        writer: &mut Output<W>,
+    ) -> Result<Answer, ExchangeFault>
+        // What was written, and what was taken from the reader; the answer is that of these bytes.
+        ensures sent { spec.Sends (text_of self.now request.now) writer.old writer.new result }
+        ensures read { spec.Reads request.now reader.old reader.new result }
+
+        // What stands at the reader's front is what comes, whatever follows, but where it is hindered.
+        ensures known { spec.ExchangesKnown request.now reader.old.remaining reader.new.remaining
+            result }
+
+        // The turns of each stream.
+        ensures writes { CountsTurns writer.old.calls writer.new.calls }
+        ensures reads { CountsTurns reader.old.calls reader.new.calls }
+    {
+        match self.bytes_of(alloc, request) {
+            Ok(text) => ask(alloc, request, &text, reader, writer),
+            Err(_) => Err(ExchangeFault::NoAnswer(AnswerFault::OutOfMemory)),
+        }
+    }
+}
+
 /// Sends the text of a request, and reads the answer to it.
-pub(crate) fn ask<R: Read, W: Write>(
+fn ask<R: Read, W: Write>(
     alloc: Global,
     request: &Request,
     text: &[u8],
