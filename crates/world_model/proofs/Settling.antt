@@ -28,13 +28,13 @@ use Rattle.world_model.proofs.Exchanging.{exchange_quiet}
 use Rattle.world_model.proofs.Phases.{Near, Near.truly_absent, Near.at_current, Goes, Goes.ends, Goes.nears, Goes.forgets, Advance, accepted, its_name, one_exchange}
 use Rattle.world_model.proofs.Ranking.{row_there}
 
--- ---- when something is asked for
+-- ---- which rows have images
 
 -- every user is done
 abbrev UsersDone : World → Type 0
 UsersDone w = (q : RecordName) (known : Known) → q.kind ≡ kinds.User → w.book q ≡ Some known → IsDone known
 
--- nothing is wanted of a user, and of a group that all users are done
+-- a user is ready to be sent at all times, a group once every user is done
 abbrev IsReady : Kind → World → Type 0
 IsReady kinds.User w = Unit {0}
 IsReady kinds.Group w = UsersDone w
