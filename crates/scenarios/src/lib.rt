@@ -10,6 +10,8 @@ mod codes;
 #[cfg(test)]
 mod creating;
 #[cfg(test)]
+mod exchanges;
+#[cfg(test)]
 mod grouping;
 #[cfg(test)]
 mod index;
@@ -23,6 +25,8 @@ mod refusing;
 mod registries;
 #[cfg(test)]
 mod replacing;
+#[cfg(test)]
+mod responses;
 #[cfg(test)]
 mod scripts;
 #[cfg(test)]
