@@ -19,6 +19,7 @@ test:
 	rt ci
 	tests/map.sh
 	tests/answer.sh
+	tests/serve.sh
 	tests/edits.py
 
 build:

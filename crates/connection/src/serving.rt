@@ -1,10 +1,12 @@
 //! The connections of a provider, one after another.
-ghost use Rattle.std.specs.Prelude.{◌≡◌};
+ghost use Rattle.std.specs.Prelude.{◌≡◌, []};
+ghost use Rattle.provider_core.specs.Memory.{MemoryRecord};
+ghost use Rattle.connection.specs.Requests.{FollowRequests};
 ghost use Rattle.connection.specs.Turns.{IsServed, TakesTurn, ServesTurns, answered};
 
 use crate::listening::Listen;
 use http_text::{Input, Output};
-use provider_core::{Provider, Registry};
+use provider_core::{MemoryRegistry, Provider, Registry};
 use scim_key::Base;
 use scim_server::{Served, serve};
 use std::alloc::Global;
@@ -28,8 +30,10 @@ pub fn serve_connections<R: Registry, L: Listen>(
     base: &Base,
     provider: &mut Provider<R>,
 ) -> Result<(), ConnectionFault>
-    ensures { ServesTurns L.waiting L.Reader.remaining L.Writer.contents R.Registry base.now
-        listener.old listener.new provider.old provider.new count result }
+    ensures served { ServesTurns L.waiting L.Reader.remaining L.Writer.contents R.Registry
+        base.now listener.old listener.new provider.old provider.new count result }
+    ensures follows { R.is_faithful provider.new →
+        FollowRequests (R.rows provider.old) (R.rows provider.new) count }
 {
     let mut outcome = Ok(());
     for _turn in 0..count {
@@ -38,6 +42,24 @@ pub fn serve_connections<R: Registry, L: Listen>(
         outcome = outcome.and(served);
     }
     outcome
+}
+
+/// Serves so many connections, as `serve_connections` does, by a provider in memory that has no
+/// resource at first.
+pub fn serve_from_memory<L: Listen>(
+    rt: &impl Eprint,
+    alloc: Global,
+    listener: &mut L,
+    count: u32,
+    base: &Base,
+) -> Result<(), ConnectionFault>
+    ensures { (held : MemoryRecord) × FollowRequests [] held.rows count
+        × ServesTurns L.waiting L.Reader.remaining L.Writer.contents
+        ⟦<MemoryRegistry as Registry>⟧ base.now listener.old listener.new
+        (record { rows = []; writes = 0 }) held count result }
+{
+    let mut provider = Provider::new(MemoryRegistry::new(alloc));
+    serve_connections(rt, alloc, listener, count, base, &mut provider)
 }
 
 /// Tells a fault on standard error.

@@ -8,13 +8,15 @@ use Rattle.std.specs.declared.cmp.Ordering.{Ordering}
 use Rattle.std.specs.declared.cmp.Ordering.TheVariants.{Less, Equal, Greater}
 use Rattle.scim_key.proofs.RevisionLaws.{irreflexive, none_before, later_above_second, later_is_one, transitive_up_to}
 use Rattle.scim_key.specs.Outcome.{◌>>=◌}
+use Rattle.scim_key.specs.RecordOrder.{names_total, tied}
+use Rattle.scim_key.specs.Records.{name_cmp}
 use Rattle.scim_key.specs.Revisions.{IsRevision, RevisionValue, before, later, no_revision, ◌≺◌, ◌≼◌}
 use Rattle.scim_key.specs.declared.records.RecordName.{RecordName}
 use Rattle.scim_message.specs.declared.messages.Answer.{Answer}
 use Rattle.scim_message.specs.declared.messages.Request.{Request}
 use Rattle.source_csv.specs.Records.{row_revision}
-use Rattle.journal_core.proofs.Trees.{name_from_test, names_same, names_total, tied}
-use Rattle.journal_core.specs.Entries.{CanPutLearnt, EntryMap, entry_learnt, learnt_at, name_cmp, with_learnt}
+use Rattle.journal_core.proofs.Trees.{name_from_test, names_same}
+use Rattle.journal_core.specs.Entries.{CanPutLearnt, EntryMap, entry_learnt, learnt_at, with_learnt}
 use Rattle.journal_core.specs.declared.entries.Entry.{Entry}
 use Rattle.connector_core.proofs.Keeping.{kept-put, maps_are_books, names-put}
 use Rattle.connector_core.specs.Book.{Book, learning, put, seeing}

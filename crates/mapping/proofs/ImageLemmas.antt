@@ -10,6 +10,7 @@ use Rattle.scim_resource.specs.declared.contents.Content.{Content}
 use Rattle.scim_resource.specs.Emails.{IsEmailList, are_few}
 use Rattle.scim_resource.specs.Texts.{IsText, IsTextIf, is_short_text}
 use Rattle.scim_resource.specs.declared.emails.Email.{Email}
+use Rattle.scim_resource.specs.declared.texts.TheConstants.{TEXT_LIMIT}
 use Rattle.scim_resource.proofs.RoundTrips.{content_read, content_spelled}
 use Rattle.source_csv.specs.Records.{row_name, user}
 use Rattle.source_csv.specs.Rows.{GroupFields, IsGroupRow, UserFields, IsUserRow}
@@ -26,7 +27,7 @@ use Rattle.mapping.specs.Laws.{AreIds, ImagesReadBack, ImagesStay, ReadsBack}
 use Rattle.mapping.proofs.MemberLemmas.{once_lawful, text_of_id}
 
 -- a field that isn't empty is a text of an attribute
-pub text_of_field : (b : ℕ) (text : List ℕ) → length (b ∷ text) ≤ 256 → IsText (b ∷ text)
+pub text_of_field : (b : ℕ) (text : List ℕ) → length (b ∷ text) ≤ TEXT_LIMIT → IsText (b ∷ text)
 unfolding is_short_text
 text_of_field b text short = grind (arith, nat_tests)
 
@@ -35,13 +36,13 @@ unfolding is_short_text
 empty_is_no_text h = grind arith
 
 -- a text that is there exactly where the field is a text is the field, absent where it is empty
-pub present_of : (field : List ℕ) (found : Option (List ℕ)) → length field ≤ 256 → SomeIff found (IsText field) field → found ≡ present field
+pub present_of : (field : List ℕ) (found : Option (List ℕ)) → length field ≤ TEXT_LIMIT → SomeIff found (IsText field) field → found ≡ present field
 present_of [] None short h = refl
 present_of [] (Some found) short h = absurd (empty_is_no_text h.0)
 present_of (b ∷ text) None short h = absurd (h (text_of_field b text short))
 present_of (b ∷ text) (Some found) short h = ap Some h.1
 
-pub present_is_text : (field : List ℕ) → length field ≤ 256 → IsTextIf (present field)
+pub present_is_text : (field : List ℕ) → length field ≤ TEXT_LIMIT → IsTextIf (present field)
 present_is_text [] short = tt
 present_is_text (b ∷ text) short = text_of_field b text short
 
@@ -58,7 +59,7 @@ few_of_none : are_few [] ≡ true
 unfolding are_few
 few_of_none = refl
 
-pub emails_are_lawful : (mail : List ℕ) → length mail ≤ 256 → IsEmailList (emails_of mail)
+pub emails_are_lawful : (mail : List ℕ) → length mail ≤ TEXT_LIMIT → IsEmailList (emails_of mail)
 emails_are_lawful [] short = record { each = tt; few = few_of_none }
 emails_are_lawful (b ∷ mail) short = record {
   each = (record { value = text_of_field b mail short; type_text = work_is_text }, tt);

@@ -1,5 +1,6 @@
 //! Images of rows.
 ghost use Rattle.std.specs.Prelude.{◌≡◌, ◌≤◌, Some, IfOk, length, codes};
+ghost use Rattle.scim_resource.specs.declared.texts.TheConstants.{TEXT_LIMIT};
 ghost use Rattle.mapping.specs.Images.{emails_of, present, user_image};
 
 use scim_resource::{Content, Email, Emails, Text, User};
@@ -25,7 +26,7 @@ pub fn user_content(alloc: Global, row: &UserRow) -> Result<Content, AllocError>
 
 /// A field as the text of an attribute, absent where it is empty.
 fn text(alloc: Global, field: &str) -> Result<Option<Text>, AllocError>
-    requires { length field.now ≤ 256 }
+    requires { length field.now ≤ TEXT_LIMIT }
     ensures { IfOk result (λ text. text ≡ present field.now) }
 {
     Ok(Text::from_string(String::from_str(alloc, field)?))
@@ -34,7 +35,7 @@ fn text(alloc: Global, field: &str) -> Result<Option<Text>, AllocError>
 /// The mail as the one email address, none where it is empty.
 #[tactic(auto, using(crate::proofs::ImageLemmas::few_of_one))]
 fn emails(alloc: Global, mail: &str) -> Result<Emails, AllocError>
-    requires { length mail.now ≤ 256 }
+    requires { length mail.now ≤ TEXT_LIMIT }
     ensures { IfOk result (λ emails. emails ≡ emails_of mail.now) }
 {
     let Some(value) = text(alloc, mail)? else {

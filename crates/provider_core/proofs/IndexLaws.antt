@@ -11,20 +11,20 @@ use Rattle.scim_filter.specs.Expressions.{Expression}
 use Rattle.scim_filter.specs.Matching.{satisfies}
 use Rattle.scim_filter.specs.Names.{single_key}
 use Rattle.scim_filter.proofs.Keys.{keys_decide}
-use Rattle.provider_core.specs.Rows.{same_kind, same_record, is_named, row_named, names_of, AreNamedApart}
+use Rattle.provider_core.specs.Rows.{same_kind, same_name, is_named, row_named, names_of, AreNamedApart}
 use Rattle.provider_core.specs.Searches.{is_hit}
-use Rattle.provider_core.proofs.RowLaws.{same_record-eq, same_record-self, both_true}
+use Rattle.provider_core.proofs.RowLaws.{same_name-eq, same_name-self, both_true}
 
 -- the filter tests the name
 tests-name : (wanted : Expression) (name : RecordName) (row : StoredRecord) → single_key wanted ≡ Some name → satisfies wanted row ≡ is_named name row
 tests-name wanted name row names =
     let decides = keys_decide wanted name row names in
     both_true (satisfies wanted row) (is_named name row)
-    (λ passes. ap (λ held. same_record name held) (decides.0 passes) ∙ same_record-self name)
-    (λ named. decides.1 (sym (same_record-eq name (content_name row.content) named)))
+    (λ passes. ap (λ held. same_name name held) (decides.0 passes) ∙ same_name-self name)
+    (λ named. decides.1 (sym (same_name-eq name (content_name row.content) named)))
 
 -- no later row is of the first row's record
-none-later : (name : RecordName) (rows : List StoredRecord) → AllByRecursion (λ other. same_record name other ≡ false) (names_of rows) → row_named name rows ≡ None
+none-later : (name : RecordName) (rows : List StoredRecord) → AllByRecursion (λ other. same_name name other ≡ false) (names_of rows) → row_named name rows ≡ None
 none-later name [] apart = refl
 none-later name (r ∷ rs) apart = here (is_named name r) apart.0 (none-later name rs apart.1)
   where
@@ -49,5 +49,5 @@ pub hits-named : (kind : Kind) (wanted : Expression) (name : RecordName) (rows :
 hits-named kind wanted name [] names apart = refl
 hits-named kind wanted name (r ∷ rs) names apart =
     found-here (is_hit kind (Some wanted)) r (is_named name r) (same_kind kind (content_kind r.content)) (satisfies wanted r) (filter (is_hit kind (Some wanted)) rs) (row_named name rs) refl (tests-name wanted name r names)
-    (λ named. ap (λ n. row_named n rs) (same_record-eq name (content_name r.content) named) ∙ none-later (content_name r.content) rs (IsDistinct-head same_record (content_name r.content) (names_of rs) apart))
-    (hits-named kind wanted name rs names (IsDistinct-tail same_record (content_name r.content) (names_of rs) apart))
+    (λ named. ap (λ n. row_named n rs) (same_name-eq name (content_name r.content) named) ∙ none-later (content_name r.content) rs (IsDistinct-head same_name (content_name r.content) (names_of rs) apart))
+    (hits-named kind wanted name rs names (IsDistinct-tail same_name (content_name r.content) (names_of rs) apart))

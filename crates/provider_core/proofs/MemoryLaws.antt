@@ -21,9 +21,9 @@ use Rattle.scim_key.specs.declared.records.Kind.TheVariants.{User, Group}
 use Rattle.scim_key.specs.declared.records.RecordName.{RecordName}
 use Rattle.scim_resource.specs.Contents.{content_name}
 use Rattle.scim_resource.specs.Rows.{StoredRecord}
-use Rattle.provider_core.specs.Rows.{same_record, is_named, row_named, row_with_id, is_after, page_after, has_number, row_numbered, with_row, same_kind, IsNumberedFrom, names_of, AreNamedApart}
+use Rattle.provider_core.specs.Rows.{same_name, is_named, row_named, row_with_id, is_after, page_after, has_number, row_numbered, with_row, same_kind, IsNumberedFrom, names_of, AreNamedApart}
 use Rattle.provider_core.specs.Stores.{HoldsNumber}
-use Rattle.provider_core.proofs.RowLaws.{same_record-eq, same_record-sym, same_record-equivalence, numbers_same, find-passes}
+use Rattle.provider_core.proofs.RowLaws.{same_name-eq, same_name-sym, same_name-equivalence, numbers_same, find-passes}
 use Rattle.provider_core.specs.Memory.{name_cmp, IsIndexed}
 
 -- ---- names
@@ -34,7 +34,7 @@ is_eq-parts User Group x y = refl
 is_eq-parts Group User x y = refl
 is_eq-parts Group Group x y = is_eq-slice_cmp x y
 
-is_eq-name_cmp : (a b : RecordName) → is_eq (name_cmp a b) ≡ same_record a b
+is_eq-name_cmp : (a b : RecordName) → is_eq (name_cmp a b) ≡ same_name a b
 is_eq-name_cmp a b = is_eq-parts a.kind b.kind a.key b.key
 
 -- ---- rows by number
@@ -149,18 +149,18 @@ names-append : (rows : List StoredRecord) (row : StoredRecord) → names_of (row
 names-append [] row = refl
 names-append (r ∷ rs) row = ap (λ names. content_name r.content ∷ names) (names-append rs row)
 
-free-name : (name : RecordName) (rows : List StoredRecord) → row_named name rows ≡ None → list_any (same_record name) (names_of rows) ≡ false
+free-name : (name : RecordName) (rows : List StoredRecord) → row_named name rows ≡ None → list_any (same_name name) (names_of rows) ≡ false
 free-name name [] free = refl
 free-name name (r ∷ rs) free = here (is_named name r) (free-name name rs) free
   where
-    here : (b : Bool) → (row_named name rs ≡ None → list_any (same_record name) (names_of rs) ≡ false) → cond b (Some r) (row_named name rs) ≡ None → (b || list_any (same_record name) (names_of rs)) ≡ false
+    here : (b : Bool) → (row_named name rs ≡ None → list_any (same_name name) (names_of rs) ≡ false) → cond b (Some r) (row_named name rs) ≡ None → (b || list_any (same_name name) (names_of rs)) ≡ false
     here true ih was = absurd (cc)
     here false ih was = ih was
 
 apart-append : (rows : List StoredRecord) (row : StoredRecord) → AreNamedApart rows → row_named (content_name row.content) rows ≡ None → AreNamedApart (rows ++ row ∷ [])
 apart-append rows row apart free =
-    subst (λ (names : List RecordName). IsDistinct same_record names) (sym (names-append rows row))
-    (IsDistinct-push same_record-equivalence (names_of rows) (content_name row.content) apart (free-name (content_name row.content) rows free))
+    subst (λ (names : List RecordName). IsDistinct same_name names) (sym (names-append rows row))
+    (IsDistinct-push same_name-equivalence (names_of rows) (content_name row.content) apart (free-name (content_name row.content) rows free))
 
 names-set : (rows : List StoredRecord) (i : ℕ) (held row : StoredRecord) → slice_get rows i ≡ Some held → content_name held.content ≡ content_name row.content → names_of (slice_set rows i row) ≡ names_of rows
 names-set [] i held row there same = refl
@@ -171,7 +171,7 @@ names-set (r ∷ rs) (suc i) held row there same = ap (λ names. content_name r.
 
 apart-set : (rows : List StoredRecord) (i : ℕ) (held row : StoredRecord) → AreNamedApart rows → slice_get rows i ≡ Some held → content_name held.content ≡ content_name row.content → AreNamedApart (slice_set rows i row)
 apart-set rows i held row apart there same =
-    subst (λ (names : List RecordName). IsDistinct same_record names) (sym (names-set rows i held row there same)) apart
+    subst (λ (names : List RecordName). IsDistinct same_name names) (sym (names-set rows i held row there same)) apart
 
 -- ---- a row joins
 
@@ -189,12 +189,12 @@ joined-cases false false None row same free = refl
 joined-cases false false (Some r) row same free = refl
 
 name-append : (rows : List StoredRecord) (row : StoredRecord) (q : RecordName) → row_named (content_name row.content) rows ≡ None
-    → number_of (row_named q (rows ++ row ∷ [])) ≡ cond (same_record (content_name row.content) q) (Some row.number) (number_of (row_named q rows))
+    → number_of (row_named q (rows ++ row ∷ [])) ≡ cond (same_name (content_name row.content) q) (Some row.number) (number_of (row_named q rows))
 name-append rows row q free =
     let name = content_name row.content in
     rw (find-append (is_named q) rows (row ∷ []))
-    (joined-cases (same_record name q) (same_record q name) (row_named q rows) row (same_record-sym q name)
-    (λ same. rw (same_record-eq name q same) at free))
+    (joined-cases (same_name name q) (same_name q name) (row_named q rows) row (same_name-sym q name)
+    (λ same. rw (same_name-eq name q same) at free))
 
 pub indexed-insert : (numbers new : BTreeMap RecordName ℕ) (rows : List StoredRecord) (row : StoredRecord) → IsIndexed numbers rows
     → row.number ≡ length rows + 1 → row.number ≤ last_number → row_named (content_name row.content) rows ≡ None
@@ -281,5 +281,5 @@ indexed-update numbers rows row indexed holds =
       within = rw (length-set rows (row.number - 1) row) indexed.within;
       numbered = numbered-set 1 rows (row.number - 1) holds.held row indexed.numbered at.2 at.0;
       apart = apart-set rows (row.number - 1) holds.held row indexed.apart at.2 holds.name;
-      found = λ q. indexed.found q ∙ sym (name-set (is_named q) rows (row.number - 1) holds.held row at.2 (ap (λ name. same_record q name) (sym holds.name)) at.0);
+      found = λ q. indexed.found q ∙ sym (name-set (is_named q) rows (row.number - 1) holds.held row at.2 (ap (λ name. same_name q name) (sym holds.name)) at.0);
     }

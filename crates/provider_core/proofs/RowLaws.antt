@@ -16,7 +16,7 @@ use Rattle.scim_resource.specs.Contents.{content_kind, content_name}
 use Rattle.scim_resource.specs.Rows.{StoredRecord}
 use Rattle.scim_message.specs.declared.messages.Request.{Request}
 use Rattle.scim_message.specs.declared.messages.Request.TheVariants.{Create, Retrieve, Search, Replace}
-use Rattle.provider_core.specs.Rows.{same_kind, same_record, has_id, row_with_id, if_of_kind, resource, row_numbered}
+use Rattle.provider_core.specs.Rows.{same_kind, same_name, has_id, row_with_id, if_of_kind, resource, row_numbered}
 use Rattle.provider_core.specs.Outcomes.{outcome, creating, reading, retrieving, writing, replacing, next_row, IsChange}
 use Rattle.provider_core.specs.Stores.{HoldsNumber}
 use Rattle.provider_core.specs.declared.pending.Change.{Change}
@@ -36,8 +36,8 @@ name_of kind key = record { kind = kind; key = key }
 name_eq : (a b : RecordName) → a.kind ≡ b.kind → a.key ≡ b.key → a ≡ b
 name_eq a b kinds keys = ap (λ kind. name_of kind a.key) kinds ∙ ap (λ key. name_of b.kind key) keys
 
-pub same_record-eq : (a b : RecordName) → same_record a b ≡ true → a ≡ b
-same_record-eq a b same = let parts = same_parts a.kind b.kind a.key b.key same in name_eq a b parts.0 parts.1
+pub same_name-eq : (a b : RecordName) → same_name a b ≡ true → a ≡ b
+same_name-eq a b same = let parts = same_parts a.kind b.kind a.key b.key same in name_eq a b parts.0 parts.1
 
 pub both_true : (b c : Bool) → (b ≡ true → c ≡ true) → (c ≡ true → b ≡ true) → b ≡ c
 both_true true true to from = refl
@@ -45,28 +45,28 @@ both_true true false to from = sym (to refl)
 both_true false true to from = from refl
 both_true false false to from = refl
 
-turned : (a b : RecordName) → same_record a b ≡ true → same_record b a ≡ true
+turned : (a b : RecordName) → same_name a b ≡ true → same_name b a ≡ true
 turned a b same =
-    let e = same_record-eq a b same in
-    let P : RecordName → Type 0 = λ x. same_record x a ≡ true in
-    let Q : RecordName → Type 0 = λ x. same_record a x ≡ true in
+    let e = same_name-eq a b same in
+    let P : RecordName → Type 0 = λ x. same_name x a ≡ true in
+    let Q : RecordName → Type 0 = λ x. same_name a x ≡ true in
     subst P e (subst Q (sym e) same)
 
-pub same_record-sym : (a b : RecordName) → same_record a b ≡ same_record b a
-same_record-sym a b = both_true (same_record a b) (same_record b a) (turned a b) (turned b a)
+pub same_name-sym : (a b : RecordName) → same_name a b ≡ same_name b a
+same_name-sym a b = both_true (same_name a b) (same_name b a) (turned a b) (turned b a)
 
-congruent : (a b c : RecordName) → same_record a b ≡ true → same_record a c ≡ same_record b c
-congruent a b c same = ap (λ name. same_record name c) (same_record-eq a b same)
+congruent : (a b c : RecordName) → same_name a b ≡ true → same_name a c ≡ same_name b c
+congruent a b c same = ap (λ name. same_name name c) (same_name-eq a b same)
 
-pub same_record-self : (a : RecordName) → same_record a a ≡ true
-same_record-self a = itself a.kind a.key
+pub same_name-self : (a : RecordName) → same_name a a ≡ true
+same_name-self a = itself a.kind a.key
   where
     itself : (k : Kind) (x : List ℕ) → (same_kind k k && bytes_eq x x) ≡ true
     itself User x = (bytes_eq-Decides x x).1 refl
     itself Group x = (bytes_eq-Decides x x).1 refl
 
-pub same_record-equivalence : IsEquivalence same_record
-same_record-equivalence = record { refl = same_record-self; symm = same_record-sym; congr = congruent }
+pub same_name-equivalence : IsEquivalence same_name
+same_name-equivalence = record { refl = same_name-self; symm = same_name-sym; congr = congruent }
 
 -- ---- rows
 
@@ -128,8 +128,8 @@ retrieving_updates : (found : Option StoredRecord) (if_match if_none_match : Con
 retrieving_updates None if_match if_none_match row is = cc
 retrieving_updates (Some held) if_match if_none_match row is = reading_updates _ _ held row is
 
-writing_updates : (rows : List StoredRecord) (same_name at_last holds : Bool) (held : StoredRecord) (content : Content) (row : StoredRecord)
-    → (same_name ≡ true → content_name held.content ≡ content_name content) → row_numbered held.number rows ≡ Some held → (writing same_name at_last holds held content).change ≡ Update row → HoldsNumber rows row
+writing_updates : (rows : List StoredRecord) (keeps_name at_last holds : Bool) (held : StoredRecord) (content : Content) (row : StoredRecord)
+    → (keeps_name ≡ true → content_name held.content ≡ content_name content) → row_numbered held.number rows ≡ Some held → (writing keeps_name at_last holds held content).change ≡ Update row → HoldsNumber rows row
 writing_updates rows false at_last holds held content row named there is = absurd (cc)
 writing_updates rows true true holds held content row named there is = absurd (cc)
 writing_updates rows true false false held content row named there is = absurd (cc)
@@ -142,7 +142,7 @@ replacing_updates : (rows : List StoredRecord) (found : Option StoredRecord) (co
     → ((held : StoredRecord) → found ≡ Some held → row_numbered held.number rows ≡ Some held) → (replacing found content if_match if_none_match).change ≡ Update row → HoldsNumber rows row
 replacing_updates rows None content if_match if_none_match row there is = absurd (cc)
 replacing_updates rows (Some held) content if_match if_none_match row there is =
-    writing_updates rows _ _ _ held content row (same_record-eq (content_name held.content) (content_name content)) (there held refl) is
+    writing_updates rows _ _ _ held content row (same_name-eq (content_name held.content) (content_name content)) (there held refl) is
 
 -- the row that a request updates is there
 updates : (rows : List StoredRecord) (request : Request) (row : StoredRecord) → (outcome rows request).change ≡ Update row → HoldsNumber rows row

@@ -17,11 +17,11 @@ use Rattle.scim_message.specs.declared.messages.Request.{Request}
 use Rattle.scim_message.specs.declared.messages.Request.TheVariants.{Create, Retrieve, Search, Replace}
 use Rattle.scim_message.specs.declared.messages.Answer.TheVariants as answers
 use Rattle.scim_filter.specs.Expressions.{Expression}
-use Rattle.provider_core.specs.Rows.{same_kind, same_record, is_named, has_id, row_with_id, resource, with_row}
+use Rattle.provider_core.specs.Rows.{same_kind, same_name, is_named, has_id, row_with_id, resource, with_row}
 use Rattle.provider_core.specs.Searches.{is_wanted, is_hit, listing}
 use Rattle.provider_core.specs.Outcomes.{Outcome, outcome, creating, reading, retrieving, writing, replacing, next_row, changed_rows, most_resources}
 use Rattle.provider_core.specs.Stories.{Entry, story, row_of, rows_from, rows_of, is_entry_of, first_entry, renewed, Numbered, numbered_from, has_entry_id, entry_with_id, is_entry_hit, renew_at, Step, creating_entry, writing_entry, replacing_entry, reading_entry, retrieving_entry, step, IsTable, RowsFollowStories, GoesOn, AllGoOn, StoriesGrow}
-use Rattle.provider_core.proofs.RowLaws.{same_record-eq}
+use Rattle.provider_core.proofs.RowLaws.{same_name-eq}
 
 -- an outcome on the rows of a table, and a step on the table, that say the same
 record Same (es : List Entry) (o : Outcome) (s : Step) : Type 0 where
@@ -53,7 +53,7 @@ either_way false false x y p q test same = same
 same_taken : (k : RecordName) (n : ℕ) (es : List Entry) → IsTable es → is_some (find (is_named k) (rows_from n es)) ≡ is_some (find (is_entry_of k) es)
 same_taken k n [] table = refl
 same_taken k n (e ∷ es) table =
-    either_way (is_named k (row_of n e)) (is_entry_of k e) (row_of n e) e _ _ (ap (λ name. same_record k name) table.0) (same_taken k (suc n) es table.1)
+    either_way (is_named k (row_of n e)) (is_entry_of k e) (row_of n e) e _ _ (ap (λ name. same_name k name) table.0) (same_taken k (suc n) es table.1)
 
 create_same : (t : Option StoredRecord) (u : Option Entry) (full : Bool) (es : List Entry) (content : Content)
     → is_some t ≡ is_some u → IsTable es → Same es (creating t full (length (rows_of es)) content) (creating_entry u full es content)
@@ -205,8 +205,8 @@ table-renew zero (f ∷ es) e content table there named =
     (sym (ap (λ x. x.name) same ∙ named), table.1)
 table-renew (suc place) (f ∷ es) e content table there named = (table.0, table-renew place es e content table.1 there named)
 
-writing_same : (same_name at_last holds : Bool) (n : Numbered) (es : List Entry) (content : Content) → Spoken es n → IsTable es → (same_name ≡ true → n.entry.name ≡ content_name content)
-    → Same es (writing same_name at_last holds (row_at n) content) (writing_entry same_name at_last holds n es content)
+writing_same : (keeps_name at_last holds : Bool) (n : Numbered) (es : List Entry) (content : Content) → Spoken es n → IsTable es → (keeps_name ≡ true → n.entry.name ≡ content_name content)
+    → Same es (writing keeps_name at_last holds (row_at n) content) (writing_entry keeps_name at_last holds n es content)
 writing_same false at_last holds n es content known table named = record { answer = refl; rows = refl; table = table }
 writing_same true true holds n es content known table named = record { answer = refl; rows = refl; table = table }
 writing_same true false false n es content known table named = record { answer = refl; rows = refl; table = table }
@@ -225,9 +225,9 @@ replace_same row (Some n) es content if_match if_none_match meets table =
     let known = meets.spoken_of n refl in
     let held = content_name n.entry.held in
     let Q : RecordName → ℕ → Type 0 = λ name v. Same es (replacing (Some (row_at n)) content if_match if_none_match)
-    (writing_entry (same_record name (content_name content)) (nat_le last_version v) (holds_match if_match (Some v) && holds_none_match if_none_match (Some v)) n es content) in
+    (writing_entry (same_name name (content_name content)) (nat_le last_version v) (holds_match if_match (Some v) && holds_none_match if_none_match (Some v)) n es content) in
     let here : Q held (suc (length n.entry.earlier)) =
-    writing_same _ _ _ n es content known table (λ same. sym known.named ∙ same_record-eq held (content_name content) same) in
+    writing_same _ _ _ n es content known table (λ same. sym known.named ∙ same_name-eq held (content_name content) same) in
     let counts : Q held (length (story n.entry)) = subst (λ (v : ℕ). Q held v) (counted n.entry) here in
     rw meets.same (subst (λ (name : RecordName). Q name (length (story n.entry))) known.named counts)
 
@@ -277,7 +277,7 @@ retrieving_grows : (entry : Option Numbered) (es : List Entry) (if_match if_none
 retrieving_grows None es if_match if_none_match = all-stay es
 retrieving_grows (Some n) es if_match if_none_match = reading_grows _ _ n es
 
-writing_grows : (same_name at_last holds : Bool) (n : Numbered) (es : List Entry) (content : Content) → AllGoOn es (writing_entry same_name at_last holds n es content).entries
+writing_grows : (keeps_name at_last holds : Bool) (n : Numbered) (es : List Entry) (content : Content) → AllGoOn es (writing_entry keeps_name at_last holds n es content).entries
 writing_grows false at_last holds n es content = all-stay es
 writing_grows true true holds n es content = all-stay es
 writing_grows true false false n es content = all-stay es

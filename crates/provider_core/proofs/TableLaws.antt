@@ -19,11 +19,11 @@ use Rattle.scim_resource.specs.Rows.{StoredRecord, ShownRecord, shown, last_vers
 use Rattle.scim_filter.specs.Expressions.{Expression}
 use Rattle.scim_message.specs.declared.messages.Request.{Request}
 use Rattle.scim_message.specs.declared.messages.Request.TheVariants.{Create, Retrieve, Search, Replace}
-use Rattle.provider_core.specs.Rows.{same_kind, same_record, is_named, row_named}
+use Rattle.provider_core.specs.Rows.{same_kind, same_name, is_named, row_named}
 use Rattle.provider_core.specs.Searches.{page_from, first_place, page_size}
 use Rattle.provider_core.specs.Stories.{Entry, story, first_entry, renewed, row_of, rows_from, is_entry_of, Numbered, numbered_from, has_entry_id, if_entry_of_kind, entry_with_id, renew_at, is_entry_hit, found_entries, creating_entry, writing_entry, replacing_entry, reading_entry, retrieving_entry, IsTable, GoesOn}
 use Rattle.provider_core.specs.Tables.{is_numbered_of, entry_named, IsWholeTable, TablesStayWhole, FoundByName, EntriesAreFound, Writes, Writes.nothing, Writes.created, Writes.replaced, StepsWrite, IsFact, shown_in, ShowsFacts, GoOnAt, GoOnStaying, GoOnFurther}
-use Rattle.provider_core.proofs.RowLaws.{same_record-eq, find-passes}
+use Rattle.provider_core.proofs.RowLaws.{same_name-eq, find-passes}
 
 -- ---- lists
 
@@ -103,11 +103,11 @@ kind_itself : (k : Kind) → same_kind k k ≡ true
 kind_itself kinds.User = refl
 kind_itself kinds.Group = refl
 
-pub record_itself : (name : RecordName) → same_record name name ≡ true
+pub record_itself : (name : RecordName) → same_name name name ≡ true
 record_itself name = rw (kind_itself name.kind) ((bytes_eq-Decides name.key name.key).1 refl)
 
-pub same_if_eq : (a b : RecordName) → a ≡ b → same_record a b ≡ true
-same_if_eq a b e = subst (λ x. same_record a x ≡ true) e (record_itself a)
+pub same_if_eq : (a b : RecordName) → a ≡ b → same_name a b ≡ true
+same_if_eq a b e = subst (λ x. same_name a x ≡ true) e (record_itself a)
 
 -- ---- how the entry of a record is found
 
@@ -151,7 +151,7 @@ cond_both false false n p q test same = same
 row_found : (name : RecordName) (m : ℕ) (es : List Entry) → IsTable es → row_named name (rows_from m es) ≡ option_map row_at (find (is_numbered_of name) (numbered_from m es))
 row_found name m [] table = refl
 row_found name m (e ∷ es) table =
-    cond_both (is_named name (row_of m e)) (is_entry_of name e) (record { number = m; entry = e }) _ _ (ap (same_record name) table.0) (row_found name (suc m) es table.1)
+    cond_both (is_named name (row_of m e)) (is_entry_of name e) (record { number = m; entry = e }) _ _ (ap (same_name name) table.0) (row_found name (suc m) es table.1)
 
 -- what an entry holds is the last content of its story
 pub held_at : (e : Entry) → slice_get (story e) (length e.earlier) ≡ Some e.held
@@ -167,13 +167,13 @@ found_by_name name es whole = row_found name 1 es (is_table es whole)
 pub named_found : (name : RecordName) (es : List Entry) (n : Numbered) → entry_named name es ≡ Some n → (i : ℕ) × (n.number ≡ suc i) × (slice_get es i ≡ Some n.entry) × (n.entry.name ≡ name)
 named_found name es n found =
     let at = found_at (is_numbered_of name) 1 es n found in
-    (at.0, omega (arith, at.1), at.2, sym (same_record-eq name n.entry.name (find-passes (is_numbered_of name) (numbered_from 1 es) n found)))
+    (at.0, omega (arith, at.1), at.2, sym (same_name-eq name n.entry.name (find-passes (is_numbered_of name) (numbered_from 1 es) n found)))
 
 -- no entry is of a record that has none
 pub not_named : (name : RecordName) (es : List Entry) (i : ℕ) (e : Entry) → entry_named name es ≡ None → slice_get es i ≡ Some e → e.name ≡ name → ⊥
 not_named name es i e none at named =
     let free : find (is_entry_of name) es ≡ None = find_entry name 1 es ∙ ap (option_map entry_of) none in
-    let tested : same_record name e.name ≡ false = find_none (is_entry_of name) es i e free at in
+    let tested : same_name name e.name ≡ false = find_none (is_entry_of name) es i e free at in
     let clash : false ≡ true = sym tested ∙ same_if_eq name e.name (sym named) in
     cc
 
@@ -252,10 +252,10 @@ renew_writes id n es content if_match if_none_match at named short holds =
     subst (λ (i : List ℕ). P i (n.number - 1)) (sym at.named) (subst (λ (p : ℕ). P (id_text (suc at.place)) p) place
     (replaced at.place n.entry content if_match if_none_match at.there named short holds))
 
-writing_writes : (same_name at_last holds : Bool) (id : List ℕ) (n : Numbered) (es : List Entry) (content : Content) (if_match if_none_match : Condition) → Placed id es n
-    → (same_name ≡ true → n.entry.name ≡ content_name content) → (at_last ≡ false → length (story n.entry) < last_version)
+writing_writes : (keeps_name at_last holds : Bool) (id : List ℕ) (n : Numbered) (es : List Entry) (content : Content) (if_match if_none_match : Condition) → Placed id es n
+    → (keeps_name ≡ true → n.entry.name ≡ content_name content) → (at_last ≡ false → length (story n.entry) < last_version)
     → (holds ≡ true → holds_match if_match (Some (length (story n.entry))) ≡ true)
-    → Writes es (Replace id content if_match if_none_match) (writing_entry same_name at_last holds n es content).entries
+    → Writes es (Replace id content if_match if_none_match) (writing_entry keeps_name at_last holds n es content).entries
 writing_writes false at_last holds id n es content if_match if_none_match at named short held = nothing
 writing_writes true true holds id n es content if_match if_none_match at named short held = nothing
 writing_writes true false false id n es content if_match if_none_match at named short held = nothing
@@ -267,7 +267,7 @@ replacing_writes : (o : Option Numbered) (id : List ℕ) (es : List Entry) (cont
 replacing_writes None id es content if_match if_none_match was = nothing
 replacing_writes (Some n) id es content if_match if_none_match was =
     writing_writes _ _ _ id n es content if_match if_none_match (placed (content_kind content) id es n was)
-    (same_record-eq n.entry.name (content_name content)) (below_last (length (story n.entry)))
+    (same_name-eq n.entry.name (content_name content)) (below_last (length (story n.entry)))
     (λ both. (and_parts (holds_match if_match (Some (length (story n.entry)))) (holds_none_match if_none_match (Some (length (story n.entry)))) both).0)
 
 pub steps_write : StepsWrite
@@ -405,8 +405,8 @@ renewed_fact es i n content number there =
     subst (λ (p : ℕ). IsFact (renew_at p content es) (shown (row_of n.number (renewed n.entry content)))) place
     (fact_of (renew_at i content es) i n.number (renewed n.entry content) number (at_renewed i content es n.entry there))
 
-writing_shows : (same_name at_last holds : Bool) (n : Numbered) (es : List Entry) (content : Content) (i : ℕ) → n.number ≡ suc i → slice_get es i ≡ Some n.entry
-    → ShowsFactsOf (writing_entry same_name at_last holds n es content).entries (shown_in (writing_entry same_name at_last holds n es content).answer)
+writing_shows : (keeps_name at_last holds : Bool) (n : Numbered) (es : List Entry) (content : Content) (i : ℕ) → n.number ≡ suc i → slice_get es i ≡ Some n.entry
+    → ShowsFactsOf (writing_entry keeps_name at_last holds n es content).entries (shown_in (writing_entry keeps_name at_last holds n es content).answer)
 writing_shows false at_last holds n es content i number there = no_fact es
 writing_shows true true holds n es content i number there = no_fact es
 writing_shows true false false n es content i number there = no_fact es

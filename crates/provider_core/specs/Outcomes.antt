@@ -15,7 +15,7 @@ use Rattle.scim_message.specs.declared.messages.Answer.TheVariants as answers
 use Rattle.scim_message.specs.declared.refusals.Refusal.{Refusal}
 use Rattle.scim_message.specs.declared.refusals.Refusal.TheVariants.{NameTaken, LimitReached, NoSuchResource, NameFixed, OtherVersion}
 use Rattle.scim_message.specs.Refusals.{error_of}
-use Rattle.provider_core.specs.Rows.{same_record, row_named, resource, with_row}
+use Rattle.provider_core.specs.Rows.{same_name, row_named, resource, with_row}
 use Rattle.provider_core.specs.Searches.{found, listing}
 use Rattle.provider_core.specs.declared.outcomes.TheConstants.{MOST_RESOURCES}
 use Rattle.provider_core.specs.declared.pending.Change.{Change}
@@ -56,7 +56,7 @@ abbrev pub next_row : StoredRecord → Content → StoredRecord
 next_row row content = record { number = row.number; version = suc row.version; content = content }
 
 -- by whether the name is the same, the version is the last, and both conditions hold
-abbrev pub writing : (same_name : Bool) → (at_last : Bool) → (holds : Bool) → StoredRecord → Content → Outcome
+abbrev pub writing : (keeps_name : Bool) → (at_last : Bool) → (holds : Bool) → StoredRecord → Content → Outcome
 writing false at_last holds row content = refused NameFixed
 writing true true holds row content = refused LimitReached
 writing true false false row content = refused OtherVersion
@@ -66,7 +66,7 @@ writing true false true row content = record { change = Update (next_row row con
 abbrev pub replacing : Option StoredRecord → Content → Condition → Condition → Outcome
 replacing None content if_match if_none_match = refused NoSuchResource
 replacing (Some row) content if_match if_none_match =
-    writing (same_record (content_name row.content) (content_name content)) (nat_le last_version row.version)
+    writing (same_name (content_name row.content) (content_name content)) (nat_le last_version row.version)
     (holds_match if_match (Some row.version) && holds_none_match if_none_match (Some row.version)) row content
 
 -- ---- Retrieve

@@ -6,13 +6,13 @@ use Rattle.scim_key.specs.declared.records.Kind.{Kind}
 use Rattle.scim_key.specs.declared.records.Kind.TheVariants.{User, Group}
 use Rattle.scim_key.specs.declared.records.RecordName.{RecordName}
 use Rattle.scim_key.specs.Identifiers.{id_text}
-pub use Rattle.scim_key.specs.Records.{same_kind, same_name as same_record}
+pub use Rattle.scim_key.specs.Records.{same_kind, same_name}
 use Rattle.scim_resource.specs.Contents.{content_kind, content_name}
 use Rattle.scim_resource.specs.Rows.{StoredRecord}
 
 -- whether a row is of this record
 abbrev pub is_named : RecordName → StoredRecord → Bool
-is_named name row = same_record name (content_name row.content)
+is_named name row = same_name name (content_name row.content)
 
 -- the row of a record, if there is one
 abbrev pub row_named : RecordName → List StoredRecord → Option StoredRecord
@@ -65,4 +65,4 @@ names_of rows = map (λ row. content_name row.content) rows
 
 -- no two rows are of one record
 abbrev pub AreNamedApart : List StoredRecord → Type 0
-AreNamedApart rows = IsDistinct same_record (names_of rows)
+AreNamedApart rows = IsDistinct same_name (names_of rows)

@@ -20,7 +20,7 @@ use Rattle.scim_message.specs.declared.messages.Answer.TheVariants as answers
 use Rattle.scim_message.specs.declared.refusals.Refusal.{Refusal}
 use Rattle.scim_message.specs.declared.refusals.Refusal.TheVariants.{NameTaken, LimitReached, NoSuchResource, NameFixed, OtherVersion}
 use Rattle.scim_message.specs.Refusals.{error_of}
-use Rattle.provider_core.specs.Rows.{same_kind, same_record}
+use Rattle.provider_core.specs.Rows.{same_kind, same_name}
 use Rattle.provider_core.specs.Searches.{is_wanted, listing}
 use Rattle.provider_core.specs.Outcomes.{outcome, changed_rows, most_resources}
 
@@ -56,7 +56,7 @@ rows_of es = rows_from 1 es
 
 -- whether an entry is of this record
 abbrev pub is_entry_of : RecordName → Entry → Bool
-is_entry_of name e = same_record name e.name
+is_entry_of name e = same_name name e.name
 
 -- an entry with its number
 pub record Numbered : Type 0 where
@@ -111,7 +111,7 @@ creating_entry None true es content = refused_on es LimitReached
 creating_entry None false es content = record { entries = es ++ first_entry content ∷ []; answer = Created (shown (row_of (suc (length es)) (first_entry content))) }
 
 -- by whether the name is the same, the story is as long as it can be, and both conditions hold
-abbrev pub writing_entry : (same_name : Bool) → (at_last : Bool) → (holds : Bool) → Numbered → List Entry → Content → Step
+abbrev pub writing_entry : (keeps_name : Bool) → (at_last : Bool) → (holds : Bool) → Numbered → List Entry → Content → Step
 writing_entry false at_last holds n es content = refused_on es NameFixed
 writing_entry true true holds n es content = refused_on es LimitReached
 writing_entry true false false n es content = refused_on es OtherVersion
@@ -120,7 +120,7 @@ writing_entry true false true n es content = record { entries = renew_at (n.numb
 abbrev pub replacing_entry : Option Numbered → List Entry → Content → Condition → Condition → Step
 replacing_entry None es content if_match if_none_match = refused_on es NoSuchResource
 replacing_entry (Some n) es content if_match if_none_match =
-    writing_entry (same_record n.entry.name (content_name content)) (nat_le last_version (length (story n.entry)))
+    writing_entry (same_name n.entry.name (content_name content)) (nat_le last_version (length (story n.entry)))
     (holds_match if_match (Some (length (story n.entry))) && holds_none_match if_none_match (Some (length (story n.entry)))) n es content
 
 -- by whether `If-Match` holds, and whether `If-None-Match` does

@@ -1,18 +1,18 @@
 //! What a request would answer and change, by the row that it speaks of.
 ghost use Rattle.std.specs.Prelude.{◌≡◌, ◌<◌, None, Some, false, IfOk};
 ghost use Rattle.scim_resource.specs.Contents.{content_kind, content_name};
-ghost use Rattle.provider_core.specs.Rows.{same_kind, same_record};
+ghost use Rattle.provider_core.specs.Rows.{same_kind, same_name};
 ghost use Rattle.provider_core.specs.Outcomes.{refused, creating, retrieving, replacing, not_modified};
 
 use crate::pending::{Change, Pending};
-use scim_key::Kind;
+use scim_key::{Kind, LAST_NUMBER};
 use scim_message::{Answer, ErrorResponse, Refusal};
-use scim_resource::{Content, Shown, Stored};
+use scim_resource::{Content, LAST_VERSION, Shown, Stored};
 use scim_version::{Condition, EntityTag};
 use std::alloc::{AllocError, Global};
 
-/// How many resources a provider holds at most.
-pub const MOST_RESOURCES: u32 = 1_000_000;
+/// How many resources a provider holds at most: one for each number.
+pub const MOST_RESOURCES: u32 = LAST_NUMBER;
 
 /// What is pending where a request is refused.
 pub(crate) fn refusal(alloc: Global, refusal: Refusal) -> Result<Pending, AllocError>
@@ -46,7 +46,7 @@ pub(crate) fn is_of_kind(row: &Stored, kind: Kind) -> bool
 
 /// Whether the content is of the row's record.
 fn keeps_name(row: &Stored, content: &Content) -> bool
-    ensures { result ≡ same_record (content_name row.now.content) (content_name content.now) }
+    ensures { result ≡ same_name (content_name row.now.content) (content_name content.now) }
 {
     row.content().has_name_of(content)
 }
@@ -66,7 +66,7 @@ pub(crate) fn replacement(
     if !keeps_name(row, content) {
         return refusal(alloc, Refusal::NameFixed);
     }
-    if version >= 9_007_199_254_740_991 {
+    if version >= LAST_VERSION {
         return refusal(alloc, Refusal::LimitReached);
     }
     if !(if_match.holds_match(Some(version)) && if_none_match.holds_none_match(Some(version))) {

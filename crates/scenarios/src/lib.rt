@@ -4,6 +4,10 @@
 #[cfg(test)]
 mod answers;
 #[cfg(test)]
+mod asking;
+#[cfg(test)]
+mod changing;
+#[cfg(test)]
 mod client;
 #[cfg(test)]
 mod codes;
@@ -19,6 +23,8 @@ mod index;
 mod limits;
 #[cfg(test)]
 mod lines;
+#[cfg(test)]
+mod offers;
 #[cfg(test)]
 mod refusing;
 #[cfg(test)]

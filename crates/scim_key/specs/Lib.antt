@@ -5,3 +5,4 @@ pub mod RecordOrder
 pub mod Identifiers
 pub mod Bases
 pub mod Revisions
+pub mod Stores

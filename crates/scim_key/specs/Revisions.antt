@@ -14,9 +14,6 @@ RevisionValue = ℕ
 abbrev pub no_revision : RevisionValue
 no_revision = 0
 
-abbrev pub last_revision : RevisionValue
-last_revision = LAST_REVISION
-
 abbrev pub same_revision : RevisionValue → RevisionValue → Bool
 same_revision a b = a == b
 

@@ -4,7 +4,6 @@ ghost use Rattle.std.specs.Char.{is_ascii_digit};
 ghost use Rattle.std.specs.List.{list_all};
 ghost use Rattle.std.proofs.Common.{rules};
 ghost use Rattle.std.specs.Cmp.Rules.{comparing};
-ghost use Rattle.std.specs.Option.{SomeIff};
 ghost use Rattle.scim_key.specs.Revisions.{before, later, no_revision, read_revision, revision_number, revision_of_number, revision_text, same_revision, IsOrder, IsRevision, RevisionsAreReadBack};
 ghost use Rattle.scim_key.specs.Revisions as spec;
 
@@ -87,7 +86,6 @@ impl Revision {
     pub fn of_number(number: u64) -> Option<Revision>
         ensures exact { result ≡ revision_of_number number }
         ensures lawful { IfSome result IsRevision }
-        ensures value { SomeIff result (IsRevision number) number }
     {
         if number >= 1 && number <= LAST_REVISION as u64 {
             Some(Revision {
@@ -117,8 +115,7 @@ impl Revision {
     /// The number that a JSON resource has for this revision, 0 for none.
     #[tactic(auto, unfolding(crate::specs::Revisions::revision_number))]
     pub fn number(self) -> u32
-        ensures exact { result ≡ revision_number self }
-        ensures value { result ≡ self }
+        ensures { result ≡ revision_number self }
     {
         self.number
     }

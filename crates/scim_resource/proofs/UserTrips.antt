@@ -1,9 +1,9 @@
 -- A user that is written is plain, and is read back as itself.
-use Rattle.std.proofs.Common.{◌≡◌, ℕ, suc, ◌^◌, ◌<◌, ◌≤◌, ◌==◌, List, [], ◌∷◌, length, Bool, true, false, nat_le, Option, Some, None, Ok, option_map, map, codes, refl, ap, ◌∙◌, arith}
-use Rattle.std.proofs.lemmas.Bool.{and_parts, ne_eqb}
-use Rattle.std.proofs.lemmas.Bool.Decides.{nat_tests}
+use Rattle.std.proofs.Common.{◌≡◌, ℕ, suc, ◌≤◌, ◌==◌, List, [], ◌∷◌, length, Bool, true, false, Option, Some, None, Ok, option_map, map, codes, refl, ap, ◌∙◌, arith}
+use Rattle.std.proofs.lemmas.Bool.{ne_eqb}
 use Rattle.scim_key.specs.Names.{user_name_fault, IsUserName}
-use Rattle.scim_key.specs.Revisions.{RevisionValue, is_revision, last_revision}
+use Rattle.scim_key.specs.Revisions.{RevisionValue}
+use Rattle.scim_key.proofs.RevisionLaws.{are_read_back}
 use Rattle.serde_json.specs.Data.{Data, boolean, string, array, Members, depth, items_depth}
 use Rattle.serde_json.specs.View.{items_of}
 use Rattle.scim_key.specs.Outcome.{◌>>=◌}
@@ -108,7 +108,7 @@ text_read (Some text) h = rw h
 pub source_read : (r : Option RevisionValue) → IsSourceRevision r → revision_in (source_data r) ≡ Ok r
 unfolding named
 source_read None h = refl
-source_read (Some r) h = rw h
+source_read (Some r) h = rw (are_read_back.from_number r h)
 
 -- the members of a name, where it has a part
 abbrev name_members : Option (List ℕ) → Option (List ℕ) → Option Members
@@ -228,13 +228,9 @@ user_data_read id meta u h =
 
 -- ---- plain data
 
-revision_fits : (r : RevisionValue) → is_revision r ≡ true → r < 2 ^ 64
-unfolding is_revision
-revision_fits r h = let both = and_parts (nat_le 1 r) (nat_le r last_revision) h in grind (arith, nat_tests)
-
 pub source_plain : (r : Option RevisionValue) → IsSourceRevision r → IsPlainIf (source_data r)
 source_plain None h = tt
-source_plain (Some r) h = (tt, revision_fits r h, tt)
+source_plain (Some r) h = (tt, are_read_back.number_fits r h, tt)
 
 pub schemas_plain : (core : List ℕ) (r : Option RevisionValue) → IsPlain (array (schemas_data core r))
 schemas_plain core None = (tt, tt)

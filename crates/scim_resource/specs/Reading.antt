@@ -2,7 +2,7 @@
 use Rattle.std.specs.Prelude.{ℕ, Bool, true, false, List, [], ◌∷◌, ◌++◌, Option, None, Some, Result, Ok, Err, ◌&&◌, ◌||◌, if◌then◌else◌, is_none, codes}
 use Rattle.scim_key.specs.Names.{user_name_fault, group_name_fault}
 use Rattle.scim_key.specs.Outcome.{◌>>=◌}
-use Rattle.scim_key.specs.Revisions.{RevisionValue, is_revision}
+use Rattle.scim_key.specs.Revisions.{RevisionValue, revision_of_number}
 use Rattle.scim_key.specs.declared.records.Kind.{Kind}
 use Rattle.scim_key.specs.declared.records.Kind.TheVariants as kinds
 use Rattle.serde_json.specs.Data.{Data, null, boolean, number, string, array, object, Items, no_items, item, Members}
@@ -63,9 +63,13 @@ user_name_in (Some (string s)) = if is_none (user_name_fault s) then Ok s else E
 user_name_in (Some (array ds)) = Err InvalidValue
 user_name_in (Some (object ms)) = Err InvalidValue
 
+abbrev pub lawful_revision : Option RevisionValue → Result (Option RevisionValue) ReadFault
+lawful_revision None = Err InvalidValue
+lawful_revision (Some r) = Ok (Some r)
+
 abbrev pub revision_of : Option ℕ → Result (Option RevisionValue) ReadFault
 revision_of None = Ok None
-revision_of (Some n) = if is_revision n then Ok (Some n) else Err InvalidValue
+revision_of (Some n) = lawful_revision (revision_of_number n)
 
 abbrev pub source_revision : Option Members → Result (Option RevisionValue) ReadFault
 source_revision None = Ok None

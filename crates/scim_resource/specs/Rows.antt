@@ -6,11 +6,11 @@ use Rattle.scim_key.specs.declared.records.Kind.{Kind}
 use Rattle.scim_version.specs.Tags.{IsEntityTag, version_tag}
 use Rattle.scim_resource.specs.Contents.{IsContent, content_kind}
 use Rattle.scim_resource.specs.declared.contents.Content.{Content}
-use Rattle.scim_resource.specs.declared.rows.TheConstants.{TAG_LIMIT}
+use Rattle.scim_resource.specs.declared.rows.TheConstants.{LAST_VERSION, TAG_LIMIT}
 
 -- the greatest version
 abbrev pub last_version : ℕ
-last_version = 9_007_199_254_740_991
+last_version = LAST_VERSION
 
 -- the resource's number, from which its id is made, its version and its content
 pub record StoredRecord : Type 0 where

@@ -1,6 +1,6 @@
 -- Writing a resource as JSON.
 use Rattle.std.specs.Prelude.{ℕ, Bool, true, false, List, [], ◌∷◌, Option, None, Some, option_map, map, codes}
-use Rattle.scim_key.specs.Revisions.{RevisionValue}
+use Rattle.scim_key.specs.Revisions.{RevisionValue, revision_number}
 use Rattle.serde_json.specs.Data.{unsigned, Data, boolean, number, string, array, object, Items, no_items, item, no_members, member}
 use Rattle.serde_json.specs.View.{items_of}
 use Rattle.scim_json.specs.Writing.{Part, members_from}
@@ -17,7 +17,7 @@ use Rattle.scim_resource.specs.declared.emails.Email.{Email}
 -- the source extension, where there is a revision
 abbrev pub source_data : Option RevisionValue → Option Data
 source_data None = None
-source_data (Some r) = Some (object (member (codes "revision") (number (unsigned r)) no_members))
+source_data (Some r) = Some (object (member (codes "revision") (number (unsigned (revision_number r))) no_members))
 
 -- the core URN, then the source URN where there is a revision
 abbrev pub schemas_data : List ℕ → Option RevisionValue → Items

@@ -26,6 +26,6 @@ pub use laws::{
     shown_reads_back, text_reads_back,
 };
 pub use locations::location;
-pub use rows::{Shown, Stored, TAG_LIMIT};
+pub use rows::{LAST_VERSION, Shown, Stored, TAG_LIMIT};
 pub use texts::{TEXT_LIMIT, Text};
 pub use users::User;

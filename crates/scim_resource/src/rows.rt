@@ -12,8 +12,11 @@ use scim_version::EntityTag;
 use std::alloc::{AllocError, Global};
 use std::marker::Model;
 
-/// A row of the provider: the resource's number in order of creation, from 1 to 1,000,000, its
-/// version, from 1 to 9,007,199,254,740,991, and its content.
+/// The greatest version of a resource, the last whole number that every JSON reader takes exactly.
+pub const LAST_VERSION: u64 = 9_007_199_254_740_991;
+
+/// A row of the provider: the resource's number in order of creation, from 1 to `LAST_NUMBER`, its
+/// version, from 1 to `LAST_VERSION`, and its content.
 #[derive(Debug)]
 pub struct Stored {
     number: u32,

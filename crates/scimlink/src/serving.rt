@@ -4,8 +4,7 @@ ghost use Rattle.scimlink.specs.Statuses.{outcome_status};
 ghost use Rattle.scimlink.specs.declared.status.RunFault.TheVariants.{Memory};
 
 use crate::status::{RunFault, Status};
-use connection::{ConnectionFault, Sockets, serve_connections};
-use provider_core::{MemoryRegistry, Provider};
+use connection::{ConnectionFault, Sockets, serve_from_memory};
 use scim_key::Base;
 use std::io;
 use std::io::ErrorKind;
@@ -28,8 +27,7 @@ pub fn serve<R: Runtime + Net + AllocGlobal>(
         clock: rt,
         limit: Duration::from_secs(CONNECTION_SECONDS),
     };
-    let mut provider = Provider::new(MemoryRegistry::new(rt.alloc()));
-    let outcome = serve_connections(rt, rt.alloc(), &mut sockets, requests, base, &mut provider);
+    let outcome = serve_from_memory(rt, rt.alloc(), &mut sockets, requests, base);
     Ok(outcome_status(outcome))
 }
 

@@ -1,12 +1,12 @@
 -- The rows of the source as contracts see them, and the limits that they keep.
-use Rattle.std.specs.Prelude.{◌≡◌, ℕ, Bool, true, List, [], ◌∷◌, length, ◌≤◌, ◌==◌, ◌&&◌}
+use Rattle.std.specs.Prelude.{◌≡◌, ℕ, Bool, true, List, [], ◌∷◌, length, ◌≤◌, ◌&&◌}
 use Rattle.std.specs.Bool.{beq}
 use Rattle.std.specs.Cmp.Lexicographic.{pointwise, slice_cmp}
 use Rattle.std.specs.Ordering.{nat_cmp, is_lt}
 use Rattle.std.specs.List.{AllByRecursion}
 use Rattle.std.specs.Str.{bytes_eq}
 use Rattle.scim_key.specs.Names.{IsGroupName, IsKey, IsUserName}
-use Rattle.scim_key.specs.Revisions.{RevisionValue, IsRevision}
+use Rattle.scim_key.specs.Revisions.{RevisionValue, IsRevision, same_revision}
 use Rattle.source_csv.specs.declared.groups.TheConstants.{MEMBER_LIMIT}
 use Rattle.source_csv.specs.declared.users.TheConstants.{VALUE_LIMIT}
 
@@ -35,7 +35,7 @@ same_values a b = bytes_eq a.number b.number && bytes_eq a.given b.given && byte
 
 -- whether all fields of two rows of users are equal, by bytes: a login in another spelling is another field
 abbrev pub same_user : UserFields → UserFields → Bool
-same_user a b = bytes_eq a.login b.login && (a.revision == b.revision) && beq a.active b.active && same_values a b
+same_user a b = bytes_eq a.login b.login && same_revision a.revision b.revision && beq a.active b.active && same_values a b
 
 -- whether a key stands before another in byte order
 unfoldable pub precedes : List ℕ → List ℕ → Bool
@@ -71,4 +71,4 @@ pub record IsGroupRow (row : GroupFields) : Type 0 where
 
 -- the same of two rows of groups
 abbrev pub same_group : GroupFields → GroupFields → Bool
-same_group a b = bytes_eq a.name b.name && (a.revision == b.revision) && pointwise bytes_eq a.members b.members
+same_group a b = bytes_eq a.name b.name && same_revision a.revision b.revision && pointwise bytes_eq a.members b.members

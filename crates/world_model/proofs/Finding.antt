@@ -21,7 +21,7 @@ use Rattle.provider_core.specs.Outcomes.{most_resources}
 use Rattle.provider_core.specs.Rows.{same_kind}
 use Rattle.provider_core.specs.Stories.{Entry, story, Numbered, numbered_from, row_of, is_entry_of, first_entry, renewed, if_entry_of_kind, entry_with_id, creating_entry, writing_entry, replacing_entry, step}
 use Rattle.provider_core.specs.Tables.{IsWholeTable}
-use Rattle.provider_core.proofs.RowLaws.{find-passes, same_record-eq}
+use Rattle.provider_core.proofs.RowLaws.{find-passes, same_name-eq}
 use Rattle.provider_core.proofs.TableLaws.{held_at, at_numbered, same_if_eq}
 use Rattle.source_csv.specs.Records.{IsRow, row_name}
 use Rattle.source_csv.specs.declared.rows.Row.{Row}
@@ -127,7 +127,7 @@ create_gives : (taken : Option Entry) (full : Bool) (es : List Entry) (content :
     → Creates es content (creating_entry taken full es content).answer
 create_gives (Some e) full es content found room =
     let there = find_there (is_entry_of (content_name content)) es e found in
-    let named = same_record-eq (content_name content) e.name (find-passes (is_entry_of (content_name content)) es e found) in
+    let named = same_name-eq (content_name content) e.name (find-passes (is_entry_of (content_name content)) es e found) in
     meets there.0 e there.1 (sym named) refl
 create_gives None true es content found room = absurd (cc)
 create_gives None false es content found room = creates (shown (row_of (suc (length es)) (first_entry content))) refl refl

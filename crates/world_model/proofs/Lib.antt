@@ -28,3 +28,4 @@ pub mod Phases
 pub mod Calm
 pub mod Done
 pub mod Settling
+pub mod OneWay

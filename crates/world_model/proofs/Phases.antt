@@ -52,7 +52,7 @@ pub data Goes (es : List Entry) (name : RecordName) (known : Known) (fs : List E
   nears : known.seen ≡ Unknown → Near fs name now → Goes es name known fs now
   forgets : now.seen ≡ Unknown → (known.seen ≡ Unknown → ⊥) → (Near es name known → ⊥) → Goes es name known fs now
 
-pub record Exchanged (w : World) (name : RecordName) (known : Known) : Type 0 where
+pub record Advance (w : World) (name : RecordName) (known : Known) : Type 0 where
   pub now : Known
   pub request : Request
   pub leads : Leads w name request now
@@ -101,7 +101,7 @@ module _ (w : World) (q : Quiet w) (name : RecordName) (known : Known) (in_book 
   -- ---- nothing was seen
 
   found : known.seen ≡ Unknown → asking w.book name ≡ Some (Send (search_for known.wanted))
-      → Finds w.entries name (search_for known.wanted) (answer_to w (search_for known.wanted)) → Exchanged w name known
+      → Finds w.entries name (search_for known.wanted) (answer_to w (search_for known.wanted)) → Advance w name known
   found unknown asks (finds i e at named says) =
       let request = search_for known.wanted in
       let s = shown (row_of (suc i) e) in
@@ -122,7 +122,7 @@ module _ (w : World) (q : Quiet w) (name : RecordName) (known : Known) (in_book 
       let after = leads_to w q name known request Shows_none asks about in_book says (none_sighted known.id known).known refl in
       go known.id refl after
     where
-      go : (id : Option (List ℕ)) → known.id ≡ id → Leads w name (search_for known.wanted) (none_sighted id known).known → Exchanged w name known
+      go : (id : Option (List ℕ)) → known.id ≡ id → Leads w name (search_for known.wanted) (none_sighted id known).known → Advance w name known
       go None is leads = record {
         now = (none_sighted None known).known;
         request = search_for known.wanted;
@@ -139,7 +139,7 @@ module _ (w : World) (q : Quiet w) (name : RecordName) (known : Known) (in_book 
         let revisions : Some sight.revision ≡ Some (row_revision known.wanted) = sym has ∙ ap content_revision same ∙ revised in
         cc
 
-    made : known.seen ≡ Absent → asking w.book name ≡ Some (Send (Create content)) → Creates w.entries content (answer_to w (Create content)) → Exchanged w name known
+    made : known.seen ≡ Absent → asking w.book name ≡ Some (Send (Create content)) → Creates w.entries content (answer_to w (Create content)) → Advance w name known
     made absent asks (creates s same says) =
         let seen = sees w q name known (Create content) s asks (ap Some named) in_book says in
         record {
@@ -179,7 +179,7 @@ module _ (w : World) (q : Quiet w) (name : RecordName) (known : Known) (in_book 
           let holds = current_holds v.entry tag short (tags ∙ ap (λ (e : Entry). version_tag (suc (length e.earlier))) same) in
           absurd (cc)
 
-      written : Replaces (replacement id tag content) (Tags (tag ∷ [])) content v.entry (answer_to w (replacement id tag content)) → Exchanged w name known
+      written : Replaces (replacement id tag content) (Tags (tag ∷ [])) content v.entry (answer_to w (replacement id tag content)) → Advance w name known
       written (renews s same says) =
           let request = replacement id tag content in
           let seen = sees w q name known request s asks (ap Some named) in_book says in
@@ -211,7 +211,7 @@ module _ (w : World) (q : Quiet w) (name : RecordName) (known : Known) (in_book 
     its_revision : content_revision content ≡ Some (row_revision known.wanted)
     its_revision = image_revised w.book known content has
 
-    by_seen : (seen : Seen) (id : Option (List ℕ)) → known.seen ≡ seen → known.id ≡ id → asking w.book name ≡ Some (Send (request_for seen id known.wanted content)) → Exchanged w name known
+    by_seen : (seen : Seen) (id : Option (List ℕ)) → known.seen ≡ seen → known.id ≡ id → asking w.book name ≡ Some (Send (request_for seen id known.wanted content)) → Advance w name known
     by_seen Unknown id is_seen is_id asks =
         found is_seen asks (subst (λ (n : RecordName). Finds w.entries n (search_for known.wanted) (answer_to w (search_for known.wanted))) its_name
         (search_finds w.entries known.wanted its_law q.inv.kept.whole))
@@ -229,5 +229,5 @@ module _ (w : World) (q : Quiet w) (name : RecordName) (known : Known) (in_book 
         let clash : None ≡ Some sight.id = sym is_id ∙ sight.has_id in
         absurd (cc)
 
-    pub one_exchange : Exchanged w name known
+    pub one_exchange : Advance w name known
     one_exchange = by_seen known.seen known.id refl refl (asked w.book name known content in_book undone has)

@@ -25,16 +25,16 @@ use Rattle.world_model.proofs.Calm.{Calm, always_calm, member_known, name_known}
 use Rattle.world_model.proofs.Counting.{InOrder, Comes, all_has}
 use Rattle.world_model.proofs.Done.{has_version, settled_of}
 use Rattle.world_model.proofs.Exchanging.{exchange_quiet}
-use Rattle.world_model.proofs.Phases.{Near, Near.truly_absent, Near.at_current, Goes, Goes.ends, Goes.nears, Goes.forgets, Exchanged, accepted, its_name, one_exchange}
+use Rattle.world_model.proofs.Phases.{Near, Near.truly_absent, Near.at_current, Goes, Goes.ends, Goes.nears, Goes.forgets, Advance, accepted, its_name, one_exchange}
 use Rattle.world_model.proofs.Ranking.{row_there}
 
--- ---- when something is asked for
+-- ---- which rows have images
 
 -- every user is done
 abbrev UsersDone : World → Type 0
 UsersDone w = (q : RecordName) (known : Known) → q.kind ≡ kinds.User → w.book q ≡ Some known → IsDone known
 
--- nothing is wanted of a user, and of a group that all users are done
+-- a user is ready to be sent at all times, a group once every user is done
 abbrev IsReady : Kind → World → Type 0
 IsReady kinds.User w = Unit {0}
 IsReady kinds.Group w = UsersDone w
@@ -132,7 +132,7 @@ module _ (w : World) (c : Calm w) (name : RecordName) (known : Known) (in_book :
     done = done;
   }
 
-  module _ (x : Exchanged w name known) where
+  module _ (x : Advance w name known) where
     next_calm : Calm (exchange w name)
     next_calm = record { quiet = exchange_quiet w name c.quiet; members = subst MembersAreUsers (sym x.leads.history) c.members }
 

@@ -1,11 +1,10 @@
 -- How long the text of an image is at most.
-use Rattle.std.proofs.Common.{◌≡◌, ℕ, zero, suc, ◌+◌, ◌*◌, ◌/◌, ◌%◌, ◌<◌, ◌≤◌, ◌^◌, Bool, true, false, not, cond, List, [], ◌∷◌, ◌++◌, length, map, option_map, codes, Option, Some, None, refl, ap, ◌∙◌, subst, arith, length-append, lit<}
+use Rattle.std.proofs.Common.{◌≡◌, ℕ, zero, suc, ◌+◌, ◌*◌, ◌/◌, ◌%◌, ◌<◌, ◌≤◌, Bool, true, false, not, cond, List, [], ◌∷◌, ◌++◌, length, map, option_map, codes, Option, Some, None, refl, ap, ◌∙◌, subst, arith, length-append, lit<}
 use Rattle.std.specs.Char.{digit_char}
 use Rattle.std.specs.List.{AllByRecursion, filter}
 use Rattle.std.specs.Prelude.{nat_lt, ◌==◌}
 use Rattle.std.specs.Str.{bytes_eq}
 use Rattle.std.proofs.lemmas.Bool.{agree_below_at, eqb-true, ltb-false}
-use Rattle.std.proofs.lemmas.Bool.Decides.{nat_tests}
 use Rattle.std.proofs.lemmas.Fmt.{length-decimal-le}
 use Rattle.std.proofs.lemmas.List.Concat.{flat_map-append}
 use Rattle.std.proofs.lemmas.List.Sums.{length-filter, count_by-le-length}
@@ -17,7 +16,8 @@ use Rattle.serde_json.specs.Written.{compact_text, comma_if, items_text, members
 use Rattle.scim_json.specs.Writing.{member_if, members_from}
 use Rattle.scim_key.specs.Identifiers.{hex_digit, lower_hex, id_text}
 use Rattle.scim_key.specs.Names.{IsUserName, IsGroupName, user_name_fault, group_name_fault}
-use Rattle.scim_key.specs.Revisions.{RevisionValue, IsRevision, is_revision}
+use Rattle.scim_key.specs.Revisions.{RevisionValue, IsRevision, revision_number}
+use Rattle.scim_key.proofs.RevisionLaws.{are_read_back}
 use Rattle.scim_key.specs.declared.records.RecordName.{RecordName}
 use Rattle.scim_resource.specs.Contents.{content_kind}
 use Rattle.scim_resource.specs.Schemas.{core_user, core_group, source_extension}
@@ -161,12 +161,8 @@ present_most (b ∷ text) short d is = let same : string (b ∷ text) ≡ d = cc
 just : (x d : Data) (n : ℕ) → length (compact_text x) ≤ n → Some x ≡ Some d → length (compact_text d) ≤ n
 just x d n most is = let same : x ≡ d = cc in subst (λ (y : Data). length (compact_text y) ≤ n) same most
 
-revision_fits : (r : RevisionValue) → IsRevision r → r < 2 ^ 64
-unfolding is_revision
-revision_fits r law = grind (arith, nat_tests)
-
-revision_most : (r : RevisionValue) → IsRevision r → length (compact_text (number (unsigned r))) ≤ 20
-revision_most r law = let fits = revision_fits r law in length-decimal-le 20 r (lit< tt) (omega (arith, fits)) fits
+revision_most : (r : RevisionValue) → IsRevision r → length (compact_text (number (unsigned (revision_number r)))) ≤ 20
+revision_most r law = let fits = are_read_back.number_fits r law in length-decimal-le 20 (revision_number r) (lit< tt) (omega (arith, fits)) fits
 
 -- ---- keys
 
@@ -246,7 +242,7 @@ core_group_length = refl
 
 revision_part : (r : RevisionValue) → IsRevision r → (d : Data) → source_data (Some r) ≡ Some d → length (compact_text d) ≤ 34
 revision_part r law d is =
-    just (object (member (codes "revision") (number (unsigned r)) no_members)) d 34 (object_most (member (codes "revision") (number (unsigned r)) no_members) 33 (with_member (codes "revision") (number (unsigned r)) no_members 10 20 1 key_revision (revision_most r law) no_more_members)) is
+    just (object (member (codes "revision") (number (unsigned (revision_number r))) no_members)) d 34 (object_most (member (codes "revision") (number (unsigned (revision_number r))) no_members) 33 (with_member (codes "revision") (number (unsigned (revision_number r))) no_members 10 20 1 key_revision (revision_most r law) no_more_members)) is
 
 schemas_most : (core : List ℕ) (n : ℕ) (r : RevisionValue) → length (quoted core) ≤ n → length (compact_text (array (schemas_data core (Some r)))) ≤ n + 58
 schemas_most core n r short =

@@ -54,3 +54,7 @@ IsSettled w = (name : RecordName) → Has (names w) name → IsSettledOf w name
 abbrev pub Settles : Type 0
 Settles = (events : List Event) → AllByRecursion IsLawful events
     → (count : ℕ) × (v : World) × Turns (run empty events) (names (run empty events)) count v × IsSettled v
+
+-- no other exchanges do: their number and the world after them are determined
+abbrev pub OneWay : Type 0
+OneWay = (w : World) (names : List RecordName) (m n : ℕ) (u v : World) → Turns w names m u → Turns w names n v → (m ≡ n) × (u ≡ v)

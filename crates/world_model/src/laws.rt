@@ -1,6 +1,6 @@
 //! Laws of all runs, with nothing to run.
 ghost use Rattle.world_model.specs.Safe.{AlwaysOnward, AlwaysSafe, HeadlineHolds, JudgesBySource};
-ghost use Rattle.world_model.specs.Settled.{Settles};
+ghost use Rattle.world_model.specs.Settled.{OneWay, Settles};
 ghost use Rattle.world_model.specs.Untroubled.{NeverRefused};
 
 /// After every run the connector judges each row as the history of the source alone does.
@@ -38,7 +38,9 @@ pub fn never_refused()
 /// Where each row that is offered keeps the limits of the source: from every world that a run reaches, at most
 /// three exchanges for each record, in the order of names, so users before groups, settle it. In an exchange
 /// what is asked for is sent, the request arrives, and so does its reply. Then the wanted revision of each
-/// record is confirmed, and the provider holds the image of its last row.
+/// record is confirmed, and the provider holds the image of its last row. Whoever makes exchanges for each
+/// record in turn until nothing is to be sent of it makes these, and no others.
 pub fn settles()
-    ensures { Settles }
+    ensures by_three { Settles }
+    ensures one_way { OneWay }
 {}

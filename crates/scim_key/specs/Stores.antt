@@ -1,0 +1,60 @@
+-- What each call of a store keeps, what a stop may leave, and what the store counts, whatever it holds.
+use Rattle.std.specs.Prelude.{◌≡◌, ◌⊎◌, ℕ, ◌+◌, ◌-◌, ◌^◌, ◌<◌, ◌≤◌, Result, OnOk, OnErr, MatchResult}
+
+-- ---- counts
+
+-- a count rose, or stands at the greatest number that it has
+abbrev pub HasRisen : ℕ → ℕ → Type 0
+HasRisen old new = (old < new) ⊎ (2 ^ 64 - 1 ≤ new)
+
+-- the count of faults stays where a call answers
+abbrev pub CountsFaults : {T F : Type 0} → (counts : ℕ → ℕ → F → Type 0) → (old new : ℕ) → Result T F → Type 0
+CountsFaults counts old new result = MatchResult result (λ _. new ≡ old) (λ fault. counts old new fault)
+
+-- ---- stops
+
+-- whatever a stop may leave now, it might have left before
+abbrev pub LeavesNoMore : {C : Type 0} → (old new : C → Type 0) → Type 0
+LeavesNoMore {C} old new = (found : C) → new found → old found
+
+-- the same, or this
+abbrev pub LeavesOr : {C : Type 0} → (old new also : C → Type 0) → Type 0
+LeavesOr {C} old new also = (found : C) → new found → old found ⊎ also found
+
+-- ---- calls
+
+-- A call that only reads: what is held stays, nothing is written, and it answers only where the store is open
+pub record OnlyReads {S C T F : Type 0} (held : S → C) (is_faithful is_honest : S → Type 0) (may_hold : S → C → Type 0) (faults writes : S → ℕ) (counts : ℕ → ℕ → F → Type 0) (old new : S) (result : Result T F) : Type 0 where
+  pub was : is_faithful new → is_faithful old
+  pub same : is_faithful new → held new ≡ held old
+  pub honest : is_honest new → is_honest old
+  pub opened : is_honest new → OnOk result (is_faithful new)
+  pub stop : is_honest new → LeavesNoMore (may_hold old) (may_hold new)
+  pub counted : CountsFaults counts (faults old) (faults new) result
+  pub unwritten : writes new ≡ writes old
+
+-- A call that makes what is held this by one write at most: it is this where it answers, and as it was where it fails.
+-- A stop within it leaves the one or the other
+pub record WritesOnce {S C T F : Type 0} (held : S → C) (is_faithful is_honest : S → Type 0) (may_hold : S → C → Type 0) (faults writes : S → ℕ) (counts : ℕ → ℕ → F → Type 0) (old new : S) (later : C) (result : Result T F) : Type 0 where
+  pub was : is_faithful new → is_faithful old
+  pub done : is_faithful new → OnOk result (held new ≡ later)
+  pub same : is_faithful new → OnErr result (held new ≡ held old)
+  pub honest : is_honest new → is_honest old
+  pub stop : is_honest new → LeavesOr (may_hold old) (may_hold new) (λ found. is_faithful old × (found ≡ later))
+  pub counted : CountsFaults counts (faults old) (faults new) result
+  pub written : writes new ≤ writes old + 1
+  pub unwritten : OnErr result (writes new ≡ writes old)
+
+-- A call that opens the store again: it holds what a stop may have left, and nothing is written
+pub record Reopens {S C T F : Type 0} (held : S → C) (is_faithful is_honest : S → Type 0) (may_hold : S → C → Type 0) (faults writes : S → ℕ) (counts : ℕ → ℕ → F → Type 0) (old new : S) (result : Result T F) : Type 0 where
+  pub found : is_honest new → OnOk result (may_hold old (held new))
+  pub honest : is_honest new → is_honest old
+  pub opened : is_honest new → OnOk result (is_faithful new)
+  pub stop : is_honest new → LeavesNoMore (may_hold old) (may_hold new)
+  pub counted : CountsFaults counts (faults old) (faults new) result
+  pub unwritten : writes new ≡ writes old
+
+-- what every call keeps: a store that returns what was committed now did so before, and no count falls
+pub record IsQuiet {S : Type 0} (is_faithful : S → Type 0) (faults : S → ℕ) (old new : S) : Type 0 where
+  pub was : is_faithful new → is_faithful old
+  pub counts : faults old ≤ faults new
