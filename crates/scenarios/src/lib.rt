@@ -14,6 +14,8 @@ mod codes;
 #[cfg(test)]
 mod creating;
 #[cfg(test)]
+mod exchanges;
+#[cfg(test)]
 mod grouping;
 #[cfg(test)]
 mod index;
@@ -29,6 +31,8 @@ mod refusing;
 mod registries;
 #[cfg(test)]
 mod replacing;
+#[cfg(test)]
+mod responses;
 #[cfg(test)]
 mod scripts;
 #[cfg(test)]
