@@ -14,9 +14,13 @@ mod grouping;
 #[cfg(test)]
 mod index;
 #[cfg(test)]
+mod learning;
+#[cfg(test)]
 mod limits;
 #[cfg(test)]
 mod lines;
+#[cfg(test)]
+mod messages;
 #[cfg(test)]
 mod refusing;
 #[cfg(test)]
