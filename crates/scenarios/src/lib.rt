@@ -4,10 +4,6 @@
 #[cfg(test)]
 mod answers;
 #[cfg(test)]
-mod asking;
-#[cfg(test)]
-mod changing;
-#[cfg(test)]
 mod client;
 #[cfg(test)]
 mod codes;
@@ -23,8 +19,6 @@ mod index;
 mod limits;
 #[cfg(test)]
 mod lines;
-#[cfg(test)]
-mod offers;
 #[cfg(test)]
 mod refusing;
 #[cfg(test)]
