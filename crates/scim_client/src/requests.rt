@@ -70,8 +70,6 @@ fn lent(bytes: &Option<Vec<u8>>) -> Option<&[u8]>
     }
 }
 
-// ---- the field lines
-
 /// The field lines of a request, each where it has a value.
 fn fields_of<'a>(
     alloc: Global,
@@ -201,8 +199,6 @@ fn push_tag(text: &mut Vec<u8>, tag: &EntityTag) -> Result<(), AllocError>
     text.extend_from_slice(tag.text())
 }
 
-// ---- the body
-
 /// The compact text of the content that a request sends, where it sends one.
 fn body_of(alloc: Global, request: &Request) -> Result<Option<Vec<u8>>, AllocError>
     ensures text { IfOk result (λ body. option_map (λ t. t.items) body ≡ spec.body_sent request.now) }
@@ -228,8 +224,6 @@ fn sent(body: Option<&[u8]>) -> &[u8]
 {
     body.unwrap_or_default()
 }
-
-// ---- the target
 
 fn target_of(alloc: Global, base: &Base, request: &Request) -> Result<String, AllocError>
     ensures text { IfOk result (λ text. string_bytes text ≡ spec.target_text request.now) }
