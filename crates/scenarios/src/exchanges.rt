@@ -1,6 +1,7 @@
 //! Exchanges of the client, over bytes and over streams that follow a script.
 use crate::answers::{BOB, creation};
-use crate::responses::{Ask, line, padded, request_for, response};
+use crate::responses::padded;
+use crate::sayings::{Ask, line, request_for, response};
 use crate::scripts::{Event, Script, ScriptedReader, ScriptedWriter, Turn};
 use crate::support::{BOB_CREATED, CREATE_BOB, base};
 use http_text::{Input, Output, SendFault};

@@ -28,6 +28,8 @@ mod replacing;
 #[cfg(test)]
 mod responses;
 #[cfg(test)]
+mod sayings;
+#[cfg(test)]
 mod scripts;
 #[cfg(test)]
 mod searching;

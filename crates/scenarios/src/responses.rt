@@ -1,99 +1,10 @@
 //! Responses of any provider, read as answers to a request.
-use crate::answers::{creation, replacement, retrieval, search};
+use crate::sayings::{Ask, BOB_ELSEWHERE, line, request_for, response};
 use crate::support::BOB_CREATED;
 use scim_client::read_answer;
-use scim_key::Kind;
-use scim_message::{Answer, ErrorResponse, ListResponse, Request};
-use scim_resource::Shown;
-use scim_version::{Condition, EntityTag};
 use std::alloc::Global;
 use std::process::Abort;
 use std::test::Fail;
-
-/// What is asked for: each of a user, or of users.
-#[derive(Clone, Copy)]
-pub enum Ask {
-    Create,
-    Find,
-    Search,
-    Replace,
-}
-
-/// A user at another provider.
-const BOB: &str =
-    "{\"id\":\"x\",\"meta\":{\"version\":\"\\\"1\\\"\"},\"schemas\":[\"urn:ietf:params:scim:schemas:core:2.0:User\"],\"userName\":\"bob\"}";
-
-pub fn request_for(alloc: Global, ask: Ask) -> Result<Request, Fail> {
-    match ask {
-        Ask::Create => creation(alloc, BOB, Kind::User),
-        Ask::Find => retrieval(alloc, "x", Kind::User, Condition::Always),
-        Ask::Search => Ok(search(Kind::User, None)),
-        Ask::Replace => replacement(alloc, "x", BOB, Kind::User),
-    }
-}
-
-/// A response with this status, these field lines and this body, whose length it states.
-pub fn response(alloc: Global, status: &str, fields: &str, body: &str) -> Result<Vec<u8>, Fail> {
-    let length = body.len();
-    let text = format!(in alloc;
-        "HTTP/1.1 {status}\r\nContent-Length: {length}\r\n{fields}\r\n{body}"
-    )?;
-    Ok(text.into_bytes())
-}
-
-// ---- answers in a line
-
-fn tag_line(alloc: Global, tag: Option<&EntityTag>) -> Result<String, Fail> {
-    match tag {
-        Some(tag) => {
-            let text = Vec::from_slice(alloc, tag.text())?;
-            Ok(String::from_utf8(text).map_err(|_| "not a text")?)
-        }
-        None => Ok(String::from_str(alloc, "-")?),
-    }
-}
-
-/// The id, the tag and the name.
-fn shown_line(alloc: Global, what: &str, shown: &Shown) -> Result<String, Fail> {
-    let id = shown.id().as_str();
-    let tag = tag_line(alloc, shown.version())?;
-    let name = shown.content().spelled_name();
-    Ok(format!(in alloc; "{what} {id} {tag} {name}")?)
-}
-
-/// The total, the start and the resources.
-fn list_line(alloc: Global, list: &ListResponse) -> Result<String, Fail> {
-    let total = list.total;
-    let start = list.start;
-    let mut text = format!(in alloc; "list {total} {start}")?;
-    for shown in list.resources.as_slice() {
-        let line = shown_line(alloc, ",", shown)?;
-        text.push_str(line.as_str())?;
-    }
-    Ok(text)
-}
-
-fn error_line(alloc: Global, error: &ErrorResponse) -> Result<String, Fail> {
-    let status = error.status();
-    let scim_type = error.scim_type().unwrap_or("-");
-    let detail = error.detail().unwrap_or("-");
-    Ok(format!(in alloc; "error {status} {scim_type} {detail}")?)
-}
-
-pub fn line(alloc: Global, answer: &Answer) -> Result<String, Fail> {
-    match answer {
-        Answer::Created(shown) => shown_line(alloc, "created", shown),
-        Answer::Found(shown) => shown_line(alloc, "found", shown),
-        Answer::Replaced(shown) => shown_line(alloc, "replaced", shown),
-        Answer::List(list) => list_line(alloc, list),
-        Answer::NotModified { id, version, .. } => {
-            let id = id.as_str();
-            let tag = tag_line(alloc, Some(version))?;
-            Ok(format!(in alloc; "unmodified {id} {tag}")?)
-        }
-        Answer::Error(error) => error_line(alloc, error),
-    }
-}
 
 /// Asserts that these bytes are this answer, or are refused by this code.
 fn says(
@@ -126,9 +37,19 @@ fn say(rt: &impl Abort, alloc: Global, table: &[Said]) -> Result<(), Fail> {
 // ---- resources
 
 static RESOURCES: &[Said] = &[
-    (Ask::Create, "201 Created", BOB, "created x \"1\" bob"),
-    (Ask::Find, "200 OK", BOB, "found x \"1\" bob"),
-    (Ask::Replace, "200 Fine", BOB, "replaced x \"1\" bob"),
+    (
+        Ask::Create,
+        "201 Created",
+        BOB_ELSEWHERE,
+        "created x \"1\" bob",
+    ),
+    (Ask::Find, "200 OK", BOB_ELSEWHERE, "found x \"1\" bob"),
+    (
+        Ask::Replace,
+        "200 Fine",
+        BOB_ELSEWHERE,
+        "replaced x \"1\" bob",
+    ),
     (
         Ask::Find,
         "200 OK",
@@ -209,22 +130,22 @@ fn resources(rt: HostRuntime) -> Result<(), Fail> {
 // ---- statuses
 
 static STATUSES: &[Said] = &[
-    (Ask::Create, "200 OK", BOB, "K3"),
+    (Ask::Create, "200 OK", BOB_ELSEWHERE, "K3"),
     (Ask::Create, "200 OK", "<html>", "K2"),
-    (Ask::Find, "201 Created", BOB, "K3"),
-    (Ask::Replace, "201 Created", BOB, "K3"),
+    (Ask::Find, "201 Created", BOB_ELSEWHERE, "K3"),
+    (Ask::Replace, "201 Created", BOB_ELSEWHERE, "K3"),
     (Ask::Search, "201 Created", "{\"totalResults\":0}", "K3"),
     (Ask::Find, "100 Continue", "", "K2"),
-    (Ask::Find, "102 Processing", BOB, "K3"),
+    (Ask::Find, "102 Processing", BOB_ELSEWHERE, "K3"),
     (Ask::Replace, "204 No Content", "", "K2"),
-    (Ask::Find, "206 Partial Content", BOB, "K3"),
-    (Ask::Find, "301 Moved Permanently", BOB, "K3"),
+    (Ask::Find, "206 Partial Content", BOB_ELSEWHERE, "K3"),
+    (Ask::Find, "301 Moved Permanently", BOB_ELSEWHERE, "K3"),
     (Ask::Find, "307 Temporary Redirect", "<html>", "K2"),
-    (Ask::Find, "399 Unknown", BOB, "K3"),
-    (Ask::Find, "400 Bad Request", BOB, "error 400 - -"),
+    (Ask::Find, "399 Unknown", BOB_ELSEWHERE, "K3"),
+    (Ask::Find, "400 Bad Request", BOB_ELSEWHERE, "error 400 - -"),
     (Ask::Search, "502 Bad Gateway", "<html>", "error 502 - -"),
     (Ask::Create, "599 Unknown", "", "error 599 - -"),
-    (Ask::Find, "600 Unknown", BOB, "K3"),
+    (Ask::Find, "600 Unknown", BOB_ELSEWHERE, "K3"),
     (Ask::Find, "999 Unknown", "", "K2"),
 ];
 
