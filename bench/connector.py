@@ -1,14 +1,15 @@
 #!/usr/bin/env python3
 """Measures what it costs the connector to take one row or one answer, in instructions.
 
-    make build && python3 bench/connector.py
+    python3 bench/connector.py
 
 It builds `connector.rattle`, a program over the connector and a journal in memory, in a copy of the
-crates that it stands on, and runs it among 1,000, 10,000 and 100,000 users under valgrind, which
-counts the instructions of each run, so that neither other work on the machine nor its caches are in
-the figures. The cost of one call is what a run with 3,000 calls takes more than one with 1,000: the
-connector, and the rows and answers that are ready for it, are the same in both. It ends with status 1
-where a call costs over twice as much among 100,000 users as among 1,000.
+crates that it stands on; what isn't proved there yet is proved first, which takes minutes. It runs
+the program among 1,000, 10,000 and 100,000 users under valgrind, which counts the instructions of
+each run, so that neither other work on the machine nor its caches are in the figures. The cost of one
+call is what a run with 3,000 calls takes more than one with 1,000: the connector, and the rows and
+answers that are ready for it, are the same in both. It ends with status 1 where a call costs over
+twice as much among 100,000 users as among 1,000.
 """
 import os
 import re
