@@ -1,5 +1,5 @@
 //! Rows that the source offers to the connector: what it says of them, and what it then wants.
-use crate::offers::{named, new_connector, offer, offer_group, offer_user, users};
+use crate::offers::{named, new_connector, offer, offer_group, offer_user, opened_again, users};
 use connector_core::Connector;
 use journal_core::MemoryJournal;
 use scim_key::Kind;
@@ -112,24 +112,13 @@ fn records_are_named_in_their_order(rt: HostRuntime) -> Result<(), Fail> {
     Ok(())
 }
 
-/// A connector that is opened again on the journal of another.
-fn reopened(
-    alloc: Global,
-    connector: Connector<MemoryJournal>,
-) -> Result<Connector<MemoryJournal>, Fail> {
-    match Connector::open(alloc, connector.close()) {
-        Ok(connector) => Ok(connector),
-        Err(_) => Err(Fail::from("it isn't opened")),
-    }
-}
-
 #[test]
 fn rows_stand_over_a_restart(rt: HostRuntime) -> Result<(), Fail> {
     let alloc = rt.alloc();
     let mut connector = new_connector(alloc)?;
     offer_user(alloc, &mut connector, "ann,2,,,,,active\n")?;
     offer_group(alloc, &mut connector, "crew,1,ann\n")?;
-    let mut connector = reopened(alloc, connector)?;
+    let mut connector = opened_again(alloc, connector)?;
     wants(
         &rt,
         alloc,
@@ -170,7 +159,7 @@ fn users_have_their_limit(rt: HostRuntime) -> Result<(), Fail> {
         &[("crew,1,user0 user99999\n", "new")],
     )?;
     assert_eq!(rt; connector.names()?.len(), 100_001);
-    let mut connector = reopened(alloc, connector)?;
+    let mut connector = opened_again(alloc, connector)?;
     let offers = [
         ("ann,1,,,,,active\n", "S12"),
         ("user8,2,,,,,active\n", "new"),

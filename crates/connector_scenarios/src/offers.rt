@@ -15,6 +15,17 @@ pub fn new_connector(alloc: Global) -> Result<Connector<MemoryJournal>, Fail> {
     }
 }
 
+/// A connector that is opened again on the journal of another.
+pub fn opened_again(
+    alloc: Global,
+    connector: Connector<MemoryJournal>,
+) -> Result<Connector<MemoryJournal>, Fail> {
+    match Connector::open(alloc, connector.close()) {
+        Ok(connector) => Ok(connector),
+        Err(_) => Err(Fail::from("it isn't opened")),
+    }
+}
+
 /// The name of a record.
 pub fn named(alloc: Global, kind: Kind, key: &str) -> Result<RecordName, Fail> {
     let key = Key::of(alloc, key)?;
