@@ -1,29 +1,28 @@
 -- What the look-ups find, in the table and among the records that it holds.
-use Rattle.std.proofs.Common.{◌≡◌, ◌≢◌, ◌⊎◌, ℕ, zero, suc, ◌-◌, ◌≤◌, ◌<◌, ◌^◌, ℤ, pos, Bool, true, false, ◌&&◌, cond, List, [], ◌∷◌, map, filter, length, Option, Some, None, Ok, Err, Result, refl, sym, ap, ◌∙◌, subst, inl, inr, arith, IsPermutation}
+use Rattle.std.proofs.Common.{◌≡◌, ℕ, zero, suc, ◌-◌, ◌<◌, ◌^◌, ℤ, pos, Bool, true, false, ◌&&◌, cond, List, [], ◌∷◌, map, filter, Some, None, Ok, Err, Result, refl, sym, ap, ◌∙◌, subst, inl, inr, arith, IsPermutation}
 use Rattle.std.specs.Prelude.{slice_get}
-use Rattle.std.specs.List.{AllByRecursion, IsDistinct}
+use Rattle.std.specs.List.{AllByRecursion}
 use Rattle.std.specs.Ordering.{int_eq}
 use Rattle.std.specs.Str.{bytes_eq}
-use Rattle.std.proofs.lemmas.Bool.{and_parts, and_from, false_from_ne_true}
+use Rattle.std.proofs.lemmas.Bool.{and_parts, and_from}
 use Rattle.std.proofs.lemmas.Bool.Decides.{Decides-int_eq}
 use Rattle.std.proofs.lemmas.Slice.Eq.{bytes_eq-Decides}
 use Rattle.std.proofs.lemmas.List.Sorted.{length_permutation}
 use Rattle.std.proofs.lemmas.Map.Keys.{IsDistinct-head, IsDistinct-tail}
-use Rattle.sqlite_value.specs.declared.value.Value.TheVariants.{Null, Int, Text}
+use Rattle.sqlite_value.specs.declared.value.Value.TheVariants.{Int, Text}
 use Rattle.sqlite_value.specs.declared.keys.Order.{Order}
 use Rattle.sqlite_value.specs.Order.{Row, column}
 use Rattle.sqlite_trees.specs.Tree.{rowid, has_rowid}
 use Rattle.sqlite_trees.proofs.ListLemmas.{filter_same, all_of}
 use Rattle.sqlite_sql.specs.Term.{Term}
-use Rattle.sqlite_schema.specs.declared.schema.Schema.{Schema}
 use Rattle.sqlite_schema.specs.declared.command.Command.TheVariants.{Select}
 use Rattle.sqlite_rules.specs.Lists.{Has}
-use Rattle.sqlite_rules.proofs.ListLemmas.{has_kept, has_filtered, has_got}
+use Rattle.sqlite_rules.proofs.ListLemmas.{has_kept, has_filtered}
 use Rattle.sqlite_resolve.specs.declared.compiled.Compiled.{Compiled}
 use Rattle.sqlite_resolve.specs.declared.error.CompileError.{CompileError}
 use Rattle.sqlite.specs.Effect.{Database, Reads}
 use Rattle.sqlite.specs.Given.{IsPlain}
-use Rattle.sqlite.specs.Listing.{understood, reads_listing}
+use Rattle.sqlite.specs.Listing.{understood}
 use Rattle.sqlite.specs.State.{State}
 use Rattle.sqlite.proofs.Callers.{command_of, one_permutation}
 use Rattle.scim_key.specs.declared.records.Kind.{Kind}
@@ -35,13 +34,13 @@ use Rattle.provider_core.specs.Rows.{same_record, is_named, row_named, names_of,
 use Rattle.provider_core.proofs.RowLaws.{same_record-eq, same_record-self, same_record-sym, find-passes}
 use Rattle.provider_core.proofs.MemoryLaws.{found-at}
 use Rattle.provider_store.specs.Format.{provider_schema, named_text, numbered_text}
-use Rattle.provider_store.specs.Rows.{kind_code, shown_row, row_of, IsRowOf, record_in, Holds}
+use Rattle.provider_store.specs.Rows.{kind_code, shown_row, IsRowOf, record_in, Holds}
 use Rattle.provider_store.specs.Connections.{IsLaid, IsQuery, Answers, IsOnly, IsNamed, FindsName, FindsNumber, resources}
 use Rattle.provider_store.specs.declared.tables.Found.{Found}
 use Rattle.provider_store.specs.declared.tables.Found.TheVariants.{Nothing, Damaged, There}
 use Rattle.provider_store.proofs.Texts.{query, shown_terms, names, number_is, name_terms, named_is, named_query, numbered_is, numbered_query}
-use Rattle.provider_store.proofs.Selecting.{passes, shows, selected, number_passes, name_passes}
-use Rattle.provider_store.proofs.Holding.{has_own, shown_record, some_within}
+use Rattle.provider_store.proofs.Selecting.{passes, selected, number_passes, name_passes}
+use Rattle.provider_store.proofs.Holding.{has_own, shown_record}
 
 -- ---- the rows of an answer
 

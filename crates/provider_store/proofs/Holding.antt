@@ -3,12 +3,11 @@ use Rattle.std.proofs.Common.{◌≡◌, ◌≢◌, ◌⊎◌, ◌==◌, ℕ, ze
 use Rattle.std.specs.Prelude.{slice_get, slice_set}
 use Rattle.std.specs.List.{find, list_any, IsDistinct}
 use Rattle.std.specs.Ordering.{int_eq}
-use Rattle.std.proofs.Math.ListN.{length-set}
 use Rattle.std.proofs.lemmas.Bool.{cases_eq, cases_lt, false_from_ne_true}
 use Rattle.std.proofs.lemmas.Bool.Decides.{Decides-int_eq}
-use Rattle.std.proofs.lemmas.Option.{slice_get_within, slice_get_past}
+use Rattle.std.proofs.lemmas.Option.{slice_get_within}
 use Rattle.std.proofs.lemmas.Map.Keys.{IsDistinct-push}
-use Rattle.sqlite_value.specs.declared.value.Value.TheVariants.{Null, Int, Text}
+use Rattle.sqlite_value.specs.declared.value.Value.TheVariants.{Int}
 use Rattle.sqlite_value.specs.Order.{Row, column}
 use Rattle.sqlite_trees.specs.Tree.{rowid, has_rowid, put_row, without_rowid}
 use Rattle.sqlite_rules.specs.Edit.{is_taken}
@@ -19,13 +18,12 @@ use Rattle.scim_key.specs.declared.records.Kind.{Kind}
 use Rattle.scim_key.specs.declared.records.Kind.TheVariants.{User, Group}
 use Rattle.scim_key.specs.declared.records.RecordName.{RecordName}
 use Rattle.scim_resource.specs.Contents.{content_kind, content_name}
-use Rattle.scim_resource.specs.Reading.{content_in}
-use Rattle.scim_resource.specs.Rows.{StoredRecord, IsStored}
+use Rattle.scim_resource.specs.Rows.{StoredRecord}
 use Rattle.provider_core.specs.Rows.{same_record, is_named, row_named, has_number, row_numbered, with_row, IsNumberedFrom, names_of, AreNamedApart}
 use Rattle.provider_core.specs.Stores.{HoldsNumber}
 use Rattle.provider_core.proofs.RowLaws.{same_record-equivalence, numbers_same, find-passes}
 use Rattle.provider_core.proofs.MemoryLaws.{found-at, update-sets, apart-none}
-use Rattle.provider_core.proofs.TableLaws.{at_push, at_end, at_more}
+use Rattle.provider_core.proofs.TableLaws.{at_push}
 use Rattle.provider_store.specs.Rows.{shown_row, row_of, stored_row, IsRowOf, kind_at, record_with, record_in, record_of_kind, listed, record_at, rows_from, rows_of, Holds}
 use Rattle.provider_store.proofs.Trees.{put_other, put_here, without_here, without_other, free}
 use Rattle.provider_store.proofs.Values.{rowid_is}

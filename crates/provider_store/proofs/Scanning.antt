@@ -1,13 +1,13 @@
 -- A page that is read row by row.
-use Rattle.std.proofs.Common.{◌≡◌, ◌≤◌, ◌<◌, ◌⊎◌, ℕ, zero, suc, ◌+◌, ◌-◌, min, take, drop, List, [], ◌∷◌, ◌++◌, length, Option, Some, None, Result, Ok, Err, OnOk, refl, sym, ap, ◌∙◌, subst, inl, inr, arith}
+use Rattle.std.proofs.Common.{◌≡◌, ◌≤◌, ℕ, zero, suc, ◌+◌, ◌-◌, min, take, drop, List, [], ◌∷◌, ◌++◌, length, Some, Ok, refl, sym, ap, ◌∙◌, subst, inl, inr, arith}
 use Rattle.std.specs.Prelude.{slice_get}
 use Rattle.std.proofs.lemmas.Bool.{cases_lt}
 use Rattle.sqlite_trees.specs.declared.store.Store.{Ghosts}
 use Rattle.scim_resource.specs.Rows.{StoredRecord}
-use Rattle.provider_core.specs.Stores.{CountsFault, CountsFaults, OnlyReads}
+use Rattle.provider_core.specs.Stores.{CountsFault, OnlyReads}
 use Rattle.provider_core.specs.declared.registry.RegistryFault.{RegistryFault}
 use Rattle.provider_store.specs.Kept.{Kept, IsFaithful, IsHonest, MayHold, kept_rows}
-use Rattle.provider_store.specs.Lookups.{answered, failing}
+use Rattle.provider_store.specs.Lookups.{failing}
 
 -- ---- lists
 

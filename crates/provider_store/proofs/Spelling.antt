@@ -1,11 +1,9 @@
 -- The text that is written of a content reads as that content.
-use Rattle.std.proofs.Common.{◌≡◌, ℕ, List, Result, Ok, Err, IfOk, OnOk, sym, ap, ◌∙◌, subst}
+use Rattle.std.proofs.Common.{◌≡◌, ℕ, List, Result, Ok, Err, IfOk, OnOk, ◌∙◌, subst}
 use Rattle.std.specs.Str.{IsUtf8}
-use Rattle.serde_json.specs.Written.{compact_text}
 use Rattle.scim_resource.specs.declared.contents.Content.{Content}
 use Rattle.scim_resource.specs.Contents.{IsContent, content_kind}
 use Rattle.scim_resource.specs.Reading.{content_in}
-use Rattle.scim_resource.specs.Writing.{content_data}
 use Rattle.scim_resource.proofs.RoundTrips.{content_sent}
 use Rattle.provider_store.specs.Connections.{content_text}
 

@@ -1,22 +1,22 @@
 -- What a call that writes leaves of a registry.
-use Rattle.std.proofs.Common.{◌≡◌, ◌⊎◌, ◌≤◌, ℕ, ◌+◌, ◌-◌, suc, pos, Bool, List, [], ◌∷◌, ◌++◌, length, Option, Some, None, Result, Ok, Err, IsTrue, OnOk, OnErr, IfOk, refl, sym, ap, ◌∙◌, subst, inl, inr, arith, length-append}
+use Rattle.std.proofs.Common.{◌≡◌, ◌⊎◌, ◌≤◌, ◌+◌, ◌-◌, suc, pos, List, [], ◌∷◌, ◌++◌, length, None, IsTrue, refl, sym, ap, ◌∙◌, subst, inl, inr, arith}
 use Rattle.std.specs.Prelude.{slice_get}
 use Rattle.sqlite_value.specs.Order.{Row}
 use Rattle.sqlite_trees.specs.declared.store.Store.{Ghosts}
 use Rattle.sqlite_trees.specs.Tree.{Trees}
 use Rattle.sqlite.specs.Effect.{Database}
-use Rattle.sqlite.specs.Held.{Held, state}
+use Rattle.sqlite.specs.Held.{state}
 use Rattle.sqlite.specs.State.{State, HasCleanDisk, Survives}
 use Rattle.scim_resource.specs.Contents.{content_name}
 use Rattle.scim_resource.specs.Rows.{StoredRecord, IsStored}
 use Rattle.provider_core.specs.Rows.{row_named, with_row}
-use Rattle.provider_core.specs.Stores.{CountsFault, CountsFaults, WritesOnce, HoldsNumber}
+use Rattle.provider_core.specs.Stores.{CountsFault, WritesOnce, HoldsNumber}
 use Rattle.provider_core.specs.declared.registry.RegistryFault.{RegistryFault}
 use Rattle.provider_core.proofs.MemoryLaws.{update-sets}
 use Rattle.std.proofs.Math.ListN.{length-set}
 use Rattle.provider_store.specs.Format.{resource_tree}
 use Rattle.provider_store.specs.Rows.{Holds, rows_of, stored_row, shown_row, IsRowOf}
-use Rattle.provider_store.specs.Connections.{IsLaid, IsThere, IsSpelled, Keeps, Makes, Leaves, added, renewed, resources, content_text}
+use Rattle.provider_store.specs.Connections.{IsThere, IsSpelled, Keeps, Makes, Leaves, added, renewed, resources, content_text}
 use Rattle.provider_store.specs.Lookups.{answered, failing}
 use Rattle.provider_store.specs.Kept.{Kept, IsFaithful, IsHonest, IsSound, IsWhole, MayHold, kept_rows}
 use Rattle.provider_store.proofs.Holding.{held_rows, held_at, joined, replaced}

@@ -1,18 +1,17 @@
 -- What the two writes make of the table of resources.
-use Rattle.std.proofs.Common.{◌≡◌, ◌⊎◌, ℕ, ℤ, pos, negsuc, Bool, true, false, ◌&&◌, cond, List, [], ◌∷◌, map, filter, slice_get, Some, None, Ok, Err, Result, refl, sym, ap, ◌∙◌, subst, inl, inr, IsPermutation}
+use Rattle.std.proofs.Common.{◌≡◌, ◌⊎◌, ℕ, ℤ, List, [], ◌∷◌, map, filter, None, Ok, Err, Result, refl, ap, ◌∙◌, subst, inl, inr, IsPermutation}
 use Rattle.std.specs.List.{list_all}
-use Rattle.sqlite_value.specs.declared.value.Value.{Value}
 use Rattle.sqlite_value.specs.declared.value.Value.TheVariants.{Null, Int, Text}
 use Rattle.sqlite_value.specs.declared.keys.Order.{Order}
 use Rattle.sqlite_value.specs.Order.{Row, column}
-use Rattle.sqlite_trees.specs.Tree.{Trees, rowid, has_rowid, put_row, without_rowid}
+use Rattle.sqlite_trees.specs.Tree.{Trees, has_rowid, put_row, without_rowid}
 use Rattle.sqlite_trees.proofs.ListLemmas.{filter_same, all_of}
-use Rattle.sqlite_sql.specs.Term.{Term, lit, col, holds}
+use Rattle.sqlite_sql.specs.Term.{Term}
 use Rattle.sqlite_schema.specs.declared.schema.Schema.{Schema}
 use Rattle.sqlite_schema.specs.declared.schema.Keys.TheVariants.{Enforced}
 use Rattle.sqlite_schema.specs.declared.command.Source.TheVariants.{Values}
 use Rattle.sqlite_schema.specs.declared.command.Command.TheVariants.{Insert, Update}
-use Rattle.sqlite_rules.specs.Edit.{Edit, edit_of, edited}
+use Rattle.sqlite_rules.specs.Edit.{edit_of, edited}
 use Rattle.sqlite_rules.specs.declared.error.Rowids.TheVariants.{Chosen, Given}
 use Rattle.sqlite_rules.specs.Calls.{ids_of}
 use Rattle.sqlite.specs.Effect.{Database}
@@ -22,7 +21,7 @@ use Rattle.sqlite.proofs.Callers.{one_step, one_permutation}
 use Rattle.provider_store.specs.Format.{provider_schema, resource_table}
 use Rattle.provider_store.specs.Connections.{plain_mode}
 use Rattle.provider_store.proofs.Texts.{query, number_is, insert_terms, update_terms}
-use Rattle.provider_store.proofs.Values.{cast_int, cast_null, equal_rowid}
+use Rattle.provider_store.proofs.Values.{cast_int, cast_null}
 use Rattle.provider_store.proofs.Selecting.{passes, shows, selected, number_passes}
 
 -- a part that gave a value did not stop on the way

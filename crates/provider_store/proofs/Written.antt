@@ -1,10 +1,8 @@
 -- What the two writes leave, as the rows of the records.
-use Rattle.std.proofs.Common.{◌≡◌, ◌≤◌, ℕ, pos, List, [], ◌∷◌, filter, Some, None, Ok, Err, Result, IsTrue, refl, sym, ap, ◌∙◌, subst, ℤ, arith}
-use Rattle.sqlite_value.specs.declared.value.Value.TheVariants.{Null, Int, Text}
-use Rattle.sqlite_value.specs.declared.keys.Order.{Order}
+use Rattle.std.proofs.Common.{◌≡◌, ◌≤◌, ℕ, pos, List, [], ◌∷◌, None, Ok, Err, Result, IsTrue, refl, sym, ap, ◌∙◌, subst, ℤ, arith}
+use Rattle.sqlite_value.specs.declared.value.Value.TheVariants.{Int, Text}
 use Rattle.sqlite_value.specs.Order.{Row, column}
-use Rattle.sqlite_trees.specs.Tree.{Trees, has_rowid, put_row, without_rowid}
-use Rattle.sqlite_sql.specs.Term.{Term}
+use Rattle.sqlite_trees.specs.Tree.{Trees}
 use Rattle.sqlite_schema.specs.declared.schema.Schema.{Schema}
 use Rattle.sqlite_schema.specs.declared.command.Command.{Command}
 use Rattle.sqlite_schema.specs.declared.command.Command.TheVariants.{Insert, Update}
@@ -21,7 +19,7 @@ use Rattle.scim_resource.specs.Contents.{content_kind, content_name}
 use Rattle.scim_resource.specs.Rows.{StoredRecord, IsStored, last_version}
 use Rattle.scim_key.specs.Identifiers.{last_number}
 use Rattle.provider_store.specs.Format.{provider_schema, insert_text, update_text}
-use Rattle.provider_store.specs.Rows.{kind_code, shown_row, stored_row, IsRowOf}
+use Rattle.provider_store.specs.Rows.{kind_code}
 use Rattle.provider_store.specs.Connections.{IsLaid, IsEdit, IsEditText, IsSpelled, IsThere, Ran, MayLeave, Makes, Leaves, added, renewed, resources, content_text, plain_mode}
 use Rattle.provider_store.proofs.Texts.{query, number_is, insert_terms, update_terms, insert_is, insert_plain, update_is, update_plain}
 use Rattle.provider_store.proofs.Writing.{inserts, updates}

@@ -1,6 +1,5 @@
 -- What the calls of the statements ask of a connection, and what they leave of it.
-use Rattle.std.specs.Prelude.{◌≡◌, ◌⊎◌, ℕ, zero, suc, pos, false, List, [], ◌∷◌, Option, None, Ok, IsTrue, filter}
-use Rattle.std.specs.Str.{IsUtf8}
+use Rattle.std.specs.Prelude.{◌≡◌, ℕ, pos, false, List, [], ◌∷◌, Option, None, Ok, IsTrue, filter}
 use Rattle.sqlite_value.specs.declared.keys.Order.{Order}
 use Rattle.sqlite_value.specs.Order.{Row}
 use Rattle.sqlite_trees.specs.Tree.{has_rowid, put_row, without_rowid}

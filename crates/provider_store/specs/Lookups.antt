@@ -3,7 +3,7 @@ use Rattle.std.specs.Prelude.{Option, Some, None, Result, Ok, Err}
 use Rattle.provider_core.specs.declared.registry.RegistryFault.{RegistryFault}
 use Rattle.scim_resource.specs.Rows.{StoredRecord}
 use Rattle.provider_store.specs.declared.tables.Found.{Found}
-use Rattle.provider_store.specs.declared.tables.Found.TheVariants.{Nothing, Damaged, There}
+use Rattle.provider_store.specs.declared.tables.Found.TheVariants.{Nothing, There}
 
 abbrev pub found_of : Option StoredRecord → Found
 found_of None = Nothing

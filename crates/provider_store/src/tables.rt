@@ -13,7 +13,7 @@ ghost use Rattle.provider_store.specs.Connections.{Answers, FindsName, FindsNumb
 
 use provider_core::RegistryFault;
 use scim_json::compact;
-use scim_key::{Kind, RecordName};
+use scim_key::{Kind, LAST_NUMBER, RecordName};
 use scim_resource::{Content, ReadFault, Stored};
 use sqlite::{Alter, Connection, Error, ErrorCode, Row};
 use sqlite_value::value::ValueRef;
@@ -36,9 +36,7 @@ fn fault_of(error: Error) -> RegistryFault {
     }
 }
 
-/// The greatest number and the greatest version of a row.
-const LAST_NUMBER: u32 = 1_000_000;
-
+/// The greatest version of a row.
 const LAST_VERSION: u64 = 9_007_199_254_740_991;
 
 // ---- statements

@@ -1,9 +1,8 @@
-use Rattle.std.proofs.Common.{◌≡◌, ◌∙◌, sym, ap, rules, arith, pos, w64, IsTrue}
+use Rattle.std.proofs.Common.{◌∙◌, ap, arith, pos, w64}
 use Rattle.std.proofs.lemmas.Int.{to_z_pos}
 use Rattle.sqlite.specs.Held.{state}
 use Rattle.sqlite.specs.State.{HasCleanDisk}
-use Rattle.scim_resource.specs.Contents.{content_kind, content_name}
-use Rattle.scim_resource.specs.declared.contents.Content.{Content}
+use Rattle.scim_resource.specs.Contents.{content_name}
 use Rattle.scim_key.specs.declared.records.RecordName.{RecordName}
 use Rattle.provider_store.specs.Rows.{kind_code}
 use Rattle.provider_store.specs.Connections.{IsSpelled, content_text}

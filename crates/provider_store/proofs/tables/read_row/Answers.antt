@@ -1,4 +1,4 @@
-use Rattle.std.proofs.Common.{◌≡◌, IsTrue, length, rules, tests, ◌∙◌, sym}
+use Rattle.std.proofs.Common.{◌≡◌, IsTrue, rules, tests, ◌∙◌, sym}
 use Rattle.provider_store.proofs.RowReading.{row_read}
 use Rattle.provider_store.proofs.tables.read_row.Goals as goal
 

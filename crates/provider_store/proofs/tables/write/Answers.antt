@@ -1,10 +1,8 @@
-use Rattle.std.proofs.Common.{◌≡◌, [], arith, subst, Ok, ap}
+use Rattle.std.proofs.Common.{[], arith, subst, Ok}
 use Rattle.sqlite.specs.Held.{state}
 use Rattle.sqlite.specs.Values.{bound}
-use Rattle.sqlite.specs.State.{HasCleanDisk, Executes, Survives}
-use Rattle.provider_store.specs.Connections.{Keeps, MayLeave}
+use Rattle.sqlite.specs.State.{HasCleanDisk, Executes}
 use Rattle.provider_store.proofs.Keeping.{not_run_keeps, keeps_then, unchanged_keeps, execute_keeps}
-use Rattle.sqlite.proofs.StateLemmas.{survives_weaker}
 use Rattle.provider_store.proofs.Asking.{on_err, ran, write_stops}
 use Rattle.provider_store.proofs.tables.write.Goals as goal
 

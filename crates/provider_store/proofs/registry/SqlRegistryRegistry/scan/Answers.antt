@@ -1,12 +1,11 @@
-use Rattle.std.proofs.Common.{◌≡◌, ◌≤◌, ◌<◌, ◌+◌, ◌-◌, ◌++◌, ◌∷◌, [], ◌∙◌, ap, sym, subst, take, drop, min, length, Some, Ok, Vec, Global, rules, arith}
+use Rattle.std.proofs.Common.{◌≡◌, ◌≤◌, ◌<◌, ◌+◌, ◌-◌, ◌++◌, ◌∷◌, [], ◌∙◌, ap, sym, subst, length, Some, Ok, Vec, Global, rules, arith}
 use Rattle.std.specs.Prelude.{slice_get}
 use Rattle.scim_resource.specs.declared.rows.Stored.{Stored}
-use Rattle.provider_core.specs.declared.registry.RegistryFault.TheVariants.{Store, Memory}
+use Rattle.provider_core.specs.declared.registry.RegistryFault.TheVariants.{Memory}
 use Rattle.provider_core.specs.Stores.{CountsFault, OnlyReads}
 use Rattle.provider_core.proofs.CallLaws.{reads-on}
 use Rattle.provider_core.proofs.MemoryLaws.{page-dropped}
 use Rattle.provider_store.specs.Kept.{Kept, IsFaithful, IsHonest, MayHold, kept_rows}
-use Rattle.provider_store.specs.Lookups.{failing}
 use Rattle.provider_store.proofs.Scanning.{take_next, take_whole, answered_so, fails_so, counted_so}
 use Rattle.provider_store.proofs.registry.SqlRegistryRegistry.scan.Goals as goal
 

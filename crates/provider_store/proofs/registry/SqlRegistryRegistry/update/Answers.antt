@@ -1,12 +1,11 @@
-use Rattle.std.proofs.Common.{◌≡◌, ◌+◌, ◌++◌, ◌∷◌, [], None, IsTrue, length, length-append, refl, sym, ap, ◌∙◌, subst, rules, tests, arith}
-use Rattle.scim_resource.specs.Contents.{content_name}
+use Rattle.std.proofs.Common.{IsTrue, refl, sym, ◌∙◌, subst, rules, tests, arith}
 use Rattle.sqlite.specs.Held.{state}
-use Rattle.provider_core.specs.Rows.{row_named, with_row}
+use Rattle.provider_core.specs.Rows.{with_row}
 use Rattle.provider_core.specs.Stores.{CountsFault, WritesOnce, HoldsNumber}
-use Rattle.provider_store.specs.Connections.{added, renewed, resources}
+use Rattle.provider_store.specs.Connections.{renewed, resources}
 use Rattle.provider_store.specs.Lookups.{answered, failing}
 use Rattle.provider_store.specs.Kept.{Kept, IsFaithful, IsHonest, MayHold, kept_rows}
-use Rattle.provider_store.proofs.Storing.{insert_holds, update_holds, length_with, there_of, wrote, wrote_faithful, wrote_sound, failed, failed_sound}
+use Rattle.provider_store.proofs.Storing.{update_holds, length_with, there_of, wrote, wrote_faithful, wrote_sound, failed, failed_sound}
 use Rattle.provider_store.proofs.registry.SqlRegistryRegistry.update.Goals as goal
 
 pub update_row-requires-clause-there : goal.update_row-requires-clause-there
