@@ -30,8 +30,8 @@ use Rattle.scim_key.specs.declared.records.Kind.TheVariants.{User, Group}
 use Rattle.scim_key.specs.declared.records.RecordName.{RecordName}
 use Rattle.scim_resource.specs.Contents.{content_kind, content_name}
 use Rattle.scim_resource.specs.Rows.{StoredRecord}
-use Rattle.provider_core.specs.Rows.{same_record, is_named, row_named, names_of, AreNamedApart}
-use Rattle.provider_core.proofs.RowLaws.{same_record-eq, same_record-self, same_record-sym, find-passes}
+use Rattle.provider_core.specs.Rows.{same_name, is_named, row_named, names_of, AreNamedApart}
+use Rattle.provider_core.proofs.RowLaws.{same_name-eq, same_name-self, same_name-sym, find-passes}
 use Rattle.provider_core.proofs.MemoryLaws.{found-at}
 use Rattle.provider_store.specs.Format.{provider_schema, named_text, numbered_text}
 use Rattle.provider_store.specs.Rows.{kind_code, shown_row, IsRowOf, record_in, Holds}
@@ -180,7 +180,7 @@ module _ (table : List Row) (rows : List StoredRecord) (holds : Holds table rows
     | None ↦ λ _. refl
     | Some s ↦ λ is.
         let at = found-at (is_named name) 1 rows s holds.numbered is in
-        let same : name ≡ content_name s.content = same_record-eq name (content_name s.content) (find-passes (is_named name) rows s is) in
+        let same : name ≡ content_name s.content = same_name-eq name (content_name s.content) (find-passes (is_named name) rows s is) in
         let it = named_at (s.number - 1) s name at.1 (sym same) in
         absurd (nothing it.0 s it.1)
   ] refl
@@ -188,9 +188,9 @@ module _ (table : List Row) (rows : List StoredRecord) (holds : Holds table rows
   pub some_named : (name : RecordName) (s : StoredRecord) → FindsName table name (There s) → row_named name rows ≡ Some s
   some_named name s found = first rows (s.number - 1) holds.apart (row_held found.0 s found.1.there found.1.shows)
     where
-      within : (rs : List StoredRecord) (n : ℕ) (first : RecordName) → AllByRecursion (λ other. same_record first other ≡ false) (names_of rs) → slice_get rs n ≡ Some s → same_record first (content_name s.content) ≡ false
+      within : (rs : List StoredRecord) (n : ℕ) (first : RecordName) → AllByRecursion (λ other. same_name first other ≡ false) (names_of rs) → slice_get rs n ≡ Some s → same_name first (content_name s.content) ≡ false
       within [] n first apart at = absurd (cc)
-      within (r ∷ rs) zero first apart at = let e : r ≡ s = cc in ap (λ (x : StoredRecord). same_record first (content_name x.content)) (sym e) ∙ apart.0
+      within (r ∷ rs) zero first apart at = let e : r ≡ s = cc in ap (λ (x : StoredRecord). same_name first (content_name x.content)) (sym e) ∙ apart.0
       within (r ∷ rs) (suc n) first apart at = within rs n first apart.1 at
 
       here : (r : StoredRecord) (rs : List StoredRecord) (b : Bool) → b ≡ false → row_named name rs ≡ Some s → cond b (Some r) (row_named name rs) ≡ Some s
@@ -201,12 +201,12 @@ module _ (table : List Row) (rows : List StoredRecord) (holds : Holds table rows
       first [] n apart at = absurd (cc)
       first (r ∷ rs) zero apart at =
           let e : r ≡ s = cc in
-          let passes_it : is_named name r ≡ true = ap (λ (x : StoredRecord). same_record name (content_name x.content)) e ∙ ap (same_record name) found.1.named ∙ same_record-self name in
+          let passes_it : is_named name r ≡ true = ap (λ (x : StoredRecord). same_name name (content_name x.content)) e ∙ ap (same_name name) found.1.named ∙ same_name-self name in
           rw passes_it (ap Some e)
       first (r ∷ rs) (suc n) apart at =
-          let other = within rs n (content_name r.content) (IsDistinct-head same_record (content_name r.content) (names_of rs) apart) at in
-          let not_it : is_named name r ≡ false = same_record-sym name (content_name r.content) ∙ ap (same_record (content_name r.content)) (sym found.1.named) ∙ other in
-          here r rs (is_named name r) not_it (first rs n (IsDistinct-tail same_record (content_name r.content) (names_of rs) apart) at)
+          let other = within rs n (content_name r.content) (IsDistinct-head same_name (content_name r.content) (names_of rs) apart) at in
+          let not_it : is_named name r ≡ false = same_name-sym name (content_name r.content) ∙ ap (same_name (content_name r.content)) (sym found.1.named) ∙ other in
+          here r rs (is_named name r) not_it (first rs n (IsDistinct-tail same_name (content_name r.content) (names_of rs) apart) at)
 
 -- ---- of the values that a call gave
 

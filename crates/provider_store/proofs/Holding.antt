@@ -19,9 +19,9 @@ use Rattle.scim_key.specs.declared.records.Kind.TheVariants.{User, Group}
 use Rattle.scim_key.specs.declared.records.RecordName.{RecordName}
 use Rattle.scim_resource.specs.Contents.{content_kind, content_name}
 use Rattle.scim_resource.specs.Rows.{StoredRecord}
-use Rattle.provider_core.specs.Rows.{same_record, is_named, row_named, has_number, row_numbered, with_row, IsNumberedFrom, names_of, AreNamedApart}
+use Rattle.provider_core.specs.Rows.{same_name, is_named, row_named, has_number, row_numbered, with_row, IsNumberedFrom, names_of, AreNamedApart}
 use Rattle.provider_core.specs.Stores.{HoldsNumber}
-use Rattle.provider_core.proofs.RowLaws.{same_record-equivalence, numbers_same, find-passes}
+use Rattle.provider_core.proofs.RowLaws.{same_name-equivalence, numbers_same, find-passes}
 use Rattle.provider_core.proofs.MemoryLaws.{found-at, update-sets, apart-none}
 use Rattle.provider_core.proofs.TableLaws.{at_push}
 use Rattle.provider_store.specs.Rows.{shown_row, row_of, stored_row, IsRowOf, kind_at, record_with, record_in, record_of_kind, listed, record_at, rows_from, rows_of, Holds}
@@ -64,18 +64,18 @@ names_append : (rows : List StoredRecord) (row : StoredRecord) → names_of (row
 names_append [] row = refl
 names_append (r ∷ rs) row = ap (λ names. content_name r.content ∷ names) (names_append rs row)
 
-free_name : (name : RecordName) (rows : List StoredRecord) → row_named name rows ≡ None → list_any (same_record name) (names_of rows) ≡ false
+free_name : (name : RecordName) (rows : List StoredRecord) → row_named name rows ≡ None → list_any (same_name name) (names_of rows) ≡ false
 free_name name [] none = refl
 free_name name (r ∷ rs) none = here (is_named name r) (free_name name rs) none
   where
-    here : (b : Bool) → (row_named name rs ≡ None → list_any (same_record name) (names_of rs) ≡ false) → cond b (Some r) (row_named name rs) ≡ None → (Rattle.std.proofs.Common.◌||◌ b (list_any (same_record name) (names_of rs))) ≡ false
+    here : (b : Bool) → (row_named name rs ≡ None → list_any (same_name name) (names_of rs) ≡ false) → cond b (Some r) (row_named name rs) ≡ None → (Rattle.std.proofs.Common.◌||◌ b (list_any (same_name name) (names_of rs))) ≡ false
     here true ih was = absurd (cc)
     here false ih was = ih was
 
 pub apart_append : (rows : List StoredRecord) (row : StoredRecord) → AreNamedApart rows → row_named (content_name row.content) rows ≡ None → AreNamedApart (rows ++ row ∷ [])
 apart_append rows row apart none =
-    subst (λ (names : List RecordName). IsDistinct same_record names) (sym (names_append rows row))
-    (IsDistinct-push same_record-equivalence (names_of rows) (content_name row.content) apart (free_name (content_name row.content) rows none))
+    subst (λ (names : List RecordName). IsDistinct same_name names) (sym (names_append rows row))
+    (IsDistinct-push same_name-equivalence (names_of rows) (content_name row.content) apart (free_name (content_name row.content) rows none))
 
 names_set : (rows : List StoredRecord) (i : ℕ) (held row : StoredRecord) → slice_get rows i ≡ Some held → content_name held.content ≡ content_name row.content → names_of (slice_set rows i row) ≡ names_of rows
 names_set [] i held row there same = refl
@@ -236,7 +236,7 @@ module _ (table : List Row) (rows : List StoredRecord) (s : StoredRecord) (new :
       let held = at.2 in
       let made : Holds (put_row new (without_rowid (pos s.number) table)) (slice_set rows (s.number - 1) s) = record {
         numbered = numbered_set 1 rows (s.number - 1) there.held s holds.numbered held at.0;
-        apart = subst (λ (names : List RecordName). IsDistinct same_record names) (sym (names_set rows (s.number - 1) there.held s held there.name)) holds.apart;
+        apart = subst (λ (names : List RecordName). IsDistinct same_name names) (sym (names_set rows (s.number - 1) there.held s held there.name)) holds.apart;
         each = λ n x got. elim (cases_eq (s.number - 1) n) [
           | inl same ↦
               let e : suc n ≡ s.number = omega (arith, at.1) in

@@ -14,7 +14,7 @@ ghost use Rattle.provider_store.specs.Connections.{Answers, FindsName, FindsNumb
 use provider_core::RegistryFault;
 use scim_json::compact;
 use scim_key::{Kind, LAST_NUMBER, RecordName};
-use scim_resource::{Content, ReadFault, Stored};
+use scim_resource::{Content, LAST_VERSION, ReadFault, Stored};
 use sqlite::{Alter, Connection, Error, ErrorCode, Row};
 use sqlite_value::value::ValueRef;
 use std::alloc::{AllocError, Global};
@@ -35,9 +35,6 @@ fn fault_of(error: Error) -> RegistryFault {
         _ => RegistryFault::Store,
     }
 }
-
-/// The greatest version of a row.
-const LAST_VERSION: u64 = 9_007_199_254_740_991;
 
 // ---- statements
 
