@@ -1,1 +1,2 @@
+mod RequestLemmas
 mod TurnLemmas

@@ -1,3 +1,4 @@
 pub mod Deadlines
 pub mod Listening
+pub mod Requests
 pub mod Turns

@@ -5,6 +5,8 @@ mod deadline;
 mod listening;
 mod serving;
 mod sockets;
+#[cfg(test)]
+mod tests;
 mod timed;
 
 pub use deadline::Deadline;

@@ -1,6 +1,7 @@
 //! The connections of a provider, one after another.
 ghost use Rattle.std.specs.Prelude.{◌≡◌, []};
 ghost use Rattle.provider_core.specs.Memory.{MemoryRecord};
+ghost use Rattle.connection.specs.Requests.{FollowRequests};
 ghost use Rattle.connection.specs.Turns.{IsServed, TakesTurn, ServesTurns, answered};
 
 use crate::listening::Listen;
@@ -29,8 +30,10 @@ pub fn serve_connections<R: Registry, L: Listen>(
     base: &Base,
     provider: &mut Provider<R>,
 ) -> Result<(), ConnectionFault>
-    ensures { ServesTurns L.waiting L.Reader.remaining L.Writer.contents R.Registry base.now
-        listener.old listener.new provider.old provider.new count result }
+    ensures served { ServesTurns L.waiting L.Reader.remaining L.Writer.contents R.Registry
+        base.now listener.old listener.new provider.old provider.new count result }
+    ensures follows { R.is_faithful provider.new →
+        FollowRequests (R.rows provider.old) (R.rows provider.new) count }
 {
     let mut outcome = Ok(());
     for _turn in 0..count {
@@ -50,7 +53,8 @@ pub fn serve_from_memory<L: Listen>(
     count: u32,
     base: &Base,
 ) -> Result<(), ConnectionFault>
-    ensures { (held : MemoryRecord) × ServesTurns L.waiting L.Reader.remaining L.Writer.contents
+    ensures { (held : MemoryRecord) × FollowRequests [] held.rows count
+        × ServesTurns L.waiting L.Reader.remaining L.Writer.contents
         ⟦<MemoryRegistry as Registry>⟧ base.now listener.old listener.new
         (record { rows = []; writes = 0 }) held count result }
 {

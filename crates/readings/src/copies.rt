@@ -8,26 +8,26 @@ use std::alloc::Global;
 use std::process::Abort;
 use std::test::Fail;
 
-static ANN: &str =
+pub static ANN: &str =
     "{\"active\":false,\"emails\":[{\"primary\":true,\"type\":\"work\",\"value\":\"ann@example.com\"},{\"value\":\"ann@example.org\"}],\"externalId\":\"1001\",\"name\":{\"familyName\":\"Lee\",\"givenName\":\"Ann\"},\"schemas\":[\"urn:ietf:params:scim:schemas:core:2.0:User\",\"urn:example:params:scim:schemas:extension:source:1.0\"],\"urn:example:params:scim:schemas:extension:source:1.0\":{\"revision\":7},\"userName\":\"Ann\"}";
 
-static ANN_SHOWN: &str =
+pub static ANN_SHOWN: &str =
     "{\"active\":false,\"emails\":[{\"primary\":true,\"type\":\"work\",\"value\":\"ann@example.com\"},{\"value\":\"ann@example.org\"}],\"externalId\":\"1001\",\"id\":\"5c1a0000-0000-8000-8000-000000000007\",\"meta\":{\"location\":\"http://localhost:8080/v2/Users/5c1a0000-0000-8000-8000-000000000007\",\"resourceType\":\"User\",\"version\":\"\\\"3\\\"\"},\"name\":{\"familyName\":\"Lee\",\"givenName\":\"Ann\"},\"schemas\":[\"urn:ietf:params:scim:schemas:core:2.0:User\",\"urn:example:params:scim:schemas:extension:source:1.0\"],\"urn:example:params:scim:schemas:extension:source:1.0\":{\"revision\":7},\"userName\":\"Ann\"}";
 
-static CREW: &str =
+pub static CREW: &str =
     "{\"displayName\":\"Crew two\",\"externalId\":\"x\",\"members\":[{\"value\":\"b\"},{\"value\":\"a\"}],\"schemas\":[\"urn:ietf:params:scim:schemas:core:2.0:Group\",\"urn:example:params:scim:schemas:extension:source:1.0\"],\"urn:example:params:scim:schemas:extension:source:1.0\":{\"revision\":2}}";
 
-static CREW_SHOWN: &str =
+pub static CREW_SHOWN: &str =
     "{\"displayName\":\"Crew two\",\"externalId\":\"x\",\"id\":\"5c1a0000-0000-8000-8000-000000000007\",\"members\":[{\"value\":\"b\"},{\"value\":\"a\"}],\"meta\":{\"location\":\"http://localhost:8080/v2/Groups/5c1a0000-0000-8000-8000-000000000007\",\"resourceType\":\"Group\",\"version\":\"\\\"3\\\"\"},\"schemas\":[\"urn:ietf:params:scim:schemas:core:2.0:Group\",\"urn:example:params:scim:schemas:extension:source:1.0\"],\"urn:example:params:scim:schemas:extension:source:1.0\":{\"revision\":2}}";
 
 /// The text of a content.
-fn text_of(alloc: Global, content: &Content) -> Result<Vec<u8>, Fail> {
+pub fn text_of(alloc: Global, content: &Content) -> Result<Vec<u8>, Fail> {
     let value = content.to_value(alloc)?;
     Ok(compact(alloc, &value)?)
 }
 
 /// The text of a resource as it is shown.
-fn shown_text(alloc: Global, shown: &Shown) -> Result<Vec<u8>, Fail> {
+pub fn shown_text(alloc: Global, shown: &Shown) -> Result<Vec<u8>, Fail> {
     let base = Base::read(alloc, "http://localhost:8080/v2")?;
     let value = shown.to_value(alloc, &base)?;
     Ok(compact(alloc, &value)?)

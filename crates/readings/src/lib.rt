@@ -2,6 +2,8 @@
 #![tactic(auto)]
 
 #[cfg(test)]
+mod answers_back;
+#[cfg(test)]
 mod codes;
 #[cfg(test)]
 mod copies;
@@ -13,6 +15,8 @@ mod filters;
 mod groups;
 #[cfg(test)]
 mod names;
+#[cfg(test)]
+mod reading_back;
 #[cfg(test)]
 mod sources;
 #[cfg(test)]

@@ -15,7 +15,7 @@ static BOB_ID: &str = "5c1a0000-0000-8000-8000-000000000001";
 
 static CREW_ID: &str = "5c1a0000-0000-8000-8000-000000000002";
 
-static BOB: &str =
+pub static BOB: &str =
     "{\"schemas\":[\"urn:ietf:params:scim:schemas:core:2.0:User\"],\"userName\":\"bob\",\"urn:example:params:scim:schemas:extension:source:1.0\":{\"revision\":1}}";
 
 static BOB_LATER: &str =

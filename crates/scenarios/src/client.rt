@@ -1,5 +1,5 @@
 //! Requests as the client writes them, and what the server makes of them.
-use crate::support::{BOB_FOUND, CREATE_BOB, answers, base, empty, ends, exchange};
+use crate::support::{BOB_FOUND, CREATE_BOB, answers, base, empty, ends, exchange, tells};
 use provider_core::{MemoryRegistry, Provider};
 use scim_client::ScimService;
 use scim_filter::Filter;
@@ -134,12 +134,16 @@ fn every_other_byte_of_an_id_is_escaped(rt: HostRuntime) -> Result<(), Fail> {
     let built = service
         .retrieve_request(Kind::Group, &id)
         .build(rt.alloc())?;
-    gets(
+    let target = "/v2/Groups/a%2Fb%3Fc%25%C3%A9-._~";
+    gets(&rt, rt.alloc(), &built, target, "")?;
+    let mut provider = empty(rt.alloc());
+    tells(
         &rt,
         rt.alloc(),
+        &mut provider,
         &built,
-        "/v2/Groups/a%2Fb%3Fc%25%C3%A9-._~",
-        "",
+        404,
+        "no such resource",
     )
 }
 

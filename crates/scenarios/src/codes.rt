@@ -1,6 +1,7 @@
 //! The codes that faults and refusals are printed as.
 use http_text::{ReadFault, SendFault};
 use provider_core::{ProviderFault, RegistryFault};
+use scim_client::{AnswerFault, ExchangeFault};
 use scim_message::Refusal;
 use scim_server::MeaningFault;
 use std::alloc::Global;
@@ -76,6 +77,29 @@ static PROVIDER_FAULTS: &[(ProviderFault, &str)] = &[
     (ProviderFault::Memory, "P11"),
 ];
 
+static ANSWER_FAULTS: &[(AnswerFault, &str)] = &[
+    (AnswerFault::NotOneResponse, "K1"),
+    (AnswerFault::NotJson, "K2"),
+    (AnswerFault::WrongShape, "K3"),
+    (AnswerFault::OutOfMemory, "K4"),
+];
+
+static EXCHANGE_FAULTS: &[(ExchangeFault, &str)] = &[
+    (
+        ExchangeFault::Unsent(SendFault::WriteFailed { sent: 7 }),
+        "H12",
+    ),
+    (
+        ExchangeFault::Unsent(SendFault::TurnsExhausted { sent: 7 }),
+        "H14",
+    ),
+    (ExchangeFault::EndedEarly, "H10"),
+    (ExchangeFault::ReadFailed, "H11"),
+    (ExchangeFault::OutOfMemory, "H13"),
+    (ExchangeFault::TurnsExhausted, "H14"),
+    (ExchangeFault::NoAnswer(AnswerFault::OutOfMemory), "K4"),
+];
+
 #[test]
 fn codes(rt: HostRuntime) -> Result<(), Fail> {
     are_printed(&rt, rt.alloc(), REFUSALS)?;
@@ -83,5 +107,7 @@ fn codes(rt: HostRuntime) -> Result<(), Fail> {
     are_printed(&rt, rt.alloc(), SEND_FAULTS)?;
     are_printed(&rt, rt.alloc(), MEANING_FAULTS)?;
     are_printed(&rt, rt.alloc(), REGISTRY_FAULTS)?;
-    are_printed(&rt, rt.alloc(), PROVIDER_FAULTS)
+    are_printed(&rt, rt.alloc(), PROVIDER_FAULTS)?;
+    are_printed(&rt, rt.alloc(), ANSWER_FAULTS)?;
+    are_printed(&rt, rt.alloc(), EXCHANGE_FAULTS)
 }

@@ -4,15 +4,13 @@
 #[cfg(test)]
 mod answers;
 #[cfg(test)]
-mod asking;
-#[cfg(test)]
-mod changing;
-#[cfg(test)]
 mod client;
 #[cfg(test)]
 mod codes;
 #[cfg(test)]
 mod creating;
+#[cfg(test)]
+mod exchanges;
 #[cfg(test)]
 mod grouping;
 #[cfg(test)]
@@ -22,13 +20,15 @@ mod limits;
 #[cfg(test)]
 mod lines;
 #[cfg(test)]
-mod offers;
-#[cfg(test)]
 mod refusing;
 #[cfg(test)]
 mod registries;
 #[cfg(test)]
 mod replacing;
+#[cfg(test)]
+mod responses;
+#[cfg(test)]
+mod sayings;
 #[cfg(test)]
 mod scripts;
 #[cfg(test)]

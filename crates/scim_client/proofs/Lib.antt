@@ -6,4 +6,6 @@ pub mod AnswerLemmas
 pub mod ExchangeLemmas
 pub mod AnswerLaws
 pub mod Spelled
+pub mod Tags
 pub mod Targets
+pub mod Utf8Bytes

@@ -1,9 +1,9 @@
 -- The field lines of a request are such as a head may have, and each is found by its name.
-use Rattle.std.proofs.Common.{◌≡◌, ℕ, ◌+◌, ◌^◌, ◌<◌, ◌≤◌, Bool, true, false, cond, List, [], ◌∷◌, ◌++◌, ◌&&◌, length, Option, Some, None, Result, Ok, refl, ap, sym, subst, ◌∙◌, arith, inl, inr, nat_lt, append_assoc, append-nil}
+use Rattle.std.proofs.Common.{◌≡◌, ℕ, ◌^◌, ◌<◌, ◌≤◌, Bool, true, false, List, [], ◌∷◌, ◌++◌, ◌&&◌, length, Option, Some, None, Result, Ok, refl, ap, sym, subst, ◌∙◌, arith, inl, inr, nat_lt, append_assoc, append-nil}
 use Rattle.std.specs.Prelude.{All, IfSome, nat_le, codes, option_to_list, reverse}
 use Rattle.std.specs.Char.{is_ascii_digit}
 use Rattle.std.specs.Fmt.{decimal}
-use Rattle.std.specs.List.{AllByRecursion, flat_map, join_by, list_all}
+use Rattle.std.specs.List.{AllByRecursion, flat_map, list_all}
 use Rattle.std.specs.Str.Parse.{digits_value}
 use Rattle.std.proofs.lemmas.Bool.Decides.{nat_tests}
 use Rattle.std.proofs.lemmas.Fmt.{decimal_is_IsNumeral, digits_decimal, length-decimal-le}
@@ -12,7 +12,7 @@ use Rattle.std.proofs.lemmas.List.Elements.{All-nil, All-cons, All-append, All-w
 use Rattle.std.proofs.lemmas.List.Folds.{list_all-append}
 use Rattle.std.proofs.lemmas.List.Sums.{AllPass-from_list_all, list_all-from_AllPass}
 use Rattle.std.proofs.lemmas.Str.Parse.{numerals_by_value, tells_all_ascii_digits}
-use Rattle.httparse.specs.Grammar.{AllPass, is_token_byte, is_uri_byte, is_value_byte, skip_ows, IsToken}
+use Rattle.httparse.specs.Grammar.{is_token_byte, is_uri_byte, is_value_byte, skip_ows, IsToken}
 use Rattle.scim_key.specs.Bases.{is_authority_byte}
 use Rattle.scim_version.specs.declared.conditions.Condition.{Condition}
 use Rattle.scim_version.specs.declared.conditions.Condition.TheVariants.{Always, AnyTag, Tags}
@@ -32,7 +32,7 @@ use Rattle.scim_server.specs.Meaning.{condition_in, condition_read}
 use Rattle.scim_server.specs.Replies.{line_with, written_lines, stated_type}
 use Rattle.scim_server.proofs.NumberLemmas.{all_digits}
 use Rattle.scim_client.specs.Requests.{condition_value, lines_of}
-use Rattle.scim_client.specs.Spelling.{IsSentCondition}
+use Rattle.scim_client.specs.Spelling.{HasEntityTags, HasSomeTag}
 
 -- ---- visible texts
 
@@ -147,6 +147,10 @@ list_read before first (next ∷ others) blank is all =
     subst P text (lists.joined (single before first [] blank (inr is) refl) rest)
 
 -- ---- conditions
+
+-- a condition that a field may have
+abbrev pub IsSentCondition : Condition → Type 0
+IsSentCondition condition = HasSomeTag condition × HasEntityTags condition
 
 abbrev pub IsValueOf : Option (List ℕ) → Type 0
 IsValueOf value = IfSome value IsValue

@@ -1,27 +1,25 @@
 -- The parameters that are written in a query are read back.
-use Rattle.std.proofs.Common.{◌≡◌, ◌≢◌, ℕ, suc, ◌+◌, ◌^◌, ◌<◌, ◌≤◌, Bool, true, false, cond, List, [], ◌∷◌, ◌++◌, ◌&&◌, map, length, Option, Some, None, refl, ap, sym, subst, ◌∙◌, arith, inl, inr, nat_lt}
-use Rattle.std.specs.Prelude.{All, IfSome, IsAscii, IsUtf8, ℤ, pos, negsuc, neg_ℤ, Result, Ok, Err, codes, nat_le, option_map}
+use Rattle.std.proofs.Common.{◌≡◌, ℕ, suc, ◌^◌, ◌<◌, Bool, true, false, cond, List, [], ◌∷◌, ◌++◌, ◌&&◌, map, length, Option, Some, None, refl, ap, sym, ◌∙◌, arith, nat_lt}
+use Rattle.std.specs.Prelude.{All, IfSome, IsUtf8, ℤ, pos, negsuc, neg_ℤ, Ok, codes, nat_le, option_map}
 use Rattle.std.specs.Char.{is_ascii_digit}
 use Rattle.std.specs.Fmt.{decimal, signed_decimal}
 use Rattle.std.specs.List.{AllByRecursion, list_all}
 use Rattle.std.specs.Ordering.{int_eq}
 use Rattle.std.specs.Str.Lossy.{utf8_lossy}
-use Rattle.std.specs.Str.Parse.{digits_value, starts_with_minus}
+use Rattle.std.specs.Str.Parse.{starts_with_minus}
 use Rattle.std.proofs.lemmas.Bool.Decides.{nat_tests, Decides-int_eq}
 use Rattle.std.proofs.lemmas.Fmt.{decimal_is_IsNumeral, length-decimal-le}
-use Rattle.std.proofs.lemmas.List.Elements.{All-nil, All-cons, All-append, All-weaker}
+use Rattle.std.proofs.lemmas.List.Elements.{All-nil, All-cons, All-weaker}
 use Rattle.std.proofs.lemmas.List.Sums.{AllPass-from_list_all}
 use Rattle.std.proofs.lemmas.Str.{utf8_lossy-IsUtf8, IsUtf8-from_ascii}
 use Rattle.std.proofs.lemmas.Str.Ascii.{IsAscii-from_all}
-use Rattle.form_urlencoded.specs.Form.{decode, raw_pairs, parse, extend_pairs}
+use Rattle.form_urlencoded.specs.Form.{decode, raw_pairs, extend_pairs}
 use Rattle.form_urlencoded.proofs.FormLemmas.{IsBytePair, round_trip}
-use Rattle.scim_filter.specs.Expressions.{Expression}
-use Rattle.scim_filter.specs.Texts.{filter_text}
 use Rattle.scim_server.specs.Numbers.{is_digits, digits_in, number_in}
 use Rattle.scim_server.specs.Queries.{pair_of, value_in, parameter}
 use Rattle.scim_server.specs.Replies.{line_with}
-use Rattle.scim_server.specs.Searches.{start_in, count_in, start_of, count_of, page_of, number_read}
-use Rattle.scim_client.specs.Requests.{with_parameter, start_value, query_text}
+use Rattle.scim_server.specs.Searches.{start_in, count_in, number_read}
+use Rattle.scim_client.specs.Requests.{with_parameter, start_value}
 use Rattle.scim_client.specs.Spelling.{IsShortNumber}
 use Rattle.scim_client.proofs.Lines.{both, decimal_is_digits}
 

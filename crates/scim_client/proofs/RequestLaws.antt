@@ -1,5 +1,5 @@
 -- A text spells one request.
-use Rattle.std.proofs.Common.{◌≡◌, sym, ap, ◌∙◌, ℕ, List, [], refl, subst}
+use Rattle.std.proofs.Common.{◌≡◌, sym, [], refl, subst}
 use Rattle.std.specs.Prelude.{Result, Ok}
 use Rattle.scim_message.specs.declared.messages.Request.{Request}
 use Rattle.scim_message.specs.declared.refusals.Refusal.{Refusal}

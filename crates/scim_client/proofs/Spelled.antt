@@ -1,12 +1,12 @@
 -- The text of a request is a message that asks for that request.
-use Rattle.std.proofs.Common.{◌≡◌, ◌↔◌, ℕ, ◌+◌, ◌<◌, ◌≤◌, Bool, true, false, cond, List, [], ◌∷◌, ◌++◌, length, Option, Some, None, refl, ap, sym, subst, ◌∙◌, arith}
-use Rattle.std.specs.Prelude.{All, IfSome, ℤ, Result, Ok, Err, codes, option_map, option_to_list, if◌then◌else◌}
+use Rattle.std.proofs.Common.{◌≡◌, ℕ, ◌+◌, ◌<◌, ◌≤◌, Bool, true, false, List, [], ◌∷◌, length, Option, Some, None, refl, ap, sym, subst, ◌∙◌, arith}
+use Rattle.std.specs.Prelude.{All, IfSome, ℤ, Result, Ok, Err, codes, option_map, if◌then◌else◌}
 use Rattle.std.specs.Fmt.{decimal, signed_decimal}
 use Rattle.std.specs.List.{AllByRecursion, list_all}
 use Rattle.std.proofs.lemmas.List.Elements.{All-nil, All-cons}
 use Rattle.std.proofs.lemmas.List.Sums.{AllPass-from_list_all}
 use Rattle.httparse.specs.Grammar.{IsToken, is_token_byte}
-use Rattle.scim_key.specs.Bases.{IsBase, authority_of, base_text, is_authority_byte}
+use Rattle.scim_key.specs.Bases.{IsBase, IsAuthority, authority_of, is_authority_byte}
 use Rattle.scim_key.proofs.BaseLemmas.{are_spelled}
 use Rattle.scim_key.specs.Outcome.{◌>>=◌}
 use Rattle.scim_key.specs.declared.records.Kind.{Kind}
@@ -25,22 +25,22 @@ use Rattle.scim_message.specs.declared.messages.Request.{Request}
 use Rattle.scim_message.specs.declared.messages.Request.TheVariants.{Create, Retrieve, Search, Replace}
 use Rattle.scim_message.specs.declared.refusals.Refusal.{Refusal}
 use Rattle.scim_message.specs.declared.refusals.Refusal.TheVariants.{MediaType}
-use Rattle.http_text.specs.declared.fault.ReadFault as faults
 use Rattle.http_text.specs.Forms.{IsRequestMessage, IsAccepted}
 use Rattle.http_text.specs.Judging.{judge_head}
 use Rattle.http_text.specs.Message.{NamedValue, Head, Message, request_line, values, length_in, stated, absent, body_length, head_limit, body_limit}
 use Rattle.http_text.specs.Texts.{IsTarget, request_text}
 use Rattle.http_text.proofs.TextLemmas as texts
 use Rattle.scim_server.specs.Laws.{resource_path}
-use Rattle.scim_server.specs.Meaning.{Asks, IsAsked, routed_asked, collection_asked, resource_request, content_read, condition_in}
+use Rattle.scim_server.specs.Meaning.{IsAsked, routed_asked, collection_asked, resource_request, content_read, condition_in}
 use Rattle.scim_server.specs.Replies.{written_lines}
-use Rattle.scim_server.specs.Routes.{path_of, query_of, route_of, collection_path}
+use Rattle.scim_server.specs.Routes.{path_of, route_of, collection_path}
 use Rattle.scim_server.specs.Searches.{IsFilter, IsSearch, IsSearchOn, start_in, count_in, start_of, count_of, page_of}
 use Rattle.scim_server.proofs.LocationLaws.{locations_are_routed}
-use Rattle.scim_client.specs.Requests.{with_query, query_text, start_value, target_text, condition_value, content_text, lines_of, request_lines, text_of}
-use Rattle.scim_client.specs.Spelling.{IsIdText, IsSentCondition, IsSentContent, IsSentFilter, IsShortNumber, HasParts, KeepsLimits, SpellsRequest, RequestsAreSpelled}
-use Rattle.scim_client.proofs.Lines.{IsValue, IsValueOf, host_value, decimal_value, condition_is_value, condition_found, lines_are, Finds, finds, stated_decimal, judged, judged_body, judged_bodiless}
-use Rattle.scim_client.proofs.Queries.{IsByte, IsText, IsTextOf, Reads, reads, start_read, count_read}
+use Rattle.scim_client.specs.Requests.{with_query, query_text, start_value, condition_value, content_text, lines_of, text_of}
+use Rattle.scim_client.specs.Spelling.{IsIdText, IsSentContent, IsFilterText, KeepsFilterLimits, IsShortNumber, HasLawfulParts, IsWritable, KeepsLimits, SpellsRequest, RequestsAreSpelled}
+use Rattle.scim_client.proofs.Lines.{IsSentCondition, host_value, decimal_value, condition_is_value, condition_found, lines_are, finds, stated_decimal, judged, judged_body, judged_bodiless}
+use Rattle.scim_client.proofs.Queries.{IsByte, IsTextOf, reads, start_read, count_read}
+use Rattle.scim_client.proofs.Utf8Bytes.{utf8_bytes}
 use Rattle.scim_client.proofs.Targets.{is_target, path_bytes, collection_is_path, resource_is_path, path_alone, path_found, query_found, target_some, target_bytes, query_bytes}
 
 -- ---- the message
@@ -58,14 +58,20 @@ Judges has_body method target =
 abbrev IsSent : List ℕ → Message → Type 0
 IsSent text m = IsRequestMessage text m × IsAccepted m
 
-lawful_host : (base : List ℕ) → IsBase base → list_all is_authority_byte (authority_of base) ≡ true
-lawful_host base is =
+-- the host and port of a base
+abbrev pub HasHost : List ℕ → Type 0
+HasHost base = IsAuthority (authority_of base)
+
+pub has_host : (base : List ℕ) → IsBase base → HasHost base
+has_host base is =
     let spelled = (are_spelled.lawful base).0 is in
     let same : authority_of base ≡ spelled.0 = ap authority_of spelled.2 ∙ are_spelled.read_back spelled.0 in
-    let authority = spelled.1 in
-    ap (list_all is_authority_byte) same ∙ authority.bytes
+    subst IsAuthority (sym same) spelled.1
 
-sent_with_body : (base method target body : List ℕ) (first second : Condition) → IsToken method → IsTarget target → Judges true method target → IsBase base
+lawful_host : (base : List ℕ) → HasHost base → list_all is_authority_byte (authority_of base) ≡ true
+lawful_host base is = is.bytes
+
+sent_with_body : (base method target body : List ℕ) (first second : Condition) → IsToken method → IsTarget target → Judges true method target → HasHost base
     → IsSentCondition first → IsSentCondition second → length body ≤ body_limit
     → length (request_text method target (written_lines (lines_of (authority_of base) (Some (decimal (length body))) (condition_value first) (condition_value second))) body) ≤ head_limit + length body
     → IsSent (request_text method target (written_lines (lines_of (authority_of base) (Some (decimal (length body))) (condition_value first) (condition_value second))) body)
@@ -82,7 +88,7 @@ sent_with_body base method target body first second is at judges lawful one two 
       (n, judges fields ∙ judged_body n host (length_in (values (codes "content-length") fields)) (values (codes "host") fields) (values (codes "transfer-encoding") fields) (values (codes "expect") fields) small l found.at found.coding found.expect),
     )
 
-sent_bodiless : (base method target : List ℕ) (first second : Condition) → IsToken method → IsTarget target → Judges false method target → IsBase base
+sent_bodiless : (base method target : List ℕ) (first second : Condition) → IsToken method → IsTarget target → Judges false method target → HasHost base
     → IsSentCondition first → IsSentCondition second
     → length (request_text method target (written_lines (lines_of (authority_of base) None (condition_value first) (condition_value second))) []) ≤ head_limit + 0
     → IsSent (request_text method target (written_lines (lines_of (authority_of base) None (condition_value first) (condition_value second))) [])
@@ -137,7 +143,7 @@ at_resource : (kind : Kind) (id : List ℕ) (m : Message) (path : List ℕ) (ans
     → resource_request kind id m ≡ answer → IsAsked (routed_asked (route_of path) m) answer
 at_resource kind id m path answer named is asked =
     subst (λ (p : List ℕ). IsAsked (routed_asked (route_of p) m) answer) (sym is)
-    (subst (λ r. IsAsked (routed_asked r m) answer) (sym (locations_are_routed.routed kind id named.0 named.1 named.2)) asked)
+    (subst (λ r. IsAsked (routed_asked r m) answer) (sym (locations_are_routed.routed kind id (utf8_bytes id named.0) named.0 named.1)) asked)
 
 abbrev accepted_where : Bool → Result (Unit {0}) Refusal
 accepted_where served = if served then Ok tt else Err MediaType
@@ -158,7 +164,7 @@ content_found content is = round_trips.content_sent content is.0 is.1
 
 -- ---- POST
 
-created : (base : List ℕ) (content : Content) → IsBase base → IsSentContent content → KeepsLimits base (Create content) → SpellsRequest (text_of base (Create content)) (Create content)
+created : (base : List ℕ) (content : Content) → HasHost base → IsSentContent content → KeepsLimits base (Create content) → SpellsRequest (text_of base (Create content)) (Create content)
 created base content lawful is keeps =
     let kind = content_kind content in
     let path = collection_path kind in
@@ -168,7 +174,7 @@ created base content lawful is keeps =
     let m : Message = record { head = head_with (codes "POST") path fields; body = body } in
     let found = finds (authority_of base) long None None in
     let at = is_target path (collection_some kind) (path_bytes path (collection_is_path kind)) in
-    let sent = sent_with_body base (codes "POST") path body Always Always post_is_token at (λ f. refl) lawful tt tt keeps.1 keeps.0 in
+    let sent = sent_with_body base (codes "POST") path body Always Always post_is_token at (λ f. refl) lawful (tt, tt) (tt, tt) keeps.1 keeps.0 in
     let read = content_sent_is _ (content_in kind body) content found.media (content_found content is) in
     record {
       message = m;
@@ -179,7 +185,7 @@ created base content lawful is keeps =
 
 -- ---- PUT
 
-replaced : (base id : List ℕ) (content : Content) (first second : Condition) → IsBase base → IsIdText id → IsSentContent content → IsSentCondition first → IsSentCondition second
+replaced : (base id : List ℕ) (content : Content) (first second : Condition) → HasHost base → IsIdText id → IsSentContent content → IsSentCondition first → IsSentCondition second
     → KeepsLimits base (Replace id content first second) → SpellsRequest (text_of base (Replace id content first second)) (Replace id content first second)
 replaced base id content first second lawful named is one two keeps =
     let kind = content_kind content in
@@ -189,7 +195,7 @@ replaced base id content first second lawful named is one two keeps =
     let fields = written_lines (lines_of (authority_of base) long (condition_value first) (condition_value second)) in
     let m : Message = record { head = head_with (codes "PUT") path fields; body = body } in
     let found = finds (authority_of base) long (condition_value first) (condition_value second) in
-    let lawful_path = resource_is_path kind id named.0 in
+    let lawful_path = resource_is_path kind id (utf8_bytes id named.0) in
     let at = is_target path (resource_some kind id) (path_bytes path lawful_path) in
     let sent = sent_with_body base (codes "PUT") path body first second put_is_token at (λ f. refl) lawful one two keeps.1 keeps.0 in
     let read = content_sent_is _ (content_in kind body) content found.media (content_found content is) in
@@ -205,14 +211,14 @@ replaced base id content first second lawful named is one two keeps =
 
 -- ---- GET on one resource
 
-retrieved : (base : List ℕ) (kind : Kind) (id : List ℕ) (first second : Condition) → IsBase base → IsIdText id → IsSentCondition first → IsSentCondition second
+retrieved : (base : List ℕ) (kind : Kind) (id : List ℕ) (first second : Condition) → HasHost base → IsIdText id → IsSentCondition first → IsSentCondition second
     → KeepsLimits base (Retrieve kind id first second) → SpellsRequest (text_of base (Retrieve kind id first second)) (Retrieve kind id first second)
 retrieved base kind id first second lawful named one two keeps =
     let path = resource_path kind id in
     let fields = written_lines (lines_of (authority_of base) None (condition_value first) (condition_value second)) in
     let m : Message = record { head = head_with (codes "GET") path fields; body = [] } in
     let found = finds (authority_of base) None (condition_value first) (condition_value second) in
-    let lawful_path = resource_is_path kind id named.0 in
+    let lawful_path = resource_is_path kind id (utf8_bytes id named.0) in
     let at = is_target path (resource_some kind id) (path_bytes path lawful_path) in
     let sent = sent_bodiless base (codes "GET") path first second get_is_token at (λ f. refl) lawful one two keeps.0 in
     let conditions = conditions_are (condition_in (values (codes "if-match") fields)) (condition_in (values (codes "if-none-match") fields)) first second
@@ -227,17 +233,25 @@ retrieved base kind id first second lawful named one two keeps =
 
 -- ---- GET on a collection
 
+-- a filter that a query may have
+abbrev IsSentFilter : Expression → Type 0
+IsSentFilter filter = IsFilterText filter × KeepsFilterLimits filter
+
+is_sent_filter : (filter : Option Expression) → IfSome filter IsFilterText → IfSome filter KeepsFilterLimits → IfSome filter IsSentFilter
+is_sent_filter None text limits = tt
+is_sent_filter (Some filter) text limits = (text, limits)
+
 small_bytes : (text : List ℕ) → AllByRecursion (λ byte. byte < 256) text → All IsByte text
 small_bytes [] all = All-nil IsByte
 small_bytes (b ∷ text) all = All-cons IsByte b text all.0 (small_bytes text all.1)
 
 filter_is_text : (filter : Option Expression) → IfSome filter IsSentFilter → IsTextOf (option_map filter_text filter)
 filter_is_text None is = tt
-filter_is_text (Some filter) is = record { bytes = small_bytes (filter_text filter) is.0; utf8 = is.1 }
+filter_is_text (Some filter) is = record { bytes = small_bytes (filter_text filter) (utf8_bytes (filter_text filter) is.0); utf8 = is.0 }
 
 filter_read : (filter : Option Expression) → IfSome filter IsSentFilter → IsFilter (option_map filter_text filter) (Ok filter)
 filter_read None is = refl
-filter_read (Some filter) is = text_spells filter is.2 is.3
+filter_read (Some filter) is = text_spells filter is.1.0 is.1.1
 
 abbrev page_of_both : ℤ → Option ℤ → Result (ℤ × Option ℤ) Refusal
 page_of_both start count = Ok (start, count)
@@ -258,7 +272,7 @@ searched kind filter start count lawful first second =
     let F : Option (List ℕ) → Type 0 = λ text. IsFilter text (Ok filter) in
     subst P (sym page) (Ok filter, subst F (sym found.first) (filter_read filter lawful), refl)
 
-found_by : (base : List ℕ) (kind : Kind) (filter : Option Expression) (start : ℤ) (count : Option ℤ) → IsBase base → IfSome filter IsSentFilter → IsShortNumber start → IfSome count IsShortNumber
+found_by : (base : List ℕ) (kind : Kind) (filter : Option Expression) (start : ℤ) (count : Option ℤ) → HasHost base → IfSome filter IsSentFilter → IsShortNumber start → IfSome count IsShortNumber
     → KeepsLimits base (Search kind filter start count) → SpellsRequest (text_of base (Search kind filter start count)) (Search kind filter start count)
 found_by base kind filter start count lawful is first second keeps =
     let path = collection_path kind in
@@ -267,7 +281,7 @@ found_by base kind filter start count lawful is first second keeps =
     let fields = written_lines (lines_of (authority_of base) None None None) in
     let m : Message = record { head = head_with (codes "GET") target fields; body = [] } in
     let at = is_target target (target_some path query (collection_some kind)) (target_bytes path query (collection_is_path kind) (query_bytes (option_map filter_text filter) (start_value start) (option_map signed_decimal count))) in
-    let sent = sent_bodiless base (codes "GET") target Always Always get_is_token at (λ f. refl) lawful tt tt keeps.0 in
+    let sent = sent_bodiless base (codes "GET") target Always Always get_is_token at (λ f. refl) lawful (tt, tt) (tt, tt) keeps.0 in
     let P : List ℕ → Type 0 = λ q. IsSearch kind q (Ok (Search kind filter start count)) in
     record {
       message = m;
@@ -277,8 +291,14 @@ found_by base kind filter start count lawful is first second keeps =
           (subst P (sym (query_found path query (collection_is_path kind))) (searched kind filter start count is first second));
     }
 
+pub spelled_by : (base : List ℕ) (request : Request) → HasHost base → HasLawfulParts request → IsWritable request → KeepsLimits base request → SpellsRequest (text_of base request) request
+spelled_by base (Create content) lawful parts seen keeps = created base content lawful parts.1 keeps
+spelled_by base (Retrieve kind id first second) lawful parts seen keeps =
+    retrieved base kind id first second lawful parts.0 (seen.0, parts.2) (seen.1, parts.3) keeps
+spelled_by base (Search kind filter start count) lawful parts seen keeps =
+    found_by base kind filter start count lawful (is_sent_filter filter parts.0 seen.0) seen.1 seen.2 keeps
+spelled_by base (Replace id content first second) lawful parts seen keeps =
+    replaced base id content first second lawful parts.0 parts.1 (seen.0, parts.2) (seen.1, parts.3) keeps
+
 pub requests_are_spelled : RequestsAreSpelled
-requests_are_spelled base (Create content) lawful parts keeps = created base content lawful parts keeps
-requests_are_spelled base (Retrieve kind id first second) lawful parts keeps = retrieved base kind id first second lawful parts.0 parts.1 parts.2 keeps
-requests_are_spelled base (Search kind filter start count) lawful parts keeps = found_by base kind filter start count lawful parts.0 parts.1 parts.2 keeps
-requests_are_spelled base (Replace id content first second) lawful parts keeps = replaced base id content first second lawful parts.0 parts.1 parts.2 parts.3 keeps
+requests_are_spelled base request lawful parts seen keeps = spelled_by base request (has_host base lawful) parts seen keeps

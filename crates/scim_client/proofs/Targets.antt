@@ -1,14 +1,14 @@
 -- The target of a request: bytes that a target may have, a path that is routed, and a query behind it.
-use Rattle.std.proofs.Common.{◌≡◌, ◌≢◌, ℕ, ◌+◌, ◌/◌, ◌%◌, ◌<◌, ◌≤◌, Bool, true, false, cond, List, [], ◌∷◌, ◌++◌, ◌&&◌, length, Option, Some, None, refl, ap, sym, subst, ◌∙◌, ⊎_elim, arith, inl, inr, nat_lt, length-append}
-use Rattle.std.specs.Prelude.{All, IfSome, IsAscii, IsUtf8, ◌==◌, codes, nat_le, not}
+use Rattle.std.proofs.Common.{◌≡◌, ◌≢◌, ℕ, ◌+◌, ◌/◌, ◌%◌, ◌<◌, ◌≤◌, Bool, true, false, cond, List, [], ◌∷◌, ◌++◌, ◌&&◌, length, Option, Some, None, refl, ⊎_elim, arith, nat_lt, length-append}
+use Rattle.std.specs.Prelude.{All, ◌==◌, codes, nat_le, not}
 use Rattle.std.specs.List.{AllByRecursion, list_all}
 use Rattle.std.proofs.lemmas.Bool.Decides.{nat_tests}
 use Rattle.std.proofs.lemmas.List.Elements.{All-nil, All-cons, All-append, All-weaker}
 use Rattle.std.proofs.lemmas.List.Sums.{AllPass-from_list_all}
 use Rattle.std.proofs.lemmas.Str.{IsUtf8-from_ascii}
 use Rattle.std.proofs.lemmas.Str.Ascii.{IsAscii-from_all}
-use Rattle.httparse.specs.Grammar.{AllPass, is_uri_byte}
-use Rattle.form_urlencoded.specs.Form.{append_pair, separator, serialize_pair, byte_serialize, is_nonempty}
+use Rattle.httparse.specs.Grammar.{is_uri_byte}
+use Rattle.form_urlencoded.specs.Form.{separator, serialize_pair, byte_serialize, is_nonempty}
 use Rattle.form_urlencoded.proofs.FormLemmas.{IsSerializedByte, All-byte_serialize, split_once_before_at, split_once_after_at, split_once_before_none, split_once_after_none}
 use Rattle.scim_key.specs.declared.records.Kind.{Kind}
 use Rattle.scim_key.specs.declared.records.Kind.TheVariants as kinds

@@ -7,9 +7,9 @@ use Rattle.scim_message.specs.Fitting.{Fits}
 use Rattle.scim_message.specs.declared.messages.Answer.{Answer}
 use Rattle.scim_message.specs.declared.messages.Request.{Request}
 use Rattle.http_text.specs.Message.{head_limit, response_body_limit}
-use Rattle.scim_server.specs.Laws.{HasLawfulParts}
 use Rattle.scim_server.specs.Replies.{answer_text}
 use Rattle.scim_client.specs.Answers.{AnswersSo}
+use Rattle.scim_client.specs.Spelling.{HasLawfulTarget}
 
 -- Bytes are one answer to a request at most
 abbrev pub OneAnswer : Type 0
@@ -23,5 +23,5 @@ pub record KeepsAnswerLimits (base : List ℕ) (a : Answer) : Type 0 where
 -- What a server at this base writes for an answer that fits the request is that answer and no other
 abbrev pub AnswersAreRead : Type 0
 AnswersAreRead =
-    (base : List ℕ) (request : Request) (a : Answer) → IsBase base → Fits request a → HasLawfulParts a → IsUtf8 (body_text base a) → KeepsAnswerLimits base a
-    → AnswersSo (answer_text base false a) request a
+    (base : List ℕ) (request : Request) (a : Answer) → IsBase base → HasLawfulTarget request → Fits request a → IsUtf8 (body_text base a)
+    → KeepsAnswerLimits base a → AnswersSo (answer_text base false a) request a

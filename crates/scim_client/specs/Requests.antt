@@ -7,7 +7,6 @@ use Rattle.std.specs.Option.{option_map_or}
 use Rattle.form_urlencoded.specs.Form.{append_pair}
 use Rattle.serde_json.specs.Written.{compact_text}
 use Rattle.scim_key.specs.Bases.{authority_of}
-use Rattle.scim_key.specs.declared.records.Kind.{Kind}
 use Rattle.scim_version.specs.declared.conditions.Condition.{Condition}
 use Rattle.scim_version.specs.declared.conditions.Condition.TheVariants.{Always, AnyTag, Tags}
 use Rattle.scim_resource.specs.Contents.{content_kind}

@@ -1,5 +1,5 @@
 -- Which texts spell a request, by the server's own reading, and that the client's text does.
-use Rattle.std.specs.Prelude.{◌≡◌, ℕ, ℤ, pos, negsuc, suc, ◌+◌, ◌^◌, ◌<◌, ◌≤◌, List, length, Option, Ok, IfSome, ⊤}
+use Rattle.std.specs.Prelude.{◌≡◌, ℕ, ℤ, pos, negsuc, suc, ◌+◌, ◌^◌, ◌<◌, ◌≤◌, List, length, Ok, IfSome, ⊤}
 use Rattle.std.specs.List.{AllByRecursion}
 use Rattle.std.specs.Str.{IsUtf8}
 use Rattle.scim_key.specs.Bases.{IsBase}
@@ -17,7 +17,7 @@ use Rattle.scim_message.specs.declared.messages.Request.TheVariants.{Create, Ret
 use Rattle.http_text.specs.Message.{Message, head_limit, body_limit}
 use Rattle.http_text.specs.Forms.{IsRequestMessage, IsAccepted}
 use Rattle.scim_server.specs.Meaning.{Asks}
-use Rattle.scim_client.specs.Requests.{content_text, body_text, text_of}
+use Rattle.scim_client.specs.Requests.{content_sent, content_text, body_text, if_match_of, if_none_match_of, text_of}
 
 -- the text is a message that isn't refused, and what it asks for is this request
 pub record SpellsRequest (text : List ℕ) (request : Request) : Type 0 where
@@ -28,40 +28,57 @@ pub record SpellsRequest (text : List ℕ) (request : Request) : Type 0 where
 
 -- ---- what the types of a request's parts say of them
 
-abbrev pub IsByte : ℕ → Type 0
-IsByte byte = byte < 256
-
 -- a content that some reading gives, whose text is UTF-8
 abbrev pub IsSentContent : Content → Type 0
 IsSentContent content = IsContent content × IsUtf8 (content_text content)
 
 -- an id, in UTF-8
 abbrev pub IsIdText : List ℕ → Type 0
-IsIdText id = AllByRecursion IsByte id × IsUtf8 id × IsId id
+IsIdText id = IsUtf8 id × IsId id
 
--- a condition that a field may have: some entity tag or more, where there is a list
-abbrev pub IsSentCondition : Condition → Type 0
-IsSentCondition Always = ⊤
-IsSentCondition AnyTag = ⊤
-IsSentCondition (Tags tags) = (0 < length tags) × AllByRecursion IsEntityTag tags
+-- the tags of a list are entity tags
+abbrev pub HasEntityTags : Condition → Type 0
+HasEntityTags Always = ⊤
+HasEntityTags AnyTag = ⊤
+HasEntityTags (Tags tags) = AllByRecursion IsEntityTag tags
+
+-- a filter whose text is UTF-8
+abbrev pub IsFilterText : Expression → Type 0
+IsFilterText filter = IsUtf8 (filter_text filter)
+
+-- the id or the filter that its target tells
+abbrev pub HasLawfulTarget : Request → Type 0
+HasLawfulTarget (Create content) = ⊤
+HasLawfulTarget (Retrieve kind id if_match if_none_match) = IsIdText id
+HasLawfulTarget (Search kind filter start count) = IfSome filter IsFilterText
+HasLawfulTarget (Replace id content if_match if_none_match) = IsIdText id
+
+abbrev pub HasLawfulParts : Request → Type 0
+HasLawfulParts request =
+    HasLawfulTarget request × IfSome (content_sent request) IsSentContent × HasEntityTags (if_match_of request) × HasEntityTags (if_none_match_of request)
+
+-- ---- what the one who sends it sees to
+
+-- a list of tags isn't empty
+abbrev pub HasSomeTag : Condition → Type 0
+HasSomeTag Always = ⊤
+HasSomeTag AnyTag = ⊤
+HasSomeTag (Tags tags) = 0 < length tags
 
 -- a number of at most 18 digits
 abbrev pub IsShortNumber : ℤ → Type 0
 IsShortNumber (pos n) = n < 10 ^ 18
 IsShortNumber (negsuc n) = suc n < 10 ^ 18
 
--- a filter whose text keeps the limits of filters, in UTF-8
-abbrev pub IsSentFilter : Expression → Type 0
-IsSentFilter filter =
-    AllByRecursion IsByte (filter_text filter) × IsUtf8 (filter_text filter)
-    × (length (filter_text filter) ≤ text_limit) × (nesting filter ≤ depth_limit)
+-- a filter's text keeps the two limits of filters
+abbrev pub KeepsFilterLimits : Expression → Type 0
+KeepsFilterLimits filter = (length (filter_text filter) ≤ text_limit) × (nesting filter ≤ depth_limit)
 
-abbrev pub HasParts : Request → Type 0
-HasParts (Create content) = IsSentContent content
-HasParts (Retrieve kind id if_match if_none_match) = IsIdText id × IsSentCondition if_match × IsSentCondition if_none_match
-HasParts (Search kind filter start count) = IfSome filter IsSentFilter × IsShortNumber start × IfSome count IsShortNumber
-HasParts (Replace id content if_match if_none_match) =
-    IsIdText id × IsSentContent content × IsSentCondition if_match × IsSentCondition if_none_match
+abbrev pub IsWritable : Request → Type 0
+IsWritable (Create content) = ⊤
+IsWritable (Retrieve kind id if_match if_none_match) = HasSomeTag if_match × HasSomeTag if_none_match
+IsWritable (Search kind filter start count) = IfSome filter KeepsFilterLimits × IsShortNumber start × IfSome count IsShortNumber
+IsWritable (Replace id content if_match if_none_match) = HasSomeTag if_match × HasSomeTag if_none_match
 
 -- the head and the body keep the limits of requests
 abbrev pub KeepsLimits : List ℕ → Request → Type 0
@@ -71,7 +88,7 @@ KeepsLimits base request =
 -- A request's text is a message that asks for that request
 abbrev pub RequestsAreSpelled : Type 0
 RequestsAreSpelled =
-    (base : List ℕ) (request : Request) → IsBase base → HasParts request → KeepsLimits base request
+    (base : List ℕ) (request : Request) → IsBase base → HasLawfulParts request → IsWritable request → KeepsLimits base request
     → SpellsRequest (text_of base request) request
 
 -- A text spells one request

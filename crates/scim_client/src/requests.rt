@@ -1,15 +1,17 @@
 //! The bytes of a request (RFC 7644 sections 3.3 to 3.5, RFC 9112 section 3).
-ghost use Rattle.std.specs.Prelude.{◌≡◌, ◌++◌, [], codes, decimal, length, map, IfOk, OnOk, option_map, string_bytes};
+ghost use Rattle.std.specs.Prelude.{◌≡◌, ◌++◌, [], codes, decimal, length, map, IfOk, IfSome, OnOk, option_map, string_bytes};
 ghost use Rattle.std.specs.Fmt.{signed_decimal};
-ghost use Rattle.std.specs.List.{flat_map, join_by};
+ghost use Rattle.std.specs.List.{AllByRecursion, flat_map, join_by};
 ghost use Rattle.std.specs.Option.{option_map_or};
 ghost use Rattle.http_text.specs.Response.{named_value};
 ghost use Rattle.scim_version.specs.declared.conditions.Condition.TheVariants.{Always};
+ghost use Rattle.scim_version.specs.Tags.{IsEntityTag};
 ghost use Rattle.scim_filter.specs.Texts.{filter_text};
 ghost use Rattle.scim_server.specs.Laws as paths;
 ghost use Rattle.scim_server.specs.Replies.{line_with, written_lines, stated_type};
 ghost use Rattle.scim_server.specs.Routes as routes;
 ghost use Rattle.scim_client.specs.Requests as spec;
+ghost use Rattle.scim_client.specs.Spelling.{HasEntityTags, HasLawfulTarget, IsFilterText, IsIdText, IsSentContent, IsWritable, KeepsLimits, SpellsRequest};
 
 use form_urlencoded::Serializer;
 use http_text::{FieldLine, write_request};
@@ -24,7 +26,9 @@ use std::alloc::{AllocError, Global};
 
 /// The bytes of a request to the service at this base.
 pub(crate) fn bytes_of(alloc: Global, base: &Base, request: &Request) -> Result<Vec<u8>, AllocError>
-    ensures { IfOk result (λ text. text.items ≡ spec.text_of base.now request.now) }
+    ensures text { IfOk result (λ text. text.items ≡ spec.text_of base.now request.now) }
+    ensures spelled { IfOk result (λ text. IsWritable request.now → KeepsLimits base.now request.now
+        → SpellsRequest text.items request.now) }
 {
     let target = target_of(alloc, base, request)?;
     let body = body_of(alloc, request)?;
@@ -65,8 +69,6 @@ fn lent(bytes: &Option<Vec<u8>>) -> Option<&[u8]>
         None => None,
     }
 }
-
-// ---- the field lines
 
 /// The field lines of a request, each where it has a value.
 fn fields_of<'a>(
@@ -152,8 +154,9 @@ fn condition_value(
     alloc: Global,
     condition: Option<&Condition>,
 ) -> Result<Option<Vec<u8>>, AllocError>
-    ensures { IfOk result (λ value. option_map (λ t. t.items) value
+    ensures value { IfOk result (λ value. option_map (λ t. t.items) value
         ≡ spec.condition_value (option_map_or (λ t. t.now) condition.entry Always)) }
+    ensures lawful { OnOk result (HasEntityTags (option_map_or (λ t. t.now) condition.entry Always)) }
 {
     match condition {
         None | Some(Condition::Always) => Ok(None),
@@ -164,7 +167,8 @@ fn condition_value(
 
 /// The tags, with a comma and a space between two of them.
 fn tags_text(alloc: Global, tags: &[EntityTag]) -> Result<Vec<u8>, AllocError>
-    ensures { IfOk result (λ text. text.items ≡ join_by (λ tag. tag) (codes ", ") tags.now) }
+    ensures text { IfOk result (λ text. text.items ≡ join_by (λ tag. tag) (codes ", ") tags.now) }
+    ensures lawful { OnOk result (AllByRecursion IsEntityTag tags.now) }
 {
     match tags {
         [] => Ok(Vec::new(alloc)),
@@ -177,8 +181,9 @@ fn tags_text(alloc: Global, tags: &[EntityTag]) -> Result<Vec<u8>, AllocError>
 }
 
 fn push_tags(text: &mut Vec<u8>, tags: &[EntityTag]) -> Result<(), AllocError>
-    ensures { OnOk result (text.new.items
+    ensures text { OnOk result (text.new.items
         ≡ text.old.items ++ flat_map (λ tag. codes ", " ++ tag) tags.now) }
+    ensures lawful { OnOk result (AllByRecursion IsEntityTag tags.now) }
 {
     for tag in tags {
         push_tag(text, tag)?;
@@ -187,24 +192,31 @@ fn push_tags(text: &mut Vec<u8>, tags: &[EntityTag]) -> Result<(), AllocError>
 }
 
 fn push_tag(text: &mut Vec<u8>, tag: &EntityTag) -> Result<(), AllocError>
-    ensures { OnOk result (text.new.items ≡ text.old.items ++ (codes ", " ++ tag.now)) }
+    ensures text { OnOk result (text.new.items ≡ text.old.items ++ (codes ", " ++ tag.now)) }
+    ensures lawful { OnOk result (IsEntityTag tag.now) }
 {
     text.extend_from_slice(b", ")?;
     text.extend_from_slice(tag.text())
 }
 
-// ---- the body
-
 /// The compact text of the content that a request sends, where it sends one.
 fn body_of(alloc: Global, request: &Request) -> Result<Option<Vec<u8>>, AllocError>
-    ensures { IfOk result (λ body. option_map (λ t. t.items) body ≡ spec.body_sent request.now) }
+    ensures text { IfOk result (λ body. option_map (λ t. t.items) body ≡ spec.body_sent request.now) }
+    ensures lawful { OnOk result (IfSome (spec.content_sent request.now) IsSentContent) }
 {
     match request {
         Request::Create { content } | Request::Replace { content, .. } => {
-            Ok(Some(compact(alloc, &content.to_value(alloc)?)?))
+            Ok(Some(content_text(alloc, content)?))
         }
         Request::Retrieve { .. } | Request::Search { .. } => Ok(None),
     }
+}
+
+fn content_text(alloc: Global, content: &Content) -> Result<Vec<u8>, AllocError>
+    ensures text { IfOk result (λ text. text.items ≡ spec.content_text content.now) }
+    ensures lawful { OnOk result (IsSentContent content.now) }
+{
+    compact(alloc, &content.to_value(alloc)?)
 }
 
 fn sent(body: Option<&[u8]>) -> &[u8]
@@ -213,10 +225,9 @@ fn sent(body: Option<&[u8]>) -> &[u8]
     body.unwrap_or_default()
 }
 
-// ---- the target
-
 fn target_of(alloc: Global, base: &Base, request: &Request) -> Result<String, AllocError>
-    ensures { IfOk result (λ text. string_bytes text ≡ spec.target_text request.now) }
+    ensures text { IfOk result (λ text. string_bytes text ≡ spec.target_text request.now) }
+    ensures lawful { OnOk result (HasLawfulTarget request.now) }
 {
     match request {
         Request::Create { content } => { String::from_str(alloc, collection_path(content.kind())) }
@@ -250,10 +261,12 @@ fn resource_path(
     kind: Kind,
     id: &ResourceId,
 ) -> Result<String, AllocError>
-    ensures { IfOk result (λ text. string_bytes text ≡ paths.resource_path kind id.now) }
+    ensures path { IfOk result (λ text. string_bytes text ≡ paths.resource_path kind id.now) }
+    ensures lawful { OnOk result (IsIdText id.now) }
 {
     let uri = location(alloc, base, kind, id)?;
-    let mut path = String::from_str(alloc, "/v2")?;
+    let mut path = String::with_capacity(alloc, id.as_str().len())?;
+    path.push_str("/v2")?;
     path.push_str(&uri.as_str()[base.as_str().len()..])?;
     Ok(path)
 }
@@ -278,8 +291,9 @@ fn query_of(
     start: i64,
     count: Option<i64>,
 ) -> Result<String, AllocError>
-    ensures { IfOk result (λ text. string_bytes text
+    ensures text { IfOk result (λ text. string_bytes text
         ≡ spec.query_text (option_map (λ t. t.now) filter.entry) start count) }
+    ensures lawful { OnOk result (IfSome (option_map (λ t. t.now) filter.entry) IsFilterText) }
 {
     let filter = filter_text_of(alloc, filter)?;
     let mut form = Serializer::new(String::new(alloc));
@@ -307,8 +321,9 @@ fn push_parameter(form: &mut Serializer, name: &str, value: Option<&str>) -> Res
 }
 
 fn filter_text_of(alloc: Global, filter: Option<&Filter>) -> Result<Option<String>, AllocError>
-    ensures { IfOk result (λ text. option_map string_bytes text
+    ensures text { IfOk result (λ text. option_map string_bytes text
         ≡ option_map filter_text (option_map (λ t. t.now) filter.entry)) }
+    ensures lawful { OnOk result (IfSome (option_map (λ t. t.now) filter.entry) IsFilterText) }
 {
     match filter {
         Some(filter) => Ok(Some(filter.to_text(alloc)?)),

@@ -3,6 +3,7 @@ ghost use Rattle.std.specs.Prelude.{◌≡◌, None, IfOk, option_map, pos};
 ghost use Rattle.scim_message.specs.declared.messages.Request.TheVariants as requests;
 ghost use Rattle.scim_version.specs.declared.conditions.Condition.TheVariants.{Always};
 ghost use Rattle.scim_client.specs.Requests.{tag_alone, text_of, through_filter, under_tag};
+ghost use Rattle.scim_client.specs.Spelling.{IsWritable, KeepsLimits, SpellsRequest};
 
 use crate::requests::bytes_of;
 use scim_filter::Filter;
@@ -44,7 +45,10 @@ impl ScimService {
 
     /// The bytes of a request to it.
     pub fn bytes_of(&self, alloc: Global, request: &Request) -> Result<Vec<u8>, AllocError>
-        ensures { IfOk result (λ text. text.items ≡ text_of self.now request.now) }
+        ensures text { IfOk result (λ text. text.items ≡ text_of self.now request.now) }
+        // It spells the request and no other, where it keeps the limits.
+        ensures spelled { IfOk result (λ text. IsWritable request.now → KeepsLimits self.now request.now
+            → SpellsRequest text.items request.now) }
     {
         bytes_of(alloc, &self.base, request)
     }
@@ -130,7 +134,9 @@ impl<'a> CreateRequest<'a> {
 
     /// Its bytes.
     pub fn build(&self, alloc: Global) -> Result<Vec<u8>, AllocError>
-        ensures { IfOk result (λ text. text.items ≡ text_of self.now.base self.now.request) }
+        ensures text { IfOk result (λ text. text.items ≡ text_of self.now.base self.now.request) }
+        ensures spelled { IfOk result (λ text. IsWritable self.now.request → KeepsLimits self.now.base self.now.request
+            → SpellsRequest text.items self.now.request) }
     {
         let create = self.request(alloc)?;
         self.service.bytes_of(alloc, &create)
@@ -174,7 +180,9 @@ impl<'a> RetrieveRequest<'a> {
 
     /// Its bytes.
     pub fn build(&self, alloc: Global) -> Result<Vec<u8>, AllocError>
-        ensures { IfOk result (λ text. text.items ≡ text_of self.now.base self.now.request) }
+        ensures text { IfOk result (λ text. text.items ≡ text_of self.now.base self.now.request) }
+        ensures spelled { IfOk result (λ text. IsWritable self.now.request → KeepsLimits self.now.base self.now.request
+            → SpellsRequest text.items self.now.request) }
     {
         let retrieve = self.request(alloc)?;
         self.service.bytes_of(alloc, &retrieve)
@@ -233,7 +241,9 @@ impl<'a> SearchRequest<'a> {
 
     /// Its bytes.
     pub fn build(&self, alloc: Global) -> Result<Vec<u8>, AllocError>
-        ensures { IfOk result (λ text. text.items ≡ text_of self.now.base self.now.request) }
+        ensures text { IfOk result (λ text. text.items ≡ text_of self.now.base self.now.request) }
+        ensures spelled { IfOk result (λ text. IsWritable self.now.request → KeepsLimits self.now.base self.now.request
+            → SpellsRequest text.items self.now.request) }
     {
         let search = self.request(alloc)?;
         self.service.bytes_of(alloc, &search)
@@ -290,7 +300,9 @@ impl<'a> ReplaceRequest<'a> {
 
     /// Its bytes.
     pub fn build(&self, alloc: Global) -> Result<Vec<u8>, AllocError>
-        ensures { IfOk result (λ text. text.items ≡ text_of self.now.base self.now.request) }
+        ensures text { IfOk result (λ text. text.items ≡ text_of self.now.base self.now.request) }
+        ensures spelled { IfOk result (λ text. IsWritable self.now.request → KeepsLimits self.now.base self.now.request
+            → SpellsRequest text.items self.now.request) }
     {
         let replace = self.request(alloc)?;
         self.service.bytes_of(alloc, &replace)

@@ -1,5 +1,5 @@
 -- What each event reports.
-use Rattle.std.specs.Prelude.{ℕ, suc, Bool, true, false, List, [], ◌∷◌, length, Option, Some, None, Result, Ok, Err, nat_lt}
+use Rattle.std.specs.Prelude.{ℕ, suc, Bool, true, false, List, [], ◌∷◌, length, Option, Some, None, Result, nat_lt}
 use Rattle.scim_message.specs.declared.messages.Request.{Request}
 use Rattle.scim_message.specs.declared.messages.Request.TheVariants.{Create, Retrieve, Search, Replace}
 use Rattle.scim_message.specs.Messages.{answer_status}
@@ -8,7 +8,8 @@ use Rattle.source_book.specs.declared.accepting.Verdict.{Verdict}
 use Rattle.connector_core.specs.Asking.{asking}
 use Rattle.connector_core.specs.declared.asking.Ask.{Ask}
 use Rattle.connector_core.specs.declared.asking.Ask.TheVariants.{Nothing, Waits, Send}
-use Rattle.connector_core.specs.Learning.{Learning, learn}
+use Rattle.connector_core.specs.Learning.{learn}
+pub use Rattle.connector_core.specs.Noting.{learnt_of}
 use Rattle.connector_core.specs.declared.learning.Learnt.{Learnt}
 use Rattle.connector_core.specs.declared.learning.LearnFault.{LearnFault}
 use Rattle.connector_core.specs.declared.changing.ChangeFault.{ChangeFault}
@@ -44,10 +45,6 @@ ask_report number None = Unknown_record
 ask_report number (Some Nothing) = Idle
 ask_report number (Some (Waits member)) = Waiting member
 ask_report number (Some (Send request)) = sending_report number request
-
-abbrev pub learnt_of : Result Learning LearnFault → Result Learnt LearnFault
-learnt_of (Ok l) = Ok l.learnt
-learnt_of (Err fault) = Err fault
 
 abbrev pub arrival_report : World → Message → Report
 arrival_report w (Asked request) = Answering (next_number w) (answer_status (step w.entries request).answer)

@@ -1,4 +1,6 @@
-use Rattle.std.proofs.Common.{◌≡◌, ◌∙◌, arith}
+use Rattle.std.proofs.Common.{ℕ, ◌≤◌, subst, ◌≡◌, ◌∙◌, arith}
+use Rattle.connection.specs.Requests.{FollowRequests}
+use Rattle.connection.proofs.RequestLemmas.{turns_follow}
 use Rattle.connection.proofs.TurnLemmas.{no_turn, one_more}
 use Rattle.connection.proofs.serving.serve_connections.Goals as goal
 
@@ -14,11 +16,19 @@ loop-turn-preserved g c = let m = one_more g.L.Listen.waiting g.L.Reader.Read.re
   result_is = c.and-outcome.ensures ∙ m.result_is;
 }
 
-pub returns : goal.returns
-returns g c = let i = c.loop-turn.invariant in record {
+last : {count turn : ℕ} → count ≤ turn → turn ≤ count → turn ≡ count
+last a b = omega arith
+
+pub returns-clause-served : goal.returns-clause-served
+returns-clause-served g c = let i = c.loop-turn.invariant in record {
   turns = i.turns;
-  count_is = let e : c.loop-turn._turn ≡ c.args.count = omega (arith, c.loop-turn-test.false, c.loop-turn.auto._turn-end) in i.count_is ∙ e;
+  count_is = i.count_is ∙ last c.loop-turn-test.false c.loop-turn.auto._turn-end;
   takes = i.takes;
   served = i.served;
   result_is = i.result_is;
 }
+
+pub returns-clause-follows : goal.returns-clause-follows
+returns-clause-follows g c faithful = let i = c.loop-turn.invariant in
+    let follow = turns_follow g.L.Reader.Read.remaining g.L.Writer.Write.contents g.R.Registry c.args.base.now i.turns c.args.provider.now c.loop-turn.provider i.served faithful in
+    subst (FollowRequests (g.R.Registry.rows c.args.provider.now) (g.R.Registry.rows c.loop-turn.provider)) (i.count_is ∙ last c.loop-turn-test.false c.loop-turn.auto._turn-end) follow

@@ -1,0 +1,16 @@
+-- What the requests of many connections do to the rows, one after another.
+use Rattle.std.specs.Prelude.{◌≡◌, ◌≤◌, ℕ, List, [], ◌∷◌, length}
+use Rattle.scim_resource.specs.Rows.{StoredRecord}
+use Rattle.scim_message.specs.declared.messages.Request.{Request}
+use Rattle.provider_core.specs.Outcomes.{outcome, changed_rows}
+
+-- the rows after these requests
+abbrev pub rows_after : List StoredRecord → List Request → List StoredRecord
+rows_after rows [] = rows
+rows_after rows (request ∷ requests) = rows_after (changed_rows rows (outcome rows request).change) requests
+
+-- some requests made the rows what they are, at most so many
+pub record FollowRequests (old new : List StoredRecord) (most : ℕ) : Type 0 where
+  pub requests : List Request
+  pub rows : new ≡ rows_after old requests
+  pub count : length requests ≤ most

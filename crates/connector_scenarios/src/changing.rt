@@ -1,0 +1,186 @@
+//! Rows that the source offers to the connector: what it says of them, and what it then wants.
+use crate::offers::{named, new_connector, offer, offer_group, offer_user, opened_again, users};
+use connector_core::Connector;
+use journal_core::MemoryJournal;
+use scim_key::Kind;
+use std::alloc::Global;
+use std::process::Abort;
+use std::test::Fail;
+
+/// A record of a file, and what the connector says of its row.
+type Offer<'a> = (&'a str, &'a str);
+
+static USERS: &[Offer<'static>] = &[
+    ("ann,2000000000,,,,,active\n", "new"),
+    ("ann,2000000000,,,,,active\n", "known"),
+    ("ann,1,,,,,active\n", "older"),
+    ("ann,2000000000,,,,ann@example.com,active\n", "S7"),
+    ("ANN,2000000000,,,,,active\n", "S7"),
+    ("bob,1,,,,,active\n", "new"),
+    ("Bob,2,,,,,left\n", "new"),
+];
+
+static GROUPS: &[Offer<'static>] = &[
+    ("crew,1,zoe\n", "S8 zoe"),
+    ("crew,1,zoe ann bob yve\n", "S8 yve"),
+    ("crew,1,Bob ann\n", "new"),
+    ("crew,1,ann bob\n", "known"),
+    ("crew,1,\n", "S7"),
+    ("Crew,2,crew\n", "S8 crew"),
+    ("Crew,2,\n", "new"),
+    ("crew,1,zoe\n", "older"),
+];
+
+fn wants(
+    rt: &impl Abort,
+    alloc: Global,
+    connector: &Connector<MemoryJournal>,
+    wanted: &[(Kind, &str, u32)],
+) -> Result<(), Fail> {
+    for (kind, key, revision) in wanted {
+        let name = named(alloc, *kind, key)?;
+        assert_eq!(rt; connector.wanted(&name).number(), *revision, "of {key}");
+        assert_eq!(rt; connector.confirmed(&name).number(), 0, "of {key}");
+    }
+    Ok(())
+}
+
+/// Asserts what a connector says of the rows of these users.
+fn says_of_users(
+    rt: &impl Abort,
+    alloc: Global,
+    connector: &mut Connector<MemoryJournal>,
+    offers: &[Offer],
+) -> Result<(), Fail> {
+    for (record, expected) in offers {
+        let said = offer_user(alloc, connector, record)?;
+        assert!(rt; said.as_str() == *expected, "{said} of {record}");
+    }
+    Ok(())
+}
+
+/// Asserts what a connector says of the rows of these groups.
+fn says_of_groups(
+    rt: &impl Abort,
+    alloc: Global,
+    connector: &mut Connector<MemoryJournal>,
+    offers: &[Offer],
+) -> Result<(), Fail> {
+    for (record, expected) in offers {
+        let said = offer_group(alloc, connector, record)?;
+        assert!(rt; said.as_str() == *expected, "{said} of {record}");
+    }
+    Ok(())
+}
+
+#[test]
+fn each_row_has_its_verdict(rt: HostRuntime) -> Result<(), Fail> {
+    let alloc = rt.alloc();
+    let mut connector = new_connector(alloc)?;
+    says_of_users(&rt, alloc, &mut connector, USERS)?;
+    says_of_groups(&rt, alloc, &mut connector, GROUPS)?;
+    wants(
+        &rt,
+        alloc,
+        &connector,
+        &[
+            (Kind::User, "ann", 2_000_000_000),
+            (Kind::User, "bob", 2),
+            (Kind::Group, "crew", 2),
+            (Kind::User, "crew", 0),
+            (Kind::User, "zoe", 0),
+        ],
+    )?;
+    Ok(())
+}
+
+#[test]
+fn records_are_named_in_their_order(rt: HostRuntime) -> Result<(), Fail> {
+    let alloc = rt.alloc();
+    let mut connector = new_connector(alloc)?;
+    offer_user(alloc, &mut connector, "Zoe,1,,,,,active\n")?;
+    offer_group(alloc, &mut connector, "Crew,1,zoe\n")?;
+    offer_group(alloc, &mut connector, "band,1,ann\n")?;
+    offer_user(alloc, &mut connector, "ann,1,,,,,active\n")?;
+    let names = connector.names()?;
+    let expected = [
+        named(alloc, Kind::User, "ann")?,
+        named(alloc, Kind::User, "zoe")?,
+        named(alloc, Kind::Group, "crew")?,
+    ];
+    assert!(&rt; names.as_slice() == expected.as_slice());
+    Ok(())
+}
+
+#[test]
+fn rows_stand_over_a_restart(rt: HostRuntime) -> Result<(), Fail> {
+    let alloc = rt.alloc();
+    let mut connector = new_connector(alloc)?;
+    offer_user(alloc, &mut connector, "ann,2,,,,,active\n")?;
+    offer_group(alloc, &mut connector, "crew,1,ann\n")?;
+    let mut connector = opened_again(alloc, connector)?;
+    wants(
+        &rt,
+        alloc,
+        &connector,
+        &[(Kind::User, "ann", 2), (Kind::Group, "crew", 1)],
+    )?;
+    let said = offer_user(alloc, &mut connector, "ann,1,,,,,active\n")?;
+    assert!(&rt; said.as_str() == "older");
+    let said = offer_group(alloc, &mut connector, "crew,2,ann bob\n")?;
+    assert!(&rt; said.as_str() == "S8 bob");
+    Ok(())
+}
+
+#[test]
+fn users_have_their_limit(rt: HostRuntime) -> Result<(), Fail> {
+    let alloc = rt.alloc();
+    let mut connector = new_connector(alloc)?;
+    let mut records = String::new(alloc);
+    for number in 0..100_000 {
+        records.push_str(format!(in alloc; "user{number},1,,,,,active\n")?.as_str())?;
+    }
+    for record in users(alloc, records.as_str())?.as_slice() {
+        let said = offer(alloc, &mut connector, record)?;
+        assert!(&rt; said.as_str() == "new");
+    }
+    let offers = [
+        ("ann,1,,,,,active\n", "S12"),
+        ("user7,2,,,,,active\n", "new"),
+        ("user7,2,,,,,active\n", "known"),
+        ("user7,1,,,,,active\n", "older"),
+        ("user7,2,,,,,left\n", "S7"),
+    ];
+    says_of_users(&rt, alloc, &mut connector, &offers)?;
+    says_of_groups(
+        &rt,
+        alloc,
+        &mut connector,
+        &[("crew,1,user0 user99999\n", "new")],
+    )?;
+    assert_eq!(rt; connector.names()?.len(), 100_001);
+    let mut connector = opened_again(alloc, connector)?;
+    let offers = [
+        ("ann,1,,,,,active\n", "S12"),
+        ("user8,2,,,,,active\n", "new"),
+    ];
+    says_of_users(&rt, alloc, &mut connector, &offers)
+}
+
+#[test]
+fn groups_have_their_limit(rt: HostRuntime) -> Result<(), Fail> {
+    let alloc = rt.alloc();
+    let mut connector = new_connector(alloc)?;
+    for number in 0..10_000 {
+        let record = format!(in alloc; "group{number},1,\n")?;
+        says_of_groups(&rt, alloc, &mut connector, &[(record.as_str(), "new")])?;
+    }
+    let offers = [
+        ("crew,1,\n", "S12"),
+        ("crew,1,ann\n", "S8 ann"),
+        ("group7,2,\n", "new"),
+        ("group7,2,\n", "known"),
+    ];
+    says_of_groups(&rt, alloc, &mut connector, &offers)?;
+    says_of_users(&rt, alloc, &mut connector, &[("ann,1,,,,,active\n", "new")])
+}

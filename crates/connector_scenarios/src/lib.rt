@@ -1,0 +1,13 @@
+//! The worked examples of the connector, as tests over its calls.
+#![tactic(auto)]
+
+#[cfg(test)]
+mod asking;
+#[cfg(test)]
+mod changing;
+#[cfg(test)]
+mod learning;
+#[cfg(test)]
+mod messages;
+#[cfg(test)]
+mod offers;

@@ -1,0 +1,15 @@
+pub mod Texts
+pub mod Trees
+pub mod Values
+pub mod Selecting
+pub mod Holding
+pub mod Keeping
+pub mod Writing
+pub mod Asking
+pub mod Finding
+pub mod Written
+pub mod Reading
+pub mod RowReading
+pub mod Spelling
+pub mod Storing
+pub mod Scanning

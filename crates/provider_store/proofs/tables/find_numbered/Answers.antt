@@ -1,0 +1,16 @@
+use Rattle.std.proofs.Common.{arith}
+use Rattle.sqlite.specs.Held.{state}
+use Rattle.sqlite.specs.State.{HasCleanDisk}
+use Rattle.provider_store.proofs.Texts.{numbered_query}
+use Rattle.provider_store.proofs.Finding.{number_found}
+use Rattle.provider_store.proofs.Values.{bound_int}
+use Rattle.provider_store.proofs.tables.find_numbered.Goals as goal
+
+pub ask-requires-clause-query : goal.ask-requires-clause-query
+ask-requires-clause-query g c = numbered_query
+
+pub returns-in_ok-only-in-Ok-clause-found : goal.returns-in_ok-only-in-Ok-clause-found
+returns-in_ok-only-in-Ok-clause-found g c clean =
+    let early : HasCleanDisk (state g.S.Store c.args.conn.now) = omega (arith, clean, c.in-Ok.ensures.quiet.clean) in
+    let laid = c.requires.laid early ((c.in-Ok.ensures.keeps clean).was_open (c.in-Ok.ensures.open clean)) in
+    number_found (state g.S.Store c.args.conn.now) c.args.number _ c.in-Ok.rows.items c.as_slice.result.now c.in_ok-only-in-Ok.field-0 (bound_int c.from.result c.args.number c.from.ensures (omega (arith, c.ranges.number.fits))) c.as_slice.ensures.value laid (c.in-Ok.ensures.rows clean) c.in_ok-only-in-Ok.ensures

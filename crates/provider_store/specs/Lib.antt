@@ -1,0 +1,6 @@
+pub mod Format
+pub mod Rows
+pub mod Connections
+pub mod Kept
+pub mod Lookups
+pub mod KeptLaws

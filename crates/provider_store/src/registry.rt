@@ -1,0 +1,180 @@
+//! A registry in SQLite.
+ghost use Rattle.std.specs.Prelude.{◌≡◌, ◌≤◌, ◌+◌, ◌-◌, min, Ok, IfOk, slice_get};
+ghost use Rattle.provider_core.specs.Rows.{row_named};
+ghost use Rattle.provider_core.specs.Stores.{CountsFault, CountsFaults, OnlyReads};
+ghost use Rattle.provider_store.specs.Kept.{IsFaithful, IsHonest, MayHold, kept_rows};
+ghost use Rattle.provider_store.specs.Lookups.{found_of};
+
+use crate::tables::{Found, find_named, find_numbered, insert_row, update_row};
+use provider_core::{Registry, RegistryFault};
+use scim_key::{RecordName, ResourceId};
+use scim_resource::Stored;
+use sqlite::{Alter, Connection};
+use std::alloc::Global;
+use std::marker::Model;
+
+/// A registry whose rows stand in the tables of a connection.
+pub struct SqlRegistry<S: Alter> {
+    conn: Connection<S>,
+    alloc: Global,
+    is_usable: bool,
+    count: u32,
+    faults: u64,
+    writes: u64,
+}
+
+impl<S: Alter> Model for SqlRegistry<S> {
+    ghost use Rattle.provider_store.specs.Kept.{Kept, kept_code, IsSound};
+
+    ghost Value = { Kept S };
+
+    ghost coded = { kept_code S.code };
+
+    ghost view = { λ r. record { conn = r.conn; is_usable = r.is_usable; count = r.count; faults = r.faults; writes = r.writes } };
+
+    ghost invariant = { λ r. IsSound S.Store (record { conn = r.conn; is_usable = r.is_usable; count = r.count; faults = r.faults; writes = r.writes }) };
+}
+
+/// The fault, which is counted where it is one of the store.
+fn counted(faults: &mut u64, fault: RegistryFault) -> RegistryFault
+    ensures same { result ≡ fault }
+    ensures counts { CountsFault faults.old faults.new result }
+{
+    if let RegistryFault::Store = fault {
+        *faults = faults.saturating_add(1);
+    }
+    fault
+}
+
+/// What a look-up found; a row that isn't lawful is a fault of the store.
+fn one_of(
+    faults: &mut u64,
+    found: Result<Found, RegistryFault>,
+) -> Result<Option<Stored>, RegistryFault>
+    ensures found { IfOk result (λ row. found ≡ Ok (found_of row)) }
+    ensures counts { CountsFaults CountsFault faults.old faults.new result }
+{
+    match found {
+        Ok(Found::There(row)) => Ok(Some(row)),
+        Ok(Found::Nothing) => Ok(None),
+        Ok(Found::Damaged) => Err(counted(faults, RegistryFault::Store)),
+        Err(fault) => Err(counted(faults, fault)),
+    }
+}
+
+impl<S: Alter> SqlRegistry<S> {
+    /// The row with this number, if there is one.
+    fn row_at(&mut self, number: u32) -> Result<Option<Stored>, RegistryFault>
+        requires { 1 ≤ number }
+        ensures ok { IsFaithful S.Store self.new → IfOk result (λ row. row ≡ slice_get (kept_rows S.Store self.old) (number - 1)) }
+        ensures reads { OnlyReads (kept_rows S.Store) (IsFaithful S.Store) (IsHonest S.Store) (MayHold S.Store) (λ k. k.faults) (λ k. k.writes) CountsFault self.old self.new result }
+        ensures counted { self.new.count ≡ self.old.count }
+    {
+        if !self.is_usable {
+            return Err(counted(&mut self.faults, RegistryFault::Store));
+        }
+        let found = find_numbered(self.alloc, &mut self.conn, number);
+        one_of(&mut self.faults, found)
+    }
+
+    /// The row of a record, if there is one.
+    fn row_of(&mut self, name: &RecordName) -> Result<Option<Stored>, RegistryFault>
+        ensures ok { IsFaithful S.Store self.new → IfOk result (λ row. row ≡ row_named name.now (kept_rows S.Store self.old)) }
+        ensures reads { OnlyReads (kept_rows S.Store) (IsFaithful S.Store) (IsHonest S.Store) (MayHold S.Store) (λ k. k.faults) (λ k. k.writes) CountsFault self.old self.new result }
+    {
+        if !self.is_usable {
+            return Err(counted(&mut self.faults, RegistryFault::Store));
+        }
+        let found = find_named(self.alloc, &mut self.conn, name);
+        one_of(&mut self.faults, found)
+    }
+
+    /// The number of the last row of a page.
+    fn last_of(&self, after: u32, limit: usize) -> u32
+        ensures { result ≡ min (after + limit) self.now.count }
+    {
+        let last = (after as usize).saturating_add(limit);
+        last.min(self.count as usize) as u32
+    }
+}
+
+impl<S: Alter> Registry for SqlRegistry<S> {
+    ghost use Rattle.provider_store.specs.KeptLaws.{kept_settled, kept_stays};
+
+    ghost rows = { kept_rows S.Store };
+
+    ghost is_faithful = { IsFaithful S.Store };
+
+    ghost is_honest = { IsHonest S.Store };
+
+    ghost may_hold = { MayHold S.Store };
+
+    ghost faults = { λ k. k.faults };
+
+    ghost writes = { λ k. k.writes };
+
+    fn count(&mut self) -> Result<u32, RegistryFault> {
+        self.row_at(1)?;
+        Ok(self.count)
+    }
+
+    fn by_key(&mut self, name: &RecordName) -> Result<Option<Stored>, RegistryFault> {
+        self.row_of(name)
+    }
+
+    fn by_id(&mut self, id: &ResourceId) -> Result<Option<Stored>, RegistryFault> {
+        match id.number() {
+            Some(number) => self.row_at(number),
+            None => {
+                self.row_at(1)?;
+                Ok(None)
+            }
+        }
+    }
+
+    fn scan(&mut self, after: u32, limit: usize) -> Result<Vec<Stored>, RegistryFault> {
+        self.row_at(1)?;
+        let mut page = Vec::new(self.alloc);
+        let last = self.last_of(after, limit);
+        for number in after..last {
+            match self.row_at(number + 1)? {
+                Some(row) => page.push(row)?,
+                None => return Err(counted(&mut self.faults, RegistryFault::Store)),
+            }
+        }
+        Ok(page)
+    }
+
+    fn insert(&mut self, row: Stored) -> Result<(), RegistryFault> {
+        if !self.is_usable {
+            return Err(counted(&mut self.faults, RegistryFault::Store));
+        }
+        match insert_row(self.alloc, &mut self.conn, &row) {
+            Ok(()) => {
+                self.count = row.number();
+                self.writes = self.writes.saturating_add(1);
+                Ok(())
+            }
+            Err(fault) => Err(counted(&mut self.faults, fault)),
+        }
+    }
+
+    fn update(&mut self, row: &Stored) -> Result<(), RegistryFault> {
+        if !self.is_usable {
+            return Err(counted(&mut self.faults, RegistryFault::Store));
+        }
+        match update_row(self.alloc, &mut self.conn, row) {
+            Ok(()) => {
+                self.writes = self.writes.saturating_add(1);
+                Ok(())
+            }
+            Err(fault) => Err(counted(&mut self.faults, fault)),
+        }
+    }
+
+    ghost is_so = { λ _ faithful. faithful.clean };
+
+    ghost settled = { kept_settled _ S.Store.settled };
+
+    ghost stays = { kept_stays _ S.Store.stays };
+}

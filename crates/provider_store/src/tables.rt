@@ -1,0 +1,297 @@
+//! The tables, and the statements on them.
+ghost use Rattle.std.specs.Prelude.{◌≡◌, pos, Ok, IfOk, IfSome, OnOk, OnErr, IsTrue, MatchOption};
+ghost use Rattle.sqlite_value.specs.declared.value.Value.TheVariants.{Int, Text};
+ghost use Rattle.sqlite_value.specs.Order.{column};
+ghost use Rattle.sqlite.specs.Held.{state};
+ghost use Rattle.sqlite.specs.State.{HasCleanDisk, Survives};
+ghost use Rattle.sqlite.specs.Values.{bound};
+ghost use Rattle.scim_resource.specs.Contents.{content_kind, content_name};
+ghost use Rattle.scim_resource.specs.Reading.{content_in};
+ghost use Rattle.scim_resource.specs.Rows.{IsStored};
+ghost use Rattle.provider_store.specs.Rows.{IsRowOf, kind_code};
+ghost use Rattle.provider_store.specs.Connections.{Answers, FindsName, FindsNumber, IsEditText, IsLaid, IsOnly, IsQuery, IsThere, Keeps, Leaves, Makes, MayLeave, Ran, added, content_text, renewed, resources};
+
+use provider_core::RegistryFault;
+use scim_json::compact;
+use scim_key::{Kind, LAST_NUMBER, RecordName};
+use scim_resource::{Content, LAST_VERSION, ReadFault, Stored};
+use sqlite::{Alter, Connection, Error, ErrorCode, Row};
+use sqlite_value::value::ValueRef;
+use std::alloc::{AllocError, Global};
+
+/// What a look-up finds.
+#[derive(Debug, Drop)]
+pub enum Found {
+    Nothing,
+    /// A row that holds no resource, or more than one row.
+    Damaged,
+    There(Stored),
+}
+
+/// The fault of a registry at an error of the database.
+fn fault_of(error: Error) -> RegistryFault {
+    match error {
+        Error::SqliteFailure(ErrorCode::OutOfMemory) => RegistryFault::Memory,
+        _ => RegistryFault::Store,
+    }
+}
+
+// ---- statements
+
+/// The rows that a query answers.
+fn ask<S: Alter>(
+    conn: &mut Connection<S>,
+    sql: &str,
+    params: &[ValueRef<'_>],
+) -> Result<Vec<Row>, Error>
+    requires query { IsQuery sql.now }
+    requires laid { HasCleanDisk (state S.Store conn.old) → IsTrue (state S.Store conn.old).is_open → IsLaid (state S.Store conn.old) }
+    ensures rows { HasCleanDisk (state S.Store conn.new) → IfOk result (λ rows. Answers sql.now (bound params.now) (state S.Store conn.old) rows.items) }
+    ensures keeps { HasCleanDisk (state S.Store conn.new) → Keeps (state S.Store conn.old) (state S.Store conn.new) }
+    ensures open { HasCleanDisk (state S.Store conn.new) → OnOk result (IsTrue (state S.Store conn.new).is_open) }
+    ensures quiet { Survives (state S.Store conn.old) (state S.Store conn.new) (λ _. ⊥) }
+{
+    let statement = conn.prepare(sql)?;
+    statement.query_all(conn, params)
+}
+
+/// Runs one write, which commits by itself.
+fn write<S: Alter>(
+    conn: &mut Connection<S>,
+    sql: &str,
+    params: &[ValueRef<'_>],
+) -> Result<(), Error>
+    requires edit { IsEditText sql.now }
+    requires laid { HasCleanDisk (state S.Store conn.old) → IsTrue (state S.Store conn.old).is_open → IsLaid (state S.Store conn.old) }
+    ensures ran { HasCleanDisk (state S.Store conn.new) → OnOk result (Ran sql.now (bound params.now) (state S.Store conn.old) (state S.Store conn.new)) }
+    ensures keeps { HasCleanDisk (state S.Store conn.new) → OnErr result (Keeps (state S.Store conn.old) (state S.Store conn.new)) }
+    ensures stop { Survives (state S.Store conn.old) (state S.Store conn.new) (MayLeave sql.now (bound params.now) (state S.Store conn.old)) }
+{
+    let statement = conn.prepare(sql)?;
+    statement.execute(conn, params)?;
+    Ok(())
+}
+
+// ---- rows
+
+/// The number in a column, if one is there and isn't negative.
+fn number_at(row: &Row, at: usize) -> Option<u64>
+    ensures { IfSome result (λ n. column row.now at ≡ Int (pos n)) }
+{
+    match row.get_ref(at) {
+        Ok(ValueRef::Int(number)) => u64::try_from(number).ok(),
+        _ => None,
+    }
+}
+
+/// The text in a column, if one is there.
+fn text_at(row: &Row, at: usize) -> Option<&[u8]>
+    ensures { IfSome result (λ text. column row.now at ≡ Text text.now) }
+{
+    match row.get_ref(at) {
+        Ok(ValueRef::Text(text)) => Some(text),
+        _ => None,
+    }
+}
+
+fn kind_of(code: u64) -> Option<Kind>
+    ensures { IfSome result (λ kind. code ≡ kind_code kind) }
+{
+    match code {
+        1 => Some(Kind::User),
+        2 => Some(Kind::Group),
+        _ => None,
+    }
+}
+
+/// The code of a kind in the table.
+fn code_of(kind: Kind) -> i64
+    ensures { result ≡ pos (kind_code kind) }
+{
+    match kind {
+        Kind::User => 1,
+        Kind::Group => 2,
+    }
+}
+
+/// The content that a text spells, or none.
+fn read_content(alloc: Global, text: &[u8], kind: Kind) -> Result<Option<Content>, AllocError>
+    ensures { IfOk result (λ content. IfSome content (λ c. content_in kind text.now ≡ Ok c)) }
+{
+    match Content::from_slice(alloc, text, kind) {
+        Ok(content) => Ok(Some(content)),
+        Err(ReadFault::Memory) => Err(AllocError),
+        Err(_) => Ok(None),
+    }
+}
+
+/// Whether the content is of this kind, under a name with this key.
+fn has_key(alloc: Global, content: &Content, kind: Kind, key: &[u8]) -> Result<bool, AllocError>
+    ensures { IfOk result (λ is. IsTrue is → content_name content.now ≡ record { kind = kind; key = key.now }) }
+{
+    let name = content.name(alloc)?;
+    Ok(name.kind == kind && name.key.as_str().as_bytes() == key)
+}
+
+/// The resource that a row of the answer shows, or none where the row isn't lawful.
+fn read_row(alloc: Global, row: &Row) -> Result<Option<Stored>, AllocError>
+    ensures { IfOk result (λ stored. IfSome stored (IsRowOf row.now)) }
+{
+    let (Some(number), Some(code), Some(key), Some(version), Some(text)) = (
+        number_at(row, 0),
+        number_at(row, 1),
+        text_at(row, 2),
+        number_at(row, 3),
+        text_at(row, 4),
+    ) else {
+        return Ok(None);
+    };
+    let Some(kind) = kind_of(code) else {
+        return Ok(None);
+    };
+    let Some(content) = read_content(alloc, text, kind)? else {
+        return Ok(None);
+    };
+    if row.column_count() != 5 || !has_key(alloc, &content, kind, key)? {
+        return Ok(None);
+    }
+    Ok(stored(number, version, content))
+}
+
+/// A row with this number and version, where both are within their limits.
+fn stored(number: u64, version: u64, content: Content) -> Option<Stored>
+    ensures value { IfSome result (λ s. s ≡ record { number = number; version = version; content = content }) }
+    ensures lawful { IfSome result IsStored }
+{
+    let number = u32::try_from(number).ok()?;
+    if number == 0 || number > LAST_NUMBER || version == 0 || version > LAST_VERSION {
+        return None;
+    }
+    Some(Stored::new(number, version, content))
+}
+
+/// The one resource that the rows show.
+fn only(alloc: Global, rows: &[Row]) -> Result<Found, AllocError>
+    ensures { IfOk result (IsOnly rows.now) }
+{
+    match rows {
+        [] => Ok(Found::Nothing),
+        [row] => match read_row(alloc, row)? {
+            Some(stored) => Ok(Found::There(stored)),
+            None => Ok(Found::Damaged),
+        },
+        _ => Ok(Found::Damaged),
+    }
+}
+
+/// The resource with this number.
+pub(crate) fn find_numbered<S: Alter>(
+    alloc: Global,
+    conn: &mut Connection<S>,
+    number: u32,
+) -> Result<Found, RegistryFault>
+    requires laid { HasCleanDisk (state S.Store conn.old) → IsTrue (state S.Store conn.old).is_open → IsLaid (state S.Store conn.old) }
+    ensures found { HasCleanDisk (state S.Store conn.new) → IfOk result (FindsNumber (resources (state S.Store conn.old)) number) }
+    ensures keeps { HasCleanDisk (state S.Store conn.new) → Keeps (state S.Store conn.old) (state S.Store conn.new) }
+    ensures open { HasCleanDisk (state S.Store conn.new) → OnOk result (IsTrue (state S.Store conn.new).is_open) }
+    ensures quiet { Survives (state S.Store conn.old) (state S.Store conn.new) (λ _. ⊥) }
+{
+    match ask(
+        conn,
+        "SELECT number, kind, name_key, version, content FROM resource WHERE number = ?1",
+        &[ValueRef::Int(i64::from(number))],
+    ) {
+        Ok(rows) => Ok(only(alloc, rows.as_slice())?),
+        Err(error) => Err(fault_of(error)),
+    }
+}
+
+/// The resource of this name.
+pub(crate) fn find_named<S: Alter>(
+    alloc: Global,
+    conn: &mut Connection<S>,
+    name: &RecordName,
+) -> Result<Found, RegistryFault>
+    requires laid { HasCleanDisk (state S.Store conn.old) → IsTrue (state S.Store conn.old).is_open → IsLaid (state S.Store conn.old) }
+    ensures found { HasCleanDisk (state S.Store conn.new) → IfOk result (FindsName (resources (state S.Store conn.old)) name.now) }
+    ensures keeps { HasCleanDisk (state S.Store conn.new) → Keeps (state S.Store conn.old) (state S.Store conn.new) }
+    ensures open { HasCleanDisk (state S.Store conn.new) → OnOk result (IsTrue (state S.Store conn.new).is_open) }
+    ensures quiet { Survives (state S.Store conn.old) (state S.Store conn.new) (λ _. ⊥) }
+{
+    match ask(
+        conn,
+        "SELECT number, kind, name_key, version, content FROM resource WHERE kind = ?1 AND name_key = ?2",
+        &[
+            ValueRef::Int(code_of(name.kind)),
+            ValueRef::Text(name.key.as_str().as_bytes()),
+        ],
+    ) {
+        Ok(rows) => Ok(only(alloc, rows.as_slice())?),
+        Err(error) => Err(fault_of(error)),
+    }
+}
+
+/// The compact text of a content.
+fn text_of(alloc: Global, content: &Content) -> Result<Vec<u8>, AllocError>
+    ensures text { IfOk result (λ text. text.items ≡ content_text content.now) }
+    ensures spelled { OnOk result (content_in (content_kind content.now) (content_text content.now) ≡ Ok content.now) }
+{
+    let value = content.to_value(alloc)?;
+    compact(alloc, &value)
+}
+
+/// Adds a row.
+pub(crate) fn insert_row<S: Alter>(
+    alloc: Global,
+    conn: &mut Connection<S>,
+    row: &Stored,
+) -> Result<(), RegistryFault>
+    requires laid { HasCleanDisk (state S.Store conn.old) → IsTrue (state S.Store conn.old).is_open → IsLaid (state S.Store conn.old) }
+    ensures made { HasCleanDisk (state S.Store conn.new) → OnOk result (Makes (state S.Store conn.old) (state S.Store conn.new) row.now (added row.now (resources (state S.Store conn.old)))) }
+    ensures keeps { HasCleanDisk (state S.Store conn.new) → OnErr result (Keeps (state S.Store conn.old) (state S.Store conn.new)) }
+    ensures stop { Survives (state S.Store conn.old) (state S.Store conn.new) (λ db. IsTrue (state S.Store conn.old).is_open × Leaves row.now (added row.now (resources (state S.Store conn.old))) db) }
+{
+    let name = row.content().name(alloc)?;
+    let text = text_of(alloc, row.content())?;
+    match write(
+        conn,
+        "INSERT INTO resource (number, kind, name_key, version, content) VALUES (?1, ?2, ?3, ?4, ?5)",
+        &[
+            ValueRef::Int(i64::from(row.number())),
+            ValueRef::Int(code_of(name.kind)),
+            ValueRef::Text(name.key.as_str().as_bytes()),
+            ValueRef::Int(row.version() as i64),
+            ValueRef::Text(text.as_slice()),
+        ],
+    ) {
+        Ok(()) => Ok(()),
+        Err(error) => Err(fault_of(error)),
+    }
+}
+
+/// Puts a row in the place of the one with its number, which has its name.
+pub(crate) fn update_row<S: Alter>(
+    alloc: Global,
+    conn: &mut Connection<S>,
+    row: &Stored,
+) -> Result<(), RegistryFault>
+    requires laid { HasCleanDisk (state S.Store conn.old) → IsTrue (state S.Store conn.old).is_open → IsLaid (state S.Store conn.old) }
+    requires there { HasCleanDisk (state S.Store conn.old) → IsTrue (state S.Store conn.old).is_open → IsThere (resources (state S.Store conn.old)) row.now }
+    ensures made { HasCleanDisk (state S.Store conn.new) → OnOk result (Makes (state S.Store conn.old) (state S.Store conn.new) row.now (renewed row.now (resources (state S.Store conn.old)))) }
+    ensures keeps { HasCleanDisk (state S.Store conn.new) → OnErr result (Keeps (state S.Store conn.old) (state S.Store conn.new)) }
+    ensures stop { Survives (state S.Store conn.old) (state S.Store conn.new) (λ db. IsTrue (state S.Store conn.old).is_open × Leaves row.now (renewed row.now (resources (state S.Store conn.old))) db) }
+{
+    let text = text_of(alloc, row.content())?;
+    match write(
+        conn,
+        "UPDATE resource SET version = ?2, content = ?3 WHERE number = ?1",
+        &[
+            ValueRef::Int(i64::from(row.number())),
+            ValueRef::Int(row.version() as i64),
+            ValueRef::Text(text.as_slice()),
+        ],
+    ) {
+        Ok(()) => Ok(()),
+        Err(error) => Err(fault_of(error)),
+    }
+}

@@ -1,0 +1,333 @@
+//! Exchanges of the client, over bytes and over streams that follow a script.
+use crate::answers::{BOB, creation};
+use crate::responses::padded;
+use crate::sayings::{Ask, line, request_for, response};
+use crate::scripts::{Event, Script, ScriptedReader, ScriptedWriter, Turn};
+use crate::support::{BOB_CREATED, CREATE_BOB, base};
+use http_text::{Input, Output, SendFault};
+use scim_client::{ExchangeFault, ScimService};
+use scim_key::Kind;
+use scim_message::Answer;
+use std::alloc::Global;
+use std::io::ErrorKind;
+use std::process::Abort;
+use std::test::Fail;
+
+/// An answer in a line, or the code of a fault.
+fn told(alloc: Global, outcome: &Result<Answer, ExchangeFault>) -> Result<String, Fail> {
+    match outcome {
+        Ok(answer) => line(alloc, answer),
+        Err(fault) => Ok(fault.to_string(alloc)?),
+    }
+}
+
+const CREATED: &str = "created 5c1a0000-0000-8000-8000-000000000001 \"1\" bob";
+
+const INTERRUPTED: Turn = Turn::Fails(ErrorKind::Interrupted);
+
+const BROKEN: Turn = Turn::Fails(ErrorKind::BrokenPipe);
+
+// ---- readers
+
+/// Asserts what comes where bob's creation is asked for and these bytes are read by a script. The
+/// request is written whole.
+fn is_read(
+    rt: &impl Abort,
+    alloc: Global,
+    bytes: &[u8],
+    script: Script<'_>,
+    expected: &str,
+) -> Result<(), Fail> {
+    let service = ScimService::new(base(alloc)?);
+    let request = creation(alloc, BOB, Kind::User)?;
+    let mut reader = Input::new(ScriptedReader { bytes, script });
+    let mut writer = Output::new(Vec::new(alloc));
+    let outcome = service.exchange(alloc, &request, &mut reader, &mut writer);
+    let text = told(alloc, &outcome)?;
+    assert!(rt; text.as_str() == expected, "{text} and not {expected}");
+    assert!(rt; writer.into_inner().as_slice() == CREATE_BOB);
+    Ok(())
+}
+
+/// At most how many bytes a read gives, what happens at which byte, and what comes.
+type Reading = (usize, &'static [Event], &'static str);
+
+/// A head of 278 bytes and a body of 388 take 666 reads of a byte, of 100,000 in all.
+static READINGS: &[Reading] = &[
+    (1, &[], CREATED),
+    (7, &[], CREATED),
+    (1_000, &[], CREATED),
+    (1, &[(0, 1, INTERRUPTED)], CREATED),
+    (
+        1_000,
+        &[
+            (0, 2, INTERRUPTED),
+            (278, 3, INTERRUPTED),
+            (665, 1, INTERRUPTED),
+        ],
+        CREATED,
+    ),
+    (1_000, &[(0, 1, BROKEN)], "H11"),
+    (1_000, &[(278, 1, BROKEN)], "H11"),
+    (
+        1_000,
+        &[(300, 1, Turn::Fails(ErrorKind::WouldBlock))],
+        "H11",
+    ),
+    (1_000, &[(300, 1, Turn::Fails(ErrorKind::TimedOut))], "H11"),
+    (1_000, &[(0, 1, Turn::Nothing)], "H10"),
+    (1_000, &[(278, 1, Turn::Nothing)], "H10"),
+    (1_000, &[(665, 1, Turn::Nothing)], "H10"),
+    (1, &[(0, 99_334, INTERRUPTED)], CREATED),
+    (1, &[(0, 99_335, INTERRUPTED)], "H14"),
+    (1_000, &[(665, 1_000_000, INTERRUPTED)], "H14"),
+];
+
+#[test]
+fn readers_that_follow_a_script(rt: HostRuntime) -> Result<(), Fail> {
+    for (step, events, expected) in READINGS {
+        let script = Script::new(*step, events);
+        is_read(&rt, rt.alloc(), BOB_CREATED, script, expected)?;
+    }
+    Ok(())
+}
+
+#[test]
+fn a_read_that_fails_once_at_each_place(rt: HostRuntime) -> Result<(), Fail> {
+    for place in 0..BOB_CREATED.len() {
+        let events = [(place, 1, BROKEN)];
+        let script = Script::new(1, &events);
+        is_read(&rt, rt.alloc(), BOB_CREATED, script, "H11")?;
+    }
+    Ok(())
+}
+
+#[test]
+fn a_part_of_a_response_is_no_answer(rt: HostRuntime) -> Result<(), Fail> {
+    for count in 0..BOB_CREATED.len() {
+        let part = BOB_CREATED.get(..count).ok_or("too long")?;
+        is_read(&rt, rt.alloc(), part, Script::new(1_000, &[]), "H10")?;
+    }
+    Ok(())
+}
+
+// ---- writers
+
+/// At most how many bytes a write takes, what happens at which byte, with what the first flushes
+/// fail, what comes, and how many bytes of the request are written.
+type Writing = (
+    usize,
+    &'static [Event],
+    &'static [ErrorKind],
+    &'static str,
+    usize,
+);
+
+/// How many bytes were sent, where the request wasn't sent whole.
+fn sent(outcome: &Result<Answer, ExchangeFault>) -> Option<usize> {
+    match outcome {
+        Err(ExchangeFault::Unsent(SendFault::WriteFailed { sent })) => Some(*sent),
+        Err(ExchangeFault::Unsent(SendFault::TurnsExhausted { sent })) => Some(*sent),
+        _ => None,
+    }
+}
+
+/// Asserts what comes where bob's creation is asked for through a writer that follows a script. The
+/// answer is read only where the request was sent.
+fn is_written(
+    rt: &impl Abort,
+    alloc: Global,
+    writing: &Writing,
+    events: &[Event],
+) -> Result<(), Fail> {
+    let (step, _, flush_faults, expected, bytes) = writing;
+    let service = ScimService::new(base(alloc)?);
+    let request = creation(alloc, BOB, Kind::User)?;
+    let mut reader = Input::new(BOB_CREATED);
+    let mut writer = Output::new(ScriptedWriter {
+        taken: Vec::new(alloc),
+        script: Script::new(*step, events),
+        flush_faults,
+        flushes: 0,
+    });
+    let outcome = service.exchange(alloc, &request, &mut reader, &mut writer);
+    let text = told(alloc, &outcome)?;
+    assert!(rt; text.as_str() == *expected, "{text} and not {expected}");
+    let ScriptedWriter { taken, .. } = writer.into_inner();
+    assert!(rt; Some(taken.as_slice()) == CREATE_BOB.get(..*bytes));
+    if outcome.is_err() {
+        assert_eq!(rt; sent(&outcome), Some(*bytes));
+        assert_eq!(rt; reader.calls(), 0);
+    }
+    Ok(())
+}
+
+/// A request that is taken whole by one write takes two turns of 100,000.
+static WRITINGS: &[Writing] = &[
+    (1, &[], &[], CREATED, 371),
+    (7, &[], &[], CREATED, 371),
+    (1_000, &[], &[], CREATED, 371),
+    (
+        1_000,
+        &[
+            (0, 2, INTERRUPTED),
+            (157, 3, INTERRUPTED),
+            (370, 1, INTERRUPTED),
+        ],
+        &[],
+        CREATED,
+        371,
+    ),
+    (1_000, &[(0, 1, BROKEN)], &[], "H12", 0),
+    (1_000, &[(157, 1, BROKEN)], &[], "H12", 157),
+    (
+        1_000,
+        &[(200, 1, Turn::Fails(ErrorKind::WouldBlock))],
+        &[],
+        "H12",
+        200,
+    ),
+    (1_000, &[(370, 1, Turn::Nothing)], &[], "H12", 370),
+    (1_000, &[], &[ErrorKind::BrokenPipe], "H12", 371),
+    (1_000, &[], &[ErrorKind::Interrupted], "H12", 371),
+    (1_000, &[(0, 99_998, INTERRUPTED)], &[], CREATED, 371),
+    (1_000, &[(0, 99_999, INTERRUPTED)], &[], "H14", 371),
+    (1_000, &[(0, 100_000, INTERRUPTED)], &[], "H14", 0),
+];
+
+#[test]
+fn writers_that_follow_a_script(rt: HostRuntime) -> Result<(), Fail> {
+    for writing in WRITINGS {
+        let (_, events, _, _, _) = writing;
+        is_written(&rt, rt.alloc(), writing, events)?;
+    }
+    Ok(())
+}
+
+#[test]
+fn a_write_that_fails_once_at_each_place(rt: HostRuntime) -> Result<(), Fail> {
+    for place in 0..371usize {
+        let events = [(place, 1, BROKEN)];
+        let writing = (1, &[] as &[Event], &[] as &[ErrorKind], "H12", place);
+        is_written(&rt, rt.alloc(), &writing, &events)?;
+    }
+    Ok(())
+}
+
+// ---- responses of other providers
+
+/// Asserts what comes where these bytes are read, and what is left of them.
+fn comes(
+    rt: &impl Abort,
+    alloc: Global,
+    ask: Ask,
+    bytes: &[u8],
+    expected: &str,
+    left: &[u8],
+) -> Result<(), Fail> {
+    let service = ScimService::new(base(alloc)?);
+    let request = request_for(alloc, ask)?;
+    let mut reader = Input::new(bytes);
+    let mut writer = Output::new(Vec::new(alloc));
+    let outcome = service.exchange(alloc, &request, &mut reader, &mut writer);
+    let text = told(alloc, &outcome)?;
+    assert!(rt; text.as_str() == expected, "{text} and not {expected}");
+    let mut rest = Vec::from_slice(alloc, reader.ahead())?;
+    rest.extend_from_slice(reader.into_inner())?;
+    assert!(rt; rest.as_slice() == left);
+    Ok(())
+}
+
+/// What is asked for, the bytes that are read, what comes, and what is left.
+type Coming = (Ask, &'static [u8], &'static str, &'static [u8]);
+
+static COMINGS: &[Coming] = &[
+    (
+        Ask::Search,
+        b"HTTP/1.1 200 OK\r\nContent-Length: 18\r\n\r\n{\"totalResults\":0}HTTP/1.1 500 Oops\r\n",
+        "list 0 1",
+        b"HTTP/1.1 500 Oops\r\n",
+    ),
+    (
+        Ask::Search,
+        b"HTTP/1.1 200 OK\r\nContent-Length: 17\r\n\r\n{\"totalResults\":0}",
+        "K2",
+        b"}",
+    ),
+    (
+        Ask::Search,
+        b"HTTP/1.1 200 OK\r\nContent-Length: 19\r\n\r\n{\"totalResults\":0}",
+        "H10",
+        b"",
+    ),
+    (
+        Ask::Find,
+        b"HTTP/1.1 304 Not Modified\r\nETag: \"7\"\r\nContent-Length: 18\r\n\r\n{}",
+        "unmodified x \"7\"",
+        b"{}",
+    ),
+    (
+        Ask::Create,
+        b"HTTP/1.1 502 Bad Gateway\r\nContent-Length: 6\r\n\r\n<html>",
+        "error 502 - -",
+        b"",
+    ),
+    (
+        Ask::Create,
+        b"HTTP/1.1 201 Created\r\nContent-Length: 2\r\n\r\n{}HTTP",
+        "K3",
+        b"HTTP",
+    ),
+    (
+        Ask::Search,
+        b"HTTP/1.1 100 Continue\r\n\r\nHTTP/1.1 200 OK\r\n",
+        "K1",
+        b"HTTP/1.1 200 OK\r\n",
+    ),
+    (
+        Ask::Search,
+        b"HTTP/1.1 200 OK\r\nContent-Length: 8388609\r\n\r\n{}",
+        "K1",
+        b"{}",
+    ),
+    (
+        Ask::Search,
+        b"HTTP/1.1 200 OK\r\nContent-Length: 2\r\nContent-Length: 2\r\n\r\n{}",
+        "K1",
+        b"{}",
+    ),
+    (Ask::Search, b"HTTP/2.0", "K1", b".0"),
+    (Ask::Search, b"", "H10", b""),
+];
+
+#[test]
+fn responses_of_other_providers(rt: HostRuntime) -> Result<(), Fail> {
+    for (ask, bytes, expected, left) in COMINGS {
+        comes(&rt, rt.alloc(), *ask, bytes, expected, left)?;
+    }
+    Ok(())
+}
+
+#[test]
+fn a_body_at_its_limit_is_read(rt: HostRuntime) -> Result<(), Fail> {
+    let body = padded(rt.alloc(), 8_388_608)?;
+    let bytes = response(rt.alloc(), "200 OK", "", body.as_str())?;
+    comes(
+        &rt,
+        rt.alloc(),
+        Ask::Search,
+        bytes.as_slice(),
+        "list 0 1",
+        b"",
+    )
+}
+
+#[test]
+fn a_head_past_its_limit_is_no_answer(rt: HostRuntime) -> Result<(), Fail> {
+    let mut bytes = Vec::from_slice(rt.alloc(), b"HTTP/1.1 200 OK\r\nContent-Length: 2\r\nF: ")?;
+    for _ in bytes.len()..16_400 {
+        bytes.push(b'f')?;
+    }
+    let left = [b'f'; 16];
+    comes(&rt, rt.alloc(), Ask::Search, bytes.as_slice(), "K1", &left)
+}

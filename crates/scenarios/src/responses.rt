@@ -1,0 +1,474 @@
+//! Responses of any provider, read as answers to a request.
+use crate::sayings::{Ask, BOB_ELSEWHERE, line, request_for, response};
+use crate::support::BOB_CREATED;
+use scim_client::read_answer;
+use std::alloc::Global;
+use std::process::Abort;
+use std::test::Fail;
+
+/// Asserts that these bytes are this answer, or are refused by this code.
+fn says(
+    rt: &impl Abort,
+    alloc: Global,
+    ask: Ask,
+    bytes: &[u8],
+    expected: &str,
+) -> Result<(), Fail> {
+    let request = request_for(alloc, ask)?;
+    let text = match read_answer(alloc, &request, bytes) {
+        Ok(answer) => line(alloc, &answer)?,
+        Err(fault) => fault.to_string(alloc)?,
+    };
+    assert!(rt; text.as_str() == expected, "{text} and not {expected}");
+    Ok(())
+}
+
+/// What is asked for, a status, a body, and what they say.
+type Said = (Ask, &'static str, &'static str, &'static str);
+
+fn say(rt: &impl Abort, alloc: Global, table: &[Said]) -> Result<(), Fail> {
+    for (ask, status, body, expected) in table {
+        let bytes = response(alloc, status, "", body)?;
+        says(rt, alloc, *ask, bytes.as_slice(), expected)?;
+    }
+    Ok(())
+}
+
+// ---- resources
+
+static RESOURCES: &[Said] = &[
+    (
+        Ask::Create,
+        "201 Created",
+        BOB_ELSEWHERE,
+        "created x \"1\" bob",
+    ),
+    (Ask::Find, "200 OK", BOB_ELSEWHERE, "found x \"1\" bob"),
+    (
+        Ask::Replace,
+        "200 Fine",
+        BOB_ELSEWHERE,
+        "replaced x \"1\" bob",
+    ),
+    (
+        Ask::Find,
+        "200 OK",
+        " {\"USERNAME\" : \"Bob\", \"Schemas\" : [\"urn:x\", \"URN:IETF:params:scim:schemas:core:2.0:user\"],\r\n\"Meta\":{\"VERSION\":\"\\\"1\\\"\"},\"ID\":\"y\"} ",
+        "found y \"1\" Bob",
+    ),
+    (
+        Ask::Find,
+        "200 OK",
+        "{\"id\":\"x\",\"meta\":{\"version\":\"W/\\\"3\\\"\",\"created\":7},\"schemas\":[null,\"urn:ietf:params:scim:schemas:core:2.0:User\"],\"userName\":\"bob\",\"emails\":null,\"nickName\":{\"a\":[]},\"externalId\":\"\"}",
+        "found x W/\"3\" bob",
+    ),
+    (
+        Ask::Find,
+        "200 OK",
+        "{\"id\":\"x\",\"meta\":{\"version\":\"\\\"\\u00e9!\\\"\"},\"schemas\":[\"urn:ietf:params:scim:schemas:core:2.0:User\"],\"userName\":\"bob\"}",
+        "found x \"é!\" bob",
+    ),
+    (
+        Ask::Find,
+        "200 OK",
+        "{\"id\":\"x\",\"meta\":{\"version\":\"\\\"a b\\\"\"},\"schemas\":[\"urn:ietf:params:scim:schemas:core:2.0:User\"],\"userName\":\"bob\"}",
+        "found x - bob",
+    ),
+    (
+        Ask::Find,
+        "200 OK",
+        "{\"id\":\"x\",\"meta\":{\"version\":1},\"schemas\":[\"urn:ietf:params:scim:schemas:core:2.0:User\"],\"userName\":\"bob\"}",
+        "found x - bob",
+    ),
+    (
+        Ask::Find,
+        "200 OK",
+        "{\"id\":\"x\",\"meta\":[],\"schemas\":[\"urn:ietf:params:scim:schemas:core:2.0:User\"],\"userName\":\"bob\"}",
+        "found x - bob",
+    ),
+    (
+        Ask::Find,
+        "200 OK",
+        "{\"schemas\":[\"urn:ietf:params:scim:schemas:core:2.0:User\"],\"userName\":\"bob\"}",
+        "K3",
+    ),
+    (
+        Ask::Find,
+        "200 OK",
+        "{\"id\":7,\"schemas\":[\"urn:ietf:params:scim:schemas:core:2.0:User\"],\"userName\":\"bob\"}",
+        "K3",
+    ),
+    (
+        Ask::Find,
+        "200 OK",
+        "{\"id\":\"x\",\"schemas\":[\"urn:ietf:params:scim:schemas:core:2.0:User\"]}",
+        "K3",
+    ),
+    (
+        Ask::Find,
+        "200 OK",
+        "{\"id\":\"x\",\"schemas\":[\"urn:ietf:params:scim:schemas:core:2.0:Group\"],\"displayName\":\"crew\"}",
+        "K3",
+    ),
+    (
+        Ask::Find,
+        "200 OK",
+        "{\"id\":\"x\",\"meta\":{\"version\":\"\\\"1\\\"\",\"VERSION\":\"\\\"2\\\"\"},\"schemas\":[\"urn:ietf:params:scim:schemas:core:2.0:User\"],\"userName\":\"bob\"}",
+        "K3",
+    ),
+    (Ask::Create, "201 Created", "[]", "K3"),
+    (Ask::Create, "201 Created", "null", "K3"),
+    (Ask::Create, "201 Created", "{\"id\":\"x\"", "K2"),
+    (Ask::Create, "201 Created", "", "K2"),
+];
+
+#[test]
+fn resources(rt: HostRuntime) -> Result<(), Fail> {
+    say(&rt, rt.alloc(), RESOURCES)
+}
+
+// ---- statuses
+
+static STATUSES: &[Said] = &[
+    (Ask::Create, "200 OK", BOB_ELSEWHERE, "K3"),
+    (Ask::Create, "200 OK", "<html>", "K2"),
+    (Ask::Find, "201 Created", BOB_ELSEWHERE, "K3"),
+    (Ask::Replace, "201 Created", BOB_ELSEWHERE, "K3"),
+    (Ask::Search, "201 Created", "{\"totalResults\":0}", "K3"),
+    (Ask::Find, "100 Continue", "", "K2"),
+    (Ask::Find, "102 Processing", BOB_ELSEWHERE, "K3"),
+    (Ask::Replace, "204 No Content", "", "K2"),
+    (Ask::Find, "206 Partial Content", BOB_ELSEWHERE, "K3"),
+    (Ask::Find, "301 Moved Permanently", BOB_ELSEWHERE, "K3"),
+    (Ask::Find, "307 Temporary Redirect", "<html>", "K2"),
+    (Ask::Find, "399 Unknown", BOB_ELSEWHERE, "K3"),
+    (Ask::Find, "400 Bad Request", BOB_ELSEWHERE, "error 400 - -"),
+    (Ask::Search, "502 Bad Gateway", "<html>", "error 502 - -"),
+    (Ask::Create, "599 Unknown", "", "error 599 - -"),
+    (Ask::Find, "600 Unknown", BOB_ELSEWHERE, "K3"),
+    (Ask::Find, "999 Unknown", "", "K2"),
+];
+
+#[test]
+fn statuses(rt: HostRuntime) -> Result<(), Fail> {
+    say(&rt, rt.alloc(), STATUSES)
+}
+
+// ---- errors
+
+static ERRORS: &[Said] = &[
+    (
+        Ask::Create,
+        "409 Conflict",
+        "{\"detail\":\"taken\",\"schemas\":[\"urn:ietf:params:scim:api:messages:2.0:Error\"],\"scimType\":\"uniqueness\",\"status\":\"400\"}",
+        "error 409 uniqueness taken",
+    ),
+    (
+        Ask::Create,
+        "409 Conflict",
+        "{\"Schemas\":[\"urn:x\",\"URN:ietf:params:scim:api:messages:2.0:ERROR\"],\"SCIMTYPE\":\"x\",\"DETAIL\":\"\"}",
+        "error 409 x -",
+    ),
+    (
+        Ask::Create,
+        "500 Oops",
+        "{\"detail\":7,\"schemas\":[\"urn:ietf:params:scim:api:messages:2.0:Error\"],\"scimType\":null}",
+        "error 500 - -",
+    ),
+    (
+        Ask::Create,
+        "404 Not Found",
+        "{\"detail\":\"a\",\"schemas\":\"urn:ietf:params:scim:api:messages:2.0:Error\"}",
+        "error 404 - -",
+    ),
+    (
+        Ask::Create,
+        "404 Not Found",
+        "{\"detail\":\"a\"}",
+        "error 404 - -",
+    ),
+    (
+        Ask::Create,
+        "404 Not Found",
+        "{\"detail\":\"a\",\"Detail\":\"b\",\"schemas\":[\"urn:ietf:params:scim:api:messages:2.0:Error\"]}",
+        "error 404 - -",
+    ),
+];
+
+#[test]
+fn errors(rt: HostRuntime) -> Result<(), Fail> {
+    say(&rt, rt.alloc(), ERRORS)
+}
+
+// ---- lists
+
+/// Bodies that answer a Search with 200, and what they say.
+static LISTS: &[(&str, &str)] = &[
+    ("{\"totalResults\":0}", "list 0 1"),
+    ("{\"totalResults\":0,\"Resources\":null}", "list 0 1"),
+    (
+        "{\"TOTALRESULTS\":7,\"resources\":[],\"startIndex\":5}",
+        "list 7 5",
+    ),
+    (
+        "{\"totalResults\":7,\"startIndex\":0,\"itemsPerPage\":\"x\"}",
+        "list 7 1",
+    ),
+    (
+        "{\"totalResults\":7,\"startIndex\":\"5\",\"schemas\":7}",
+        "list 7 1",
+    ),
+    ("{\"totalResults\":7,\"startIndex\":2.0}", "list 7 1"),
+    (
+        "{\"totalResults\":1,\"Resources\":[null,{\"id\":\"x\",\"schemas\":[\"urn:ietf:params:scim:schemas:core:2.0:User\"],\"userName\":\"bob\"},null]}",
+        "list 1 1, x - bob",
+    ),
+    (
+        "{\"totalResults\":2,\"Resources\":[{\"id\":\"y\",\"meta\":{\"version\":\"W/\\\"\\\"\"},\"schemas\":[\"urn:ietf:params:scim:schemas:core:2.0:User\"],\"userName\":\"ann\"},{\"id\":\"x\",\"schemas\":[\"urn:ietf:params:scim:schemas:core:2.0:User\"],\"userName\":\"bob\"}]}",
+        "list 2 1, y W/\"\" ann, x - bob",
+    ),
+    ("{\"Resources\":[]}", "K3"),
+    ("{\"totalResults\":null}", "K3"),
+    ("{\"totalResults\":\"0\"}", "K3"),
+    ("{\"totalResults\":0.0}", "K3"),
+    ("{\"totalResults\":-1}", "K3"),
+    ("{\"totalResults\":0,\"totalresults\":0}", "K3"),
+    ("{\"totalResults\":0,\"Resources\":{}}", "K3"),
+    ("{\"totalResults\":1,\"Resources\":[7]}", "K3"),
+    (
+        "{\"totalResults\":1,\"Resources\":[{\"id\":\"x\",\"schemas\":[\"urn:ietf:params:scim:schemas:core:2.0:Group\"],\"displayName\":\"crew\"}]}",
+        "K3",
+    ),
+    (
+        "{\"totalResults\":2,\"Resources\":[{\"id\":\"x\",\"schemas\":[\"urn:ietf:params:scim:schemas:core:2.0:User\"],\"userName\":\"bob\"},{}]}",
+        "K3",
+    ),
+    ("[]", "K3"),
+    ("7", "K3"),
+    ("{\"totalResults\":0}}", "K2"),
+    ("", "K2"),
+];
+
+#[test]
+fn lists(rt: HostRuntime) -> Result<(), Fail> {
+    for (body, expected) in LISTS {
+        let bytes = response(rt.alloc(), "200 OK", "", body)?;
+        says(&rt, rt.alloc(), Ask::Search, bytes.as_slice(), expected)?;
+    }
+    Ok(())
+}
+
+#[test]
+fn a_list_of_200_resources(rt: HostRuntime) -> Result<(), Fail> {
+    let alloc = rt.alloc();
+    let mut body = String::from_str(alloc, "{\"totalResults\":201,\"Resources\":[")?;
+    let mut expected = String::from_str(alloc, "list 201 1")?;
+    for n in 0..200u32 {
+        if n > 0 {
+            body.push_str(",")?;
+        }
+        let resource = format!(in alloc;
+            "{{\"id\":\"{n}\",\"schemas\":[\"urn:ietf:params:scim:schemas:core:2.0:User\"],\"userName\":\"u{n}\"}}"
+        )?;
+        body.push_str(resource.as_str())?;
+        let shown = format!(in alloc; ", {n} - u{n}")?;
+        expected.push_str(shown.as_str())?;
+    }
+    body.push_str("]}")?;
+    let bytes = response(alloc, "200 OK", "", body.as_str())?;
+    says(&rt, alloc, Ask::Search, bytes.as_slice(), expected.as_str())
+}
+
+// ---- whole bytes
+
+/// What is asked for, bytes, and what they say.
+type Bytes = (Ask, &'static [u8], &'static str);
+
+static BYTES: &[Bytes] = &[
+    (
+        Ask::Search,
+        b"HTTP/1.0 200 OK\nX: 1\ncontent-length:18\n\n{\"totalResults\":0}",
+        "list 0 1",
+    ),
+    (
+        Ask::Search,
+        b"HTTP/1.1 200 \r\nCONTENT-LENGTH: \t000000000000000018 \r\nServer: a, b\r\n\r\n{\"totalResults\":0}",
+        "list 0 1",
+    ),
+    (
+        Ask::Find,
+        b"HTTP/1.1 304 Not Modified\r\netag: W/\"7\"\r\n\r\n",
+        "unmodified x W/\"7\"",
+    ),
+    (
+        Ask::Find,
+        b"HTTP/1.1 304 Not Modified\r\nContent-Length: 18\r\nETag: \"\"\r\n\r\n",
+        "unmodified x \"\"",
+    ),
+    (Ask::Find, b"HTTP/1.1 304 Not Modified\r\n\r\n", "K3"),
+    (
+        Ask::Find,
+        b"HTTP/1.1 304 Not Modified\r\nETag: 7\r\n\r\n",
+        "K3",
+    ),
+    (
+        Ask::Find,
+        b"HTTP/1.1 304 Not Modified\r\nETag: \"7\"\r\nETag: \"7\"\r\n\r\n",
+        "K3",
+    ),
+    (
+        Ask::Find,
+        b"HTTP/1.1 304 Not Modified\r\nETag: \"7\"\r\nContent-Length: 2\r\n\r\n{}",
+        "K1",
+    ),
+    (
+        Ask::Find,
+        b"HTTP/1.1 304 Not Modified\r\nETag: \"7\"\r\nContent-Length: x\r\n\r\n",
+        "K1",
+    ),
+    (
+        Ask::Create,
+        b"HTTP/1.1 304 Not Modified\r\nETag: \"7\"\r\n\r\n",
+        "K2",
+    ),
+    (
+        Ask::Search,
+        b"HTTP/1.1 200 OK\r\nContent-Length: 17\r\n\r\n{\"totalResults\":0}",
+        "K1",
+    ),
+    (
+        Ask::Search,
+        b"HTTP/1.1 200 OK\r\nContent-Length: 19\r\n\r\n{\"totalResults\":0}",
+        "K1",
+    ),
+    (
+        Ask::Search,
+        b"HTTP/1.1 200 OK\r\nContent-Length: 18\r\n\r\n{\"totalResults\":0}HTTP/1.1 200 OK\r\nContent-Length: 18\r\n\r\n{\"totalResults\":0}",
+        "K1",
+    ),
+    (
+        Ask::Search,
+        b"HTTP/1.1 200 OK\r\n\r\n{\"totalResults\":0}",
+        "K1",
+    ),
+    (
+        Ask::Search,
+        b"HTTP/1.1 200 OK\r\nContent-Length: 18\r\nContent-Length: 18\r\n\r\n{\"totalResults\":0}",
+        "K1",
+    ),
+    (
+        Ask::Search,
+        b"HTTP/1.1 200 OK\r\nContent-Length: +18\r\n\r\n{\"totalResults\":0}",
+        "K1",
+    ),
+    (
+        Ask::Search,
+        b"HTTP/1.1 200 OK\r\nContent-Length: 0000000000000000018\r\n\r\n{\"totalResults\":0}",
+        "K1",
+    ),
+    (
+        Ask::Search,
+        b"HTTP/1.1 200 OK\r\nContent-Length: 18\r\nTransfer-Encoding: identity\r\n\r\n{\"totalResults\":0}",
+        "K1",
+    ),
+    (
+        Ask::Search,
+        b"HTTP/1.1 200 OK\r\nTransfer-Encoding: chunked\r\n\r\n12\r\n{\"totalResults\":0}\r\n0\r\n\r\n",
+        "K1",
+    ),
+    (
+        Ask::Search,
+        b"HTTP/1.1 099 Low\r\nContent-Length: 0\r\n\r\n",
+        "K1",
+    ),
+    (
+        Ask::Search,
+        b"HTTP/2.0 200 OK\r\nContent-Length: 0\r\n\r\n",
+        "K1",
+    ),
+    (
+        Ask::Search,
+        b"HTTP/1.1 20 OK\r\nContent-Length: 0\r\n\r\n",
+        "K1",
+    ),
+    (
+        Ask::Search,
+        b"GET /v2/Users HTTP/1.1\r\nContent-Length: 0\r\n\r\n",
+        "K1",
+    ),
+    (
+        Ask::Search,
+        b"HTTP/1.1 200 OK\r\nContent-Length: 3\r\n\r\n\"\xff\"",
+        "K2",
+    ),
+    (Ask::Search, b"", "K1"),
+];
+
+#[test]
+fn whole_bytes(rt: HostRuntime) -> Result<(), Fail> {
+    for (ask, bytes, expected) in BYTES {
+        says(&rt, rt.alloc(), *ask, bytes, expected)?;
+    }
+    Ok(())
+}
+
+#[test]
+fn no_part_of_a_response_is_one(rt: HostRuntime) -> Result<(), Fail> {
+    for count in 0..BOB_CREATED.len() {
+        let part = BOB_CREATED.get(..count).ok_or("too long")?;
+        says(&rt, rt.alloc(), Ask::Create, part, "K1")?;
+    }
+    let expected = "created 5c1a0000-0000-8000-8000-000000000001 \"1\" bob";
+    says(&rt, rt.alloc(), Ask::Create, BOB_CREATED, expected)
+}
+
+// ---- limits
+
+/// A list message, with white space up to so many bytes.
+pub fn padded(alloc: Global, length: usize) -> Result<String, Fail> {
+    let mut body = String::from_str(alloc, "{\"totalResults\":0}")?;
+    for _ in body.len()..length {
+        body.push_str(" ")?;
+    }
+    Ok(body)
+}
+
+#[test]
+fn a_body_at_its_limit(rt: HostRuntime) -> Result<(), Fail> {
+    for (length, expected) in [(8_388_608usize, "list 0 1"), (8_388_609, "K1")] {
+        let body = padded(rt.alloc(), length)?;
+        let bytes = response(rt.alloc(), "200 OK", "", body.as_str())?;
+        says(&rt, rt.alloc(), Ask::Search, bytes.as_slice(), expected)?;
+    }
+    Ok(())
+}
+
+/// A response with so many field lines more than its length, of which one has so long a value.
+fn headed(alloc: Global, lines: usize, value_length: usize) -> Result<Vec<u8>, Fail> {
+    let mut fields = String::from_str(alloc, "F: ")?;
+    for _ in 0..value_length {
+        fields.push_str("f")?;
+    }
+    fields.push_str("\r\n")?;
+    for _ in 1..lines {
+        fields.push_str("A: b\r\n")?;
+    }
+    response(alloc, "200 OK", fields.as_str(), "{\"totalResults\":0}")
+}
+
+/// A head has 44 bytes beside the value, and its body 18.
+#[test]
+fn heads_at_their_limits(rt: HostRuntime) -> Result<(), Fail> {
+    let table = [
+        (63usize, 1usize, 435usize, "list 0 1"),
+        (64, 1, 441, "K1"),
+        (1, 16_340, 16_402, "list 0 1"),
+        (1, 16_341, 16_403, "K1"),
+    ];
+    for (lines, value_length, length, expected) in table {
+        let bytes = headed(rt.alloc(), lines, value_length)?;
+        assert_eq!(rt; bytes.len(), length);
+        says(&rt, rt.alloc(), Ask::Search, bytes.as_slice(), expected)?;
+    }
+    Ok(())
+}
