@@ -26,7 +26,7 @@ use Rattle.journal_core.specs.declared.journals.Journal.{Ghosts as Journals}
 use Rattle.connector_core.proofs.Keeping.{names-put}
 use Rattle.connector_core.proofs.LawProofs.{maps_accept}
 use Rattle.connector_core.specs.Asking.{asking}
-use Rattle.connector_core.specs.Book.{Book, wanting, forgotten, reopened}
+use Rattle.connector_core.specs.Book.{wanting, forgotten, reopened}
 use Rattle.connector_core.specs.Changing.{names_of, names_with, judging, history_after, book_after, accepted_map}
 use Rattle.connector_core.specs.Learning.{learn, after_learning}
 use Rattle.connector_core.specs.Maps.{BookMap, book_of}
@@ -35,11 +35,14 @@ use Rattle.connector_core.specs.declared.asking.Ask.{Ask}
 use Rattle.connector_core.specs.declared.asking.Ask.TheVariants as asks
 use Rattle.connector_core.specs.declared.changing.ChangeFault.{ChangeFault}
 use Rattle.connector_core.specs.declared.knowledge.Known.{Known}
-use Rattle.world_model.specs.World.{World, Message, Asked, Answered, Event, Changes, Sends, Delivers, Cuts, Restarts_provider, Restarts_connector, judged, sends, delivers, arrives, message_at, with_message, happens, empty, run}
+use Rattle.world_model.specs.World.{World, Message, Asked, Answered, Event, Changes, Sends, Delivers, Restarts_provider, Restarts_connector, judged, sends, delivers, message_at, with_message, happens, empty, run}
 use Rattle.world_model.specs.Reports as model
+use Rattle.world_model.proofs.Safety.{always_safe}
+use Rattle.world_model.proofs.Onwards.{always_onward}
+use Rattle.world_model.proofs.Headlines.{headline_holds}
 use Rattle.world_sim.specs.Events.{report_of}
 use Rattle.world_sim.specs.Messages.{IsMessage, messages_of, text_at, texts_of, message_text, message_size, says}
-use Rattle.world_sim.specs.Running.{Running, IsSound, Is, Makes, Happens, Arrives, Starts, Runs}
+use Rattle.world_sim.specs.Running.{Running, Is, Makes, Happens, Arrives, Starts, Runs, RunsFromEmpty}
 use Rattle.world_sim.specs.declared.messages.Sent.{Sent}
 use Rattle.world_sim.specs.declared.reports.Report.{Report}
 
@@ -332,4 +335,15 @@ module _ {R J : Type 0} (g : Registries R) (h : Journals J) where
       messages = refl;
       texts = refl;
     };
+  }
+
+  pub ran_from_empty : (first ran : Running R J) (registry : R) (journal : J) (base : List ℕ) (events : List Event) (told : List Report)
+      → first.base ≡ base → Starts g h registry journal first → Runs g h first ran events told → RunsFromEmpty g h registry journal base events ran told
+  ran_from_empty first ran registry journal base events told at starts runs faithful rows kept sound = record {
+    base = runs.base ∙ at;
+    is = runs.is sound empty (starts.is (runs.was sound) faithful rows kept);
+    told_so = runs.told_so sound empty (starts.is (runs.was sound) faithful rows kept) ∙ ap (λ b. model.reports (message_size b) empty events) at;
+    safe = λ early late _. always_safe early;
+    onward = λ early middle late _. always_onward early middle;
+    headline = λ early middle late _. headline_holds early middle;
   }

@@ -11,11 +11,9 @@ use Rattle.world_model.specs.World.{World, Event, Message, names, arrives, happe
 use Rattle.world_model.specs.Reports.{Report, report, reports, arrival_report}
 use Rattle.world_model.specs.Safe.{Headline, Onward, Safe, rows}
 use Rattle.world_sim.specs.Messages.{message_text, message_size, messages_of, texts_of}
-use Rattle.world_sim.specs.Events.{event_of, report_of}
+use Rattle.world_sim.specs.Events.{report_of}
 use Rattle.world_sim.specs.declared.messages.Sent.{Sent}
-use Rattle.world_sim.specs.declared.events.Event.{Event as EventOf}
 use Rattle.world_sim.specs.declared.reports.Report.{Report as ReportOf}
-use Rattle.world_sim.specs.declared.reports.WorldFault.{WorldFault}
 
 -- what runs: the provider's registry, the connector, and the messages, where the service has this base
 pub record Running (R J : Type 0) : Type 0 where

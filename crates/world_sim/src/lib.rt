@@ -4,8 +4,10 @@
 mod events;
 mod messages;
 mod reports;
+mod runs;
 mod worlds;
 
 pub use events::Event;
 pub use reports::{Report, WorldFault};
+pub use runs::run;
 pub use worlds::World;

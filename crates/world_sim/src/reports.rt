@@ -6,6 +6,7 @@ use provider_core::ProviderFault;
 use scim_key::Key;
 use source_book::Verdict;
 use std::alloc::{AllocError, AllocFailed};
+use std::fmt;
 use thiserror::Error;
 
 /// What an event reports.
@@ -34,6 +35,43 @@ pub enum Report {
     /// Too few bytes arrived, and nothing changed.
     CutShort,
     Restarted,
+}
+
+impl fmt::Display for Report {
+    /// The report in a word or two, with its numbers: `new`, `find 3`, `answer 4 201`, `confirmed 2`.
+    fn fmt<W: fmt::Write>(&self, f: &mut fmt::Formatter<W>) -> fmt::Result {
+        match self {
+            Report::Judged(Ok(Verdict::New)) => f.write_str("new"),
+            Report::Judged(Ok(Verdict::Known)) => f.write_str("known"),
+            Report::Judged(Ok(Verdict::Older)) => f.write_str("older"),
+            Report::Judged(Err(fault)) => write!(f, "{fault}"),
+            Report::UnknownRecord => f.write_str("C7"),
+            Report::Idle => f.write_str("nothing"),
+            Report::Waiting(member) => write!(f, "waits {}", member.as_str()),
+            Report::Finding(number) => write!(f, "find {number}"),
+            Report::Creating(number) => write!(f, "create {number}"),
+            Report::Replacing(number) => write!(f, "replace {number}"),
+            Report::Answering { number, status } => write!(f, "answer {number} {status}"),
+            Report::Taught(taught) => write_taught(f, taught),
+            Report::NoMessage => f.write_str("none"),
+            Report::CutShort => f.write_str("cut"),
+            Report::Restarted => f.write_str("restarted"),
+        }
+    }
+}
+
+fn write_taught<W: fmt::Write>(
+    f: &mut fmt::Formatter<W>,
+    taught: &Result<Learnt, LearnFault>,
+) -> fmt::Result {
+    match taught {
+        Ok(Learnt::Confirmed(revision)) => write!(f, "confirmed {revision}"),
+        Ok(Learnt::Seen) => f.write_str("seen"),
+        Ok(Learnt::Absent) => f.write_str("absent"),
+        Ok(Learnt::Forgotten) => f.write_str("forgotten"),
+        Ok(Learnt::Nothing) => f.write_str("nothing"),
+        Err(fault) => write!(f, "{fault}"),
+    }
 }
 
 /// Why a world came to an end.

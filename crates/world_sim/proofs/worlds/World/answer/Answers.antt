@@ -1,9 +1,9 @@
-use Rattle.std.proofs.Common.{◌≡◌, ℕ, suc, List, [], ◌∷◌, ◌++◌, length, ap, sym, subst, ◌∙◌, refl, rules}
+use Rattle.std.proofs.Common.{◌≡◌, suc, [], ◌∷◌, ◌++◌, length, ap, sym, subst, ◌∙◌, rules}
 use Rattle.scim_message.specs.Messages.{answer_status}
 use Rattle.provider_core.specs.Outcomes.{outcome}
 use Rattle.world_model.specs.Reports as model
 use Rattle.world_model.specs.World.{Asked, Answered}
-use Rattle.world_sim.specs.Messages.{IsMessage, message_text}
+use Rattle.world_sim.specs.Messages.{message_text}
 use Rattle.world_sim.specs.Running.{Arrives, running}
 use Rattle.world_sim.specs.declared.messages.Said.TheVariants as said
 use Rattle.world_sim.specs.declared.messages.Sent.{Sent}
