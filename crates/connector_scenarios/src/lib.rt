@@ -11,3 +11,5 @@ mod learning;
 mod messages;
 #[cfg(test)]
 mod offers;
+#[cfg(test)]
+mod worlds;

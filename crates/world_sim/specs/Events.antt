@@ -1,0 +1,51 @@
+-- What an event of code is, and what a report of code says.
+use Rattle.std.specs.Prelude.{Bool, true, false, List, map}
+use Rattle.provider_core.specs.declared.provider.ProviderFault.{ProviderFault}
+use Rattle.provider_core.specs.declared.provider.ProviderFault.TheVariants as provider
+use Rattle.world_model.specs.World.{Event, Changes, Sends, Delivers, Cuts, Restarts_provider, Restarts_connector}
+use Rattle.world_model.specs.Reports as model
+use Rattle.world_sim.specs.declared.events.Event.{Event as EventOf}
+use Rattle.world_sim.specs.declared.events.Event.TheVariants as events
+use Rattle.world_sim.specs.declared.reports.Report.{Report as ReportOf}
+use Rattle.world_sim.specs.declared.reports.Report.TheVariants as reports
+use Rattle.world_sim.specs.declared.reports.WorldFault.{WorldFault}
+use Rattle.world_sim.specs.declared.reports.WorldFault.TheVariants as worlds
+
+abbrev pub event_of : EventOf → Event
+event_of (events.Change row) = Changes row
+event_of (events.Send name) = Sends name
+event_of (events.Deliver number) = Delivers number
+event_of (events.Cut number length) = Cuts number length
+event_of events.RestartProvider = Restarts_provider
+event_of events.RestartConnector = Restarts_connector
+
+abbrev pub events_of : List EventOf → List Event
+events_of events = map event_of events
+
+abbrev pub report_of : ReportOf → model.Report
+report_of (reports.Judged verdict) = model.Judged verdict
+report_of reports.UnknownRecord = model.Unknown_record
+report_of reports.Idle = model.Idle
+report_of (reports.Waiting member) = model.Waiting member
+report_of (reports.Finding number) = model.Finding number
+report_of (reports.Creating number) = model.Creating number
+report_of (reports.Replacing number) = model.Replacing number
+report_of (reports.Answering number status) = model.Answering number status
+report_of (reports.Taught learnt) = model.Taught learnt
+report_of reports.NoMessage = model.No_message
+report_of reports.CutShort = model.Cut_short
+report_of reports.Restarted = model.Restarted
+
+-- the world's fault at a fault of its provider
+abbrev pub world_fault : ProviderFault → WorldFault
+world_fault provider.Store = worlds.Store
+world_fault provider.Memory = worlds.Memory
+
+-- whether the connector is opened again
+abbrev pub is_restart : EventOf → Bool
+is_restart (events.Change row) = false
+is_restart (events.Send name) = false
+is_restart (events.Deliver number) = false
+is_restart (events.Cut number length) = false
+is_restart events.RestartProvider = false
+is_restart events.RestartConnector = true

@@ -1,0 +1,20 @@
+//! What may happen in a world.
+use scim_key::RecordName;
+use source_csv::Row;
+
+/// What may happen in a world.
+#[derive(Debug, Drop)]
+pub enum Event {
+    /// The source offers a row.
+    Change(Row),
+    /// The connector sends what it asks for next of a record.
+    Send(RecordName),
+    /// The message with this number, counted from 1, arrives.
+    Deliver(usize),
+    /// Of the message with this number only the first `length` bytes arrive.
+    Cut { number: usize, length: usize },
+    /// The provider is opened again on its rows.
+    RestartProvider,
+    /// The connector is opened again on its journal.
+    RestartConnector,
+}

@@ -1,0 +1,118 @@
+//! What an event reports.
+ghost use Rattle.std.specs.Prelude.{◌≡◌};
+
+use connector_core::{ChangeFault, LearnFault, Learnt};
+use provider_core::ProviderFault;
+use scim_key::Key;
+use source_book::Verdict;
+use std::alloc::{AllocError, AllocFailed};
+use std::fmt;
+use thiserror::Error;
+
+/// What an event reports.
+#[derive(Debug, Drop)]
+pub enum Report {
+    /// What the connector says of a row.
+    Judged(Result<Verdict, ChangeFault>),
+    /// The source gave no row of the record.
+    UnknownRecord,
+    /// Nothing is asked for: the wanted revision is confirmed.
+    Idle,
+    /// Nothing is asked for yet: this member has no id so far.
+    Waiting(Key),
+    /// A Search was sent, as the message with this number.
+    Finding(usize),
+    /// A Create was sent.
+    Creating(usize),
+    /// A Replace was sent.
+    Replacing(usize),
+    /// A request was answered, by the message with this number.
+    Answering { number: usize, status: u16 },
+    /// What the connector learnt from a reply.
+    Taught(Result<Learnt, LearnFault>),
+    /// There is no message with this number, or it isn't longer than what was to arrive of it.
+    NoMessage,
+    /// Too few bytes arrived, and nothing changed.
+    CutShort,
+    Restarted,
+}
+
+impl fmt::Display for Report {
+    /// The report in a word or two, with its numbers: `new`, `find 3`, `answer 4 201`, `confirmed 2`.
+    fn fmt<W: fmt::Write>(&self, f: &mut fmt::Formatter<W>) -> fmt::Result {
+        match self {
+            Report::Judged(Ok(Verdict::New)) => f.write_str("new"),
+            Report::Judged(Ok(Verdict::Known)) => f.write_str("known"),
+            Report::Judged(Ok(Verdict::Older)) => f.write_str("older"),
+            Report::Judged(Err(fault)) => write!(f, "{fault}"),
+            Report::UnknownRecord => f.write_str("C7"),
+            Report::Idle => f.write_str("nothing"),
+            Report::Waiting(member) => write!(f, "waits {}", member.as_str()),
+            Report::Finding(number) => write!(f, "find {number}"),
+            Report::Creating(number) => write!(f, "create {number}"),
+            Report::Replacing(number) => write!(f, "replace {number}"),
+            Report::Answering { number, status } => write!(f, "answer {number} {status}"),
+            Report::Taught(taught) => write_taught(f, taught),
+            Report::NoMessage => f.write_str("none"),
+            Report::CutShort => f.write_str("cut"),
+            Report::Restarted => f.write_str("restarted"),
+        }
+    }
+}
+
+fn write_taught<W: fmt::Write>(
+    f: &mut fmt::Formatter<W>,
+    taught: &Result<Learnt, LearnFault>,
+) -> fmt::Result {
+    match taught {
+        Ok(Learnt::Confirmed(revision)) => write!(f, "confirmed {revision}"),
+        Ok(Learnt::Seen) => f.write_str("seen"),
+        Ok(Learnt::Absent) => f.write_str("absent"),
+        Ok(Learnt::Forgotten) => f.write_str("forgotten"),
+        Ok(Learnt::Nothing) => f.write_str("nothing"),
+        Err(fault) => write!(f, "{fault}"),
+    }
+}
+
+/// Why a world came to an end.
+#[derive(Clone, Copy, Debug, PartialEq, Eq, Error)]
+pub enum WorldFault {
+    #[error("Z1")]
+    Memory,
+    /// A store failed.
+    #[error("Z2")]
+    Store,
+}
+
+impl From<AllocError> for WorldFault {
+    ghost use Rattle.world_sim.specs.declared.reports.WorldFault.TheVariants.{Memory};
+
+    ghost from_gives = { λ _ fault. fault ≡ Memory };
+
+    fn from(_: AllocError) -> WorldFault {
+        WorldFault::Memory
+    }
+}
+
+impl<T: Drop> From<AllocFailed<T>> for WorldFault {
+    ghost use Rattle.world_sim.specs.declared.reports.WorldFault.TheVariants.{Memory};
+
+    ghost from_gives = { λ _ fault. fault ≡ Memory };
+
+    fn from(_: AllocFailed<T>) -> WorldFault {
+        WorldFault::Memory
+    }
+}
+
+impl From<ProviderFault> for WorldFault {
+    ghost use Rattle.world_sim.specs.Events.{world_fault};
+
+    ghost from_gives = { λ from fault. fault ≡ world_fault from };
+
+    fn from(fault: ProviderFault) -> WorldFault {
+        match fault {
+            ProviderFault::Store => WorldFault::Store,
+            ProviderFault::Memory => WorldFault::Memory,
+        }
+    }
+}

@@ -1,0 +1,36 @@
+//! Whole runs.
+ghost use Rattle.std.specs.Prelude.{IfOk};
+ghost use Rattle.world_sim.specs.Events.{events_of};
+ghost use Rattle.world_sim.specs.Running.{RunsFromEmpty, running};
+
+use crate::events::Event;
+use crate::reports::{Report, WorldFault};
+use crate::worlds::World;
+use journal_core::Journal;
+use provider_core::Reopen;
+use scim_key::Base;
+use std::alloc::Global;
+
+/// The world after these events, one after the other, over a registry without rows and a journal
+/// without entries, and the report of each event. The headline: whatever is lost, repeated, late
+/// or restarted, the provider holds at most one resource per name, its source revision never goes
+/// back, it is that revision's image, and every revision that the connector counts as confirmed is
+/// held or surpassed.
+pub fn run<R: Reopen + Drop, J: Journal + Drop>(
+    alloc: Global,
+    registry: R,
+    journal: J,
+    base: Base,
+    events: &[Event],
+) -> Result<(World<R, J>, Vec<Report>), WorldFault>
+    ensures { IfOk result (λ ran. RunsFromEmpty R.Registry J.Journal registry journal base (events_of events.now) (running ran.0.provider ran.0.connector ran.0.service ran.0.sent.items) ran.1.items) }
+{
+    let mut world = World::new(alloc, registry, journal, base)?;
+    let mut reports = Vec::new(alloc);
+    for event in events {
+        let (next, report) = world.step(event)?;
+        world = next;
+        reports.push(report)?;
+    }
+    Ok((world, reports))
+}
