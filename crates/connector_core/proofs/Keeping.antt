@@ -76,7 +76,7 @@ opened-cond : (b : Bool) (entry : Entry) (x : Option Known) (y : Option Entry) �
 opened-cond true entry x y same = refl
 opened-cond false entry x y same = same
 
-opened-found : (q : RecordName) (list : List Entry) → find name_cmp q (map opened_named list) ≡ option_map opened (find name_cmp q (map named list))
+pub opened-found : (q : RecordName) (list : List Entry) → find name_cmp q (map opened_named list) ≡ option_map opened (find name_cmp q (map named list))
 opened-found q [] = refl
 opened-found q (entry ∷ list) = opened-cond (is_eq (name_cmp q (row_name entry.row))) entry _ _ (opened-found q list)
 
@@ -138,9 +138,10 @@ same-cond false entry known x y put rest = rest
 abbrev IsKnownWithin : Known → Type 0
 IsKnownWithin known = known.confirmed ≼ row_revision known.wanted
 
-within-cond : (b : Bool) (put known : Known) (o : Option Known) → IsKnownWithin put → ((k : Known) → o ≡ Some k → IsKnownWithin k) → cond b (Some put) o ≡ Some known → IsKnownWithin known
-within-cond true put known o here rest is = let same : put ≡ known = cc in subst IsKnownWithin same here
-within-cond false put known o here rest is = rest known is
+-- what holds of what is put, and of what stood there, holds of either
+pub either-holds : (P : Known → Type 0) (b : Bool) (put known : Known) (o : Option Known) → P put → ((k : Known) → o ≡ Some k → P k) → cond b (Some put) o ≡ Some known → P known
+either-holds P true put known o here rest is = let same : put ≡ known = cc in subst P same here
+either-holds P false put known o here rest is = rest known is
 
 within-wanting : (o : Option Known) (row : Row) → ((known : Known) → o ≡ Some known → known.confirmed ≼ row_revision row) → IsKnownWithin (wanting o row)
 within-wanting None row below = none_first (row_revision row)
@@ -152,7 +153,7 @@ pub kept-put : (kept : EntryMap) (book : BookMap) (name : RecordName) (entry : E
 kept-put kept book name entry known is put within = record {
   same = λ q. get-insert names_total kept name entry q ∙ same-cond (is_eq (name_cmp q name)) entry known _ _ put (is.same q) ∙ ap (option_map entry_of) (sym (get-insert names_total book name known q));
   names = names-put kept name entry ∙ ap (λ names. insert_key name_cmp names name) is.names ∙ sym (names-put book name known);
-  within = λ q k here. within-cond (is_eq (name_cmp q name)) known k (get book q) within (λ k' there. is.within q k' there) (sym (get-insert names_total book name known q) ∙ here);
+  within = λ q k here. either-holds IsKnownWithin (is_eq (name_cmp q name)) known k (get book q) within (λ k' there. is.within q k' there) (sym (get-insert names_total book name known q) ∙ here);
 }
 
 pub kept-row : (kept : EntryMap) (book : BookMap) (row : Row) → IsKept kept book → ((known : Known) → get book (row_name row) ≡ Some known → known.confirmed ≼ row_revision row)

@@ -33,7 +33,7 @@ search_for (Group row) = Search kinds.Group (Some (name_filter DisplayName row.n
 abbrev pub replacement : (id : List ℕ) → (tag : List ℕ) → Content → Request
 replacement id tag content = Replace id content (Tags (tag ∷ [])) Always
 
--- by what was seen of the record and by its id. (Who saw a tag knows an id, so the last case doesn't come.)
+-- by what was seen of the record and by its id. (Of what a connector saw it knows the id, `AllLocated`, so the last case doesn't come.)
 abbrev pub request_for : Seen → Option (List ℕ) → Row → Content → Request
 request_for Unknown id row content = search_for row
 request_for Absent id row content = Create content

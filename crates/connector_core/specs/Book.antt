@@ -1,5 +1,5 @@
 -- The connector's book: of each record the row that is wanted, and what is known of it at the provider.
-use Rattle.std.specs.Prelude.{ℕ, List, Option, Some, None, if◌then◌else◌}
+use Rattle.std.specs.Prelude.{◌≡◌, ℕ, List, Option, Some, None, IsSome, if◌then◌else◌}
 use Rattle.std.specs.Option.{option_map, option_and_then}
 use Rattle.scim_key.specs.Revisions.{RevisionValue, no_revision}
 use Rattle.scim_key.specs.declared.records.RecordName.{RecordName}
@@ -8,7 +8,7 @@ use Rattle.source_csv.specs.declared.rows.Row.{Row}
 use Rattle.source_book.specs.History.{same_name}
 use Rattle.connector_core.specs.declared.knowledge.Known.{Known}
 use Rattle.connector_core.specs.declared.knowledge.Seen.{Seen}
-use Rattle.connector_core.specs.declared.knowledge.Seen.TheVariants.{Unknown}
+use Rattle.connector_core.specs.declared.knowledge.Seen.TheVariants.{Unknown, Absent, At}
 
 -- a record of which the source gave no row isn't in the book
 abbrev pub Book : Type 0
@@ -20,6 +20,22 @@ empty_book name = None
 -- the book with this in the place of what stood there of the record
 abbrev pub put : Book → RecordName → Known → Book
 put book name known other = if same_name name other then Some known else book other
+
+-- ---- what holds of each record
+
+-- a resource that was seen has an id
+abbrev pub IsSeenWith : (id : Option (List ℕ)) → Seen → Type 0
+IsSeenWith id Unknown = Unit {0}
+IsSeenWith id Absent = Unit {0}
+IsSeenWith id (At tag revision) = IsSome id
+
+-- the id is known of what was seen
+abbrev pub IsLocated : Known → Type 0
+IsLocated known = IsSeenWith known.id known.seen
+
+-- the same of each record of the book
+pub record AllLocated (book : Book) : Type 0 where
+  pub each : (name : RecordName) (known : Known) → book name ≡ Some known → IsLocated known
 
 -- ---- what the source changes
 

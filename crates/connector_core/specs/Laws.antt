@@ -1,15 +1,22 @@
 -- Laws of the connector.
-use Rattle.std.specs.Prelude.{◌≢◌}
+use Rattle.std.specs.Prelude.{◌≡◌, ◌≢◌, ℕ, List, Option, Some}
+use Rattle.scim_key.specs.Revisions.{RevisionValue}
 use Rattle.scim_key.specs.declared.records.RecordName.{RecordName}
+use Rattle.scim_message.specs.declared.messages.Request.{Request}
+use Rattle.scim_resource.specs.declared.contents.Content.{Content}
 use Rattle.journal_core.specs.Memory.{MemoryRecord}
 use Rattle.journal_core.specs.MemoryLaws.{memory_faults}
+use Rattle.connector_core.specs.Asking.{asking, replacement}
+use Rattle.connector_core.specs.Book.{AllLocated, Book}
 use Rattle.connector_core.specs.Changing.{CountsChange}
 use Rattle.connector_core.specs.Maps.{BookMap, MapsAreBooks}
 use Rattle.connector_core.specs.Noting.{CountsLearn}
 use Rattle.connector_core.specs.State.{CountsOpen}
+use Rattle.connector_core.specs.declared.asking.Ask.TheVariants.{Send}
 use Rattle.connector_core.specs.declared.changing.ChangeFault.{ChangeFault}
 use Rattle.connector_core.specs.declared.changing.ChangeFault.TheVariants as change
 use Rattle.connector_core.specs.declared.knowledge.Known.{Known}
+use Rattle.connector_core.specs.declared.knowledge.Seen.TheVariants.{At}
 use Rattle.connector_core.specs.declared.learning.LearnFault.{LearnFault}
 use Rattle.connector_core.specs.declared.learning.LearnFault.TheVariants as learn
 use Rattle.connector_core.specs.declared.opening.OpenFault.{OpenFault}
@@ -24,3 +31,15 @@ pub record NoStoreFaults : Type 0 where
   pub opening : (old new : MemoryRecord) (fault : OpenFault) → CountsOpen (memory_faults old) (memory_faults new) fault → fault ≢ opening.Store
   pub changing : (old new : MemoryRecord) (fault : ChangeFault) → CountsChange (memory_faults old) (memory_faults new) fault → fault ≢ change.Store
   pub learning : (old new : MemoryRecord) (fault : LearnFault) → CountsLearn (memory_faults old) (memory_faults new) fault → fault ≢ learn.Store
+
+-- a request is the replacement, by some content, of the resource with this id, as it was under this tag
+pub record Replaces (id : Option (List ℕ)) (tag : List ℕ) (request : Request) : Type 0 where
+  pub known : List ℕ
+  pub is_known : id ≡ Some known
+  pub content : Content
+  pub is : request ≡ replacement known tag content
+
+-- what is sent of a record that was seen under a tag is the replacement of that version at the known id, and never a search
+abbrev pub ReplacesWhatWasSeen : Type 0
+ReplacesWhatWasSeen = (book : Book) (name : RecordName) (known : Known) (tag : List ℕ) (revision : RevisionValue) (request : Request) → AllLocated book
+    → book name ≡ Some known → known.seen ≡ At tag revision → asking book name ≡ Some (Send request) → Replaces known.id tag request

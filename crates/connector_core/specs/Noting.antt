@@ -12,7 +12,7 @@ use Rattle.journal_core.specs.Entries.{EntryMap, with_learnt}
 use Rattle.journal_core.specs.Stores.{HasRisen}
 use Rattle.journal_core.specs.declared.journals.JournalFault.{JournalFault}
 use Rattle.journal_core.specs.declared.journals.JournalFault.TheVariants as journal
-use Rattle.connector_core.specs.Book.{Book, learning, seeing}
+use Rattle.connector_core.specs.Book.{Book, IsSeenWith, learning, seeing}
 use Rattle.connector_core.specs.Learning.{Finding, Learning, Lesson, Sight, finding, fits_id, learn, lesson, noted, or_fault, subject}
 use Rattle.connector_core.specs.Maps.{BookMap, book_of}
 use Rattle.connector_core.specs.State.{entry_of}
@@ -119,10 +119,10 @@ pub record IsToBeKept (known : Known) (confirmed : RevisionValue) : Type 0 where
   pub within : known.confirmed ≼ row_revision known.wanted → confirmed ≼ row_revision known.wanted
   pub changes : (known.id ≡ None) ⊎ (known.confirmed ≺ confirmed)
 
--- the journal is written only for what it is to keep
+-- the journal is written only for what it is to keep, and what was seen alone is seen with an id
 abbrev pub IsNewsOf : Known → News → Type 0
 IsNewsOf known (Lasting confirmed id seen learnt) = IsToBeKept known confirmed
-IsNewsOf known (Passing seen learnt) = Unit {0}
+IsNewsOf known (Passing seen learnt) = IsSeenWith known.id seen
 IsNewsOf known Nothing = Unit {0}
 
 -- a revision, where it is there and isn't above the wanted one

@@ -3,7 +3,7 @@ ghost use Rattle.std.specs.Prelude.{◌≡◌, IfOk};
 ghost use Rattle.std.specs.Option.{ok_or};
 ghost use Rattle.scim_key.specs.Outcome.{Gives};
 ghost use Rattle.connector_core.specs.Asking.{asking, replacement, request_for, search_for};
-ghost use Rattle.connector_core.specs.Book.{known_id};
+ghost use Rattle.connector_core.specs.Book.{IsLocated, known_id};
 ghost use Rattle.connector_core.specs.Maps.{book_of};
 
 use crate::books::Book;
@@ -102,12 +102,14 @@ fn replacement(
 
 /// The request for a record that isn't confirmed, by what was seen of it.
 fn request_for(alloc: Global, known: &Known, content: Content) -> Result<Request, AllocError>
+    requires { IsLocated known.now }
     ensures { IfOk result (λ request. request ≡ request_for known.now.seen known.now.id known.now.wanted content) }
 {
     match (&known.seen, &known.id) {
+        (Seen::Unknown, _) => search_for(alloc, &known.wanted),
         (Seen::Absent, _) => Ok(Request::Create { content }),
         (Seen::At { tag, .. }, Some(id)) => replacement(alloc, id, tag, content),
-        (Seen::Unknown, _) | (Seen::At { .. }, None) => search_for(alloc, &known.wanted),
+        (Seen::At { .. }, None) => unreachable!(),
     }
 }
 

@@ -28,6 +28,8 @@ pub struct Connector<J: Journal> {
 impl<J: Journal> Model for Connector<J> {
     ghost use Rattle.std.specs.Coded.{codes};
     ghost use Rattle.std.specs.FinMap as fin;
+    ghost use Rattle.connector_core.specs.Book.{AllLocated};
+    ghost use Rattle.connector_core.specs.Maps.{book_of};
     ghost use Rattle.connector_core.specs.State.{State, IsKept};
 
     ghost Value = { State J };
@@ -36,7 +38,7 @@ impl<J: Journal> Model for Connector<J> {
 
     ghost view = { λ c. record { journal = c.journal; book = c.book } };
 
-    ghost invariant = { λ c. J.is_faithful c.journal → IsKept (J.entries c.journal) c.book };
+    ghost invariant = { λ c. (J.is_faithful c.journal → IsKept (J.entries c.journal) c.book) × AllLocated (book_of c.book) };
 }
 
 impl<J: Journal> Connector<J> {

@@ -3,12 +3,13 @@ use Rattle.std.specs.FinMap.{get, insert, keys}
 use Rattle.source_csv.specs.Records.{row_name}
 use Rattle.source_book.specs.declared.accepting.Verdict.TheVariants as verdicts
 use Rattle.journal_core.specs.Entries.{EntryMap}
-use Rattle.connector_core.specs.Book.{wanting}
+use Rattle.connector_core.specs.Book.{AllLocated, wanting}
 use Rattle.connector_core.specs.Changing.{judging}
 use Rattle.connector_core.specs.Maps.{BookMap, book_of}
 use Rattle.connector_core.specs.State.{IsKept}
 use Rattle.std.proofs.Common.{None}
 use Rattle.connector_core.proofs.Keeping.{first-book, first-undone, kept-row}
+use Rattle.connector_core.proofs.Located.{located-row}
 use Rattle.connector_core.proofs.Verdicts.{can-put, new-row, not-below}
 use Rattle.connector_core.proofs.connectors.Connector.accept_first.Goals as goal
 
@@ -17,10 +18,10 @@ put_row-requires g c =
     let J : BookMap → Type 0 = λ book. judging (book_of book) (keys book) c.args.row ≡ Ok verdicts.New in
     let book = ap (λ s. s.book) c.self.view_is in
     let new = new-row c.self.inside.book c.args.row (subst J (sym book) c.requires.new) in
-    record { lawful = λ faithful. can-put (g.J.Journal.entries c.self.inside.journal) c.self.inside.book c.args.row (c.self.invariant faithful) new }
+    record { lawful = λ faithful. can-put (g.J.Journal.entries c.self.inside.journal) c.self.inside.book c.args.row (c.self.invariant.0 faithful) new }
 
 pub invariant_of-self-in-Ok : goal.invariant_of-self-in-Ok
-invariant_of-self-in-Ok g c = λ faithful.
+invariant_of-self-in-Ok g c =
     let J : BookMap → Type 0 = λ book. judging (book_of book) (keys book) c.args.row ≡ Ok verdicts.New in
     let book = ap (λ s. s.book) c.self.view_is in
     let new = new-row c.self.inside.book c.args.row (subst J (sym book) c.requires.new) in
@@ -30,14 +31,18 @@ invariant_of-self-in-Ok g c = λ faithful.
     let copy : c.in_ok-clone-2.field-0 ≡ c.args.row = search rules in
     let made = first-book c.self.inside.book c.put.new.self c.args.name c.in_ok-clone.field-0 c.args.row c.in_ok-clone-2.field-0 c.first_known.result c.requires.named free copied copy c.first_known.ensures c.in_ok-put.ensures.ok in
     let puts = c.in-Ok.ensures.puts in
-    let was = c.self.invariant (puts.was faithful) in
     let held = g.J.Journal.entries c.self.inside.journal in
     let P : BookMap → Type 0 = λ b. IsKept (g.J.Journal.entries c.put_row.new.self) b in
     let Q : EntryMap → Type 0 = λ entries. IsKept entries (insert c.self.inside.book (row_name c.args.row) (wanting (get c.self.inside.book (row_name c.args.row)) c.args.row)) in
-    subst P (sym made) (subst Q (sym (puts.done faithful)) (kept-row held c.self.inside.book c.args.row was (not-below held c.self.inside.book c.args.row was new)))
+    let L : BookMap → Type 0 = λ b. AllLocated (book_of b) in (
+      (λ faithful.
+          let was = c.self.invariant.0 (puts.was faithful) in
+          subst P (sym made) (subst Q (sym (puts.done faithful)) (kept-row held c.self.inside.book c.args.row was (not-below held c.self.inside.book c.args.row was new)))),
+      subst L (sym made) (located-row c.self.inside.book c.args.row c.self.invariant.1),
+    )
 
 pub returns-in-Ok-clause-kept : goal.returns-in-Ok-clause-kept
-returns-in-Ok-clause-kept g c = invariant_of-self-in-Ok g c
+returns-in-Ok-clause-kept g c = (invariant_of-self-in-Ok g c).0
 
 pub returns-in-Ok-clause-ok : goal.returns-in-Ok-clause-ok
 returns-in-Ok-clause-ok g c =
@@ -50,17 +55,19 @@ returns-in-Ok-clause-ok g c =
     made ∙ ap (λ b. insert b (row_name c.args.row) (wanting (get b (row_name c.args.row)) c.args.row)) book
 
 pub invariant_of-self-in-Err : goal.invariant_of-self-in-Err
-invariant_of-self-in-Err g c = λ faithful.
+invariant_of-self-in-Err g c =
     let book = ap (λ s. s.book) c.self.view_is in
     let N : BookMap → Type 0 = λ b. get b c.args.name ≡ None in
     let free = subst N (sym book) c.requires.free in
     let copied : c.in_ok-clone.field-0 ≡ c.args.name = search rules in
     let out = first-undone c.self.inside.book c.put.new.self c.take_out.new.self c.args.name c.in_ok-clone.field-0 c.first_known.result free copied c.in_ok-put.ensures.ok c.take_out.ensures in
     let puts = c.in-Err.ensures.puts in
-    let was = c.self.invariant (puts.was faithful) in
     let P : BookMap → Type 0 = λ b. IsKept (g.J.Journal.entries c.put_row.new.self) b in
     let Q : EntryMap → Type 0 = λ entries. IsKept entries c.self.inside.book in
-    subst P (sym out) (subst Q (sym (puts.same faithful)) was)
+    let L : BookMap → Type 0 = λ b. AllLocated (book_of b) in (
+      (λ faithful. subst P (sym out) (subst Q (sym (puts.same faithful)) (c.self.invariant.0 (puts.was faithful)))),
+      subst L (sym out) c.self.invariant.1,
+    )
 
 pub returns-clause-kept : goal.returns-clause-kept
 returns-clause-kept g c = λ faithful.
@@ -70,7 +77,7 @@ returns-clause-kept g c = λ faithful.
     let copied : c.in_ok-clone.field-0 ≡ c.args.name = search rules in
     let out = first-undone c.self.inside.book c.put.new.self c.take_out.new.self c.args.name c.in_ok-clone.field-0 c.first_known.result free copied c.in_ok-put.ensures.ok c.take_out.ensures in
     let puts = c.in-Err.ensures.puts in
-    let was = c.self.invariant (puts.was faithful) in
+    let was = c.self.invariant.0 (puts.was faithful) in
     let P : BookMap → Type 0 = λ b. IsKept (g.J.Journal.entries c.put_row.new.self) b in
     let Q : EntryMap → Type 0 = λ entries. IsKept entries c.self.inside.book in
     subst P (sym out) (subst Q (sym (puts.same faithful)) was)

@@ -1,40 +1,52 @@
 use Rattle.std.proofs.Common.{◌≡◌, ap, subst, sym}
 use Rattle.std.specs.FinMap.{get}
 use Rattle.journal_core.specs.Entries.{EntryMap}
-use Rattle.connector_core.specs.Book.{learning}
-use Rattle.connector_core.specs.Maps.{BookMap, changed}
+use Rattle.connector_core.specs.Book.{AllLocated, learning}
+use Rattle.connector_core.specs.Maps.{BookMap, book_of, changed}
 use Rattle.connector_core.specs.Noting.{IsNewsAt, IsNewsOf, after_news}
 use Rattle.connector_core.specs.State.{IsKept}
 use Rattle.connector_core.specs.declared.fitting.News.{News}
 use Rattle.connector_core.proofs.Lessons.{kept-learnt, kept-seen, news-at, same-book}
+use Rattle.connector_core.proofs.Located.{located-news}
 use Rattle.connector_core.proofs.connectors.Connector.take_news.Goals as goal
 
 pub invariant_of-self-in-Lasting : goal.invariant_of-self-in-Lasting
-invariant_of-self-in-Lasting g c = λ faithful.
+invariant_of-self-in-Lasting g c =
     let book = c.self.inside.book in
     let N : BookMap → Type 0 = λ b. IsNewsAt (get b c.args.name.now) c.args.news in
-    let found = news-at (get book c.args.name.now) c.args.news (subst N (sym (ap (λ s. s.book) c.self.view_is)) c.requires) in
+    let here = subst N (sym (ap (λ s. s.book) c.self.view_is)) c.requires in
+    let found = news-at (get book c.args.name.now) c.args.news here in
     let keeps = subst (IsNewsOf found.0) c.in-Lasting.is found.2 in
     let puts = c.in_ok-put_learnt-in-Lasting.ensures.puts in
-    let was = c.self.invariant (puts.was faithful) in
     let P : BookMap → Type 0 = λ b. IsKept (g.J.Journal.entries c.put_learnt.new.self) b in
     let Q : EntryMap → Type 0 = λ es. IsKept es (changed (learning c.in-Lasting.confirmed c.in-Lasting.id c.in-Lasting.seen) book c.args.name.now) in
-    subst P (sym c.learn.ensures) (subst Q (sym (puts.done faithful))
-    (kept-learnt (g.J.Journal.entries c.self.inside.journal) book c.args.name.now found.0 was found.1 c.in-Lasting.confirmed c.in-Lasting.id c.in-Lasting.seen keeps))
+    let L : News → Type 0 = λ n. AllLocated (book_of (changed (after_news n) book c.args.name.now)) in
+    let B : BookMap → Type 0 = λ b. AllLocated (book_of b) in (
+      (λ faithful.
+          let was = c.self.invariant.0 (puts.was faithful) in
+          subst P (sym c.learn.ensures) (subst Q (sym (puts.done faithful))
+          (kept-learnt (g.J.Journal.entries c.self.inside.journal) book c.args.name.now found.0 was found.1 c.in-Lasting.confirmed c.in-Lasting.id c.in-Lasting.seen keeps))),
+      subst B (sym c.learn.ensures) (subst L c.in-Lasting.is (located-news book c.args.name.now c.args.news c.self.invariant.1 here)),
+    )
 
 pub invariant_of-self-in-Passing : goal.invariant_of-self-in-Passing
-invariant_of-self-in-Passing g c = λ faithful.
+invariant_of-self-in-Passing g c =
     let book = c.self.inside.book in
     let N : BookMap → Type 0 = λ b. IsNewsAt (get b c.args.name.now) c.args.news in
-    let found = news-at (get book c.args.name.now) c.args.news (subst N (sym (ap (λ s. s.book) c.self.view_is)) c.requires) in
+    let here = subst N (sym (ap (λ s. s.book) c.self.view_is)) c.requires in
+    let found = news-at (get book c.args.name.now) c.args.news here in
     let P : BookMap → Type 0 = λ b. IsKept (g.J.Journal.entries c.self.inside.journal) b in
-    subst P (sym c.see.ensures) (kept-seen (g.J.Journal.entries c.self.inside.journal) book c.args.name.now found.0 (c.self.invariant faithful) found.1 c.in-Passing.seen)
+    let L : News → Type 0 = λ n. AllLocated (book_of (changed (after_news n) book c.args.name.now)) in
+    let B : BookMap → Type 0 = λ b. AllLocated (book_of b) in (
+      (λ faithful. subst P (sym c.see.ensures) (kept-seen (g.J.Journal.entries c.self.inside.journal) book c.args.name.now found.0 (c.self.invariant.0 faithful) found.1 c.in-Passing.seen)),
+      subst B (sym c.see.ensures) (subst L c.in-Passing.is (located-news book c.args.name.now c.args.news c.self.invariant.1 here)),
+    )
 
 pub returns-in_ok-put_learnt-in-Lasting-clause-kept : goal.returns-in_ok-put_learnt-in-Lasting-clause-kept
-returns-in_ok-put_learnt-in-Lasting-clause-kept g c = invariant_of-self-in-Lasting g c
+returns-in_ok-put_learnt-in-Lasting-clause-kept g c = (invariant_of-self-in-Lasting g c).0
 
 pub returns-in-Passing-clause-kept : goal.returns-in-Passing-clause-kept
-returns-in-Passing-clause-kept g c = invariant_of-self-in-Passing g c
+returns-in-Passing-clause-kept g c = (invariant_of-self-in-Passing g c).0
 
 pub returns-in-Nothing-clause-ok : goal.returns-in-Nothing-clause-ok
 returns-in-Nothing-clause-ok g c =
