@@ -13,3 +13,4 @@ pub mod Starts
 pub mod Steps
 pub mod Streams
 pub mod Texts
+pub mod Wholes

@@ -1,8 +1,7 @@
 -- What is read of a response, and when each refusal comes: the definitions of Heads, at responses.
-use Rattle.std.specs.Prelude.{◌≡◌, ℕ, List, ◌++◌, length, Option, Some, None, Result, Ok}
+use Rattle.std.specs.Prelude.{ℕ, List, Option, Result}
 use Rattle.http_text.specs.declared.fault.ReadFault.{ReadFault}
 use Rattle.http_text.specs.Message.{Message}
-use Rattle.http_text.specs.Judging.{judge_response}
 use Rattle.http_text.specs.Forms.{response_form, IsResponseMessage}
 use Rattle.http_text.specs.Heads as heads
 
@@ -34,8 +33,3 @@ ResponsesAreApart = heads.AreApart response_form
 -- the bytes are no whole response, or more than one
 abbrev pub IsNoResponse : List ℕ → Type 0
 IsNoResponse bytes = (m : Message) → ¬ (IsResponseMessage bytes m)
-
--- a head with these bytes as its body, where it is followed by as many; or none, where it isn't
-abbrev pub TakesWhole : Message → List ℕ → Option Message → Type 0
-TakesWhole before body None = ¬ (judge_response before.head ≡ Ok (length body))
-TakesWhole before body (Some m) = (judge_response before.head ≡ Ok (length body)) × (m ≡ record { head = before.head; body = before.body ++ body })

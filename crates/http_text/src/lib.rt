@@ -16,6 +16,7 @@ mod response;
 mod response_reading;
 mod sending;
 mod texts;
+mod wholes;
 
 pub use fault::{ReadFault, SendFault};
 pub use http::StatusCode;
@@ -23,7 +24,7 @@ pub use incoming::{FieldValues, Incoming};
 pub use input::Input;
 pub use limits::{BODY_LIMIT, FIELD_LIMIT, HEAD_LIMIT, RESPONSE_BODY_LIMIT, TURN_LIMIT};
 pub use output::Output;
-pub use request::{messages_are_apart, read_request};
+pub use request::{messages_are_apart, read_request, request_in};
 pub use response::{FieldLine, write_response};
 pub use response_reading::{read_response, response_in, responses_are_apart};
 pub use sending::send;

@@ -3,15 +3,14 @@ ghost use Rattle.std.specs.Prelude.{◌≡◌, MatchOption, OnOk, IfOk, IfErr};
 ghost use Rattle.http_text.specs.Counts.{CountsTurns};
 ghost use Rattle.http_text.specs.Heads.{EndsReading};
 ghost use Rattle.http_text.specs.Forms.{IsResponseMessage};
-ghost use Rattle.http_text.specs.Responses.{IsNoResponse, TakesWhole, TakesResponse, TakesRefusedResponse, FindsResponse, FindsRefusedResponse, FindsResponseEnd, FindsLongResponse, FindsMalformedResponse, ResponsesAreApart};
+ghost use Rattle.http_text.specs.Responses.{IsNoResponse, TakesResponse, TakesRefusedResponse, FindsResponse, FindsRefusedResponse, FindsResponseEnd, FindsLongResponse, FindsMalformedResponse, ResponsesAreApart};
 
 use crate::fault::ReadFault;
 use crate::incoming::Incoming;
 use crate::input::Input;
-use crate::limits::{FIELD_LIMIT, HEAD_LIMIT};
-use crate::parsing::{MessageKind, Parse};
+use crate::parsing::MessageKind;
 use crate::reading::read_message;
-use httparse::spans::EMPTY_HEADER_SPAN;
+use crate::wholes::message_in;
 use std::alloc::{AllocError, Global};
 use std::io::Read;
 
@@ -44,32 +43,7 @@ pub fn response_in(alloc: Global, bytes: &[u8]) -> Result<Option<Incoming>, Allo
     ensures { IfOk result (λ found.
         MatchOption found (IsNoResponse bytes.now) (IsResponseMessage bytes.now)) }
 {
-    let front = &bytes[..bytes.len().min(HEAD_LIMIT)];
-    let mut fields = [EMPTY_HEADER_SPAN; FIELD_LIMIT];
-    match MessageKind::Response.parse(front, &mut fields) {
-        Parse::Whole(spans) => {
-            let copy = Vec::from_slice(alloc, front)?;
-            match Incoming::from_head(alloc, copy, spans, &fields) {
-                Ok(message) => with_body(message, &bytes[spans.len..]),
-                Err(_) => Err(AllocError),
-            }
-        }
-        Parse::Part => Ok(None),
-        Parse::Refused(_) => Ok(None),
-    }
-}
-
-/// The response with this body, where its head states a body of that length.
-fn with_body(mut message: Incoming, body: &[u8]) -> Result<Option<Incoming>, AllocError>
-    ensures { IfOk result (λ found. TakesWhole message body.now found) }
-{
-    match MessageKind::Response.judge(&message) {
-        Ok(length) if length == body.len() as u64 => match message.append(body) {
-            Ok(()) => Ok(Some(message)),
-            Err(_) => Err(AllocError),
-        },
-        _ => Ok(None),
-    }
+    message_in(alloc, MessageKind::Response, bytes)
 }
 
 /// A law: no proper prefix of a response is a response.

@@ -1,7 +1,10 @@
 //! Answers as responses (RFC 7644 section 3.14, RFC 9110 section 15).
 ghost use Rattle.std.specs.Prelude.{◌≡◌, ◌++◌, map, false, IfOk, OnOk, string_bytes};
 ghost use Rattle.std.specs.Option.{option_map};
+ghost use Rattle.std.specs.Str.{IsUtf8};
 ghost use Rattle.http_text.specs.Response.{named_value};
+ghost use Rattle.scim_message.specs.Bodies.{body_text};
+ghost use Rattle.scim_message.specs.Fitting.{ShowsLawfully};
 ghost use Rattle.scim_message.specs.Messages.{answer_status};
 ghost use Rattle.scim_server.specs.Replies as spec;
 
@@ -61,7 +64,10 @@ impl Reply {
 
 /// The bytes of the response with an answer.
 pub fn response_of(alloc: Global, answer: &Answer, base: &Base) -> Result<Vec<u8>, AllocError>
-    ensures { IfOk result (λ text. text.items ≡ spec.answer_text base.now false answer.now) }
+    ensures text { IfOk result (λ text. text.items ≡ spec.answer_text base.now false answer.now) }
+    // What the types of the answer's parts say of it.
+    ensures lawful { OnOk result (ShowsLawfully answer.now) }
+    ensures utf8 { OnOk result (IsUtf8 (body_text base.now answer.now)) }
 {
     text_of(alloc, answer, base, false)
 }
@@ -86,8 +92,10 @@ fn text_of(
     base: &Base,
     leaves_body_out: bool,
 ) -> Result<Vec<u8>, AllocError>
-    ensures { IfOk result
+    ensures text { IfOk result
         (λ text. text.items ≡ spec.answer_text base.now leaves_body_out answer.now) }
+    ensures lawful { OnOk result (ShowsLawfully answer.now) }
+    ensures utf8 { OnOk result (IsUtf8 (body_text base.now answer.now)) }
 {
     let body = body_of(alloc, answer, base)?;
     let location = location_of(alloc, answer, base)?;

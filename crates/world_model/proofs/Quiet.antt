@@ -79,7 +79,7 @@ id_spelled es name id is = go (entry_named name es) is
     go None was = absurd (cc)
     go (Some n) was = (n.number, cc)
 
-image_short : (w : World) → Quiet w → (name : RecordName) (c : Content) → IsImage w.history w.entries name c → length (compact_text (content_data c)) < longest_body (content_kind c)
+pub image_short : (w : World) → Quiet w → (name : RecordName) (c : Content) → IsImage w.history w.entries name c → length (compact_text (content_data c)) < longest_body (content_kind c)
 image_short w q name c is = image_size (id_in w.entries) (id_spelled w.entries) is.row c (row_lawful w.history q.lawful name is.row is.accepted) is.image
 
 body_size : (w : World) → Quiet w → (request : Request) (content : Content) → AskedTruly w.history w.entries request → request_content request ≡ Some content

@@ -52,7 +52,7 @@ escape_most (b ∷ text) = omega (arith, length-append (escape_byte b) (escape t
 quoted_length : (text : List ℕ) → length (quoted text) ≡ length (escape text) + 2
 quoted_length text = omega (arith, length-append (escape text) (34 ∷ []))
 
-quoted_most : (text : List ℕ) → length (quoted text) ≤ 6 * length text + 2
+pub quoted_most : (text : List ℕ) → length (quoted text) ≤ 6 * length text + 2
 quoted_most text = omega (arith, quoted_length text, escape_most text)
 
 -- ---- ids, in which nothing is escaped
@@ -86,17 +86,17 @@ id_length n =
 -- ---- objects and arrays
 
 -- so long with its closing bracket, wherever it stands
-record Within (ms : Members) (n : ℕ) : Type 0 where
-  most : (later : Bool) → length (members_text later ms) ≤ n
+pub record Within (ms : Members) (n : ℕ) : Type 0 where
+  pub most : (later : Bool) → length (members_text later ms) ≤ n
 
-comma_most : (later : Bool) → length (comma_if later) ≤ 1
+pub comma_most : (later : Bool) → length (comma_if later) ≤ 1
 comma_most true = omega arith
 comma_most false = omega arith
 
-no_more_members : Within no_members 1
+pub no_more_members : Within no_members 1
 no_more_members = record { most = λ later. omega arith }
 
-with_member : (name : List ℕ) (d : Data) (ms : Members) (q v r : ℕ) → length (quoted name) ≡ q → length (compact_text d) ≤ v → Within ms r → Within (member name d ms) (q + 2 + v + r)
+pub with_member : (name : List ℕ) (d : Data) (ms : Members) (q v r : ℕ) → length (quoted name) ≡ q → length (compact_text d) ≤ v → Within ms r → Within (member name d ms) (q + 2 + v + r)
 with_member name d ms q v r key value rest = record {
   most = λ later. omega (
     arith,
@@ -110,26 +110,26 @@ with_member name d ms q v r key value rest = record {
   );
 }
 
-with_part : (name : List ℕ) (o : Option Data) (ms : Members) (q v r : ℕ) → length (quoted name) ≡ q → ((d : Data) → o ≡ Some d → length (compact_text d) ≤ v) → Within ms r
+pub with_part : (name : List ℕ) (o : Option Data) (ms : Members) (q v r : ℕ) → length (quoted name) ≡ q → ((d : Data) → o ≡ Some d → length (compact_text d) ≤ v) → Within ms r
     → Within (member_if name o ms) (q + 2 + v + r)
 with_part name None ms q v r key value rest = record { most = λ later. omega (arith, rest.most later) }
 with_part name (Some d) ms q v r key value rest = with_member name d ms q v r key (value d refl) rest
 
-object_most : (ms : Members) (n : ℕ) → Within ms n → length (compact_text (object ms)) ≤ suc n
+pub object_most : (ms : Members) (n : ℕ) → Within ms n → length (compact_text (object ms)) ≤ suc n
 object_most ms n within = omega (arith, within.most false)
 
-record ItemsWithin (ds : Items) (n : ℕ) : Type 0 where
-  most : (later : Bool) → length (items_text later ds) ≤ n
+pub record ItemsWithin (ds : Items) (n : ℕ) : Type 0 where
+  pub most : (later : Bool) → length (items_text later ds) ≤ n
 
-no_more_items : ItemsWithin no_items 1
+pub no_more_items : ItemsWithin no_items 1
 no_more_items = record { most = λ later. omega arith }
 
-with_item : (d : Data) (ds : Items) (v r : ℕ) → length (compact_text d) ≤ v → ItemsWithin ds r → ItemsWithin (item d ds) (1 + v + r)
+pub with_item : (d : Data) (ds : Items) (v r : ℕ) → length (compact_text d) ≤ v → ItemsWithin ds r → ItemsWithin (item d ds) (1 + v + r)
 with_item d ds v r value rest = record {
   most = λ later. omega (arith, value, rest.most true, comma_most later, length-append (comma_if later) (compact_text d ++ items_text true ds), length-append (compact_text d) (items_text true ds));
 }
 
-array_most : (ds : Items) (n : ℕ) → ItemsWithin ds n → length (compact_text (array ds)) ≤ suc n
+pub array_most : (ds : Items) (n : ℕ) → ItemsWithin ds n → length (compact_text (array ds)) ≤ suc n
 array_most ds n within = omega (arith, within.most false)
 
 boolean_most : (b : Bool) → length (compact_text (boolean b)) ≤ 5
@@ -142,11 +142,11 @@ cond_none : {X : Type 0} (b : Bool) (x : X) (rest : Option X) → cond b (Some x
 cond_none true x rest none = absurd (cc)
 cond_none false x rest none = (refl, none)
 
-user_name_short : (name : List ℕ) → IsUserName name → length name ≤ 128
+pub user_name_short : (name : List ℕ) → IsUserName name → length name ≤ 128
 unfolding user_name_fault
 user_name_short name law = ltb-false 128 (length name) (cond_none _ _ _ (cond_none _ _ _ law).1).0
 
-group_name_short : (name : List ℕ) → IsGroupName name → length name ≤ 128
+pub group_name_short : (name : List ℕ) → IsGroupName name → length name ≤ 128
 unfolding group_name_fault
 group_name_short name law = ltb-false 128 (length name) (cond_none _ _ _ (cond_none _ _ _ law).1).0
 
@@ -158,7 +158,7 @@ present_most [] short d is = absurd (cc)
 present_most (b ∷ text) short d is = let same : string (b ∷ text) ≡ d = cc in subst (λ (x : Data). length (compact_text x) ≤ 1538) same (text_most (b ∷ text) short)
 
 -- what is there is this
-just : (x d : Data) (n : ℕ) → length (compact_text x) ≤ n → Some x ≡ Some d → length (compact_text d) ≤ n
+pub just : (x d : Data) (n : ℕ) → length (compact_text x) ≤ n → Some x ≡ Some d → length (compact_text d) ≤ n
 just x d n most is = let same : x ≡ d = cc in subst (λ (y : Data). length (compact_text y) ≤ n) same most
 
 revision_most : (r : RevisionValue) → IsRevision r → length (compact_text (number (unsigned (revision_number r)))) ≤ 20
@@ -182,7 +182,7 @@ key_name : length (quoted (codes "name")) ≡ 6
 unfolding escape_byte
 key_name = refl
 
-key_schemas : length (quoted (codes "schemas")) ≡ 9
+pub key_schemas : length (quoted (codes "schemas")) ≡ 9
 unfolding escape_byte
 key_schemas = refl
 
@@ -275,7 +275,7 @@ emails_part : (mail : List ℕ) → length mail ≤ 256 → (d : Data) → email
 emails_part [] short d is = absurd (cc)
 emails_part (b ∷ mail) short d is = just (array (items_of (map email_data (emails_of (b ∷ mail))))) d 1582 (array_most (items_of (map email_data (emails_of (b ∷ mail)))) 1581 (with_item (email_data (work_email (b ∷ mail))) no_items 1579 1 (email_most (b ∷ mail) short) no_more_items)) is
 
-no_part : (n : ℕ) (d : Data) → None ≡ Some d → length (compact_text d) ≤ n
+pub no_part : (n : ℕ) (d : Data) → None ≡ Some d → length (compact_text d) ≤ n
 no_part n d is = absurd (cc)
 
 -- ---- a User
