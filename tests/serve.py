@@ -27,9 +27,9 @@ LIMIT, SLACK = 30, 4
 class Server:
     """A run of `serve` for so many connections, of which so many are faults."""
 
-    def __init__(self, requests, faults=0):
+    def __init__(self, requests, faults=0, more=()):
         self.faults = faults
-        words = [PROGRAM, "serve", "--listen", "127.0.0.1:0", "--requests", str(requests)]
+        words = [PROGRAM, "serve", "--listen", "127.0.0.1:0", "--requests", str(requests), *more]
         self.run = subprocess.Popen(words, stdout=subprocess.PIPE, stderr=subprocess.PIPE, text=True)
         line = self.run.stdout.readline()
         address, _, port = line.rpartition(":")
@@ -124,6 +124,12 @@ def test_a_life_by_http_client():
 def test_bytes_are_those_of_answer():
     with Server(1) as server:
         equal(server.bytes(CREATE_BOB), BOB_CREATED)
+
+
+def test_another_base():
+    with Server(1, more=["--base", "http://scim.example/v2"]) as server:
+        moved = BOB_CREATED.replace(b"localhost:8080", b"scim.example")
+        equal(server.bytes(CREATE_BOB), moved.replace(b"Content-Length: 388", b"Content-Length: 386"))
 
 
 def test_curl():

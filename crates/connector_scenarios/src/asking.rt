@@ -13,7 +13,7 @@ use std::str::from_utf8;
 use std::test::Fail;
 
 /// An empty provider in memory.
-fn empty(alloc: Global) -> Provider<MemoryRegistry> {
+pub fn empty(alloc: Global) -> Provider<MemoryRegistry> {
     Provider::new(MemoryRegistry::new(alloc))
 }
 
@@ -76,7 +76,7 @@ type Exchange<'a> = (Kind, &'a str, &'a str);
 
 /// What the connector asks for next of a record, as a short text. Where it is a request, the
 /// provider answers it, and the connector learns from the answer.
-fn exchange(
+pub fn exchange(
     alloc: Global,
     connector: &mut Connector<MemoryJournal>,
     provider: &mut Provider<MemoryRegistry>,

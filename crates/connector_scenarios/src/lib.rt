@@ -6,7 +6,11 @@ mod asking;
 #[cfg(test)]
 mod changing;
 #[cfg(test)]
+mod codes;
+#[cfg(test)]
 mod learning;
+#[cfg(test)]
+mod longest;
 #[cfg(test)]
 mod messages;
 #[cfg(test)]

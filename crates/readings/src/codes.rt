@@ -1,7 +1,8 @@
 //! The codes that faults are printed as.
-use mapping::WriteFault;
+use mapping::{ImageFault, WriteFault};
 use scim_filter::FilterFault;
 use scim_key::NameFault;
+use scim_message::BodyFault;
 use scim_resource::ReadFault;
 use scim_version::TagFault;
 use source_book::BookFault;
@@ -45,12 +46,19 @@ static FILTER_FAULTS: &[(FilterFault, &str)] = &[
     (FilterFault::Memory, "memory"),
 ];
 
+static BODY_FAULTS: &[(BodyFault, &str)] = &[
+    (BodyFault::NotJson, "A1"),
+    (BodyFault::WrongShape, "A2"),
+    (BodyFault::Memory, "memory"),
+];
+
 #[test]
-fn faults_of_names_tags_and_filters(rt: HostRuntime) -> Result<(), Fail> {
+fn faults_of_names_tags_filters_and_bodies(rt: HostRuntime) -> Result<(), Fail> {
     are_printed(&rt, rt.alloc(), NAME_FAULTS)?;
     are_printed(&rt, rt.alloc(), TAG_FAULTS)?;
     are_printed(&rt, rt.alloc(), READ_FAULTS)?;
-    are_printed(&rt, rt.alloc(), FILTER_FAULTS)
+    are_printed(&rt, rt.alloc(), FILTER_FAULTS)?;
+    are_printed(&rt, rt.alloc(), BODY_FAULTS)
 }
 
 static SOURCE_FAULTS: &[(SourceFault, &str)] = &[
@@ -86,11 +94,17 @@ static WRITE_FAULTS: &[(WriteFault, &str)] = &[
     (WriteFault::Output, "output"),
 ];
 
+static IMAGE_FAULTS: &[(ImageFault, &str)] = &[
+    (ImageFault::MemberWithoutId { place: 3 }, "M1"),
+    (ImageFault::Memory, "memory"),
+];
+
 #[test]
 fn faults_of_files_and_rows(rt: HostRuntime) -> Result<(), Fail> {
     are_printed(&rt, rt.alloc(), SOURCE_FAULTS)?;
     are_printed(&rt, rt.alloc(), ROW_CODES)?;
     are_printed(&rt, rt.alloc(), ROW_FAULTS)?;
     are_printed(&rt, rt.alloc(), BOOK_FAULTS)?;
-    are_printed(&rt, rt.alloc(), WRITE_FAULTS)
+    are_printed(&rt, rt.alloc(), WRITE_FAULTS)?;
+    are_printed(&rt, rt.alloc(), IMAGE_FAULTS)
 }

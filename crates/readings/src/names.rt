@@ -79,6 +79,7 @@ fn ids_of_numbers(rt: HostRuntime) -> Result<(), Fail> {
     let longer = letters(rt.alloc(), 257)?;
     let id = ResourceId::read(rt.alloc(), longest.as_str())?;
     assert_eq!(rt; id.as_str().len(), 256);
+    assert!(rt; id.clone()?.as_str() == longest.as_str());
     let fault = ResourceId::read(rt.alloc(), longer.as_str()).err();
     assert_eq!(rt; fault, Some(NameFault::TooLong));
     let fault = ResourceId::read(rt.alloc(), "").err();

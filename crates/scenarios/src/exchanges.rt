@@ -296,6 +296,12 @@ static COMINGS: &[Coming] = &[
         "K1",
         b"{}",
     ),
+    (
+        Ask::Replace,
+        b"HTTP/1.1 412 Precondition Failed\r\nContent-Length: 2\r\n\r\n{}",
+        "error 412 - -",
+        b"",
+    ),
     (Ask::Search, b"HTTP/2.0", "K1", b".0"),
     (Ask::Search, b"", "H10", b""),
 ];

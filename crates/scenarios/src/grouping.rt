@@ -36,6 +36,30 @@ fn a_group_keeps_each_member_once(rt: HostRuntime) -> Result<(), Fail> {
     ends(&rt, alloc, &mut provider, read.as_slice(), 200, CREW_SHOWN)
 }
 
+static CREW_REPLACED: &str =
+    "{\"displayName\":\"crew two\",\"id\":\"5c1a0000-0000-8000-8000-000000000002\",\"members\":[{\"value\":\"c\"}],\"meta\":{\"location\":\"http://localhost:8080/v2/Groups/5c1a0000-0000-8000-8000-000000000002\",\"resourceType\":\"Group\",\"version\":\"\\\"2\\\"\"},\"schemas\":[\"urn:ietf:params:scim:schemas:core:2.0:Group\"]}";
+
+#[test]
+fn a_group_is_replaced(rt: HostRuntime) -> Result<(), Fail> {
+    let alloc = rt.alloc();
+    let mut provider = empty(alloc);
+    exchange(alloc, &mut provider, CREATE_BOB)?;
+    let create = request(alloc, "POST /v2/Groups", CREW)?;
+    exchange(alloc, &mut provider, create.as_slice())?;
+    let line = "PUT /v2/Groups/5c1a0000-0000-8000-8000-000000000002";
+    let body =
+        "{\"schemas\":[\"urn:ietf:params:scim:schemas:core:2.0:Group\"],\"displayName\":\"crew two\",\"members\":[{\"value\":\"c\"}]}";
+    let put = request(alloc, line, body)?;
+    ends(
+        &rt,
+        alloc,
+        &mut provider,
+        put.as_slice(),
+        200,
+        CREW_REPLACED,
+    )
+}
+
 #[test]
 fn an_id_of_the_other_type_is_unknown(rt: HostRuntime) -> Result<(), Fail> {
     let alloc = rt.alloc();

@@ -106,6 +106,18 @@ static PATHS_AND_METHODS: &[Refused] = &[
         "no such path",
     ),
     (
+        "GET /v2/Users/%FF HTTP/1.1\r\nHost: h\r\n\r\n",
+        404,
+        "404 Not Found",
+        "no such path",
+    ),
+    (
+        "GET /v2/Users/a%4 HTTP/1.1\r\nHost: h\r\n\r\n",
+        404,
+        "404 Not Found",
+        "no such path",
+    ),
+    (
         "PATCH /v2/Users HTTP/1.1\r\nHost: h\r\n\r\n",
         501,
         "501 Not Implemented",

@@ -253,6 +253,30 @@ fn writers_that_follow_a_script(rt: HostRuntime) -> Result<(), Fail> {
     Ok(())
 }
 
+/// Reads and writes that are interrupted twice at the first byte, and three times at the next one.
+#[test]
+fn interruptions_are_calls_and_no_failures(rt: HostRuntime) -> Result<(), Fail> {
+    let alloc = rt.alloc();
+    let events = [(0, 2, INTERRUPTED), (1, 3, INTERRUPTED)];
+    let mut provider = empty(alloc);
+    let base = base(alloc)?;
+    let mut reader = Input::new(ScriptedReader {
+        bytes: CREATE_BOB,
+        script: Script::new(1_000, &events),
+    });
+    let mut writer = Output::new(ScriptedWriter {
+        taken: Vec::new(alloc),
+        script: Script::new(1_000, &events),
+        flush_faults: &[],
+        flushes: 0,
+    });
+    let served = serve(alloc, &mut provider, &base, &mut reader, &mut writer);
+    assert_eq!(rt; served, Served::Answered { status: 201 });
+    assert_eq!(rt; (reader.calls(), reader.failures()), (7, 0));
+    assert_eq!(rt; (writer.calls(), writer.failures()), (8, 0));
+    Ok(())
+}
+
 #[test]
 fn a_write_that_fails_once_at_each_place(rt: HostRuntime) -> Result<(), Fail> {
     for place in 0..666usize {

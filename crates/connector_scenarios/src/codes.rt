@@ -1,0 +1,51 @@
+//! The codes that faults of the connector and its journal are printed as.
+use connector_core::{AskFault, ChangeFault, LearnFault, OpenFault};
+use journal_core::JournalFault;
+use std::alloc::Global;
+use std::fmt::Display;
+use std::process::Abort;
+use std::test::Fail;
+
+/// Asserts that each of these is printed as the text beside it.
+fn are_printed<F: Display>(
+    rt: &impl Abort,
+    alloc: Global,
+    table: &[(F, &str)],
+) -> Result<(), Fail> {
+    for (fault, code) in table {
+        let text = fault.to_string(alloc)?;
+        assert!(rt; text.as_str() == *code, "{text} and not {code}");
+    }
+    Ok(())
+}
+
+static JOURNAL_FAULTS: &[(JournalFault, &str)] = &[
+    (JournalFault::Store, "J1"),
+    (JournalFault::Memory, "J3"),
+];
+
+static OPEN_FAULTS: &[(OpenFault, &str)] = &[(OpenFault::Store, "C5"), (OpenFault::Memory, "C6")];
+
+static ASK_FAULTS: &[(AskFault, &str)] = &[
+    (AskFault::NoSuchRecord, "C7"),
+    (AskFault::Memory, "C6"),
+];
+
+static LEARN_FAULTS: &[(LearnFault, &str)] = &[
+    (LearnFault::Unfit, "C1"),
+    (LearnFault::Unversioned, "C2"),
+    (LearnFault::Refused { status: 502 }, "C4 502"),
+    (LearnFault::NoSuchRecord, "C7"),
+    (LearnFault::Store, "C5"),
+    (LearnFault::Memory, "C6"),
+];
+
+#[test]
+fn codes(rt: HostRuntime) -> Result<(), Fail> {
+    are_printed(&rt, rt.alloc(), JOURNAL_FAULTS)?;
+    are_printed(&rt, rt.alloc(), OPEN_FAULTS)?;
+    are_printed(&rt, rt.alloc(), ASK_FAULTS)?;
+    are_printed(&rt, rt.alloc(), LEARN_FAULTS)?;
+    let change_faults = [(ChangeFault::Store, "C5"), (ChangeFault::Memory, "C6")];
+    are_printed(&rt, rt.alloc(), change_faults.as_slice())
+}
