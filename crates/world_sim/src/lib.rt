@@ -3,6 +3,7 @@
 
 mod events;
 mod messages;
+mod reading;
 mod reports;
 mod runs;
 mod worlds;
