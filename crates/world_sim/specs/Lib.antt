@@ -1,3 +1,5 @@
 pub mod Messages
 pub mod Events
 pub mod Running
+pub mod Reading
+pub mod Fitting

@@ -1,0 +1,113 @@
+//! Messages read anew, from their bytes.
+ghost use Rattle.std.specs.Prelude.{◌≡◌, ◌<◌, ◌++◌, ℕ, List, length, false, IfOk};
+ghost use Rattle.scim_message.specs.declared.messages.Answer.{Answer};
+ghost use Rattle.scim_message.specs.declared.messages.Request.{Request};
+ghost use Rattle.scim_client.specs.Answers.{AnswersSo};
+ghost use Rattle.scim_client.specs.Spelling.{SpellsRequest};
+ghost use Rattle.world_sim.specs.Messages.{says};
+ghost use Rattle.world_sim.specs.Reading as spec;
+ghost use Rattle.world_sim.specs.Reading.{IsOrMemory, IsReadAs, MeansSo};
+
+use crate::messages::Said;
+use http_text::{Incoming, request_in};
+use scim_client::{AnswerFault, read_answer};
+use scim_message::{Answer, Request};
+use scim_server::{MeaningFault, meaning};
+use std::alloc::{AllocError, Global};
+
+/// Why bytes weren't read as a message.
+#[derive(Clone, Copy, Debug, PartialEq, Eq)]
+pub(crate) enum ReadingFault {
+    /// They aren't one whole message that asks for something, or that answers the request.
+    Unread,
+    Memory,
+}
+
+/// The request that these bytes ask for, as the server reads them.
+pub(crate) fn read_asked(alloc: Global, bytes: &[u8]) -> Result<Request, ReadingFault>
+    ensures ok { IfOk result (SpellsRequest bytes.now) }
+    // The request that they spell is what comes, or out of memory.
+    ensures only { (request : Request) → SpellsRequest bytes.now request → IsOrMemory request result }
+{
+    match request_in(alloc, bytes) {
+        Ok(Some(incoming)) => asked_by(alloc, &incoming),
+        Ok(None) => Err(ReadingFault::Unread),
+        Err(_) => Err(ReadingFault::Memory),
+    }
+}
+
+/// What a message asks for.
+fn asked_by(alloc: Global, incoming: &Incoming) -> Result<Request, ReadingFault>
+    ensures { MeansSo incoming.now result }
+{
+    match meaning(alloc, incoming) {
+        Ok(request) => Ok(request),
+        Err(MeaningFault::Refused(_)) => Err(ReadingFault::Unread),
+        Err(MeaningFault::OutOfMemory) => Err(ReadingFault::Memory),
+    }
+}
+
+/// The answer to a request that these bytes are, as the client reads them.
+pub(crate) fn read_answered(
+    alloc: Global,
+    request: &Request,
+    bytes: &[u8],
+) -> Result<Answer, ReadingFault>
+    ensures ok { IfOk result (AnswersSo bytes.now request.now) }
+    // The answer that they are is what comes, or out of memory.
+    ensures only { (answer : Answer) → AnswersSo bytes.now request.now answer → IsOrMemory answer result }
+{
+    match read_answer(alloc, request, bytes) {
+        Ok(answer) => Ok(answer),
+        Err(fault) => Err(reading_fault(fault)),
+    }
+}
+
+/// Bytes that are no answer are unread.
+fn reading_fault(fault: AnswerFault) -> ReadingFault
+    ensures { result ≡ spec.reading_fault fault }
+{
+    match fault {
+        AnswerFault::NotOneResponse | AnswerFault::NotJson | AnswerFault::WrongShape => {
+            ReadingFault::Unread
+        }
+        AnswerFault::OutOfMemory => ReadingFault::Memory,
+    }
+}
+
+/// Whether these bytes are read as a request. Of a request that goes on behind them they aren't.
+fn is_request(alloc: Global, bytes: &[u8]) -> Result<bool, AllocError>
+    ensures { (more : List ℕ) (request : Request) → 0 < length more
+        → SpellsRequest (bytes.now ++ more) request → IfOk result (λ read. read ≡ false) }
+{
+    match read_asked(alloc, bytes) {
+        Ok(_request) => Ok(true),
+        Err(ReadingFault::Unread) => Ok(false),
+        Err(ReadingFault::Memory) => Err(AllocError),
+    }
+}
+
+/// Whether these bytes are read as an answer to a request. Of one that goes on behind them they
+/// aren't.
+fn is_answer(alloc: Global, request: &Request, bytes: &[u8]) -> Result<bool, AllocError>
+    ensures { (more : List ℕ) (answer : Answer) → 0 < length more
+        → AnswersSo (bytes.now ++ more) request.now answer → IfOk result (λ read. read ≡ false) }
+{
+    match read_answered(alloc, request, bytes) {
+        Ok(_answer) => Ok(true),
+        Err(ReadingFault::Unread) => Ok(false),
+        Err(ReadingFault::Memory) => Err(AllocError),
+    }
+}
+
+/// Whether the first bytes of a message are read as one by the side that it goes to. Where more
+/// follow in the message, they never are.
+pub(crate) fn read_cut(alloc: Global, said: &Said, front: &[u8]) -> Result<bool, AllocError>
+    ensures { (more : List ℕ) → 0 < length more → IsReadAs (front.now ++ more) (says said.now)
+        → IfOk result (λ read. read ≡ false) }
+{
+    match said {
+        Said::Asked(_) => is_request(alloc, front),
+        Said::Answered(request, _) => is_answer(alloc, request, front),
+    }
+}
