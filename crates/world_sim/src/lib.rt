@@ -5,9 +5,11 @@ mod events;
 mod messages;
 mod reports;
 mod runs;
+mod schedules;
 mod worlds;
 
 pub use events::Event;
 pub use reports::{Report, WorldFault};
 pub use runs::run;
+pub use schedules::{NUMBER_DIGITS, ScheduleFault, read_schedule};
 pub use worlds::World;
