@@ -1,3 +1,4 @@
 pub mod Messages
 pub mod Events
 pub mod Running
+pub mod Views

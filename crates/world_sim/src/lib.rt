@@ -5,9 +5,11 @@ mod events;
 mod messages;
 mod reports;
 mod runs;
+mod views;
 mod worlds;
 
 pub use events::Event;
 pub use reports::{Report, WorldFault};
 pub use runs::run;
+pub use views::View;
 pub use worlds::World;
