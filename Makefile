@@ -1,7 +1,7 @@
 # The commands of the README, and what a checkout needs from day to day.
 PREFIX ?= /usr/local
 
-.PHONY: answer map try test build install
+.PHONY: answer map simulate try test build install
 
 # the main job on the example: one POST of a user, answered on standard output
 answer: build
@@ -11,7 +11,11 @@ answer: build
 map: build
 	crates/scimlink/out/scimlink map examples/personnel.csv || test $$? = 1
 
-# the same job with no proof and no kept program: for a first look. The last line says so: proved=no
+# a leaver whose messages are late and repeated: what each event reports, and what is held in the end
+simulate: build
+	crates/scimlink/out/scimlink simulate examples/late-leaver.schedule
+
+# the main job with no proof and no kept program: for a first look. The last line says so: proved=no
 try:
 	cd crates/scimlink && rt try --steps 1 -- answer < ../../examples/create-user.http
 
@@ -20,6 +24,7 @@ test:
 	tests/map.sh
 	tests/answer.sh
 	tests/serve.sh
+	tests/simulate.sh
 	tests/edits.py
 
 build:

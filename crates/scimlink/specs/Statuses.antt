@@ -1,5 +1,5 @@
 -- The exit status of a run, and what leads to it.
-use Rattle.std.specs.Prelude.{ℕ, Bool, true, false, List, Result, Ok, Err, is_ok, if◌then◌else◌}
+use Rattle.std.specs.Prelude.{ℕ, Bool, true, false, List, Result, Ok, Err, is_ok, if◌then◌else◌, ◌&&◌}
 use Rattle.std.specs.List.{list_all}
 use Rattle.clap.specs.declared.error.kind.ErrorKind.{ErrorKind}
 use Rattle.clap.specs.declared.error.kind.ErrorKind.TheVariants as kind
@@ -14,6 +14,14 @@ use Rattle.source_csv.specs.declared.faults.SourceFault.TheVariants as source
 use Rattle.source_csv.specs.declared.rows.Row.{Row}
 use Rattle.mapping.specs.declared.lines.WriteFault.{WriteFault}
 use Rattle.mapping.specs.declared.lines.WriteFault.TheVariants as write
+use Rattle.scim_key.specs.Revisions.{same_revision}
+use Rattle.world_sim.specs.declared.reports.Report.{Report}
+use Rattle.world_sim.specs.declared.reports.Report.TheVariants as report
+use Rattle.world_sim.specs.declared.reports.WorldFault.{WorldFault}
+use Rattle.world_sim.specs.declared.reports.WorldFault.TheVariants as world
+use Rattle.world_sim.specs.declared.schedules.ScheduleFault.{ScheduleFault}
+use Rattle.world_sim.specs.declared.schedules.ScheduleFault.TheVariants as schedule
+use Rattle.world_sim.specs.declared.views.View.{View}
 use Rattle.scimlink.specs.declared.status.RunFault.{RunFault}
 use Rattle.scimlink.specs.declared.status.RunFault.TheVariants as fault
 use Rattle.scimlink.specs.declared.status.Status.{Status}
@@ -34,6 +42,9 @@ fault_status fault.Address = Usage
 fault_status fault.Requests = Usage
 fault_status (fault.Users source.Header) = Refused
 fault_status (fault.Users source.Memory) = Fault
+fault_status (fault.Schedule (schedule.Line number)) = Refused
+fault_status (fault.Schedule schedule.Memory) = Fault
+fault_status fault.Store = Fault
 fault_status fault.File = Fault
 fault_status (fault.Connection why) = Fault
 fault_status fault.Memory = Fault
@@ -81,3 +92,26 @@ are_rows records = list_all is_ok records
 -- all is done where no record of a file is refused
 abbrev pub records_status : List (Result Row RowFault) → Status
 records_status records = if are_rows records then Done else Refused
+
+-- a schedule that gives no events
+abbrev pub schedule_fault : ScheduleFault → RunFault
+schedule_fault (schedule.Line number) = fault.Schedule (schedule.Line number)
+schedule_fault schedule.Memory = fault.Memory
+
+-- a world that came to an end
+abbrev pub world_fault : WorldFault → RunFault
+world_fault world.Memory = fault.Memory
+world_fault world.Store = fault.Store
+
+-- an event that isn't a row which the connector refuses
+abbrev pub is_taken : Report → Bool
+is_taken (report.Judged (Err why)) = false
+is_taken other = true
+
+-- a record whose wanted revision is confirmed
+abbrev pub is_confirmed : View → Bool
+is_confirmed view = same_revision view.confirmed view.wanted
+
+-- all is done where no row was refused and every record is confirmed in the end
+abbrev pub simulated_status : List Report → List View → Status
+simulated_status reports views = if list_all is_taken reports && list_all is_confirmed views then Done else Refused

@@ -14,6 +14,9 @@ use std::rt::Runtime;
 /// How many connections one run serves at most.
 const MOST_REQUESTS: u32 = 1_000_000;
 
+/// The base of a service where the words give none.
+const DEFAULT_BASE: &str = "http://localhost:8080/v2";
+
 /// What the command line asks for.
 #[derive(Debug, Drop)]
 pub enum Choice {
@@ -29,6 +32,11 @@ pub enum Choice {
     Serve {
         address: String,
         requests: u32,
+        base: Base,
+    },
+    /// The events of a schedule are run over both sides in memory.
+    Simulate {
+        file: String,
         base: Base,
     },
     /// Help, the version or what is wrong with the words was told, and so the run ends.
@@ -56,7 +64,7 @@ fn base_option<'a>(alloc: Global) -> Arg<'a> {
         .long("base")
         .value_name("URL")
         .help("the base of the service: http://HOST/v2")
-        .default_value("http://localhost:8080/v2")
+        .default_value(DEFAULT_BASE)
 }
 
 fn answer_command<'a>(alloc: Global) -> Result<Command<'a>, AllocError> {
@@ -93,6 +101,17 @@ fn serve_command<'a>(alloc: Global) -> Result<Command<'a>, AllocError> {
         .arg(base_option(alloc))
 }
 
+fn simulate_command<'a>(alloc: Global) -> Result<Command<'a>, AllocError> {
+    let file = Arg::new(alloc, "FILE")
+        .help(
+            "a schedule: an event a line, as `user bob,1,,,,,active`, `send user bob` or `deliver 1`",
+        )
+        .required(true);
+    Command::new(alloc, "simulate")
+        .about("runs a schedule over both sides in memory: each event's report, then each record")
+        .arg(file)
+}
+
 fn program<'a>(alloc: Global) -> Command<'a> {
     Command::new(alloc, "scimlink")
         .version("0.1.0")
@@ -103,7 +122,8 @@ fn program<'a>(alloc: Global) -> Command<'a> {
 fn command<'a>(alloc: Global) -> Result<Command<'a>, AllocError> {
     let answering = with_subcommand(program(alloc), answer_command(alloc))?;
     let mapping = with_subcommand(answering, map_command(alloc))?;
-    with_subcommand(mapping, serve_command(alloc))
+    let serving = with_subcommand(mapping, serve_command(alloc))?;
+    with_subcommand(serving, simulate_command(alloc))
 }
 
 fn with_subcommand<'a>(
@@ -131,6 +151,10 @@ fn chosen(alloc: Global, matches: &ArgMatches<'_>) -> Result<Choice, RunFault> {
             address: address(alloc, serve)?,
             requests: requests(serve)?,
             base: base(alloc, serve)?,
+        }),
+        Some(("simulate", simulate)) => Ok(Choice::Simulate {
+            file: file(alloc, simulate)?,
+            base: Base::read(alloc, DEFAULT_BASE).map_err(base_fault)?,
         }),
         _ => Err(RunFault::Subcommand),
     }

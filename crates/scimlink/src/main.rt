@@ -5,6 +5,7 @@ mod answering;
 mod command;
 mod map_users;
 mod serving;
+mod simulating;
 mod status;
 
 use command::{Choice, choose};
@@ -35,6 +36,7 @@ fn done<R: Runtime + Net + AllocGlobal>(rt: &R) -> Result<Status, RunFault> {
             requests,
             base,
         } => serving::serve(rt, address.as_str(), requests, &base),
+        Choice::Simulate { file, base } => simulating::simulate(rt, file.as_str(), base),
         Choice::Told(status) => Ok(status),
     }
 }

@@ -1,23 +1,24 @@
 //! How a run ends.
 ghost use Rattle.std.specs.Prelude.{◌≡◌, ◌≢◌};
-ghost use Rattle.scimlink.specs.Statuses.{fault_status, lines_fault, status_code, users_fault};
+ghost use Rattle.scimlink.specs.Statuses.{fault_status, lines_fault, schedule_fault, status_code, users_fault, world_fault};
 ghost use Rattle.scimlink.specs.declared.status.RunFault.TheVariants.{Memory};
 
 use connection::ConnectionFault;
 use mapping::WriteFault;
 use source_csv::SourceFault;
-use std::alloc::AllocError;
+use std::alloc::{AllocError, AllocFailed};
 use std::io;
 use std::io::ErrorKind;
 use std::rt::Runtime;
 use thiserror::Error;
+use world_sim::{ScheduleFault, WorldFault};
 
 /// The exit status of the program.
 #[derive(Clone, Copy, Debug, PartialEq, Eq)]
 pub enum Status {
     /// All is done.
     Done,
-    /// A record or the header of a file was refused.
+    /// A row, the header of a file or a schedule was refused, or a record is unconfirmed at the end.
     Refused,
     /// The command line isn't lawful.
     Usage,
@@ -55,6 +56,12 @@ pub enum RunFault {
     /// The users file as a whole.
     #[error("users: {0}")]
     Users(SourceFault),
+    /// The schedule as a whole.
+    #[error("schedule {0}")]
+    Schedule(ScheduleFault),
+    /// A store of a world failed.
+    #[error("store fault")]
+    Store,
     /// A file couldn't be read, or standard output not be written.
     #[error("file fault")]
     File,
@@ -75,6 +82,8 @@ impl RunFault {
             RunFault::Base | RunFault::Address | RunFault::Requests => Status::Usage,
             RunFault::Users(SourceFault::Header) => Status::Refused,
             RunFault::Users(SourceFault::Memory) => Status::Fault,
+            RunFault::Schedule(ScheduleFault::Line(_)) => Status::Refused,
+            RunFault::Schedule(ScheduleFault::Memory) | RunFault::Store => Status::Fault,
             RunFault::File | RunFault::Connection(_) | RunFault::Memory => Status::Fault,
         }
     }
@@ -84,6 +93,14 @@ impl From<AllocError> for RunFault {
     ghost from_gives = { λ _ fault. fault ≡ Memory };
 
     fn from(_: AllocError) -> RunFault {
+        RunFault::Memory
+    }
+}
+
+impl<T: Drop> From<AllocFailed<T>> for RunFault {
+    ghost from_gives = { λ _ fault. fault ≡ Memory };
+
+    fn from(_: AllocFailed<T>) -> RunFault {
         RunFault::Memory
     }
 }
@@ -123,6 +140,28 @@ impl From<WriteFault> for RunFault {
         match fault {
             WriteFault::Memory => RunFault::Memory,
             WriteFault::Output => RunFault::File,
+        }
+    }
+}
+
+impl From<ScheduleFault> for RunFault {
+    ghost from_gives = { λ schedule fault. fault ≡ schedule_fault schedule };
+
+    fn from(fault: ScheduleFault) -> RunFault {
+        match fault {
+            ScheduleFault::Line(_) => RunFault::Schedule(fault),
+            ScheduleFault::Memory => RunFault::Memory,
+        }
+    }
+}
+
+impl From<WorldFault> for RunFault {
+    ghost from_gives = { λ world fault. fault ≡ world_fault world };
+
+    fn from(fault: WorldFault) -> RunFault {
+        match fault {
+            WorldFault::Memory => RunFault::Memory,
+            WorldFault::Store => RunFault::Store,
         }
     }
 }

@@ -3,3 +3,5 @@ pub mod Events
 pub mod Running
 pub mod Reading
 pub mod Fitting
+pub mod Schedules
+pub mod Views

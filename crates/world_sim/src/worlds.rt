@@ -31,11 +31,11 @@ use std::rc::Rc;
 /// A provider over a registry, a connector over a journal, and all messages that they ever sent.
 #[derive(Drop)]
 pub struct World<R: Registry, J: Journal> {
-    alloc: Global,
-    service: ScimService,
-    provider: Provider<R>,
-    connector: Connector<J>,
-    sent: Vec<Sent>,
+    pub(crate) alloc: Global,
+    pub(crate) service: ScimService,
+    pub(crate) provider: Provider<R>,
+    pub(crate) connector: Connector<J>,
+    pub(crate) sent: Vec<Sent>,
 }
 
 /// The message at this place, counted from 0.
@@ -49,7 +49,7 @@ fn sent_from(sent: &[Sent], place: usize) -> Option<&Sent>
 }
 
 /// The message with this number, counted from 1.
-fn sent_at(sent: &[Sent], number: usize) -> Option<&Sent>
+pub(crate) fn sent_at(sent: &[Sent], number: usize) -> Option<&Sent>
     ensures said { option_map (λ s. says s.said) (option_copied result) ≡ message_at (messages_of sent.now) number }
     ensures text { option_map (λ s. s.bytes.items) (option_copied result) ≡ text_at (texts_of sent.now) number }
 {

@@ -1,0 +1,90 @@
+#!/usr/bin/env python3
+"""Measures what one event costs `simulate`, in instructions.
+
+    make build && python3 bench/simulate.py
+
+It runs schedules of 1,000, 10,000 and 100,000 events over 100 users under valgrind, which counts the
+instructions of each run, so that other work on the machine isn't in the figures. The events are
+mixed: of eight, two offer a row, two send, three deliver a message of the last 200 and one restarts
+a side or cuts a message. The same run without valgrind gives the events a second. It ends with
+status 1 where an event among 100,000 costs over twice as much as one among 1,000.
+"""
+import os
+import random
+import re
+import subprocess
+import sys
+import tempfile
+import time
+
+TOP = os.path.dirname(os.path.dirname(os.path.abspath(__file__)))
+PROGRAM = os.environ.get("PROGRAM", os.path.join(TOP, "crates/scimlink/out/scimlink"))
+SIZES = (1_000, 10_000, 100_000)
+USERS = 100
+
+
+def schedule(count):
+    """A schedule of so many events. About three of eight events send a message or make one."""
+    dice = random.Random(1)
+    revisions = [0] * USERS
+    for number in range(count):
+        user = dice.randrange(USERS)
+        kind = dice.randrange(8)
+        message = max(1, number // 3 - dice.randrange(200))
+        if kind < 2:
+            revisions[user] += 1
+            status = "left" if revisions[user] % 3 == 0 else "active"
+            yield f"user user{user},{revisions[user]},{number},Ann,Lee,ann@example.com,{status}"
+        elif kind < 4:
+            yield f"send user user{user}"
+        elif kind < 7:
+            yield f"deliver {message}"
+        elif number % 10:
+            yield f"cut {message} 10"
+        else:
+            yield "restart connector" if number % 20 else "restart provider"
+
+
+def run(words):
+    """Runs a program. A schedule that leaves a record unconfirmed ends with status 1."""
+    status = subprocess.run(words, stdout=subprocess.DEVNULL, stderr=subprocess.DEVNULL,
+                            check=False).returncode
+    if status not in (0, 1):
+        sys.exit(f"{words[0]}: status {status}")
+
+
+def instructions(folder, path):
+    """How many instructions one run takes."""
+    counts = os.path.join(folder, "counts")
+    run(["valgrind", "--tool=callgrind", f"--callgrind-out-file={counts}", PROGRAM, "simulate", path])
+    with open(counts, encoding="utf-8") as file:
+        return int(re.search(r"^(?:summary|totals): (\d+)", file.read(), re.M).group(1))
+
+
+def seconds(path):
+    """How long one run takes."""
+    begin = time.monotonic()
+    run([PROGRAM, "simulate", path])
+    return time.monotonic() - begin
+
+
+def main():
+    costs = {}
+    with tempfile.TemporaryDirectory() as folder:
+        path = os.path.join(folder, "schedule")
+        with open(path, "w", encoding="utf-8"):
+            pass
+        start = instructions(folder, path)
+        for count in SIZES:
+            with open(path, "w", encoding="utf-8") as file:
+                file.writelines(line + "\n" for line in schedule(count))
+            costs[count] = (instructions(folder, path) - start) / count
+            speed = count / seconds(path)
+            print(f"{count:7,} events: {costs[count]:8,.0f} instructions each, "
+                  f"{speed:9,.0f} a second", flush=True)
+    if costs[SIZES[-1]] > 2 * costs[SIZES[0]]:
+        sys.exit("an event costs over twice as much among 100,000 as among 1,000")
+
+
+if __name__ == "__main__":
+    main()

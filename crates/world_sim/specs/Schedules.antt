@@ -1,0 +1,109 @@
+-- Schedules: what a text of lines says should happen in a world.
+use Rattle.std.specs.Prelude.{ℕ, ◌+◌, Bool, true, List, [], ◌∷◌, ◌++◌, Option, Some, None, Result, Ok, Err, if◌then◌else◌, ◌==◌, ◌&&◌, codes, length, map, nat_le, option_to_list}
+use Rattle.std.specs.Char.{is_ascii_digit}
+use Rattle.std.specs.List.{after_first, before_first, join_with_byte, list_all}
+use Rattle.std.specs.Option.{ok_or, option_and_then, option_map}
+use Rattle.std.specs.Str.{bytes_eq}
+use Rattle.std.specs.Str.Lines.{lines}
+use Rattle.std.specs.Str.Parse.{digits_value}
+use Rattle.scim_key.specs.Outcome.{◌>>=◌}
+use Rattle.scim_key.specs.declared.records.Kind.{Kind}
+use Rattle.scim_key.specs.declared.records.Kind.TheVariants as kind
+use Rattle.scim_key.specs.declared.records.RecordName.{RecordName}
+use Rattle.scim_filter.specs.Names.{record_named}
+use Rattle.source_csv.specs.Fields.{Record}
+use Rattle.source_csv.specs.Files.{AreRecordsOf, header_of, rows_of}
+use Rattle.source_csv.specs.declared.faults.RowFault.{RowFault}
+use Rattle.source_csv.specs.declared.faults.SourceFault.{SourceFault}
+use Rattle.source_csv.specs.declared.rows.Row.{Row}
+use Rattle.world_sim.specs.declared.events.Event.{Event}
+use Rattle.world_sim.specs.declared.events.Event.TheVariants as events
+use Rattle.world_sim.specs.declared.schedules.ScheduleFault.{ScheduleFault}
+use Rattle.world_sim.specs.declared.schedules.ScheduleFault.TheVariants.{Line}
+use Rattle.world_sim.specs.declared.schedules.TheConstants.{NUMBER_DIGITS}
+
+-- the records of each file of the source. That every file has its records, and no others, is `FilesHaveRecords` of source_csv
+abbrev pub ReadsFiles : (List ℕ → List Record) → Type 0
+ReadsFiles records_in = (bytes : List ℕ) → AreRecordsOf bytes (records_in bytes)
+
+-- a file of this kind with one record: its header, a line end, and the record
+abbrev pub file_of : Kind → List ℕ → List ℕ
+file_of of text = join_with_byte 44 (header_of of) ++ 10 ∷ text
+
+-- the one row of a file, where it has exactly one record and that is a row
+abbrev pub only_row : Result (List (Result Row RowFault)) SourceFault → Option Row
+only_row (Ok (Ok row ∷ [])) = Some row
+only_row other = None
+
+-- `user` or `group` and a record: that row is offered
+unfoldable pub change_in : (List ℕ → List Record) → Kind → List ℕ → Option Event
+change_in records_in of text = option_map events.Change (only_row (rows_of of (records_in (file_of of text))))
+
+-- what stands before the first space, and what stands behind it
+abbrev pub first_word : List ℕ → List ℕ
+first_word text = before_first (λ b. b == 32) text
+
+abbrev pub behind : List ℕ → List ℕ
+behind text = after_first (λ b. b == 32) text
+
+-- a type of resource and a name: the record
+unfoldable pub record_in : List ℕ → Option RecordName
+record_in text =
+    if bytes_eq (first_word text) (codes "user") then record_named (behind text) kind.User
+    else if bytes_eq (first_word text) (codes "group") then record_named (behind text) kind.Group
+    else None
+
+-- 1 to `NUMBER_DIGITS` digits
+abbrev pub is_number : List ℕ → Bool
+is_number text = nat_le 1 (length text) && nat_le (length text) NUMBER_DIGITS && list_all is_ascii_digit text
+
+-- the number that they write
+unfoldable pub number_in : List ℕ → Option ℕ
+number_in text = if is_number text then Some (digits_value 10 text) else None
+
+-- the number of a message, and how many bytes of it arrive
+unfoldable pub cut_in : List ℕ → Option Event
+cut_in text = option_and_then (λ number. option_map (λ bytes. events.Cut number bytes) (number_in (behind text))) (number_in (first_word text))
+
+-- the side that is opened again
+unfoldable pub restart_in : List ℕ → Option Event
+restart_in text =
+    if bytes_eq text (codes "provider") then Some events.RestartProvider
+    else if bytes_eq text (codes "connector") then Some events.RestartConnector
+    else None
+
+-- the event of a line with this first word, and this behind its first space
+unfoldable pub event_of_words : (List ℕ → List Record) → (word rest : List ℕ) → Option Event
+event_of_words records_in word rest =
+    if bytes_eq word (codes "user") then change_in records_in kind.User rest
+    else if bytes_eq word (codes "group") then change_in records_in kind.Group rest
+    else if bytes_eq word (codes "send") then option_map events.Send (record_in rest)
+    else if bytes_eq word (codes "deliver") then option_map events.Deliver (number_in rest)
+    else if bytes_eq word (codes "cut") then cut_in rest
+    else if bytes_eq word (codes "restart") then restart_in rest
+    else None
+
+-- The event that a line spells
+abbrev pub event_in : (List ℕ → List Record) → List ℕ → Option Event
+event_in records_in line = event_of_words records_in (first_word line) (behind line)
+
+-- an empty line, and one that begins with `#`, says nothing
+abbrev pub is_silent : List ℕ → Bool
+is_silent [] = true
+is_silent (b ∷ line) = b == 35
+
+-- what the line with this number says: nothing, or an event; or that it spells none
+unfoldable pub said_at : (List ℕ → List Record) → ℕ → List ℕ → Result (Option Event) ScheduleFault
+said_at records_in number line = if is_silent line then Ok None else ok_or (option_map Some (event_in records_in line)) (Line number)
+
+-- what these lines say, of which the first has this number
+abbrev pub events_from : (List ℕ → List Record) → ℕ → List (List ℕ) → Result (List Event) ScheduleFault
+events_from records_in number [] = Ok []
+events_from records_in number (line ∷ lines) = do
+  said ← said_at records_in number line
+  events ← events_from records_in (number + 1) lines
+  Ok (option_to_list said ++ events)
+
+-- What a schedule says: the events of its lines, which are numbered from 1, or the first line that spells none
+abbrev pub events_in : (List ℕ → List Record) → List ℕ → Result (List Event) ScheduleFault
+events_in records_in text = events_from records_in 1 (lines text)

@@ -1,0 +1,293 @@
+//! Schedules: texts that say, a line each, what should happen in a world.
+ghost use Rattle.std.specs.Prelude.{◌≡◌, ◌&&◌, IfOk, List, ℕ, map, string_bytes};
+ghost use Rattle.std.specs.Char.{is_ascii_digit};
+ghost use Rattle.std.specs.List.{join_with_byte, list_all};
+ghost use Rattle.std.specs.Option.{option_map};
+ghost use Rattle.std.specs.Str.Lines.{lines};
+ghost use Rattle.scim_key.specs.Outcome.{Gives, GivesBy};
+ghost use Rattle.scim_filter.specs.Names.{is_lawful, record_named};
+ghost use Rattle.source_csv.specs.Fields.{Record};
+ghost use Rattle.source_csv.specs.Files.{AreRecordsOf, named, rows_of};
+ghost use Rattle.world_sim.specs.Schedules.{ReadsFiles, behind, event_in, event_of_words, events_from, events_in, file_of, first_word, is_silent, only_row};
+ghost use Rattle.world_sim.specs.Schedules as spec;
+ghost use Rattle.world_sim.specs.declared.schedules.ScheduleFault.TheVariants as fault;
+ghost use Rattle.world_sim.specs.declared.events.Event.TheVariants as events;
+
+use crate::events::Event;
+use scim_key::{GroupName, Key, Kind, NameFault, RecordName, UserName};
+use source_csv::{
+    GROUP_COLUMNS, Row, RowFault, SourceFault, SourceRows, USER_COLUMNS, read_groups, read_users,
+};
+use std::alloc::{AllocError, AllocFailed, Global};
+use thiserror::Error;
+
+/// How many digits a number in a schedule has at most.
+pub const NUMBER_DIGITS: usize = 18;
+
+/// Why a schedule gives no events.
+#[derive(Clone, Copy, Debug, PartialEq, Eq, Error)]
+pub enum ScheduleFault {
+    /// The line with this number, counted from 1, is the first that spells no event.
+    #[error("line {0}: L1")]
+    Line(usize),
+    #[error("memory")]
+    Memory,
+}
+
+impl From<AllocError> for ScheduleFault {
+    ghost from_gives = { λ _ made. made ≡ fault.Memory };
+
+    fn from(_: AllocError) -> ScheduleFault {
+        ScheduleFault::Memory
+    }
+}
+
+impl<T: Drop> From<AllocFailed<T>> for ScheduleFault {
+    ghost from_gives = { λ _ made. made ≡ fault.Memory };
+
+    fn from(_: AllocFailed<T>) -> ScheduleFault {
+        ScheduleFault::Memory
+    }
+}
+
+/// The names of columns, with commas between them.
+fn header(alloc: Global, columns: &[&str]) -> Result<String, AllocError>
+    ensures { IfOk result (λ header. string_bytes header ≡ join_with_byte 44 (named columns.now)) }
+{
+    let Some((first, rest)) = columns.split_first() else {
+        return Ok(String::new(alloc));
+    };
+    let mut header = String::from_str(alloc, first)?;
+    for column in rest {
+        header.push(',')?;
+        header.push_str(column)?;
+    }
+    Ok(header)
+}
+
+/// The file of this kind that has one record alone.
+fn file_of(alloc: Global, kind: Kind, text: &str) -> Result<String, AllocError>
+    ensures { IfOk result (λ file. string_bytes file ≡ file_of kind text.now) }
+{
+    let mut file = match kind {
+        Kind::User => header(alloc, &USER_COLUMNS)?,
+        Kind::Group => header(alloc, &GROUP_COLUMNS)?,
+    };
+    file.push('\n')?;
+    file.push_str(text)?;
+    Ok(file)
+}
+
+/// The records of a file of this kind.
+fn read_rows(alloc: Global, kind: Kind, bytes: &[u8]) -> Result<SourceRows, SourceFault>
+    ensures { (records : List Record) → AreRecordsOf bytes.now records → Gives SourceFault.Memory result (rows_of kind records) }
+{
+    match kind {
+        Kind::User => read_users(alloc, bytes),
+        Kind::Group => read_groups(alloc, bytes),
+    }
+}
+
+/// The row, where there is exactly one record and that is a row.
+fn only_row(mut rows: Vec<Result<Row, RowFault>>) -> Option<Row>
+    ensures { result ≡ only_row (Ok rows.items) }
+{
+    if rows.len() != 1 {
+        return None;
+    }
+    match rows.pop() {
+        Some(Ok(row)) => Some(row),
+        Some(Err(_)) | None => None,
+    }
+}
+
+/// The row of a file of this kind, where it has exactly one record and that is a row.
+fn only_row_in(alloc: Global, kind: Kind, bytes: &[u8]) -> Result<Option<Row>, AllocError>
+    ensures { (records : List Record) → AreRecordsOf bytes.now records → IfOk result (λ row. row ≡ only_row (rows_of kind records)) }
+{
+    match read_rows(alloc, kind, bytes) {
+        Ok(rows) => Ok(only_row(rows.into_vec())),
+        Err(SourceFault::Header) => Ok(None),
+        Err(SourceFault::Memory) => Err(AllocError),
+    }
+}
+
+/// The change to a row that a record of this kind is.
+#[tactic(auto, unfolding(crate::specs::Schedules::change_in))]
+fn change_in(alloc: Global, kind: Kind, text: &str) -> Result<Option<Event>, AllocError>
+    ensures { (records_in : List ℕ → List Record) → ReadsFiles records_in → IfOk result (λ event. event ≡ spec.change_in records_in kind text.now) }
+{
+    let file = file_of(alloc, kind, text)?;
+    let row = only_row_in(alloc, kind, file.as_bytes())?;
+    Ok(row.map(Event::Change))
+}
+
+/// A text's first word, and what stands behind the first space.
+fn words_of(text: &str) -> (&str, &str)
+    ensures { (result.0.now ≡ first_word text.now) × (result.1.now ≡ behind text.now) }
+{
+    text.split_once(' ').unwrap_or((text, ""))
+}
+
+/// Whether a text is a lawful name of this kind.
+fn is_lawful(alloc: Global, kind: Kind, name: &str) -> Result<bool, AllocError>
+    ensures { IfOk result (λ lawful. lawful ≡ is_lawful kind name.now) }
+{
+    let fault = match kind {
+        Kind::User => UserName::read(alloc, name).err(),
+        Kind::Group => GroupName::read(alloc, name).err(),
+    };
+    match fault {
+        Some(NameFault::Memory) => Err(AllocError),
+        Some(_) => Ok(false),
+        None => Ok(true),
+    }
+}
+
+/// The record with this name.
+fn record_named(alloc: Global, kind: Kind, name: &str) -> Result<Option<RecordName>, AllocError>
+    ensures { IfOk result (λ found. found ≡ record_named name.now kind) }
+{
+    if !is_lawful(alloc, kind, name)? {
+        return Ok(None);
+    }
+    let key = Key::of(alloc, name)?;
+    Ok(Some(RecordName { kind, key }))
+}
+
+/// The record that a type of resource and a name spell.
+#[tactic(auto, unfolding(crate::specs::Schedules::record_in))]
+fn record_in(alloc: Global, text: &str) -> Result<Option<RecordName>, AllocError>
+    ensures { IfOk result (λ name. name ≡ spec.record_in text.now) }
+{
+    let (word, name) = words_of(text);
+    match word {
+        "user" => record_named(alloc, Kind::User, name),
+        "group" => record_named(alloc, Kind::Group, name),
+        _ => Ok(None),
+    }
+}
+
+/// Whether every byte is a digit.
+fn are_digits(bytes: &[u8]) -> bool
+    ensures { result ≡ list_all is_ascii_digit bytes.now }
+{
+    bytes.iter().all(|byte| byte.is_ascii_digit())
+}
+
+/// Whether a text is 1 to `NUMBER_DIGITS` digits.
+fn is_number(text: &str) -> bool
+    ensures { result ≡ spec.is_number text.now }
+{
+    !text.is_empty() && text.len() <= NUMBER_DIGITS && are_digits(text.as_bytes())
+}
+
+/// The number that a text writes.
+#[tactic(auto, unfolding(crate::specs::Schedules::number_in))]
+fn number_in(text: &str) -> Option<usize>
+    ensures { result ≡ spec.number_in text.now }
+{
+    if is_number(text) {
+        text.parse().ok()
+    } else {
+        None
+    }
+}
+
+/// The number of a message and how many bytes of it arrive.
+#[tactic(auto, unfolding(crate::specs::Schedules::cut_in))]
+fn cut_in(text: &str) -> Option<Event>
+    ensures { result ≡ spec.cut_in text.now }
+{
+    let (number, length) = words_of(text);
+    Some(Event::Cut {
+        number: number_in(number)?,
+        length: number_in(length)?,
+    })
+}
+
+/// The side that is opened again.
+#[tactic(auto, unfolding(crate::specs::Schedules::restart_in))]
+fn restart_in(text: &str) -> Option<Event>
+    ensures { result ≡ spec.restart_in text.now }
+{
+    match text {
+        "provider" => Some(Event::RestartProvider),
+        "connector" => Some(Event::RestartConnector),
+        _ => None,
+    }
+}
+
+/// The event that a line spells.
+#[tactic(auto, unfolding(crate::specs::Schedules::event_of_words))]
+fn event_in(alloc: Global, line: &str) -> Result<Option<Event>, AllocError>
+    ensures { (records_in : List ℕ → List Record) → ReadsFiles records_in → IfOk result (λ event. event ≡ event_in records_in line.now) }
+{
+    let (word, rest) = words_of(line);
+    match word {
+        "user" => change_in(alloc, Kind::User, rest),
+        "group" => change_in(alloc, Kind::Group, rest),
+        "send" => Ok(record_in(alloc, rest)?.map(Event::Send)),
+        "deliver" => Ok(number_in(rest).map(Event::Deliver)),
+        "cut" => Ok(cut_in(rest)),
+        "restart" => Ok(restart_in(rest)),
+        _ => Ok(None),
+    }
+}
+
+/// Whether a line says nothing.
+fn is_silent(line: &str) -> bool
+    ensures { result ≡ is_silent line.now }
+{
+    match line.as_bytes() {
+        [] => true,
+        [first, ..] => *first == b'#',
+    }
+}
+
+/// The lines of a text.
+fn lines_of(alloc: Global, text: &str) -> Result<Vec<&str>, AllocError>
+    ensures { IfOk result (λ all. map (λ line. line.now) all.items ≡ lines text.now) }
+{
+    text.lines().collect(alloc)
+}
+
+/// What the line with this number says, if anything.
+#[tactic(auto, unfolding(crate::specs::Schedules::said_at))]
+fn said_at(alloc: Global, number: usize, line: &str) -> Result<Option<Event>, ScheduleFault>
+    ensures { (records_in : List ℕ → List Record) → ReadsFiles records_in → Gives ScheduleFault.Memory result (spec.said_at records_in number line.now) }
+{
+    if is_silent(line) {
+        return Ok(None);
+    }
+    match event_in(alloc, line)? {
+        Some(event) => Ok(Some(event)),
+        None => Err(ScheduleFault::Line(number)),
+    }
+}
+
+/// What these lines say, which are numbered from 1.
+fn events_of(alloc: Global, lines: &[&str]) -> Result<Vec<Event>, ScheduleFault>
+    ensures { (records_in : List ℕ → List Record) → ReadsFiles records_in → GivesBy (λ events. events.items) ScheduleFault.Memory result (events_from records_in 1 (map (λ line. line.now) lines.now)) }
+{
+    let mut events = Vec::new(alloc);
+    let mut number = 0;
+    for line in lines {
+        number += 1;
+        if let Some(event) = said_at(alloc, number, line)? {
+            events.push(event)?;
+        }
+    }
+    Ok(events)
+}
+
+/// Reads a schedule: its lines end with LF or CR LF, empty ones and those that begin with `#` say
+/// nothing, and each other spells an event: `user` or `group` and a record of a file of that kind,
+/// `send user` or `send group` and a name, `deliver` and a number, `cut` and two, `restart provider`
+/// or `restart connector`.
+pub fn read_schedule(alloc: Global, text: &str) -> Result<Vec<Event>, ScheduleFault>
+    ensures { (records_in : List ℕ → List Record) → ReadsFiles records_in → GivesBy (λ events. events.items) ScheduleFault.Memory result (events_in records_in text.now) }
+{
+    let lines = lines_of(alloc, text)?;
+    events_of(alloc, lines.as_slice())
+}

@@ -1,0 +1,144 @@
+//! What a world shows of its messages and records.
+ghost use Rattle.std.specs.Prelude.{◌≡◌, IfErr, IfOk, None, Some};
+ghost use Rattle.std.specs.FinMap.{keys};
+ghost use Rattle.std.specs.Option.{option_copied};
+ghost use Rattle.connector_core.specs.Book.{confirmed_of, wanted_of};
+ghost use Rattle.connector_core.specs.Maps.{book_of};
+ghost use Rattle.provider_core.specs.Rows.{row_named};
+ghost use Rattle.provider_core.specs.Stores.{OnlyReads};
+ghost use Rattle.world_sim.specs.Messages.{text_at, texts_of};
+ghost use Rattle.world_sim.specs.Views.{CountsWorldFault, viewed};
+ghost use Rattle.world_sim.specs.declared.reports.WorldFault.TheVariants as faults;
+
+use crate::reports::WorldFault;
+use crate::worlds::{World, sent_at};
+use core::mem::replace_with;
+use journal_core::Journal;
+use provider_core::{Provider, Registry, RegistryFault};
+use scim_key::{Kind, RecordName, Revision};
+use scim_resource::Stored;
+use std::fmt;
+
+/// What is wanted, confirmed and held of a record.
+#[derive(Debug, Drop)]
+pub struct View {
+    pub name: RecordName,
+    /// The revision of the last row, none where the source gave no row.
+    pub wanted: Revision,
+    /// The highest revision that the connector counts as confirmed, or none.
+    pub confirmed: Revision,
+    /// The revision of what the provider holds, or none.
+    pub held: Revision,
+    /// The version of what the provider holds, 0 where it holds nothing.
+    pub version: u64,
+    /// Whether the user that the provider holds is switched on.
+    pub active: Option<bool>,
+    /// How many members the group that the provider holds has.
+    pub members: usize,
+}
+
+fn write_name<W: fmt::Write>(f: &mut fmt::Formatter<W>, name: &RecordName) -> fmt::Result {
+    let kind = match name.kind {
+        Kind::User => "user",
+        Kind::Group => "group",
+    };
+    write!(f, "{kind} {}", name.key.as_str())
+}
+
+impl fmt::Display for View {
+    /// A line: `user bob wanted=2 confirmed=1 held=1 version=1 active=true`.
+    fn fmt<W: fmt::Write>(&self, f: &mut fmt::Formatter<W>) -> fmt::Result {
+        write_name(f, &self.name)?;
+        write!(f, " wanted={} confirmed={}", self.wanted, self.confirmed)?;
+        write!(f, " held={} version={}", self.held, self.version)?;
+        match (self.name.kind, self.active) {
+            (Kind::Group, _) => write!(f, " members={}", self.members),
+            (Kind::User, Some(active)) => write!(f, " active={active}"),
+            (Kind::User, None) => f.write_str(" active=-"),
+        }
+    }
+}
+
+/// What is held of a record, by the provider's row of it.
+fn held_in(name: RecordName, wanted: Revision, confirmed: Revision, row: &Stored) -> View
+    ensures { result ≡ viewed name wanted confirmed (Some row.now) }
+{
+    View {
+        name,
+        wanted,
+        confirmed,
+        held: row.content().revision().unwrap_or(Revision::none()),
+        version: row.version(),
+        active: row.content().active(),
+        members: row.content().members().len(),
+    }
+}
+
+/// What nothing is held of.
+fn held_nowhere(name: RecordName, wanted: Revision, confirmed: Revision) -> View
+    ensures { result ≡ viewed name wanted confirmed None }
+{
+    View {
+        name,
+        wanted,
+        confirmed,
+        held: Revision::none(),
+        version: 0,
+        active: None,
+        members: 0,
+    }
+}
+
+/// The provider's row of a record, if it has one.
+fn row_of<R: Registry>(
+    provider: Provider<R>,
+    name: &RecordName,
+) -> (Provider<R>, Result<Option<Stored>, WorldFault>)
+    ensures ok { R.is_faithful result.0 → IfOk result.1 (λ row. row ≡ row_named name.now (R.rows provider)) }
+    ensures reads { OnlyReads R.rows R.is_faithful R.is_honest R.may_hold R.faults R.writes CountsWorldFault provider result.0 result.1 }
+{
+    let mut registry = provider.close();
+    let row = match registry.by_key(name) {
+        Ok(row) => Ok(row),
+        Err(RegistryFault::Store) => Err(WorldFault::Store),
+        Err(RegistryFault::Memory) => Err(WorldFault::Memory),
+    };
+    (Provider::new(registry), row)
+}
+
+impl<R: Registry + Drop, J: Journal + Drop> World<R, J> {
+    /// The bytes of the message with this number, counted from 1. It takes no memory.
+    pub fn message(&self, number: usize) -> Option<&[u8]>
+        ensures { option_copied result ≡ text_at (texts_of self.now.sent.items) number }
+    {
+        match sent_at(&self.sent, number) {
+            Some(message) => Some(message.bytes.as_slice()),
+            None => None,
+        }
+    }
+
+    /// The names of the connector's records: users by key, then groups by key.
+    pub fn names(&self) -> Result<Vec<RecordName>, WorldFault>
+        ensures ok { IfOk result (λ names. names.items ≡ keys self.now.connector.book) }
+        ensures cause { IfErr result (λ fault. fault ≡ faults.Memory) }
+    {
+        Ok(self.connector.names()?)
+    }
+
+    /// What is wanted, confirmed and held of a record.
+    pub fn view(&mut self, name: &RecordName) -> Result<View, WorldFault>
+        ensures reads { OnlyReads R.rows R.is_faithful R.is_honest R.may_hold R.faults R.writes CountsWorldFault self.old.provider self.new.provider result }
+        ensures connector { self.new.connector ≡ self.old.connector }
+        ensures sent { self.new.sent ≡ self.old.sent }
+        ensures shows { R.is_faithful self.new.provider → IfOk result (λ view. view ≡ viewed name.now (wanted_of (book_of self.old.connector.book) name.now) (confirmed_of (book_of self.old.connector.book) name.now) (row_named name.now (R.rows self.old.provider))) }
+    {
+        let row = replace_with(&mut self.provider, name, row_of)?;
+        let wanted = self.connector.wanted(name);
+        let confirmed = self.connector.confirmed(name);
+        let name = name.clone()?;
+        match row {
+            Some(row) => Ok(held_in(name, wanted, confirmed, &row)),
+            None => Ok(held_nowhere(name, wanted, confirmed)),
+        }
+    }
+}
