@@ -46,6 +46,9 @@ fn codes(rt: HostRuntime) -> Result<(), Fail> {
     are_printed(&rt, rt.alloc(), OPEN_FAULTS)?;
     are_printed(&rt, rt.alloc(), ASK_FAULTS)?;
     are_printed(&rt, rt.alloc(), LEARN_FAULTS)?;
-    let change_faults = [(ChangeFault::Store, "C5"), (ChangeFault::Memory, "C6")];
-    are_printed(&rt, rt.alloc(), change_faults.as_slice())
+    let code = ChangeFault::Store.to_string(rt.alloc())?;
+    assert!(&rt; code.as_str() == "C5");
+    let code = ChangeFault::Memory.to_string(rt.alloc())?;
+    assert!(&rt; code.as_str() == "C6");
+    Ok(())
 }

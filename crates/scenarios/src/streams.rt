@@ -272,8 +272,10 @@ fn interruptions_are_calls_and_no_failures(rt: HostRuntime) -> Result<(), Fail> 
     });
     let served = serve(alloc, &mut provider, &base, &mut reader, &mut writer);
     assert_eq!(rt; served, Served::Answered { status: 201 });
-    assert_eq!(rt; (reader.calls(), reader.failures()), (7, 0));
-    assert_eq!(rt; (writer.calls(), writer.failures()), (8, 0));
+    assert_eq!(rt; reader.calls(), 7);
+    assert_eq!(rt; reader.failures(), 0);
+    assert_eq!(rt; writer.calls(), 8);
+    assert_eq!(rt; writer.failures(), 0);
     Ok(())
 }
 
