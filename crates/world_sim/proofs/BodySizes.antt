@@ -1,9 +1,9 @@
 -- How long the bodies of answers are at most.
-use Rattle.std.proofs.Common.{◌≡◌, ℕ, suc, ◌+◌, ◌*◌, ◌<◌, ◌≤◌, Bool, true, false, List, [], ◌∷◌, ◌++◌, length, map, codes, Option, Some, None, option_map, refl, ap, sym, ◌∙◌, subst, arith, length-append, lit<}
+use Rattle.std.proofs.Common.{◌≡◌, ℕ, suc, ◌+◌, ◌*◌, ◌≤◌, Bool, true, false, List, [], ◌∷◌, ◌++◌, length, codes, Option, Some, None, option_map, refl, subst, arith, length-append, lit<}
 use Rattle.std.proofs.lemmas.Fmt.{length-decimal-le}
 use Rattle.std.specs.Fmt.{decimal}
 use Rattle.json.specs.Print.{escape_byte, quoted}
-use Rattle.serde_json.specs.Data.{unsigned, Data, boolean, number, string, array, object, Items, no_items, item, Members, no_members, member}
+use Rattle.serde_json.specs.Data.{unsigned, Data, boolean, number, string, array, object, no_items, item, Members, no_members, member}
 use Rattle.serde_json.specs.Written.{compact_text, comma_if, members_text}
 use Rattle.scim_json.specs.Writing.{member_if, members_from}
 use Rattle.scim_key.specs.declared.records.Kind.{Kind}
@@ -23,7 +23,7 @@ use Rattle.scim_message.specs.Refusals.{IsErrorStatus, refusal_status, refusal_t
 use Rattle.scim_message.specs.declared.lists.ListResponse.{ListResponse}
 use Rattle.scim_message.specs.declared.refusals.Refusal.{Refusal}
 use Rattle.scim_message.specs.declared.refusals.Refusal.TheVariants.{UnreadableBody, ValueNotAllowed, FilterNotSupported, NameFixed, NoSuchResource, NameTaken, OtherVersion, MethodNotSupported, LimitReached, Malformed, Host, LengthMissing, BodyTooLong, HeadTooLong, TransferCoding, Expectation, MediaType, NoSuchPath}
-use Rattle.world_model.proofs.Sizes.{quoted_most, Within, no_more_members, with_part, object_most, ItemsWithin, no_more_items, with_item, array_most, just, key_schemas}
+use Rattle.world_model.proofs.Sizes.{quoted_most, no_more_members, with_part, object_most, ItemsWithin, no_more_items, with_item, array_most, just, key_schemas}
 use Rattle.world_sim.proofs.TextSizes.{IsWithin, location_short}
 
 -- ---- what an id and `meta` add to the text of a content

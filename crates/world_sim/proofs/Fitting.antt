@@ -1,7 +1,7 @@
 -- Every message of a run fits its limits, and is read as it was sent.
-use Rattle.std.proofs.Common.{◌≡◌, ℕ, zero, suc, ◌+◌, ◌^◌, ◌<◌, ◌≤◌, Bool, true, false, cond, ◌==◌, List, [], ◌∷◌, length, Option, Some, None, Result, Ok, Err, refl, ap, sym, ◌∙◌, subst, arith, lit<, eqb-true}
+use Rattle.std.proofs.Common.{◌≡◌, ℕ, suc, ◌≤◌, Bool, true, false, cond, ◌==◌, List, [], ◌∷◌, length, Option, Some, None, Result, Ok, Err, refl, ap, sym, ◌∙◌, subst, arith, eqb-true}
 use Rattle.std.specs.Prelude.{ℤ, pos}
-use Rattle.std.specs.List.{AllByRecursion, slice_get}
+use Rattle.std.specs.List.{slice_get}
 use Rattle.std.proofs.lemmas.Bool.Decides.{nat_tests}
 use Rattle.std.specs.Str.{IsUtf8}
 use Rattle.std.proofs.lemmas.Option.{slice_get_within}
@@ -9,7 +9,7 @@ use Rattle.serde_json.specs.Data.{Data}
 use Rattle.serde_json.specs.Written.{compact_text}
 use Rattle.scim_key.specs.Bases.{IsBase}
 use Rattle.scim_key.specs.Identifiers.{IsId, id_fault, id_text}
-use Rattle.scim_key.specs.Revisions.{RevisionValue, most_revisions}
+use Rattle.scim_key.specs.Revisions.{RevisionValue}
 use Rattle.scim_key.specs.declared.records.Kind.{Kind}
 use Rattle.scim_key.specs.declared.records.Kind.TheVariants as kinds
 use Rattle.scim_key.specs.declared.records.RecordName.{RecordName}
@@ -17,7 +17,7 @@ use Rattle.scim_version.specs.Tags.{version_tag}
 use Rattle.scim_version.specs.declared.conditions.Condition.{Condition}
 use Rattle.scim_version.specs.declared.conditions.Condition.TheVariants.{Always, Tags}
 use Rattle.scim_resource.specs.Contents.{content_kind, content_name}
-use Rattle.scim_resource.specs.Rows.{ShownRecord, IsShownOf, shown}
+use Rattle.scim_resource.specs.Rows.{ShownRecord}
 use Rattle.scim_resource.specs.Locations.{location_text}
 use Rattle.scim_resource.specs.Writing.{content_data, shown_data}
 use Rattle.scim_resource.specs.declared.contents.Content.{Content}
@@ -26,7 +26,7 @@ use Rattle.scim_filter.specs.Expressions.{Expression}
 use Rattle.scim_filter.specs.Names.{name_filter}
 use Rattle.scim_filter.specs.declared.terms.TextAttribute.TheVariants.{UserName, DisplayName}
 use Rattle.scim_message.specs.Bodies.{body_text as answer_body, list_data, error_data}
-use Rattle.scim_message.specs.Fitting.{Fits, Fits.created, Fits.listed as listed_so, Fits.replaced, Fits.refused, IsLawful as IsLawfulShown, AreLawful, ShowsLawfully, AreShownOf, IsListOf, IsErrorOf, IsTold}
+use Rattle.scim_message.specs.Fitting.{Fits, Fits.created, Fits.listed as listed_so, Fits.replaced, Fits.refused, AreLawful, ShowsLawfully, AreShownOf}
 use Rattle.scim_message.specs.Refusals.{ErrorRecord, error_of}
 use Rattle.scim_message.specs.declared.lists.ListResponse.{ListResponse}
 use Rattle.scim_message.specs.declared.messages.Answer.{Answer}
@@ -35,10 +35,10 @@ use Rattle.scim_message.specs.declared.messages.Answer.TheVariants as answers
 use Rattle.scim_message.specs.declared.messages.Request.{Request}
 use Rattle.scim_message.specs.declared.messages.Request.TheVariants.{Create, Retrieve, Search, Replace}
 use Rattle.scim_message.specs.declared.refusals.Refusal.{Refusal}
-use Rattle.scim_message.specs.declared.refusals.Refusal.TheVariants.{UnreadableBody, ValueNotAllowed, FilterNotSupported, NameFixed, NoSuchResource, NameTaken, OtherVersion, MethodNotSupported, LimitReached, Malformed, Host, LengthMissing, BodyTooLong, HeadTooLong, TransferCoding, Expectation, MediaType, NoSuchPath}
+use Rattle.scim_message.specs.declared.refusals.Refusal.TheVariants.{NameFixed, NoSuchResource, NameTaken, OtherVersion, LimitReached}
 use Rattle.provider_core.specs.Searches.{first_place}
-use Rattle.provider_core.specs.Stories.{Entry, Numbered, story, step, creating_entry, writing_entry, replacing_entry, entry_with_id, found_entries}
-use Rattle.provider_core.specs.Tables.{IsFact, shown_in}
+use Rattle.provider_core.specs.Stories.{Entry, Numbered, story, step, creating_entry, writing_entry, replacing_entry}
+use Rattle.provider_core.specs.Tables.{IsFact}
 use Rattle.source_csv.specs.Records.{IsRow, row_name}
 use Rattle.source_csv.specs.declared.rows.Row.{Row}
 use Rattle.source_csv.specs.declared.rows.Row.TheVariants as rows
@@ -46,18 +46,18 @@ use Rattle.connector_core.specs.Asking.{search_for}
 use Rattle.connector_core.specs.declared.learning.LearnFault.{LearnFault}
 use Rattle.connector_core.specs.declared.learning.LearnFault.TheVariants as faults
 use Rattle.scim_filter.specs.Texts.{filter_text, nesting}
-use Rattle.connector_core.specs.Learning.{Finding, Shows, Shows_none, finding, listed, subject}
-use Rattle.world_model.specs.Safe.{IsAt, Has, IsImage, IsVersion}
-use Rattle.world_model.specs.Untroubled.{longest_body, IsLawful}
-use Rattle.world_model.specs.World.{World, Message, Asked, Answered, Event, empty, run}
+use Rattle.connector_core.specs.Learning.{Finding, Shows, Shows_none, listed, subject}
+use Rattle.world_model.specs.Safe.{IsAt, IsImage, IsVersion}
+use Rattle.world_model.specs.Untroubled.{longest_body}
+use Rattle.world_model.specs.World.{World, Message, Asked, Answered, empty, run}
 use Rattle.world_model.proofs.Answering.{Answers}
 use Rattle.world_model.proofs.Quiet.{Quiet, image_short, always_quiet}
 use Rattle.world_model.proofs.Ranking.{row_lawful, versions_few}
 use Rattle.world_model.proofs.Searched.{search_subject, kind_of}
 use Rattle.world_model.proofs.Sizes.{quoted_most, user_name_short, group_name_short}
-use Rattle.world_model.proofs.Telling.{AskedTruly, ShowsTruly, Overwrites, Sought}
+use Rattle.world_model.proofs.Telling.{AskedTruly, ShowsTruly, Sought}
 use Rattle.scim_client.specs.AnswerLaws.{KeepsAnswerLimits}
-use Rattle.scim_client.specs.Answers.{AnswersSo, answer_in, etag_of}
+use Rattle.scim_client.specs.Answers.{AnswersSo, etag_of}
 use Rattle.scim_client.specs.Spelling.{IsWritable, KeepsLimits, IsIdText}
 use Rattle.scim_client.proofs.AnswerLaws.{answers_are_read}
 use Rattle.scim_message.specs.declared.answers.BodyFault.{BodyFault}
@@ -70,7 +70,7 @@ use Rattle.world_sim.specs.Messages.{message_text}
 use Rattle.world_sim.specs.Reading.{IsReadAs}
 use Rattle.world_sim.proofs.BodySizes.{IsBrief as IsBriefShown, shown_most, list_most, error_most, error_lawful}
 use Rattle.world_sim.proofs.TextSizes.{IsWithin}
-use Rattle.world_sim.proofs.Given.{IsPlain, IsGiven, AllSaid, always_said}
+use Rattle.world_sim.proofs.Given.{IsPlain, AllSaid, always_said}
 use Rattle.world_sim.proofs.HeadSizes.{base_short, id_short, tag_short, keeps_limits, create_brief, replace_brief, search_brief, within, nothing_within, location_within, length_within, id_length, IsBriefAnswer, keeps_answer_limits}
 
 body_small : (kind : Kind) → longest_body kind ≤ 21000

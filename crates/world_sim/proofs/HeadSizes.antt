@@ -1,11 +1,10 @@
 -- Every request of a run keeps the limits of heads and bodies, and so does every answer.
-use Rattle.std.proofs.Common.{◌≡◌, ℕ, suc, ◌+◌, ◌*◌, ◌-◌, ◌/◌, ◌%◌, ◌^◌, ◌<◌, ◌≤◌, Bool, true, false, List, [], ◌∷◌, ◌++◌, length, codes, take, drop, Option, Some, None, refl, ap, sym, ◌∙◌, subst, arith, length-append, length-take, length-drop, append-nil, lit<}
-use Rattle.std.specs.Prelude.{ℤ, pos, zero}
+use Rattle.std.proofs.Common.{◌≡◌, ℕ, suc, ◌+◌, ◌*◌, ◌-◌, ◌/◌, ◌%◌, ◌≤◌, Bool, true, false, List, [], ◌∷◌, ◌++◌, length, codes, take, Option, Some, None, refl, ap, subst, arith, length-append, length-take, length-drop, append-nil, lit<}
+use Rattle.std.specs.Prelude.{pos, zero}
 use Rattle.std.proofs.lemmas.Bool.Decides.{nat_tests}
 use Rattle.std.proofs.lemmas.Fmt.{length-decimal-le}
 use Rattle.std.specs.Fmt.{decimal}
 use Rattle.std.specs.List.{join_by}
-use Rattle.json.specs.Print.{quoted}
 use Rattle.serde_json.specs.Written.{compact_text}
 use Rattle.form_urlencoded.specs.Form.{append_pair}
 use Rattle.scim_key.specs.Bases.{IsBase, base_fault, authority_of}
@@ -14,7 +13,6 @@ use Rattle.scim_key.specs.Revisions.{most_revisions}
 use Rattle.scim_key.specs.declared.records.Kind.{Kind}
 use Rattle.scim_key.specs.declared.records.Kind.TheVariants as kinds
 use Rattle.scim_version.specs.Tags.{version_tag}
-use Rattle.scim_version.specs.declared.conditions.Condition.{Condition}
 use Rattle.scim_version.specs.declared.conditions.Condition.TheVariants.{Always, Tags}
 use Rattle.scim_resource.specs.Contents.{content_kind}
 use Rattle.scim_resource.specs.Locations.{escaped, location_text}
@@ -28,10 +26,10 @@ use Rattle.scim_message.specs.declared.messages.Answer.{Answer}
 use Rattle.scim_message.specs.Bodies.{body_text as answer_body}
 use Rattle.scim_message.specs.Messages.{answer_status}
 use Rattle.scim_server.specs.Laws.{resource_path}
-use Rattle.scim_server.specs.Replies.{Line, written_lines, stated_type, lines_of as reply_lines_of, answer_lines, answer_text, shown_location, shown_tag, is_created, stated_length as reply_length, value_if}
+use Rattle.scim_server.specs.Replies.{Line, written_lines, stated_type, lines_of as reply_lines_of, answer_lines, shown_location, shown_tag, is_created, stated_length as reply_length, value_if}
 use Rattle.scim_server.specs.Routes.{collection_path}
 use Rattle.scim_client.specs.AnswerLaws.{KeepsAnswerLimits}
-use Rattle.scim_client.specs.Requests.{with_query, query_text, target_text, method_text, body_text, body_sent, stated_length, condition_value, if_match_of, if_none_match_of, lines_of, request_lines, text_of}
+use Rattle.scim_client.specs.Requests.{with_query, target_text, method_text, body_text, stated_length, condition_value, if_match_of, if_none_match_of, lines_of, request_lines}
 use Rattle.scim_client.specs.Spelling.{KeepsLimits}
 use Rattle.world_sim.proofs.TextSizes.{IsWithin, printed, no_lines, with_line, request_most, response_most, escaped_short, parameter_short, location_short}
 

@@ -1,6 +1,6 @@
 -- What bytes are read as, and that no first part of a message is read.
-use Rattle.std.proofs.Common.{◌≡◌, ℕ, ◌+◌, ◌-◌, ◌<◌, ◌≤◌, inl, inr, List, [], ◌++◌, length, take, drop, Result, Ok, Err, refl, ap, sym, ◌∙◌, subst, arith, length-drop}
-use Rattle.std.specs.Prelude.{IfOk, ◌⊎◌}
+use Rattle.std.proofs.Common.{◌≡◌, ℕ, ◌<◌, inl, inr, List, [], ◌++◌, length, take, drop, Result, Ok, Err, refl, ap, sym, ◌∙◌, subst, arith, length-drop}
+use Rattle.std.specs.Prelude.{IfOk}
 use Rattle.std.proofs.lemmas.List.{take-append-drop}
 use Rattle.scim_message.specs.declared.messages.Answer.{Answer}
 use Rattle.scim_message.specs.declared.messages.Request.{Request}
@@ -17,7 +17,7 @@ use Rattle.scim_client.specs.declared.answers.AnswerFault.TheVariants.{NotOneRes
 use Rattle.scim_client.specs.Answers.{AnswersSo, IsOrMemory as IsAnswerOrMemory}
 use Rattle.scim_client.specs.Spelling.{SpellsRequest}
 use Rattle.scim_client.proofs.RequestLaws.{one_request}
-use Rattle.world_model.specs.World.{Message, Asked, Answered}
+use Rattle.world_model.specs.World.{Message}
 use Rattle.world_sim.specs.Reading.{IsReadAs, IsOrMemory, MeansSo, reading_fault}
 use Rattle.world_sim.specs.declared.reading.ReadingFault.{ReadingFault}
 use Rattle.world_sim.specs.declared.reading.ReadingFault.TheVariants.{Unread, Memory}
