@@ -1,4 +1,5 @@
 pub mod Messages
 pub mod Events
+pub mod Sides
 pub mod Running
 pub mod Views

@@ -5,6 +5,7 @@ mod events;
 mod messages;
 mod reports;
 mod runs;
+mod sides;
 mod views;
 mod worlds;
 
