@@ -1,12 +1,16 @@
 //! Whole runs of both sides over memory: messages lost, late, repeated, and restarts.
-use crate::offers::{named, users};
+use crate::offers::{groups, named, users};
+use connector_core::{ChangeFault, LearnFault};
 use journal_core::MemoryJournal;
 use provider_core::MemoryRegistry;
-use scim_key::{Base, Kind};
+use scim_key::{Base, Kind, RecordName};
+use source_csv::SourceRows;
 use std::alloc::Global;
 use std::process::Abort;
 use std::test::Fail;
-use world_sim::{Event, run};
+use world_sim::{Event, Report, World, WorldFault, run};
+
+type MemoryWorld = World<MemoryRegistry, MemoryJournal>;
 
 /// An event and what it reports.
 type Told = (&'static str, &'static str);
@@ -14,27 +18,36 @@ type Told = (&'static str, &'static str);
 /// Bob's creation, until it is confirmed.
 static CREATED: &[Told] = &[
     ("user bob,1,,,,,active", "new"),
-    ("send bob", "find 1"),
+    ("send user bob", "find 1"),
     ("deliver 1", "answer 2 200"),
     ("deliver 2", "absent"),
-    ("send bob", "create 3"),
+    ("send user bob", "create 3"),
     ("deliver 3", "answer 4 201"),
     ("deliver 4", "confirmed 1"),
 ];
 
-/// The one row of a file of users.
-fn offered(alloc: Global, record: &str) -> Result<Event, Fail> {
-    let rows = users(alloc, record)?;
+/// The one row of a file.
+fn offered(rows: &SourceRows) -> Result<Event, Fail> {
     match rows.as_slice().first() {
         Some(Ok(row)) => Ok(Event::Change(row.clone()?)),
         _ => Err(Fail::from("no row")),
     }
 }
 
+/// `user bob` or `group crew`.
+fn record(alloc: Global, text: &str) -> Result<RecordName, Fail> {
+    match text.split_once(' ') {
+        Some(("user", key)) => named(alloc, Kind::User, key),
+        Some(("group", key)) => named(alloc, Kind::Group, key),
+        _ => Err(Fail::from("no record")),
+    }
+}
+
 fn event(alloc: Global, text: &str) -> Result<Event, Fail> {
     match text.split_once(' ') {
-        Some(("user", record)) => offered(alloc, record),
-        Some(("send", key)) => Ok(Event::Send(named(alloc, Kind::User, key)?)),
+        Some(("user", record)) => offered(&users(alloc, record)?),
+        Some(("group", record)) => offered(&groups(alloc, record)?),
+        Some(("send", name)) => Ok(Event::Send(record(alloc, name)?)),
         Some(("deliver", number)) => Ok(Event::Deliver(number.parse()?)),
         Some(("cut", number)) => Ok(Event::Cut {
             number: number.parse()?,
@@ -46,8 +59,8 @@ fn event(alloc: Global, text: &str) -> Result<Event, Fail> {
     }
 }
 
-/// Asserts the report of each event of a run.
-fn runs(rt: &impl Abort, alloc: Global, parts: &[&[Told]]) -> Result<(), Fail> {
+/// Asserts the report of each event of a run, and gives the world after it.
+fn runs(rt: &impl Abort, alloc: Global, parts: &[&[Told]]) -> Result<MemoryWorld, Fail> {
     let base = Base::read(alloc, "http://localhost:8080/v2")?;
     let mut events = Vec::new(alloc);
     for part in parts {
@@ -57,7 +70,7 @@ fn runs(rt: &impl Abort, alloc: Global, parts: &[&[Told]]) -> Result<(), Fail> {
     }
     let registry = MemoryRegistry::new(alloc);
     let journal = MemoryJournal::new(alloc);
-    let (_, reports) = run(alloc, registry, journal, base, events.as_slice())?;
+    let (world, reports) = run(alloc, registry, journal, base, events.as_slice())?;
     let mut told = reports.iter();
     for part in parts {
         for (text, expected) in *part {
@@ -65,27 +78,49 @@ fn runs(rt: &impl Abort, alloc: Global, parts: &[&[Told]]) -> Result<(), Fail> {
             assert_eq!(rt; report.as_str(), *expected, "{text}");
         }
     }
+    Ok(world)
+}
+
+/// Asserts what is shown of each record, in the order of names.
+fn shows(
+    rt: &impl Abort,
+    alloc: Global,
+    mut world: MemoryWorld,
+    lines: &[&str],
+) -> Result<(), Fail> {
+    let names = world.names()?;
+    assert_eq!(rt; names.len(), lines.len());
+    for (name, line) in names.iter().zip(lines.iter()) {
+        let shown = world.view(name)?.to_string(alloc)?;
+        assert_eq!(rt; shown.as_str(), *line);
+    }
     Ok(())
 }
 
 #[test]
 fn a_user_is_created_and_confirmed(rt: HostRuntime) -> Result<(), Fail> {
     let end: &[Told] = &[
-        ("send bob", "nothing"),
-        ("send zoe", "C7"),
+        ("send user bob", "nothing"),
+        ("send user zoe", "C7"),
         ("deliver 5", "none"),
         ("deliver 0", "none"),
         ("cut 4", "cut"),
         ("cut 9", "none"),
     ];
-    runs(&rt, rt.alloc(), &[CREATED, end])
+    let world = runs(&rt, rt.alloc(), &[CREATED, end])?;
+    shows(
+        &rt,
+        rt.alloc(),
+        world,
+        &["user bob wanted=1 confirmed=1 held=1 version=1 active=true"],
+    )
 }
 
 static TWO_REPLACEMENTS: &[Told] = &[
     ("user bob,2,,,,,active", "new"),
-    ("send bob", "replace 5"),
+    ("send user bob", "replace 5"),
     ("user bob,3,,,,,active", "new"),
-    ("send bob", "replace 6"),
+    ("send user bob", "replace 6"),
 ];
 
 #[test]
@@ -94,15 +129,21 @@ fn an_overtaken_replacement_is_found_out(rt: HostRuntime) -> Result<(), Fail> {
         ("deliver 5", "answer 7 200"),
         ("deliver 6", "answer 8 412"),
         ("deliver 8", "forgotten"),
-        ("send bob", "find 9"),
+        ("send user bob", "find 9"),
         ("deliver 9", "answer 10 200"),
         ("deliver 10", "confirmed 2"),
-        ("send bob", "replace 11"),
+        ("send user bob", "replace 11"),
         ("deliver 11", "answer 12 200"),
         ("deliver 12", "confirmed 3"),
         ("deliver 7", "seen"),
     ];
-    runs(&rt, rt.alloc(), &[CREATED, TWO_REPLACEMENTS, end])
+    let world = runs(&rt, rt.alloc(), &[CREATED, TWO_REPLACEMENTS, end])?;
+    shows(
+        &rt,
+        rt.alloc(),
+        world,
+        &["user bob wanted=3 confirmed=3 held=3 version=3 active=true"],
+    )
 }
 
 #[test]
@@ -113,7 +154,13 @@ fn a_late_replacement_changes_nothing(rt: HostRuntime) -> Result<(), Fail> {
         ("deliver 8", "forgotten"),
         ("deliver 7", "confirmed 3"),
     ];
-    runs(&rt, rt.alloc(), &[CREATED, TWO_REPLACEMENTS, end])
+    let world = runs(&rt, rt.alloc(), &[CREATED, TWO_REPLACEMENTS, end])?;
+    shows(
+        &rt,
+        rt.alloc(),
+        world,
+        &["user bob wanted=3 confirmed=3 held=3 version=2 active=true"],
+    )
 }
 
 #[test]
@@ -122,17 +169,23 @@ fn a_revision_is_confirmed_by_what_was_shown(rt: HostRuntime) -> Result<(), Fail
         ("deliver 5", "answer 7 200"),
         ("deliver 6", "answer 8 412"),
         ("deliver 7", "confirmed 2"),
-        ("send bob", "replace 9"),
+        ("send user bob", "replace 9"),
         ("deliver 8", "nothing"),
     ];
-    runs(&rt, rt.alloc(), &[CREATED, TWO_REPLACEMENTS, end])
+    let world = runs(&rt, rt.alloc(), &[CREATED, TWO_REPLACEMENTS, end])?;
+    shows(
+        &rt,
+        rt.alloc(),
+        world,
+        &["user bob wanted=3 confirmed=2 held=2 version=2 active=true"],
+    )
 }
 
 #[test]
 fn a_second_creation_is_refused(rt: HostRuntime) -> Result<(), Fail> {
     let end: &[Told] = &[
         ("user bob,2,,,,,active", "new"),
-        ("send bob", "create 4"),
+        ("send user bob", "create 4"),
         ("deliver 4", "answer 5 201"),
         ("deliver 3", "answer 6 409"),
         ("deliver 6", "forgotten"),
@@ -140,28 +193,40 @@ fn a_second_creation_is_refused(rt: HostRuntime) -> Result<(), Fail> {
         ("deliver 6", "nothing"),
         ("deliver 2", "nothing"),
     ];
-    runs(&rt, rt.alloc(), &[&CREATED[..5], end])
+    let world = runs(&rt, rt.alloc(), &[&CREATED[..5], end])?;
+    shows(
+        &rt,
+        rt.alloc(),
+        world,
+        &["user bob wanted=2 confirmed=2 held=2 version=1 active=true"],
+    )
 }
 
 #[test]
 fn restarts_lose_nothing_that_was_confirmed(rt: HostRuntime) -> Result<(), Fail> {
     let end: &[Told] = &[
         ("user bob,2,,,,,active", "new"),
-        ("send bob", "replace 5"),
+        ("send user bob", "replace 5"),
         ("restart connector", "restarted"),
-        ("send bob", "find 6"),
+        ("send user bob", "find 6"),
         ("deliver 5", "answer 7 200"),
         ("restart provider", "restarted"),
         ("deliver 7", "confirmed 2"),
     ];
-    runs(&rt, rt.alloc(), &[CREATED, end])
+    let world = runs(&rt, rt.alloc(), &[CREATED, end])?;
+    shows(
+        &rt,
+        rt.alloc(),
+        world,
+        &["user bob wanted=2 confirmed=2 held=2 version=2 active=true"],
+    )
 }
 
 #[test]
 fn a_leaver_stays_switched_off(rt: HostRuntime) -> Result<(), Fail> {
     let end: &[Told] = &[
         ("user bob,4,,,,,left", "new"),
-        ("send bob", "replace 5"),
+        ("send user bob", "replace 5"),
         ("deliver 5", "answer 6 200"),
         ("deliver 6", "confirmed 4"),
         ("deliver 6", "seen"),
@@ -170,7 +235,81 @@ fn a_leaver_stays_switched_off(rt: HostRuntime) -> Result<(), Fail> {
         ("deliver 3", "answer 8 409"),
         ("deliver 2", "nothing"),
         ("deliver 1", "answer 9 200"),
-        ("send bob", "nothing"),
+        ("send user bob", "nothing"),
     ];
-    runs(&rt, rt.alloc(), &[CREATED, end])
+    let world = runs(&rt, rt.alloc(), &[CREATED, end])?;
+    shows(
+        &rt,
+        rt.alloc(),
+        world,
+        &["user bob wanted=4 confirmed=4 held=4 version=2 active=false"],
+    )
+}
+
+#[test]
+fn a_group_waits_for_its_members(rt: HostRuntime) -> Result<(), Fail> {
+    let changes: &[Told] = &[
+        ("user bob,1,,,,,active", "new"),
+        ("user ann,1,,,,,active", "new"),
+        ("group crew,1,bob ann", "new"),
+    ];
+    let end: &[Told] = &[("send group crew", "waits ann")];
+    let world = runs(&rt, rt.alloc(), &[changes, &CREATED[1..], end])?;
+    let lines = [
+        "user ann wanted=1 confirmed=0 held=0 version=0 active=-",
+        "user bob wanted=1 confirmed=1 held=1 version=1 active=true",
+        "group crew wanted=1 confirmed=0 held=0 version=0 members=0",
+    ];
+    shows(&rt, rt.alloc(), world, &lines)
+}
+
+#[test]
+fn rows_are_judged(rt: HostRuntime) -> Result<(), Fail> {
+    let changes: &[Told] = &[
+        ("user ann,2000000000,,,,,active", "new"),
+        ("user ann,2000000000,,,,,active", "known"),
+        ("user ann,1,,,,,active", "older"),
+        ("user ann,2000000000,,,,ann@example.com,active", "S7"),
+        ("group crew,1,zoe", "S8 zoe"),
+    ];
+    let world = runs(&rt, rt.alloc(), &[changes])?;
+    let lines = ["user ann wanted=2000000000 confirmed=0 held=0 version=0 active=-"];
+    shows(&rt, rt.alloc(), world, &lines)
+}
+
+static CREATE_BOB: &str =
+    "POST /v2/Users HTTP/1.1\r\nHost: localhost:8080\r\nAccept: application/scim+json\r\nConnection: close\r\nContent-Length: 214\r\nContent-Type: application/scim+json\r\n\r\n{\"active\":true,\"schemas\":[\"urn:ietf:params:scim:schemas:core:2.0:User\",\"urn:example:params:scim:schemas:extension:source:1.0\"],\"urn:example:params:scim:schemas:extension:source:1.0\":{\"revision\":1},\"userName\":\"bob\"}";
+
+static BOB_CREATED: &str =
+    "HTTP/1.1 201 Created\r\nConnection: close\r\nContent-Length: 388\r\nContent-Location: http://localhost:8080/v2/Users/5c1a0000-0000-8000-8000-000000000001\r\nContent-Type: application/scim+json\r\nETag: \"1\"\r\nLocation: http://localhost:8080/v2/Users/5c1a0000-0000-8000-8000-000000000001\r\n\r\n{\"active\":true,\"id\":\"5c1a0000-0000-8000-8000-000000000001\",\"meta\":{\"location\":\"http://localhost:8080/v2/Users/5c1a0000-0000-8000-8000-000000000001\",\"resourceType\":\"User\",\"version\":\"\\\"1\\\"\"},\"schemas\":[\"urn:ietf:params:scim:schemas:core:2.0:User\",\"urn:example:params:scim:schemas:extension:source:1.0\"],\"urn:example:params:scim:schemas:extension:source:1.0\":{\"revision\":1},\"userName\":\"bob\"}";
+
+#[test]
+fn messages_are_kept_in_their_bytes(rt: HostRuntime) -> Result<(), Fail> {
+    let world = runs(&rt, rt.alloc(), &[CREATED])?;
+    assert!(rt; world.message(3) == Some(CREATE_BOB.as_bytes()));
+    assert!(rt; world.message(4) == Some(BOB_CREATED.as_bytes()));
+    assert!(rt; world.message(0).is_none());
+    assert!(rt; world.message(5).is_none());
+    Ok(())
+}
+
+/// What a run reports of the connector's own requests is never one of these.
+#[test]
+fn refusals_are_told_by_their_codes(rt: HostRuntime) -> Result<(), Fail> {
+    let reports = [
+        (Report::Judged(Err(ChangeFault::TooMany)), "S12"),
+        (Report::Taught(Err(LearnFault::Unfit)), "C1"),
+        (Report::Taught(Err(LearnFault::Unversioned)), "C2"),
+        (
+            Report::Taught(Err(LearnFault::Refused { status: 502 })),
+            "C4 502",
+        ),
+        (Report::Taught(Err(LearnFault::NoSuchRecord)), "C7"),
+    ];
+    for (report, text) in &reports {
+        assert_eq!(rt; report.to_string(rt.alloc())?.as_str(), *text);
+    }
+    assert_eq!(rt; WorldFault::Memory.to_string(rt.alloc())?.as_str(), "Z1");
+    assert_eq!(rt; WorldFault::Store.to_string(rt.alloc())?.as_str(), "Z2");
+    Ok(())
 }

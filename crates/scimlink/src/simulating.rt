@@ -38,8 +38,8 @@ fn run<W: Write>(
 ) -> Result<Status, RunFault> {
     let registry = MemoryRegistry::new(alloc);
     let journal = MemoryJournal::new(alloc);
-    let world = World::new(alloc, registry, journal, base)?;
-    let (mut world, reports) = print_reports(alloc, world, events, out)?;
+    let mut world = MemoryWorld::new(alloc, registry, journal, base).map_err(|refused| refused.0)?;
+    let reports = print_reports(alloc, &mut world, events, out)?;
     let views = print_views(alloc, &mut world, out)?;
     out.flush()?;
     Ok(simulated_status(reports.as_slice(), views.as_slice()))
@@ -48,18 +48,17 @@ fn run<W: Write>(
 /// Runs these events, and prints a line for each: its number from 1 and what it reports.
 fn print_reports<W: Write>(
     alloc: Global,
-    mut world: MemoryWorld,
+    world: &mut MemoryWorld,
     events: &[Event],
     out: &mut W,
-) -> Result<(MemoryWorld, Vec<Report>), RunFault> {
+) -> Result<Vec<Report>, RunFault> {
     let mut reports = Vec::new(alloc);
     for event in events {
-        let (next, report) = world.step(event)?;
-        world = next;
+        let report = world.step(event)?;
         writeln!(out, "{} {report}", reports.len() + 1)?;
         reports.push(report)?;
     }
-    Ok((world, reports))
+    Ok(reports)
 }
 
 /// Prints a line for each record: users by key, then groups by key.

@@ -1,7 +1,9 @@
 -- What an event of code is, and what a report of code says.
-use Rattle.std.specs.Prelude.{Bool, true, false, List, map}
+use Rattle.std.specs.Prelude.{List, map}
 use Rattle.provider_core.specs.declared.provider.ProviderFault.{ProviderFault}
 use Rattle.provider_core.specs.declared.provider.ProviderFault.TheVariants as provider
+use Rattle.connector_core.specs.declared.opening.OpenFault.{OpenFault}
+use Rattle.connector_core.specs.declared.opening.OpenFault.TheVariants as opening
 use Rattle.world_model.specs.World.{Event, Changes, Sends, Delivers, Cuts, Restarts_provider, Restarts_connector}
 use Rattle.world_model.specs.Reports as model
 use Rattle.world_sim.specs.declared.events.Event.{Event as EventOf}
@@ -41,11 +43,7 @@ abbrev pub world_fault : ProviderFault → WorldFault
 world_fault provider.Store = worlds.Store
 world_fault provider.Memory = worlds.Memory
 
--- whether the connector is opened again
-abbrev pub is_restart : EventOf → Bool
-is_restart (events.Change row) = false
-is_restart (events.Send name) = false
-is_restart (events.Deliver number) = false
-is_restart (events.Cut number length) = false
-is_restart events.RestartProvider = false
-is_restart events.RestartConnector = true
+-- the same at a fault of opening its connector
+abbrev pub opening_fault : OpenFault → WorldFault
+opening_fault opening.Store = worlds.Store
+opening_fault opening.Memory = worlds.Memory

@@ -1,5 +1,6 @@
 pub mod Messages
 pub mod Events
+pub mod Sides
 pub mod Running
 pub mod Reading
 pub mod Fitting

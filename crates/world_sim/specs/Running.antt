@@ -1,77 +1,190 @@
 -- What a world of the model shows of the world that runs.
-use Rattle.std.specs.Prelude.{◌≡◌, ℕ, List, [], ◌++◌, map}
-use Rattle.std.specs.FinMap.{keys}
+use Rattle.std.specs.Prelude.{◌≡◌, ◌⊎◌, ℕ, Bool, true, false, List, [], ◌++◌, map, Option, Some, None, Result, Ok, Err}
+use Rattle.std.specs.FinMap.{get, keys}
 use Rattle.std.specs.FinMap as fin
+use Rattle.std.specs.Option.{option_map}
+use Rattle.scim_key.specs.Stores.{HasRisen}
+use Rattle.scim_key.specs.declared.records.RecordName.{RecordName}
+use Rattle.scim_resource.specs.Rows.{StoredRecord}
 use Rattle.provider_core.specs.Stories.{IsTable}
 use Rattle.provider_core.specs.declared.registry.Registry.{Ghosts as Registries}
 use Rattle.journal_core.specs.declared.journals.Journal.{Ghosts as Journals}
+use Rattle.connector_core.specs.Book.{Book}
 use Rattle.connector_core.specs.Maps.{book_of}
-use Rattle.connector_core.specs.State.{State}
-use Rattle.world_model.specs.World.{World, Event, Message, names, arrives, happens, empty, run}
+use Rattle.connector_core.specs.State.{opened}
+use Rattle.world_model.specs.World.{World, Message, Asked, Answered, Event, Changes, Sends, Delivers, Cuts, Restarts_provider, Restarts_connector, message_at, names as world_names, arrives, happens, empty, run}
 use Rattle.world_model.specs.Reports.{Report, report, reports, arrival_report}
-use Rattle.world_model.specs.Safe.{Headline, Onward, Safe, rows}
+use Rattle.world_model.specs.Safe.{Headline, Onward, Safe, rows as world_rows}
 use Rattle.world_sim.specs.Messages.{message_text, message_size, messages_of, texts_of}
 use Rattle.world_sim.specs.Events.{report_of}
-use Rattle.world_sim.specs.declared.messages.Sent.{Sent}
 use Rattle.world_sim.specs.declared.reports.Report.{Report as ReportOf}
+use Rattle.world_sim.specs.declared.reports.WorldFault.{WorldFault}
+use Rattle.world_sim.specs.declared.reports.WorldFault.TheVariants.{Memory, Store}
+use Rattle.world_sim.specs.declared.sides.Side.{Side}
+use Rattle.world_sim.specs.declared.sides.Side.TheVariants.{Open, Shut}
+use Rattle.world_sim.specs.declared.worlds.World.{World as Running}
 
--- what runs: the provider's registry, the connector, and the messages, where the service has this base
-pub record Running (R J : Type 0) : Type 0 where
-  pub registry : R
-  pub connector : State J
-  pub base : List ℕ
-  pub sent : List Sent
+-- ---- the connector's side
 
-abbrev pub running : {R J : Type 0} → R → State J → List ℕ → List Sent → Running R J
-running registry connector base sent = record { registry = registry; connector = connector; base = base; sent = sent }
+abbrev pub journal_in : {J : Type 0} → Side J → J
+journal_in (Open connector) = connector.journal
+journal_in (Shut journal) = journal
+
+abbrev pub is_open : {J : Type 0} → Side J → Bool
+is_open (Open connector) = true
+is_open (Shut journal) = false
+
+-- the book of the connector; of a journal alone that of its entries, of all of which nothing was seen
+abbrev pub book_in : {J : Type 0} → Journals J → Side J → Book
+book_in h (Open connector) = book_of connector.book
+book_in h (Shut journal) = λ name. option_map opened (get (h.entries journal) name)
+
+-- the names of its records
+abbrev pub names_in : {J : Type 0} → Journals J → Side J → List RecordName
+names_in h (Open connector) = keys connector.book
+names_in h (Shut journal) = keys (h.entries journal)
+
+-- ---- what runs
+
+-- whether the provider, and whether the connector, is open since a restart was tried last
+abbrev pub opens_of : {R J : Type 0} → Running R J → Bool × Bool
+opens_of r = (r.is_provider_open, is_open r.connector)
+
+-- the same after an event: a side is open after a restart of it that was done, and shut after one that failed
+abbrev pub opens_after : Event → (done : Bool) → Bool × Bool → Bool × Bool
+opens_after (Changes row) done opens = opens
+opens_after (Sends name) done opens = opens
+opens_after (Delivers number) done opens = opens
+opens_after (Cuts number length) done opens = opens
+opens_after Restarts_provider done opens = (done, opens.1)
+opens_after Restarts_connector done opens = (opens.0, done)
+
+-- after a restart of the provider its registry is open
+abbrev pub IsOpenedBy : {R : Type 0} → Registries R → R → Event → Type 0
+IsOpenedBy g registry (Changes row) = Unit {0}
+IsOpenedBy g registry (Sends name) = Unit {0}
+IsOpenedBy g registry (Delivers number) = Unit {0}
+IsOpenedBy g registry (Cuts number length) = Unit {0}
+IsOpenedBy g registry Restarts_provider = g.is_honest registry → g.is_faithful registry
+IsOpenedBy g registry Restarts_connector = Unit {0}
 
 -- Both stores returned what was committed, and the journal's is open
 pub record IsSound {R J : Type 0} (g : Registries R) (h : Journals J) (r : Running R J) : Type 0 where
-  pub registry : g.is_honest r.registry
-  pub journal : h.is_faithful r.connector.journal
+  pub registry : g.is_honest r.provider
+  pub journal : h.is_faithful (journal_in r.connector)
 
--- What runs is this world: its rows, its book, the names of its records, and its messages, each in its bytes
+-- What runs is this world: its rows, also where the registry is opened again, its book, the names of its records, and its
+-- messages, each in its bytes
 pub record Is {R J : Type 0} (g : Registries R) (h : Journals J) (r : Running R J) (w : World) : Type 0 where
-  pub is_open : g.is_faithful r.registry
-  pub rows : g.rows r.registry ≡ rows w
+  pub rows : g.is_faithful r.provider → g.rows r.provider ≡ world_rows w
+  pub found : (found : List StoredRecord) → g.may_hold r.provider found → found ≡ world_rows w
   pub table : IsTable w.entries
-  pub book : book_of r.connector.book ≡ w.book
-  pub names : keys r.connector.book ≡ names w
-  pub messages : messages_of r.sent ≡ w.messages
-  pub texts : texts_of r.sent ≡ map (message_text r.base) w.messages
+  pub book : book_in h r.connector ≡ w.book
+  pub names : names_in h r.connector ≡ world_names w
+  pub messages : messages_of r.sent.items ≡ w.messages
+  pub texts : texts_of r.sent.items ≡ map (message_text r.service) w.messages
 
--- What was done, with its report: where the stores are sound after it, they were so before, and of each world that ran before it
--- the world after it runs now
+-- ---- what is done
+
+-- What was done, with its report: where the stores are sound after it, they were so before, an open registry stays open, and of
+-- each world that ran before it the world after it runs now
 pub record Makes {R J : Type 0} (g : Registries R) (h : Journals J) (old new : Running R J) (after : World → World) (says : World → Report) (told : ReportOf) : Type 0 where
   pub was : IsSound g h new → IsSound g h old
-  pub base : new.base ≡ old.base
+  pub base : new.service ≡ old.service
+  pub stays_open : IsSound g h new → g.is_faithful old.provider → g.is_faithful new.provider
   pub is : IsSound g h new → (w : World) → Is g h old w → Is g h new (after w)
   pub report : IsSound g h new → (w : World) → Is g h old w → report_of told ≡ says w
 
 -- One event
 abbrev pub Happens : {R J : Type 0} → Registries R → Journals J → (old new : Running R J) → Event → ReportOf → Type 0
-Happens g h old new event told = Makes g h old new (λ w. happens w event) (λ w. report (message_size old.base) w event) told
+Happens g h old new event told = Makes g h old new (λ w. happens w event) (λ w. report (message_size old.service) w event) told
 
 -- a message arrives
 abbrev pub Arrives : {R J : Type 0} → Registries R → Journals J → (old new : Running R J) → Message → ReportOf → Type 0
 Arrives g h old new message told = Makes g h old new (λ w. arrives w message) (λ w. arrival_report w message) told
 
+-- ---- faults
+
+-- the side that a message comes to is shut
+abbrev pub IsShutTo : {R J : Type 0} → Running R J → Option Message → Type 0
+IsShutTo r None = ⊥
+IsShutTo r (Some (Asked request)) = r.is_provider_open ≡ false
+IsShutTo r (Some (Answered request answer)) = is_open r.connector ≡ false
+
+-- nothing changed
+pub record Stays {R J : Type 0} (old new : Running R J) : Type 0 where
+  pub provider : new.provider ≡ old.provider
+  pub provider_open : new.is_provider_open ≡ old.is_provider_open
+  pub connector : new.connector ≡ old.connector
+  pub base : new.service ≡ old.service
+  pub sent : new.sent.items ≡ old.sent.items
+
+-- an event needs a side that is shut, since the last try to open it again failed
+abbrev pub IsShutOff : {R J : Type 0} → Running R J → Event → Type 0
+IsShutOff r (Changes row) = is_open r.connector ≡ false
+IsShutOff r (Sends name) = is_open r.connector ≡ false
+IsShutOff r (Delivers number) = IsShutTo r (message_at (messages_of r.sent.items) number)
+IsShutOff r (Cuts number length) = ⊥
+IsShutOff r Restarts_provider = ⊥
+IsShutOff r Restarts_connector = ⊥
+
+-- out of memory is no fault of a store; a fault of a store was counted, or a side that is needed was shut before
+abbrev pub IsExcused : {R J : Type 0} → Registries R → Journals J → (old new : Running R J) → Event → WorldFault → Type 0
+IsExcused g h old new event Memory = (g.faults new.provider ≡ g.faults old.provider) × (h.faults (journal_in new.connector) ≡ h.faults (journal_in old.connector))
+IsExcused g h old new event Store = IsShutOff old event ⊎ (HasRisen (g.faults old.provider) (g.faults new.provider) ⊎ HasRisen (h.faults (journal_in old.connector)) (h.faults (journal_in new.connector)))
+
+-- a connector that wasn't opened again has forgotten what it saw, and no other event that fails changes anything
+abbrev pub if_restart : World → Event → World
+if_restart w (Changes row) = w
+if_restart w (Sends name) = w
+if_restart w (Delivers number) = w
+if_restart w (Cuts number length) = w
+if_restart w Restarts_provider = w
+if_restart w Restarts_connector = happens w Restarts_connector
+
+-- whether the change of a request that failed was made isn't known of a store that the fault has shut
+abbrev pub IsKnown : {R : Type 0} → Registries R → R → Event → Type 0
+IsKnown g registry (Changes row) = Unit {0}
+IsKnown g registry (Sends name) = Unit {0}
+IsKnown g registry (Delivers number) = g.is_faithful registry
+IsKnown g registry (Cuts number length) = Unit {0}
+IsKnown g registry Restarts_provider = Unit {0}
+IsKnown g registry Restarts_connector = Unit {0}
+
+-- An event failed: no message was sent, and of each world that ran before it the same one runs now
+pub record Fails {R J : Type 0} (g : Registries R) (h : Journals J) (old new : Running R J) (event : Event) (fault : WorldFault) : Type 0 where
+  pub was : IsSound g h new → IsSound g h old
+  pub base : new.service ≡ old.service
+  pub sent : new.sent.items ≡ old.sent.items
+  pub is : IsSound g h new → IsKnown g new.provider event → (w : World) → Is g h old w → Is g h new (if_restart w event)
+  pub excused : IsExcused g h old new event fault
+
+-- ---- runs
+
+-- the journal after that, whatever came of it
+abbrev pub journal_after : {R J : Type 0} → Result (Running R J) (WorldFault × R × J) → J
+journal_after (Ok world) = journal_in world.connector
+journal_after (Err refused) = refused.2
+
 -- a world that starts: over empty stores it is the empty one
 pub record Starts {R J : Type 0} (g : Registries R) (h : Journals J) (registry : R) (journal : J) (r : Running R J) : Type 0 where
   pub was : IsSound g h r → g.is_honest registry × h.is_faithful journal
+  pub stays_open : g.is_faithful registry → g.is_faithful r.provider
   pub is : IsSound g h r → g.is_faithful registry → g.rows registry ≡ [] → h.entries journal ≡ fin.empty → Is g h r empty
 
 -- events one after the other, with their reports
 pub record Runs {R J : Type 0} (g : Registries R) (h : Journals J) (old new : Running R J) (events : List Event) (told : List ReportOf) : Type 0 where
   pub was : IsSound g h new → IsSound g h old
-  pub base : new.base ≡ old.base
+  pub base : new.service ≡ old.service
+  pub stays_open : IsSound g h new → g.is_faithful old.provider → g.is_faithful new.provider
   pub is : IsSound g h new → (w : World) → Is g h old w → Is g h new (run w events)
-  pub told_so : IsSound g h new → (w : World) → Is g h old w → map report_of told ≡ reports (message_size old.base) w events
+  pub told_so : IsSound g h new → (w : World) → Is g h old w → map report_of told ≡ reports (message_size old.service) w events
 
 -- What ran is the model's run of the events: its rows, its book, its messages in their bytes, and its reports. After each of the
 -- events it was safe, and from each moment to each later one nothing was lost, and the headline held
 pub record IsRun {R J : Type 0} (g : Registries R) (h : Journals J) (at : List ℕ) (events : List Event) (ran : Running R J) (told : List ReportOf) : Type 0 where
-  pub base : ran.base ≡ at
+  pub base : ran.service ≡ at
+  pub opened : g.is_faithful ran.provider
   pub is : Is g h ran (run empty events)
   pub told_so : map report_of told ≡ reports (message_size at) empty events
   pub safe : (early late : List Event) → early ++ late ≡ events → Safe (run empty early)

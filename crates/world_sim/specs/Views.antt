@@ -1,5 +1,5 @@
 -- What the world shows of a record.
-use Rattle.std.specs.Prelude.{◌≡◌, ◌≤◌, ℕ, length, Option, Some, None}
+use Rattle.std.specs.Prelude.{◌≡◌, ◌⊎◌, false, length, Option, Some, None}
 use Rattle.std.specs.Option.{unwrap_or}
 use Rattle.scim_key.specs.Revisions.{RevisionValue, no_revision}
 use Rattle.scim_key.specs.Stores.{HasRisen}
@@ -7,12 +7,17 @@ use Rattle.scim_key.specs.declared.records.RecordName.{RecordName}
 use Rattle.scim_resource.specs.Contents.{content_active, content_members, content_revision}
 use Rattle.scim_resource.specs.Rows.{StoredRecord}
 use Rattle.provider_core.specs.Rows.{row_named}
+use Rattle.provider_core.specs.declared.registry.Registry.{Ghosts as Registries}
+use Rattle.journal_core.specs.declared.journals.Journal.{Ghosts as Journals}
 use Rattle.connector_core.specs.Book.{confirmed_of, wanted_of}
 use Rattle.world_model.specs.World.{World}
 use Rattle.world_model.specs.Safe.{rows}
+use Rattle.world_sim.specs.Running.{Is, IsSound, is_open, opens_of}
 use Rattle.world_sim.specs.declared.reports.WorldFault.{WorldFault}
 use Rattle.world_sim.specs.declared.reports.WorldFault.TheVariants.{Memory, Store}
+use Rattle.world_sim.specs.declared.sides.Side.{Side}
 use Rattle.world_sim.specs.declared.views.View.{View}
+use Rattle.world_sim.specs.declared.worlds.World.{World as Running}
 
 -- by the provider's row of the record, if it has one
 abbrev pub viewed : RecordName → (wanted confirmed : RevisionValue) → Option StoredRecord → View
@@ -39,7 +44,26 @@ viewed name wanted confirmed (Some row) = record {
 abbrev pub view : World → RecordName → View
 view w name = viewed name (wanted_of w.book name) (confirmed_of w.book name) (row_named name (rows w))
 
--- a store fault is counted, and out of memory is none
-abbrev pub CountsWorldFault : (old new : ℕ) → WorldFault → Type 0
-CountsWorldFault old new Store = (old ≤ new) × HasRisen old new
-CountsWorldFault old new Memory = new ≡ old
+-- this is the view of each world that runs
+abbrev pub Shows : {R J : Type 0} → Registries R → Journals J → (old new : Running R J) → RecordName → View → Type 0
+Shows g h old new name shown = IsSound g h new → (w : World) → Is g h old w → shown ≡ view w name
+
+-- ---- faults
+
+-- the names aren't told: out of memory, or the connector is shut
+abbrev pub IsNoName : {J : Type 0} → Side J → WorldFault → Type 0
+IsNoName side Memory = Unit {0}
+IsNoName side Store = is_open side ≡ false
+
+-- nothing is shown: out of memory, which is no fault of a store, or a side is shut, or a fault of the registry was counted
+abbrev pub IsBlind : {R J : Type 0} → Registries R → (old new : Running R J) → WorldFault → Type 0
+IsBlind g old new Memory = g.faults new.provider ≡ g.faults old.provider
+IsBlind g old new Store = (is_open old.connector ≡ false) ⊎ ((old.is_provider_open ≡ false) ⊎ HasRisen (g.faults old.provider) (g.faults new.provider))
+
+-- A look at what runs: of each world that ran before it the same one runs after it
+pub record Looks {R J : Type 0} (g : Registries R) (h : Journals J) (old new : Running R J) : Type 0 where
+  pub was : IsSound g h new → IsSound g h old
+  pub base : new.service ≡ old.service
+  pub sent : new.sent.items ≡ old.sent.items
+  pub opens : opens_of new ≡ opens_of old
+  pub is : IsSound g h new → (w : World) → Is g h old w → Is g h new w

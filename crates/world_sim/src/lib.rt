@@ -8,6 +8,7 @@ mod reading;
 mod reports;
 mod runs;
 mod schedules;
+mod sides;
 mod views;
 mod worlds;
 

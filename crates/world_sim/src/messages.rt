@@ -1,7 +1,9 @@
 //! The messages of a world.
 ghost use Rattle.std.specs.Prelude.{◌≡◌, IfOk};
-ghost use Rattle.world_model.specs.World.{Asked};
-ghost use Rattle.world_sim.specs.Messages.{IsMessage};
+ghost use Rattle.std.specs.List.{slice_get};
+ghost use Rattle.std.specs.Option.{option_copied, option_map};
+ghost use Rattle.world_model.specs.World.{Asked, message_at};
+ghost use Rattle.world_sim.specs.Messages.{IsMessage, messages_of, says, text_at, texts_of};
 
 use scim_client::ScimService;
 use scim_message::{Answer, Request};
@@ -35,4 +37,25 @@ pub(crate) fn asked(
         said: Said::Asked(Rc::new(alloc, request)?),
         bytes,
     })
+}
+
+/// The message at this place, counted from 0.
+fn sent_from(sent: &[Sent], place: usize) -> Option<&Sent>
+    ensures { option_copied result ≡ slice_get sent.now place }
+{
+    match sent.get(place) {
+        Some(message) => Some(message),
+        None => None,
+    }
+}
+
+/// The message with this number, counted from 1.
+pub(crate) fn sent_at(sent: &[Sent], number: usize) -> Option<&Sent>
+    ensures said { option_map (λ s. says s.said) (option_copied result) ≡ message_at (messages_of sent.now) number }
+    ensures text { option_map (λ s. s.bytes.items) (option_copied result) ≡ text_at (texts_of sent.now) number }
+{
+    if number == 0 {
+        return None;
+    }
+    sent_from(sent, number - 1)
 }

@@ -1,7 +1,7 @@
 //! What an event reports.
 ghost use Rattle.std.specs.Prelude.{◌≡◌};
 
-use connector_core::{ChangeFault, LearnFault, Learnt};
+use connector_core::{ChangeFault, LearnFault, Learnt, OpenFault};
 use provider_core::ProviderFault;
 use scim_key::Key;
 use source_book::Verdict;
@@ -74,12 +74,12 @@ fn write_taught<W: fmt::Write>(
     }
 }
 
-/// Why a world came to an end.
+/// Why an event didn't happen.
 #[derive(Clone, Copy, Debug, PartialEq, Eq, Error)]
 pub enum WorldFault {
     #[error("Z1")]
     Memory,
-    /// A store failed.
+    /// A store failed, or a side that wasn't opened again is needed.
     #[error("Z2")]
     Store,
 }
@@ -113,6 +113,19 @@ impl From<ProviderFault> for WorldFault {
         match fault {
             ProviderFault::Store => WorldFault::Store,
             ProviderFault::Memory => WorldFault::Memory,
+        }
+    }
+}
+
+impl From<OpenFault> for WorldFault {
+    ghost use Rattle.world_sim.specs.Events.{opening_fault};
+
+    ghost from_gives = { λ from fault. fault ≡ opening_fault from };
+
+    fn from(fault: OpenFault) -> WorldFault {
+        match fault {
+            OpenFault::Store => WorldFault::Store,
+            OpenFault::Memory => WorldFault::Memory,
         }
     }
 }

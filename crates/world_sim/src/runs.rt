@@ -1,7 +1,7 @@
 //! Whole runs.
 ghost use Rattle.std.specs.Prelude.{IfOk};
 ghost use Rattle.world_sim.specs.Events.{events_of};
-ghost use Rattle.world_sim.specs.Running.{RunsFromEmpty, running};
+ghost use Rattle.world_sim.specs.Running.{RunsFromEmpty};
 
 use crate::events::Event;
 use crate::reports::{Report, WorldFault};
@@ -15,7 +15,7 @@ use std::alloc::Global;
 /// without entries, and the report of each event. The headline: whatever is lost, repeated, late
 /// or restarted, the provider holds at most one resource per name, its source revision never goes
 /// back, it is that revision's image, and every revision that the connector counts as confirmed is
-/// held or surpassed.
+/// held or surpassed. A fault drops both stores.
 pub fn run<R: Reopen + Drop, J: Journal + Drop>(
     alloc: Global,
     registry: R,
@@ -23,13 +23,15 @@ pub fn run<R: Reopen + Drop, J: Journal + Drop>(
     base: Base,
     events: &[Event],
 ) -> Result<(World<R, J>, Vec<Report>), WorldFault>
-    ensures { IfOk result (λ ran. RunsFromEmpty R.Registry J.Journal registry journal base (events_of events.now) (running ran.0.provider ran.0.connector ran.0.service ran.0.sent.items) ran.1.items) }
+    ensures { IfOk result (λ ran. RunsFromEmpty R.Registry J.Journal registry journal base (events_of events.now) ran.0 ran.1.items) }
 {
-    let mut world = World::new(alloc, registry, journal, base)?;
+    let mut world = match World::new(alloc, registry, journal, base) {
+        Ok(world) => world,
+        Err((fault, _registry, _journal)) => return Err(fault),
+    };
     let mut reports = Vec::new(alloc);
     for event in events {
-        let (next, report) = world.step(event)?;
-        world = next;
+        let report = world.step(event)?;
         reports.push(report)?;
     }
     Ok((world, reports))

@@ -1,17 +1,17 @@
 //! What a world shows of its messages and records.
 ghost use Rattle.std.specs.Prelude.{◌≡◌, IfErr, IfOk, None, Some};
-ghost use Rattle.std.specs.FinMap.{keys};
 ghost use Rattle.std.specs.Option.{option_copied};
-ghost use Rattle.connector_core.specs.Book.{confirmed_of, wanted_of};
-ghost use Rattle.connector_core.specs.Maps.{book_of};
 ghost use Rattle.provider_core.specs.Rows.{row_named};
 ghost use Rattle.provider_core.specs.Stores.{OnlyReads};
 ghost use Rattle.world_sim.specs.Messages.{text_at, texts_of};
-ghost use Rattle.world_sim.specs.Views.{CountsWorldFault, viewed};
-ghost use Rattle.world_sim.specs.declared.reports.WorldFault.TheVariants as faults;
+ghost use Rattle.world_sim.specs.Running.{names_in};
+ghost use Rattle.world_sim.specs.Sides.{CountsWorldFault};
+ghost use Rattle.world_sim.specs.Views.{IsBlind, IsNoName, Looks, Shows, viewed};
 
+use crate::messages::sent_at;
 use crate::reports::WorldFault;
-use crate::worlds::{World, sent_at};
+use crate::sides::Side;
+use crate::worlds::World;
 use core::mem::replace_with;
 use journal_core::Journal;
 use provider_core::{Provider, Registry, RegistryFault};
@@ -119,26 +119,32 @@ impl<R: Registry + Drop, J: Journal + Drop> World<R, J> {
 
     /// The names of the connector's records: users by key, then groups by key.
     pub fn names(&self) -> Result<Vec<RecordName>, WorldFault>
-        ensures ok { IfOk result (λ names. names.items ≡ keys self.now.connector.book) }
-        ensures cause { IfErr result (λ fault. fault ≡ faults.Memory) }
+        ensures names { IfOk result (λ names. names.items ≡ names_in J.Journal self.now.connector) }
+        ensures cause { IfErr result (IsNoName self.now.connector) }
     {
-        Ok(self.connector.names()?)
+        match &self.connector {
+            Side::Open(connector) => Ok(connector.names()?),
+            Side::Shut(_) => Err(WorldFault::Store),
+        }
     }
 
     /// What is wanted, confirmed and held of a record.
     pub fn view(&mut self, name: &RecordName) -> Result<View, WorldFault>
-        ensures reads { OnlyReads R.rows R.is_faithful R.is_honest R.may_hold R.faults R.writes CountsWorldFault self.old.provider self.new.provider result }
-        ensures connector { self.new.connector ≡ self.old.connector }
-        ensures sent { self.new.sent ≡ self.old.sent }
-        ensures shows { R.is_faithful self.new.provider → IfOk result (λ view. view ≡ viewed name.now (wanted_of (book_of self.old.connector.book) name.now) (confirmed_of (book_of self.old.connector.book) name.now) (row_named name.now (R.rows self.old.provider))) }
+        ensures shows { IfOk result (Shows R.Registry J.Journal self.old self.new name.now) }
+        ensures looks { Looks R.Registry J.Journal self.old self.new }
+        ensures cause { IfErr result (IsBlind R.Registry self.old self.new) }
     {
-        let row = replace_with(&mut self.provider, name, row_of)?;
-        let wanted = self.connector.wanted(name);
-        let confirmed = self.connector.confirmed(name);
-        let name = name.clone()?;
-        match row {
-            Some(row) => Ok(held_in(name, wanted, confirmed, &row)),
-            None => Ok(held_nowhere(name, wanted, confirmed)),
+        let Side::Open(connector) = &self.connector else {
+            return Err(WorldFault::Store);
+        };
+        if !self.is_provider_open {
+            return Err(WorldFault::Store);
+        }
+        let wanted = connector.wanted(name);
+        let confirmed = connector.confirmed(name);
+        match replace_with(&mut self.provider, name, row_of)? {
+            Some(row) => Ok(held_in(name.clone()?, wanted, confirmed, &row)),
+            None => Ok(held_nowhere(name.clone()?, wanted, confirmed)),
         }
     }
 }

@@ -1,25 +1,27 @@
 //! The world that runs.
-ghost use Rattle.std.specs.Prelude.{◌≡◌, IfOk, OnOk, false};
+ghost use Rattle.std.specs.Prelude.{◌≡◌, ℕ, IfErr, IfOk, OnErr, OnOk, Err, false, is_ok};
 ghost use Rattle.std.specs.FinMap.{keys};
-ghost use Rattle.std.specs.List.{slice_get};
-ghost use Rattle.std.specs.Option.{option_copied, option_map};
 ghost use Rattle.connector_core.specs.Changing.{accepted_map, judging};
 ghost use Rattle.connector_core.specs.Learning as spec;
 ghost use Rattle.connector_core.specs.Maps.{book_of};
-ghost use Rattle.connector_core.specs.State.{IsOpened};
+ghost use Rattle.journal_core.specs.Stores.{OnlyReads};
+ghost use Rattle.provider_core.specs.Outcomes.{outcome};
+ghost use Rattle.scim_server.specs.Replies.{answer_text};
 ghost use Rattle.world_model.specs.Reports.{Judged, Taught, learnt_of, next_number, sending_report};
-ghost use Rattle.world_model.specs.World.{Answered, Asked, Changes, Cuts, Delivers, Restarts_connector, Restarts_provider, Sends, message_at, with_message};
-ghost use Rattle.world_sim.specs.Events.{event_of, is_restart, report_of};
-ghost use Rattle.world_sim.specs.Messages.{messages_of, says, text_at, texts_of};
-ghost use Rattle.world_sim.specs.Running.{Arrives, Happens, Makes, Starts, running};
-ghost use Rattle.world_sim.specs.declared.reports.Report.TheVariants as reports;
+ghost use Rattle.world_model.specs.World.{Answered, Asked, Changes, Cuts, Delivers, Restarts_connector, Restarts_provider, Sends, with_message};
+ghost use Rattle.world_sim.specs.Events.{event_of, report_of};
+ghost use Rattle.world_sim.specs.Running.{Arrives, Fails, Happens, IsOpenedBy, IsShutOff, Makes, Starts, Stays, journal_after, opens_after, opens_of};
+ghost use Rattle.world_sim.specs.Sides.{CountsStart, CountsWorldFault};
+ghost use Rattle.world_sim.specs.declared.reports.WorldFault.TheVariants.{Memory, Store};
 
 use crate::events::Event;
-use crate::messages::{Said, Sent, asked};
+use crate::messages::{Said, Sent, asked, sent_at};
 use crate::reports::{Report, WorldFault};
-use connector_core::{Ask, AskFault, ChangeFault, Connector, LearnFault, OpenFault};
+use crate::sides::{Side, reopened};
+use connector_core::{Ask, AskFault, ChangeFault, Connector, LearnFault};
+use core::mem::replace_with;
 use journal_core::Journal;
-use provider_core::{Provider, Registry, Reopen};
+use provider_core::{Pending, Provider, Registry, Reopen};
 use scim_client::ScimService;
 use scim_key::{Base, RecordName};
 use scim_message::{Answer, Request};
@@ -34,41 +36,10 @@ pub struct World<R: Registry, J: Journal> {
     pub(crate) alloc: Global,
     pub(crate) service: ScimService,
     pub(crate) provider: Provider<R>,
-    pub(crate) connector: Connector<J>,
+    /// Whether the provider's registry was opened again where that was tried last.
+    pub(crate) is_provider_open: bool,
+    pub(crate) connector: Side<J>,
     pub(crate) sent: Vec<Sent>,
-}
-
-/// The message at this place, counted from 0.
-fn sent_from(sent: &[Sent], place: usize) -> Option<&Sent>
-    ensures { option_copied result ≡ slice_get sent.now place }
-{
-    match sent.get(place) {
-        Some(message) => Some(message),
-        None => None,
-    }
-}
-
-/// The message with this number, counted from 1.
-pub(crate) fn sent_at(sent: &[Sent], number: usize) -> Option<&Sent>
-    ensures said { option_map (λ s. says s.said) (option_copied result) ≡ message_at (messages_of sent.now) number }
-    ensures text { option_map (λ s. s.bytes.items) (option_copied result) ≡ text_at (texts_of sent.now) number }
-{
-    if number == 0 {
-        return None;
-    }
-    sent_from(sent, number - 1)
-}
-
-/// A connector over the entries of a journal.
-fn open<J: Journal + Drop>(alloc: Global, journal: J) -> Result<Connector<J>, WorldFault>
-    ensures opened { IfOk result (λ connector. J.is_faithful connector.journal → IsOpened (J.entries journal) connector.book) }
-    ensures was { IfOk result (λ connector. J.is_faithful connector.journal → J.is_faithful journal) }
-{
-    match Connector::open(alloc, journal) {
-        Ok(connector) => Ok(connector),
-        Err((OpenFault::Store, _)) => Err(WorldFault::Store),
-        Err((OpenFault::Memory, _)) => Err(WorldFault::Memory),
-    }
 }
 
 /// The report of a request that was sent, as the message with this number.
@@ -91,7 +62,9 @@ fn learn<J: Journal>(
     ensures report { IfOk result (λ told. report_of told ≡ Taught (learnt_of (spec.learn (book_of connector.old.book) request.now answer.now))) }
     ensures book { OnOk result (book_of connector.new.book ≡ spec.after_learning (book_of connector.old.book) (spec.learn (book_of connector.old.book) request.now answer.now)) }
     ensures names { keys connector.new.book ≡ keys connector.old.book }
+    ensures same { OnErr result (connector.new.book ≡ connector.old.book) }
     ensures was { J.is_faithful connector.new.journal → J.is_faithful connector.old.journal }
+    ensures counted { IfErr result (CountsWorldFault (J.faults connector.old.journal) (J.faults connector.new.journal)) }
 {
     match connector.learn(request, answer) {
         Ok(learnt) => Ok(Report::Taught(Ok(learnt))),
@@ -110,7 +83,9 @@ fn learn<J: Journal>(
 fn judge<J: Journal>(connector: &mut Connector<J>, row: Row) -> Result<Report, WorldFault>
     ensures report { IfOk result (λ told. report_of told ≡ Judged (judging (book_of connector.old.book) (keys connector.old.book) row)) }
     ensures book { OnOk result (connector.new.book ≡ accepted_map connector.old.book row (judging (book_of connector.old.book) (keys connector.old.book) row)) }
+    ensures same { OnErr result (connector.new.book ≡ connector.old.book) }
     ensures was { J.is_faithful connector.new.journal → J.is_faithful connector.old.journal }
+    ensures counted { IfErr result (CountsWorldFault (J.faults connector.old.journal) (J.faults connector.new.journal)) }
 {
     match connector.change(row) {
         Ok(verdict) => Ok(Report::Judged(Ok(verdict))),
@@ -120,40 +95,73 @@ fn judge<J: Journal>(connector: &mut Connector<J>, row: Row) -> Result<Report, W
     }
 }
 
+/// What a request is answered and what becomes of the rows, and the bytes of the reply.
+fn prepared<R: Registry>(
+    alloc: Global,
+    provider: &mut Provider<R>,
+    base: &Base,
+    request: &Request,
+) -> Result<(Pending, Vec<u8>), WorldFault>
+    ensures ok { R.is_faithful provider.new → IfOk result (λ formed. formed.0 ≡ outcome (R.rows provider.old) request.now) }
+    ensures text { IfOk result (λ formed. formed.1.items ≡ answer_text base.now false formed.0.answer) }
+    ensures reads { OnlyReads R.rows R.is_faithful R.is_honest R.may_hold R.faults R.writes CountsWorldFault provider.old provider.new result }
+{
+    let pending = provider.prepare(alloc, request)?;
+    let text = response_of(alloc, pending.answer(), base)?;
+    Ok((pending, text))
+}
+
 impl<R: Registry + Drop, J: Journal + Drop> World<R, J> {
-    /// A provider over a registry and a connector over a journal, between which nothing was sent yet.
+    /// A provider over a registry and a connector over a journal, between which nothing was sent
+    /// yet. With a fault both come back.
     pub fn new(
         alloc: Global,
         registry: R,
         journal: J,
         base: Base,
-    ) -> Result<World<R, J>, WorldFault>
+    ) -> Result<World<R, J>, (WorldFault, R, J)>
         ensures base { IfOk result (λ world. world.service ≡ base) }
-        ensures starts { IfOk result (λ world. Starts R.Registry J.Journal registry journal (running world.provider world.connector world.service world.sent.items)) }
+        ensures starts { IfOk result (Starts R.Registry J.Journal registry journal) }
+        ensures refused { IfErr result (λ refused. refused.1 ≡ registry) }
+        ensures journal { OnlyReads J.entries J.is_faithful J.is_honest J.may_hold J.faults J.writes CountsStart journal (journal_after result) result }
     {
-        let connector = open(alloc, journal)?;
-        Ok(World {
-            alloc,
-            service: ScimService::new(base),
-            provider: Provider::new(registry),
-            connector,
-            sent: Vec::new(alloc),
-        })
+        match Connector::open(alloc, journal) {
+            Ok(connector) => Ok(World {
+                alloc,
+                service: ScimService::new(base),
+                provider: Provider::new(registry),
+                is_provider_open: true,
+                connector: Side::Open(connector),
+                sent: Vec::new(alloc),
+            }),
+            Err((fault, journal)) => Err((WorldFault::from(fault), registry, journal)),
+        }
     }
 
     /// The source offers a row.
     fn change(&mut self, row: &Row) -> Result<Report, WorldFault>
-        ensures { IfOk result (Happens R.Registry J.Journal (running self.old.provider self.old.connector self.old.service self.old.sent.items) (running self.new.provider self.new.connector self.new.service self.new.sent.items) (Changes row.now)) }
+        ensures done { IfOk result (Happens R.Registry J.Journal self.old self.new (Changes row.now)) }
+        ensures fails { IfErr result (Fails R.Registry J.Journal self.old self.new (Changes row.now)) }
+        ensures shut { IsShutOff self.old (Changes row.now) → result ≡ Err Store }
+        ensures opens { opens_of self.new ≡ opens_of self.old }
     {
-        let told = judge(&mut self.connector, row.clone()?)?;
-        Ok(told)
+        match &mut self.connector {
+            Side::Open(connector) => judge(connector, row.clone()?),
+            Side::Shut(_) => Err(WorldFault::Store),
+        }
     }
 
     /// The connector sends what it asks for next of a record.
     fn send(&mut self, name: &RecordName) -> Result<Report, WorldFault>
-        ensures { IfOk result (Happens R.Registry J.Journal (running self.old.provider self.old.connector self.old.service self.old.sent.items) (running self.new.provider self.new.connector self.new.service self.new.sent.items) (Sends name.now)) }
+        ensures done { IfOk result (Happens R.Registry J.Journal self.old self.new (Sends name.now)) }
+        ensures fails { IfErr result (Fails R.Registry J.Journal self.old self.new (Sends name.now)) }
+        ensures shut { IsShutOff self.old (Sends name.now) → result ≡ Err Store }
+        ensures opens { opens_of self.new ≡ opens_of self.old }
     {
-        match self.connector.ask(name) {
+        let Side::Open(connector) = &self.connector else {
+            return Err(WorldFault::Store);
+        };
+        match connector.ask(name) {
             Ok(Ask::Nothing) => Ok(Report::Idle),
             Ok(Ask::Waits(member)) => Ok(Report::Waiting(member)),
             Ok(Ask::Send(request)) => self.post(request),
@@ -164,7 +172,10 @@ impl<R: Registry + Drop, J: Journal + Drop> World<R, J> {
 
     /// Sends a request.
     fn post(&mut self, request: Request) -> Result<Report, WorldFault>
-        ensures { IfOk result (Makes R.Registry J.Journal (running self.old.provider self.old.connector self.old.service self.old.sent.items) (running self.new.provider self.new.connector self.new.service self.new.sent.items) (λ w. with_message w (Asked request)) (λ w. sending_report (next_number w) request)) }
+        ensures sent { IfOk result (Makes R.Registry J.Journal self.old self.new (λ w. with_message w (Asked request)) (λ w. sending_report (next_number w) request)) }
+        ensures memory { IfErr result (λ fault. fault ≡ Memory) }
+        ensures stays { OnErr result (Stays self.old self.new) }
+        ensures opens { opens_of self.new ≡ opens_of self.old }
     {
         let report = sending(self.sent.len() + 1, &request);
         let message = asked(self.alloc, &self.service, request)?;
@@ -174,43 +185,52 @@ impl<R: Registry + Drop, J: Journal + Drop> World<R, J> {
 
     /// The message with a number arrives.
     fn deliver(&mut self, number: usize) -> Result<Report, WorldFault>
-        ensures { IfOk result (Happens R.Registry J.Journal (running self.old.provider self.old.connector self.old.service self.old.sent.items) (running self.new.provider self.new.connector self.new.service self.new.sent.items) (Delivers number)) }
+        ensures done { IfOk result (Happens R.Registry J.Journal self.old self.new (Delivers number)) }
+        ensures fails { IfErr result (Fails R.Registry J.Journal self.old self.new (Delivers number)) }
+        ensures shut { IsShutOff self.old (Delivers number) → result ≡ Err Store }
+        ensures opens { opens_of self.new ≡ opens_of self.old }
     {
-        let Some(sent) = sent_at(&self.sent, number) else {
+        let Some(message) = sent_at(&self.sent, number) else {
             return Ok(Report::NoMessage);
         };
-        match &sent.said {
+        match &message.said {
+            Said::Asked(_) if !self.is_provider_open => Err(WorldFault::Store),
             Said::Asked(request) => {
                 let request = request.clone()?;
-                self.answer(&request)
+                self.answer(request)
             }
-            Said::Answered(request, answer) => learn(&mut self.connector, request, answer),
+            Said::Answered(request, answer) => match &mut self.connector {
+                Side::Open(connector) => learn(connector, request, answer),
+                Side::Shut(_) => Err(WorldFault::Store),
+            },
         }
     }
 
-    /// A request arrives, and its reply is sent. All that takes memory is done before the rows change.
-    fn answer(&mut self, request: &Rc<Request>) -> Result<Report, WorldFault>
-        ensures { IfOk result (Arrives R.Registry J.Journal (running self.old.provider self.old.connector self.old.service self.old.sent.items) (running self.new.provider self.new.connector self.new.service self.new.sent.items) (Asked request.now.value)) }
+    /// A request arrives, and its reply is sent. All that takes memory is done before the rows
+    /// change.
+    fn answer(&mut self, request: Rc<Request>) -> Result<Report, WorldFault>
+        ensures done { IfOk result (Arrives R.Registry J.Journal self.old self.new (Asked request.value)) }
+        ensures fails { IfErr result (λ fault. (number : ℕ) → Fails R.Registry J.Journal self.old self.new (Delivers number) fault) }
+        ensures opens { opens_of self.new ≡ opens_of self.old }
     {
-        let pending = self.provider.prepare(self.alloc, request)?;
-        let text = response_of(self.alloc, pending.answer(), self.service.base())?;
+        let (pending, bytes) = prepared(
+            self.alloc,
+            &mut self.provider,
+            self.service.base(),
+            &request,
+        )?;
         let status = pending.answer().status();
-        let request = request.clone()?;
         self.sent.reserve(1)?;
         let answer = self.provider.commit(pending)?;
-        self.sent.push(Sent {
-            said: Said::Answered(request, answer),
-            bytes: text,
-        })?;
-        Ok(Report::Answering {
-            number: self.sent.len(),
-            status,
-        })
+        let said = Said::Answered(request, answer);
+        self.sent.push(Sent { said, bytes })?;
+        let number = self.sent.len();
+        Ok(Report::Answering { number, status })
     }
 
     /// Only the first bytes of a message arrive: nothing happens.
     fn cut(&self, number: usize, length: usize) -> Report
-        ensures { Happens R.Registry J.Journal (running self.now.provider self.now.connector self.now.service self.now.sent.items) (running self.now.provider self.now.connector self.now.service self.now.sent.items) (Cuts number length) result }
+        ensures { Happens R.Registry J.Journal self.now self.now (Cuts number length) result }
     {
         match sent_at(&self.sent, number) {
             Some(sent) if length < sent.bytes.len() => Report::CutShort,
@@ -219,40 +239,40 @@ impl<R: Registry + Drop, J: Journal + Drop> World<R, J> {
     }
 
     /// The connector is opened again on its journal.
-    fn restart_connector(self) -> Result<World<R, J>, WorldFault>
-        ensures { IfOk result (λ world. Happens R.Registry J.Journal (running self.provider self.connector self.service self.sent.items) (running world.provider world.connector world.service world.sent.items) Restarts_connector reports.Restarted) }
+    fn restart_connector(&mut self) -> Result<Report, WorldFault>
+        ensures done { IfOk result (Happens R.Registry J.Journal self.old self.new Restarts_connector) }
+        ensures fails { IfErr result (Fails R.Registry J.Journal self.old self.new Restarts_connector) }
+        ensures opens { opens_of self.new ≡ opens_after Restarts_connector (is_ok result) (opens_of self.old) }
     {
-        let World {
-            alloc,
-            service,
-            provider,
-            connector,
-            sent,
-        } = self;
-        let connector = open(alloc, connector.close())?;
-        Ok(World {
-            alloc,
-            service,
-            provider,
-            connector,
-            sent,
-        })
+        match replace_with(&mut self.connector, self.alloc, reopened) {
+            Ok(()) => Ok(Report::Restarted),
+            Err(fault) => Err(fault),
+        }
     }
 }
 
 impl<R: Reopen + Drop, J: Journal + Drop> World<R, J> {
     /// The provider is opened again on its rows.
     fn restart_provider(&mut self) -> Result<Report, WorldFault>
-        ensures { IfOk result (Happens R.Registry J.Journal (running self.old.provider self.old.connector self.old.service self.old.sent.items) (running self.new.provider self.new.connector self.new.service self.new.sent.items) Restarts_provider) }
+        ensures done { IfOk result (Happens R.Registry J.Journal self.old self.new Restarts_provider) }
+        ensures fails { IfErr result (Fails R.Registry J.Journal self.old self.new Restarts_provider) }
+        ensures opened { OnOk result (R.is_honest self.new.provider → R.is_faithful self.new.provider) }
+        ensures opens { opens_of self.new ≡ opens_after Restarts_provider (is_ok result) (opens_of self.old) }
     {
+        self.is_provider_open = false;
         self.provider.reopen()?;
+        self.is_provider_open = true;
         Ok(Report::Restarted)
     }
 
-    /// What happens at an event but a restart of the connector.
-    fn take(&mut self, event: &Event) -> Result<Report, WorldFault>
-        requires { is_restart event.now ≡ false }
-        ensures { IfOk result (Happens R.Registry J.Journal (running self.old.provider self.old.connector self.old.service self.old.sent.items) (running self.new.provider self.new.connector self.new.service self.new.sent.items) (event_of event.now)) }
+    /// One event. After a fault the world goes on as it was, but for a restart that failed: what
+    /// needs that side answers `WorldFault::Store` until a restart of it succeeds.
+    pub fn step(&mut self, event: &Event) -> Result<Report, WorldFault>
+        ensures done { IfOk result (Happens R.Registry J.Journal self.old self.new (event_of event.now)) }
+        ensures fails { IfErr result (Fails R.Registry J.Journal self.old self.new (event_of event.now)) }
+        ensures shut { IsShutOff self.old (event_of event.now) → result ≡ Err Store }
+        ensures opened { OnOk result (IsOpenedBy R.Registry self.new.provider (event_of event.now)) }
+        ensures opens { opens_of self.new ≡ opens_after (event_of event.now) (is_ok result) (opens_of self.old) }
     {
         match event {
             Event::Change(row) => self.change(row),
@@ -260,19 +280,7 @@ impl<R: Reopen + Drop, J: Journal + Drop> World<R, J> {
             Event::Deliver(number) => self.deliver(*number),
             Event::Cut { number, length } => Ok(self.cut(*number, *length)),
             Event::RestartProvider => self.restart_provider(),
-            Event::RestartConnector => Ok(Report::Restarted),
+            Event::RestartConnector => self.restart_connector(),
         }
-    }
-
-    /// One event. With a fault the world ends.
-    pub fn step(self, event: &Event) -> Result<(World<R, J>, Report), WorldFault>
-        ensures { IfOk result (λ done. Happens R.Registry J.Journal (running self.provider self.connector self.service self.sent.items) (running done.0.provider done.0.connector done.0.service done.0.sent.items) (event_of event.now) done.1) }
-    {
-        if let Event::RestartConnector = event {
-            return Ok((self.restart_connector()?, Report::Restarted));
-        }
-        let mut world = self;
-        let report = world.take(event)?;
-        Ok((world, report))
     }
 }

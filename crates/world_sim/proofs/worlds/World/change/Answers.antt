@@ -1,12 +1,10 @@
-use Rattle.std.proofs.Common.{◌≡◌, subst, rules}
-use Rattle.world_model.specs.World.{Changes}
-use Rattle.world_sim.specs.Running.{Happens, running}
-use Rattle.world_sim.proofs.Steps.{changes_row}
+use Rattle.std.proofs.Common.{◌≡◌, rules}
+use Rattle.world_sim.proofs.Steps.{changes_told}
 use Rattle.world_sim.proofs.worlds.World.change.Goals as goal
 
-pub returns : goal.returns
-returns g c =
-    let copied : c.in_ok-clone.field-0 ≡ c.args.row.now = search rules in
-    let told = c.in_ok-told.ensures in
-    subst (λ row. Happens g.R.Registry g.J.Journal (running c.args.self.now.provider c.args.self.now.connector c.args.self.now.service c.args.self.now.sent.items) (running c.args.self.now.provider c.judge.new.connector c.args.self.now.service c.args.self.now.sent.items) (Changes row) c.in_ok-told.told) copied
-    (changes_row g.R.Registry g.J.Journal (running c.args.self.now.provider c.args.self.now.connector c.args.self.now.service c.args.self.now.sent.items) c.judge.new.connector c.in_ok-clone.field-0 c.in_ok-told.told told.was told.book told.report)
+pub returns-in_ok-clone-in-Open-clause-done : goal.returns-in_ok-clone-in-Open-clause-done
+returns-in_ok-clone-in-Open-clause-done g c =
+    let copied : c.in_ok-clone-in-Open.field-0 ≡ c.args.row.now = search rules in
+    let told = c.judge.ensures in
+    changes_told g.R.Registry g.J.Journal c.args.self.now c.in-Open.connector c.judge.new.connector c.args.row.now c.in_ok-clone-in-Open.field-0 c.judge.result copied c.in-Open.is
+    told.was told.book told.report

@@ -1,5 +1,7 @@
+use Rattle.std.proofs.Common.{refl}
 use Rattle.world_sim.proofs.Steps.{starts_now}
 use Rattle.world_sim.proofs.worlds.World.new.Goals as goal
 
-pub returns-clause-starts : goal.returns-clause-starts
-returns-clause-starts g c = rw (c.new-2.ensures, c.new-3.ensures.items) (starts_now g.R.Registry g.J.Journal c.args.registry c.in_ok-connector.connector c.new.result c.args.journal c.in_ok-connector.ensures.opened c.in_ok-connector.ensures.was)
+pub returns-in-Ok-clause-starts : goal.returns-in-Ok-clause-starts
+returns-in-Ok-clause-starts g c = starts_now g.R.Registry g.J.Journal _ c.args.registry c.in-Ok.connector c.args.journal c.new-in-Ok.ensures refl c.new-in-Ok-2.ensures.items
+    c.in-Ok.ensures.opened c.in-Ok.ensures.reads.was (g.met.R.Registry.settled c.args.registry)

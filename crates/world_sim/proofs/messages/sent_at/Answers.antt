@@ -1,7 +1,7 @@
 use Rattle.std.proofs.Common.{◌≢◌, rules}
 use Rattle.std.specs.Option.{option_copied}
 use Rattle.world_sim.proofs.Steps.{said_at, bytes_at}
-use Rattle.world_sim.proofs.worlds.sent_at.Goals as goal
+use Rattle.world_sim.proofs.messages.sent_at.Goals as goal
 
 pub returns-clause-said : goal.returns-clause-said
 returns-clause-said c =

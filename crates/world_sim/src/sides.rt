@@ -1,0 +1,46 @@
+//! The connector's side of a world.
+ghost use Rattle.std.specs.Prelude.{◌≡◌, IsOk, is_ok, OnOk};
+ghost use Rattle.world_sim.specs.Sides.{CountsWorldFault, IsKeptIn, IsOpenedIn};
+ghost use Rattle.world_sim.specs.Running.{is_open, journal_in};
+ghost use Rattle.journal_core.specs.Stores.{OnlyReads};
+
+use crate::reports::WorldFault;
+use connector_core::Connector;
+use journal_core::Journal;
+use std::alloc::Global;
+
+/// The connector, or its journal alone where it wasn't opened again.
+#[derive(Drop)]
+pub enum Side<J: Journal> {
+    Open(Connector<J>),
+    Shut(J),
+}
+
+/// The side over a journal, which is opened if it can be.
+fn opened<J: Journal + Drop>(alloc: Global, journal: J) -> (Side<J>, Result<(), WorldFault>)
+    ensures opened { IsOpenedIn J.Journal journal result.0 }
+    ensures open { is_open result.0 ≡ is_ok result.1 }
+    ensures reads { OnlyReads J.entries J.is_faithful J.is_honest J.may_hold J.faults J.writes CountsWorldFault journal (journal_in result.0) result.1 }
+{
+    match Connector::open(alloc, journal) {
+        Ok(connector) => (Side::Open(connector), Ok(())),
+        Err((fault, journal)) => (Side::Shut(journal), Err(WorldFault::from(fault))),
+    }
+}
+
+/// The side is opened again on the journal.
+pub(crate) fn reopened<J: Journal + Drop>(
+    side: Side<J>,
+    alloc: Global,
+) -> (Side<J>, Result<(), WorldFault>)
+    ensures kept { IsKeptIn J.Journal side }
+    ensures opened { IsOpenedIn J.Journal (journal_in side) result.0 }
+    ensures open { is_open result.0 ≡ is_ok result.1 }
+    ensures reads { OnlyReads J.entries J.is_faithful J.is_honest J.may_hold J.faults J.writes CountsWorldFault (journal_in side) (journal_in result.0) result.1 }
+{
+    let journal = match side {
+        Side::Open(connector) => connector.close(),
+        Side::Shut(journal) => journal,
+    };
+    opened(alloc, journal)
+}
