@@ -16,4 +16,6 @@ mod messages;
 #[cfg(test)]
 mod offers;
 #[cfg(test)]
+mod pushing;
+#[cfg(test)]
 mod worlds;

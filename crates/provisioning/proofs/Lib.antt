@@ -1,0 +1,4 @@
+mod OnwardLemmas
+mod RestLemmas
+mod RunLemmas
+mod TurnLemmas

@@ -1,0 +1,36 @@
+-- Nothing is asked for only of a record whose wanted revision is confirmed.
+use Rattle.std.proofs.Common.{◌≡◌, ℕ, List, Bool, true, false, Option, Some, None, inl, inr, ap}
+use Rattle.std.proofs.lemmas.Bool.{cases_Bool}
+use Rattle.std.specs.Option.{option_map}
+use Rattle.scim_key.proofs.RevisionLaws.{same as same_revisions}
+use Rattle.scim_key.specs.declared.records.RecordName.{RecordName}
+use Rattle.source_csv.specs.Rows.{GroupFields}
+use Rattle.source_csv.specs.Records.{row_revision}
+use Rattle.source_csv.specs.declared.rows.Row.{Row}
+use Rattle.source_csv.specs.declared.rows.Row.TheVariants.{User, Group}
+use Rattle.group_sync.specs.Ready.{ready}
+use Rattle.group_sync.specs.declared.ids.Ready.{Ready}
+use Rattle.group_sync.specs.declared.ids.Ready.TheVariants as readiness
+use Rattle.mapping.specs.Images.{image_by, imaged}
+use Rattle.connector_core.specs.Asking.{asking, asking_of, asking_with, is_done}
+use Rattle.connector_core.specs.Book.{Book, confirmed_if, confirmed_of, known_id, wanted_if, wanted_of}
+use Rattle.connector_core.specs.declared.asking.Ask.TheVariants.{Nothing}
+use Rattle.connector_core.specs.declared.knowledge.Known.{Known}
+
+group_asks : (r : Ready) (row : GroupFields) (known : Known) → asking_with (image_by r row) known ≡ Nothing → ⊥
+group_asks (readiness.Ids ids) row known is = cc
+group_asks (readiness.Waits place) row known is = cc
+
+asks : (ids : RecordName → Option (List ℕ)) (row : Row) (known : Known) → asking_with (imaged ids row) known ≡ Nothing → ⊥
+asks ids (User row) known is = cc
+asks ids (Group row) known is = group_asks (ready ids row.members) row known is
+
+resting : (book : Book) (here : Option Known) → option_map (asking_of book) here ≡ Some Nothing → confirmed_if here ≡ wanted_if here
+resting book None is = absurd (cc)
+resting book (Some known) is = elim (cases_Bool (is_done known)) [
+  | inl done ↦ (same_revisions known.confirmed (row_revision known.wanted)).0 done
+  | inr not ↦ (let said : Some (asking_with (imaged (known_id book) known.wanted) known) ≡ Some Nothing = rw not at is in absurd (asks (known_id book) known.wanted known (cc)))
+]
+
+pub confirmed_at_rest : (book : Book) (name : RecordName) → asking book name ≡ Some Nothing → confirmed_of book name ≡ wanted_of book name
+confirmed_at_rest book name is = resting book (book name) is

@@ -1,0 +1,23 @@
+-- One turn of a record: it rests, or there is an exchange for it.
+use Rattle.std.specs.Prelude.{◌≡◌, ℕ, List, Option, Result, Ok, Err}
+use Rattle.scim_key.specs.declared.records.RecordName.{RecordName}
+use Rattle.journal_core.specs.declared.journals.Journal.{Ghosts}
+use Rattle.connector_core.specs.Maps.{book_of}
+use Rattle.connector_core.specs.State.{State}
+use Rattle.provisioning.specs.Exchanges.{Exchange, IsExchange, outcome}
+use Rattle.provisioning.specs.Records.{Ends, Rests}
+use Rattle.provisioning.specs.declared.faults.PushFault.{PushFault}
+use Rattle.provisioning.specs.declared.faults.RecordFault.{RecordFault}
+use Rattle.provisioning.specs.declared.turns.Turn.{Turn}
+use Rattle.provisioning.specs.declared.turns.Turn.TheVariants.{Resting, Exchanged}
+
+-- the turn that an exchange is
+abbrev pub exchanged : Result (Option RecordFault) PushFault → Result Turn PushFault
+exchanged (Ok fault) = Ok (Exchanged fault)
+exchanged (Err fault) = Err fault
+
+-- Nothing is sent, and the record stands so; or there was an exchange, which had this fault or ended the run
+abbrev pub TakesTurn : {I O J : Type 0} → (I → Option (List ℕ)) → (O → Option (List ℕ)) → Ghosts J → List ℕ → RecordName → (old new : State J) → Result Turn PushFault → Type 0
+TakesTurn remaining contents g base name old new (Ok (Resting standing)) = (new ≡ old) × Rests (book_of old.book) name standing
+TakesTurn {I} {O} remaining contents g base name old new (Ok (Exchanged fault)) = (e : Exchange I O) × IsExchange remaining contents g base name e old new × (outcome e.came ≡ Ok fault)
+TakesTurn remaining contents g base name old new (Err fault) = Ends remaining contents g base name old new fault

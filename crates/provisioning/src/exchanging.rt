@@ -1,0 +1,79 @@
+//! One exchange for a record, on a stream of its own.
+ghost use Rattle.std.specs.Prelude.{◌≡◌, ◌⊎◌, Ok};
+ghost use Rattle.provisioning.specs.Exchanges.{IsAsked, IsSent, IsTaken, IsWithoutStream};
+
+use crate::dialing::Dial;
+use crate::faults::{PushFault, RecordFault, open_fault, unanswered, unlearnt};
+use connector_core::Connector;
+use http_text::{Input, Output};
+use journal_core::Journal;
+use scim_client::{ExchangeFault, ScimService};
+use scim_message::{Answer, Request};
+use std::alloc::Global;
+use std::io::{Read, Write};
+
+/// Sends a request on a new stream, reads the answer to it, and learns from that. It tells the
+/// fault of the record, if there is one.
+pub(crate) fn exchange<J: Journal, D: Dial>(
+    alloc: Global,
+    service: &ScimService,
+    connector: &mut Connector<J>,
+    dial: &mut D,
+    request: &Request,
+) -> Result<Option<RecordFault>, PushFault>
+    ensures { IsSent D.Reader.remaining D.Writer.contents J.Journal service.now request.now
+        connector.old connector.new result
+        ⊎ ((connector.new ≡ connector.old) × IsWithoutStream result) }
+{
+    let (reader, writer) = match dial.dial() {
+        Ok(stream) => stream,
+        Err(error) => return Err(open_fault(error.kind())),
+    };
+    let (came, reader, writer) = exchange_on(alloc, service, request, reader, writer);
+    dial.end(reader, writer);
+    take(connector, request, came)
+}
+
+/// Sends a request on a stream, and reads the answer to it. The stream is given back.
+fn exchange_on<I: Read, O: Write>(
+    alloc: Global,
+    service: &ScimService,
+    request: &Request,
+    reader: I,
+    writer: O,
+) -> (Result<Answer, ExchangeFault>, I, O)
+    ensures { IsAsked I.remaining O.contents service.now request.now reader writer result.0 }
+{
+    let mut input = Input::new(reader);
+    let mut output = Output::new(writer);
+    let came = service.exchange(alloc, request, &mut input, &mut output);
+    (came, input.into_inner(), output.into_inner())
+}
+
+/// Takes what came of an exchange.
+fn take<J: Journal>(
+    connector: &mut Connector<J>,
+    request: &Request,
+    came: Result<Answer, ExchangeFault>,
+) -> Result<Option<RecordFault>, PushFault>
+    ensures { IsTaken J.Journal request.now came connector.old connector.new result }
+{
+    match came {
+        Ok(answer) => learn(connector, request, &answer),
+        Err(fault) => unanswered(fault),
+    }
+}
+
+/// Learns from an answer.
+fn learn<J: Journal>(
+    connector: &mut Connector<J>,
+    request: &Request,
+    answer: &Answer,
+) -> Result<Option<RecordFault>, PushFault>
+    ensures { IsTaken J.Journal request.now (Ok answer.now) connector.old connector.new result }
+{
+    match connector.learn(request, answer) {
+        Ok(_) => Ok(None),
+        Err(fault) => unlearnt(fault),
+    }
+}

@@ -1,0 +1,81 @@
+//! The exchanges for one record.
+ghost use Rattle.connector_core.specs.Maps.{book_of};
+ghost use Rattle.provisioning.specs.Onward.{Onward};
+ghost use Rattle.provisioning.specs.Records.{PushesRecord, Stands};
+
+use crate::dialing::Dial;
+use crate::faults::{PushFault, RecordFault};
+use crate::turns::{Turn, take_turn};
+use connector_core::Connector;
+use journal_core::Journal;
+use scim_client::ScimService;
+use scim_key::{Key, RecordName, Revision};
+use std::alloc::Global;
+
+/// How many exchanges there are for a record at most.
+pub const MOST_EXCHANGES: u32 = 3;
+
+/// How a record stands.
+#[derive(Debug, Drop)]
+pub enum Standing {
+    /// The wanted revision, this one, is confirmed.
+    Confirmed(Revision),
+    /// A group waits for this member, its first by key without an id.
+    Waits(Key),
+    /// The wanted revision isn't confirmed. The last fault, if there was one.
+    Unconfirmed(Option<RecordFault>),
+}
+
+/// What became of a record.
+#[derive(Debug, Drop)]
+pub struct Pushed {
+    pub exchanges: u32,
+    pub standing: Standing,
+}
+
+/// Exchanges for a record, each on a stream of its own, until nothing is asked for of it: at most
+/// three. A fault of one doesn't end the others, but for those that end the run.
+pub fn push_record<J: Journal, D: Dial>(
+    alloc: Global,
+    service: &ScimService,
+    connector: &mut Connector<J>,
+    dial: &mut D,
+    name: &RecordName,
+) -> Result<Pushed, PushFault>
+    ensures pushes { PushesRecord D.Reader.remaining D.Writer.contents J.Journal service.now
+        name.now connector.old connector.new result }
+    ensures onward { Onward connector.old.book connector.new.book }
+{
+    let mut last = None;
+    for exchanges in 0..MOST_EXCHANGES {
+        match take_turn(alloc, service, connector, dial, name)? {
+            Turn::Resting(standing) => {
+                return Ok(Pushed {
+                    exchanges,
+                    standing,
+                });
+            }
+            Turn::Exchanged(fault) => last = fault.or(last),
+        }
+    }
+    Ok(Pushed {
+        exchanges: MOST_EXCHANGES,
+        standing: standing_after(connector, name, last),
+    })
+}
+
+/// How a record stands after all its exchanges.
+fn standing_after<J: Journal>(
+    connector: &Connector<J>,
+    name: &RecordName,
+    last: Option<RecordFault>,
+) -> Standing
+    ensures { Stands (book_of connector.now.book) name.now MOST_EXCHANGES last result }
+{
+    let confirmed = connector.confirmed(name);
+    if confirmed == connector.wanted(name) {
+        Standing::Confirmed(confirmed)
+    } else {
+        Standing::Unconfirmed(last)
+    }
+}

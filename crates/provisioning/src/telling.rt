@@ -1,0 +1,16 @@
+//! Who is told of each record.
+ghost use Rattle.std.specs.Prelude.{◌∷◌, [], List, Option, None, OnOk};
+ghost use Rattle.provisioning.specs.Runs.{Done, Tells};
+
+use crate::records::Pushed;
+use scim_key::RecordName;
+use std::io;
+
+/// Who is told of each record as soon as its exchanges are done.
+pub trait Tell {
+    /// What was told so far, where it is known.
+    ghost told: { Self → Option (List Done) } = { λ _. None };
+
+    fn tell(&mut self, name: &RecordName, pushed: &Pushed) -> io::Result<()>
+        ensures { OnOk result (Tells (told self.old) (told self.new) ((name.now, pushed.now) ∷ [])) };
+}
