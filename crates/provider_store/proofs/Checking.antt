@@ -1,5 +1,5 @@
 -- What the checks of an opening show, and what they leave.
-use Rattle.std.proofs.Common.{◌≡◌, ◌<◌, ◌≤◌, ℕ, zero, suc, ◌+◌, ◌-◌, ℤ, pos, Bool, true, false, List, [], ◌∷◌, ◌++◌, map, filter, length, codes, Some, None, Option, Result, Ok, Err, IsTrue, OnOk, OnErr, IfOk, IfErr, refl, sym, ap, ◌∙◌, subst, inl, inr, arith, length-append, IsPermutation}
+use Rattle.std.proofs.Common.{◌≡◌, ◌<◌, ℕ, zero, suc, ◌+◌, ◌-◌, ℤ, pos, true, false, List, [], ◌∷◌, ◌++◌, map, filter, length, codes, Some, None, Result, Ok, Err, IsTrue, OnOk, IfErr, refl, sym, ap, ◌∙◌, subst, inl, inr, arith, IsPermutation}
 use Rattle.std.specs.Prelude.{slice_get}
 use Rattle.std.proofs.lemmas.Option.{slice_get_within}
 use Rattle.sqlite_value.specs.declared.value.Value.TheVariants.{Int}
@@ -12,17 +12,17 @@ use Rattle.sqlite.specs.State.{State, HasCleanDisk, Survives}
 use Rattle.sqlite.proofs.StateLemmas.{survives_then}
 use Rattle.scim_resource.specs.Contents.{content_name}
 use Rattle.scim_resource.specs.Rows.{StoredRecord}
-use Rattle.provider_core.specs.Rows.{is_named, row_named, IsNumberedFrom}
+use Rattle.provider_core.specs.Rows.{is_named, row_named}
 use Rattle.provider_core.specs.declared.registry.RegistryFault.{RegistryFault}
 use Rattle.provider_core.specs.declared.registry.RegistryFault.TheVariants as registry
 use Rattle.provider_core.proofs.RowLaws.{same_name-eq, find-passes}
 use Rattle.provider_core.proofs.MemoryLaws.{found-at, apart-none}
 use Rattle.provider_core.proofs.TableLaws.{at_push}
 use Rattle.scim_key.specs.declared.records.RecordName.{RecordName}
-use Rattle.provider_store.specs.Format.{format_number, marked_text, outside_text}
+use Rattle.provider_store.specs.Format.{marked_text, outside_text}
 use Rattle.provider_store.specs.Rows.{shown_row, IsRowOf, Holds}
-use Rattle.provider_store.specs.Connections.{IsLaid, IsNamed, Answers, FindsName, Keeps, resources}
-use Rattle.provider_store.specs.Opening.{IsFormat, IsMarked, IsFor, IsCause, IsAlone, HasLawful, HoldsFirst, IsStore, IsProvider, Looks, LeavesStore, open_fault}
+use Rattle.provider_store.specs.Connections.{IsLaid, Answers, FindsName, resources}
+use Rattle.provider_store.specs.Opening.{IsFormat, IsMarked, IsFor, IsAlone, HasLawful, HoldsFirst, IsProvider, Looks, LeavesStore, open_fault}
 use Rattle.provider_store.specs.declared.opening.OpenFault.{OpenFault}
 use Rattle.provider_store.specs.declared.opening.OpenFault.TheVariants.{Store, Damaged, Newer, Memory}
 use Rattle.provider_store.specs.declared.tables.Found.TheVariants.{There}
@@ -30,7 +30,7 @@ use Rattle.provider_store.proofs.Texts.{marked_shown, marked_is, marked_query, o
 use Rattle.provider_store.proofs.Selecting.{passes, shows}
 use Rattle.provider_store.proofs.Outside.{outside_passes, none_passes}
 use Rattle.provider_store.proofs.Finding.{answered_by, empty, single}
-use Rattle.provider_store.proofs.Holding.{numbered_at, numbered_append, apart_append, none_past, number_of}
+use Rattle.provider_store.proofs.Holding.{numbered_append, apart_append, number_of}
 use Rattle.provider_store.proofs.Keeping.{laid_still, keeps_then}
 use Rattle.provider_store.proofs.Leaving.{keeps_leaves}
 

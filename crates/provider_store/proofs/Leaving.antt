@@ -1,9 +1,8 @@
 -- What a call leaves of what was committed, in a transaction and at its end.
-use Rattle.std.proofs.Common.{◌≡◌, ℕ, List, Ok, Err, IsTrue, Result, sym, ap, ◌∙◌, inl, inr}
+use Rattle.std.proofs.Common.{ℕ, List, Ok, Err, IsTrue, Result, sym, ◌∙◌, inl, inr}
 use Rattle.sqlite_value.specs.Order.{Row}
-use Rattle.sqlite.specs.Effect.{Database}
 use Rattle.sqlite.specs.declared.error.Error.{Error}
-use Rattle.sqlite.specs.State.{State, IsUnchanged, IsRolledBack, ExecutesInside, Shows}
+use Rattle.sqlite.specs.State.{State, IsUnchanged, IsRolledBack, ExecutesInside}
 use Rattle.sqlite.specs.Steps.{FailsToCommit}
 use Rattle.provider_store.specs.Connections.{IsLaid, Keeps}
 use Rattle.provider_store.specs.Opening.{LeavesStore}

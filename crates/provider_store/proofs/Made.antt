@@ -6,7 +6,6 @@ use Rattle.sqlite_value.specs.Order.{Row, column}
 use Rattle.sqlite_sql.specs.Term.{Term}
 use Rattle.sqlite.specs.Effect.{Database}
 use Rattle.sqlite.specs.State.{State, Executes, Shows}
-use Rattle.scim_resource.specs.Rows.{StoredRecord}
 use Rattle.provider_store.specs.Format.{provider_schema, format_table, resource_table, no_schema, format_number, format_text, mark_text, resource_text}
 use Rattle.provider_store.specs.Rows.{Holds}
 use Rattle.provider_store.specs.Opening.{IsBlank, IsStore}

@@ -1,6 +1,6 @@
 -- A row with a higher number passes the test for what stands outside the first numbers.
 use Rattle.std.proofs.Common.{◌≡◌, ◌<◌, ℕ, nat_lt, pos, Bool, true, false, cond, List, [], ◌∷◌, filter, Ordering, Less, Equal, Greater, int_cmp, Option, None, Some, refl, sym, ap, ◌∙◌, arith}
-use Rattle.std.specs.Ordering.{is_eq, is_gt}
+use Rattle.std.specs.Ordering.{is_eq}
 use Rattle.std.proofs.lemmas.Bool.{false_from_ne_true}
 use Rattle.std.proofs.lemmas.Bool.Decides.{Decides-ltb}
 use Rattle.sqlite_value.specs.declared.value.Value.{Value}

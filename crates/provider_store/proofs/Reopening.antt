@@ -1,21 +1,20 @@
 -- What an opening makes of a registry, and a reopening.
-use Rattle.std.proofs.Common.{◌≡◌, ℕ, List, [], ◌∷◌, pos, length, Result, Ok, Err, IsTrue, refl, sym, ap, ◌∙◌, subst, inl, inr, arith, map, Bool, false, true}
+use Rattle.std.proofs.Common.{◌≡◌, List, [], ◌∷◌, pos, length, IsTrue, sym, ap, ◌∙◌, subst, inl, inr, arith, map}
 use Rattle.sqlite_value.specs.Order.{Row, column}
 use Rattle.sqlite_value.specs.declared.value.Value.TheVariants.{Int}
 use Rattle.sqlite_trees.specs.declared.store.Store.{Ghosts}
-use Rattle.sqlite_trees.specs.Tree.{Trees}
 use Rattle.sqlite.specs.Effect.{Database}
-use Rattle.sqlite.specs.Held.{Held, state}
-use Rattle.sqlite.specs.State.{State, HasCleanDisk, Survives}
+use Rattle.sqlite.specs.Held.{state}
+use Rattle.sqlite.specs.State.{State, HasCleanDisk}
 use Rattle.scim_resource.specs.Rows.{StoredRecord}
 use Rattle.provider_core.specs.Stores.{CountsFault, Reopens}
 use Rattle.provider_core.specs.declared.registry.RegistryFault.{RegistryFault}
 use Rattle.provider_store.specs.Format.{resource_tree, format_number}
 use Rattle.provider_store.specs.Rows.{Holds, rows_of}
-use Rattle.provider_store.specs.Connections.{IsLaid, Keeps, resources}
+use Rattle.provider_store.specs.Connections.{resources}
 use Rattle.provider_store.specs.Kept.{Kept, IsFaithful, IsHonest, IsWhole, MayHold, kept_rows}
 use Rattle.provider_store.specs.Lookups.{answered, failing}
-use Rattle.provider_store.specs.Opening.{IsFormat, IsStore, Looks}
+use Rattle.provider_store.specs.Opening.{IsStore, Looks}
 use Rattle.provider_store.proofs.Holding.{held_rows}
 use Rattle.provider_store.proofs.Keeping.{laid_still}
 

@@ -1,6 +1,5 @@
 -- No answer from which something is learnt takes a confirmed revision back.
 use Rattle.std.proofs.Common.{◌≡◌, ℕ, Bool, true, false, cond, List, Option, Some, None, Result, Ok, Err, refl, ap, sym, ◌∙◌, subst}
-use Rattle.std.proofs.lemmas.Bool.{cases_Bool}
 use Rattle.std.specs.Option.{option_map}
 use Rattle.scim_key.proofs.RecordLaws.{same as same_names}
 use Rattle.scim_key.proofs.RevisionLaws.{later_above_first, reflexive_up_to, transitive_up_to}

@@ -1,5 +1,5 @@
 -- Nothing is asked for only of a record whose wanted revision is confirmed.
-use Rattle.std.proofs.Common.{◌≡◌, ℕ, List, Bool, true, false, Option, Some, None, inl, inr, ap}
+use Rattle.std.proofs.Common.{◌≡◌, ℕ, List, Option, Some, None, inl, inr}
 use Rattle.std.proofs.lemmas.Bool.{cases_Bool}
 use Rattle.std.specs.Option.{option_map}
 use Rattle.scim_key.proofs.RevisionLaws.{same as same_revisions}

@@ -1,4 +1,4 @@
-use Rattle.std.proofs.Common.{◌≡◌, [], ◌∷◌, ◌∙◌, sym, ap, rules, tests, codes, refl}
+use Rattle.std.proofs.Common.{◌≡◌, ◌∙◌, rules, tests, codes, refl}
 use Rattle.sqlite_schema.specs.declared.schema.Kind.TheVariants.{Integer, Text}
 use Rattle.provider_store.specs.Format.{numbering, required}
 use Rattle.provider_store.proofs.Fields.{five_items}

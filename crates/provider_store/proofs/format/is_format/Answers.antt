@@ -1,7 +1,6 @@
-use Rattle.std.proofs.Common.{◌≡◌, false, [], ◌∷◌, ◌∙◌, sym, ap, rules, tests, codes, refl, IsTrue}
-use Rattle.sqlite_schema.specs.declared.schema.Kind.TheVariants.{Integer, Text}
-use Rattle.provider_store.specs.Format.{numbering, required, format_table}
-use Rattle.provider_store.specs.Opening.{IsPlainTable}
+use Rattle.std.proofs.Common.{◌≡◌, [], ◌∷◌, ◌∙◌, sym, rules, tests, codes, refl}
+use Rattle.sqlite_schema.specs.declared.schema.Kind.TheVariants.{Integer}
+use Rattle.provider_store.specs.Format.{numbering, required}
 use Rattle.provider_store.proofs.Fields.{two_items, format_fields}
 use Rattle.provider_store.proofs.format.is_format.Goals as goal
 

@@ -1,4 +1,4 @@
-use Rattle.std.proofs.Common.{◌≡◌, [], ◌∷◌, ◌∙◌, sym, rules, tests}
+use Rattle.std.proofs.Common.{◌≡◌, [], ◌∙◌, sym, rules, tests}
 use Rattle.provider_store.specs.Format.{format_table, name_index}
 use Rattle.provider_store.specs.Opening.{IsResourceTable}
 use Rattle.provider_store.proofs.Fields.{one_item, two_items, provider_fields}

@@ -1,5 +1,4 @@
-use Rattle.std.proofs.Common.{inl, inr, refl, rules}
-use Rattle.std.proofs.lemmas.Result.{err_from_is_err_and}
+use Rattle.std.proofs.Common.{inl, rules}
 use Rattle.provisioning.proofs.OnwardLemmas.{onward_still}
 use Rattle.provisioning.proofs.pushing.push_all.Goals as goal
 
