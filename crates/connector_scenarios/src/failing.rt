@@ -1,5 +1,5 @@
 //! Stores in memory of which one opening fails.
-ghost use Rattle.std.specs.Prelude.{refl};
+ghost use Rattle.std.specs.Prelude.{◌≡◌, refl};
 
 use journal_core::{Entry, Journal, JournalFault, MemoryJournal};
 use provider_core::{MemoryRegistry, Registry, RegistryFault, Reopen};
