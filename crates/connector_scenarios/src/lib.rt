@@ -8,6 +8,8 @@ mod changing;
 #[cfg(test)]
 mod codes;
 #[cfg(test)]
+mod failing;
+#[cfg(test)]
 mod learning;
 #[cfg(test)]
 mod longest;

@@ -1,4 +1,5 @@
 //! Whole runs of both sides over memory: messages lost, late, repeated, and restarts.
+use crate::failing::{FailingJournal, FailingRegistry};
 use crate::offers::{groups, named, users};
 use connector_core::{ChangeFault, LearnFault};
 use journal_core::MemoryJournal;
@@ -311,5 +312,59 @@ fn refusals_are_told_by_their_codes(rt: HostRuntime) -> Result<(), Fail> {
     }
     assert_eq!(rt; WorldFault::Memory.to_string(rt.alloc())?.as_str(), "Z1");
     assert_eq!(rt; WorldFault::Store.to_string(rt.alloc())?.as_str(), "Z2");
+    Ok(())
+}
+
+/// Asserts the report of each event, or its fault.
+fn steps(
+    rt: &impl Abort,
+    alloc: Global,
+    world: &mut World<FailingRegistry, FailingJournal>,
+    events: &[Told],
+) -> Result<(), Fail> {
+    for (text, expected) in events {
+        let told = match world.step(&event(alloc, text)?) {
+            Ok(report) => report.to_string(alloc)?,
+            Err(fault) => fault.to_string(alloc)?,
+        };
+        assert_eq!(rt; told.as_str(), *expected, "{text}");
+    }
+    Ok(())
+}
+
+#[test]
+fn a_side_that_is_not_opened_again_is_shut(rt: HostRuntime) -> Result<(), Fail> {
+    let alloc = rt.alloc();
+    let base = Base::read(alloc, "http://localhost:8080/v2")?;
+    let registry = FailingRegistry::new(alloc);
+    let mut world = match World::new(alloc, registry, FailingJournal::new(alloc), base) {
+        Ok(world) => world,
+        Err((fault, _registry, _journal)) => return Err(Fail::from(fault)),
+    };
+    steps(&rt, alloc, &mut world, CREATED)?;
+    let connector: &[Told] = &[
+        ("restart connector", "Z2"),
+        ("send user bob", "Z2"),
+        ("user bob,2,,,,,active", "Z2"),
+        ("deliver 4", "Z2"),
+        ("deliver 3", "answer 5 409"),
+        ("restart connector", "restarted"),
+        ("send user bob", "nothing"),
+    ];
+    steps(&rt, alloc, &mut world, connector)?;
+    let provider: &[Told] = &[
+        ("restart provider", "Z2"),
+        ("deliver 1", "Z2"),
+        ("deliver 4", "seen"),
+        ("restart provider", "restarted"),
+        ("deliver 1", "answer 6 200"),
+    ];
+    steps(&rt, alloc, &mut world, provider)?;
+    let bob = named(alloc, Kind::User, "bob")?;
+    let shown = world.view(&bob)?.to_string(alloc)?;
+    assert_eq!(rt;
+        shown.as_str(),
+        "user bob wanted=1 confirmed=1 held=1 version=1 active=true"
+    );
     Ok(())
 }
