@@ -1,5 +1,5 @@
 -- What lawful events lead to, and that each message there is read from its bytes as just that message.
-use Rattle.std.proofs.Common.{◌≡◌, ℕ, zero, suc, List, [], ◌∷◌, ◌++◌, Option, Some, None, map, refl, ap, sym, ◌∙◌, subst}
+use Rattle.std.proofs.Common.{◌≡◌, ℕ, zero, suc, List, [], ◌∷◌, ◌++◌, Some, map, refl, ap, sym, ◌∙◌, subst}
 use Rattle.std.specs.List.{AllByRecursion, slice_get}
 use Rattle.std.specs.Option.{option_map}
 use Rattle.scim_key.specs.Bases.{IsBase}
@@ -9,10 +9,9 @@ use Rattle.world_model.specs.Safe.{Has, IsAt}
 use Rattle.world_model.specs.Untroubled.{IsLawful}
 use Rattle.world_model.specs.World.{World, Message, Event, happens, empty, message_at, run}
 use Rattle.world_sim.specs.Fitting.{IsFormed}
-use Rattle.world_sim.specs.Messages.{message_text, messages_of, says, text_at, texts_of}
+use Rattle.world_sim.specs.Messages.{message_text, messages_of, text_at, texts_of}
 use Rattle.world_sim.specs.Reading.{IsReadAs}
 use Rattle.world_sim.specs.Running.{Is, IsReached, Mirrors}
-use Rattle.world_sim.specs.declared.messages.Sent.{Sent}
 use Rattle.world_sim.specs.declared.worlds.World.{World as Running}
 use Rattle.world_sim.proofs.Fitting.{messages_are_read}
 
