@@ -26,6 +26,20 @@ abbrev pub told : Result Answer AnswerFault → Result Answer ReadingFault
 told (Ok answer) = Ok answer
 told (Err fault) = Err (reading_fault fault)
 
+-- what is read is the one that it can be
+pub one_read : {X : Type 0} (x y : X) → IsOrMemory x (Ok y) → y ≡ x
+one_read x y is = elim is [
+  | inl same ↦ cc same
+  | inr none ↦ absurd (cc none)
+]
+
+-- and something is read
+pub no_unread : {X : Type 0} (x : X) → IsOrMemory x (Err Unread) → ⊥
+no_unread x is = elim is [
+  | inl same ↦ absurd (cc same)
+  | inr none ↦ absurd (cc none)
+]
+
 -- what the client reads of bytes, or out of memory
 pub answered_only : (r : Result Answer AnswerFault) (answer : Answer) → IsAnswerOrMemory (Ok answer) r → IsOrMemory answer (told r)
 answered_only (Ok other) answer is = elim is [

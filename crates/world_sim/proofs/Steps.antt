@@ -1,5 +1,7 @@
 -- What each event does to a world that runs.
-use Rattle.std.proofs.Common.{arith, ◌≡◌, ◌≢◌, ℕ, Bool, true, false, inl, inr, zero, suc, ◌-◌, List, [], ◌∷◌, ◌++◌, Option, Some, None, Result, Ok, Err, map, length, refl, ap, sym, subst, ◌∙◌}
+use Rattle.std.proofs.Common.{arith, ◌≡◌, ◌≢◌, ℕ, Bool, true, false, inl, inr, zero, suc, ◌-◌, ◌<◌, ◌≤◌, nat_lt, take, List, [], ◌∷◌, ◌++◌, Option, Some, None, Result, Ok, Err, map, length, refl, ap, sym, subst, ◌∙◌}
+use Rattle.std.proofs.lemmas.Bool.{false_from_ne_true}
+use Rattle.std.proofs.lemmas.Bool.Decides.{Decides-ltb}
 use Rattle.std.proofs.lemmas.List.{length-map, map_push}
 use Rattle.std.specs.BTreeSet.{insert_key}
 use Rattle.std.specs.FinMap.{get, get-empty, keys}
@@ -7,9 +9,12 @@ use Rattle.std.specs.FinMap as fin
 use Rattle.journal_core.specs.declared.entries.Entry.{Entry}
 use Rattle.std.specs.List.{slice_get}
 use Rattle.std.specs.Option.{option_map}
-use Rattle.std.specs.Prelude.{IfOk, OnOk}
+use Rattle.std.specs.Prelude.{IfErr, IfOk, OnOk}
+use Rattle.scim_key.specs.Bases.{IsBase}
 use Rattle.scim_key.specs.Records.{name_cmp}
 use Rattle.scim_key.specs.declared.records.RecordName.{RecordName}
+use Rattle.scim_client.specs.Answers.{AnswersSo}
+use Rattle.scim_client.specs.Spelling.{SpellsRequest}
 use Rattle.scim_message.specs.Messages.{answer_status}
 use Rattle.scim_message.specs.declared.messages.Request.{Request}
 use Rattle.scim_message.specs.declared.messages.Answer.{Answer}
@@ -18,7 +23,7 @@ use Rattle.provider_core.specs.Outcomes.{Outcome, outcome, changed_rows}
 use Rattle.provider_core.specs.Stories.{step, rows_of}
 use Rattle.provider_core.specs.declared.registry.Registry.{Ghosts as Registries}
 use Rattle.provider_core.proofs.StoryLaws.{rows_follow_stories}
-use Rattle.source_csv.specs.Records.{row_name}
+use Rattle.source_csv.specs.Records.{IsRow, row_name}
 use Rattle.source_csv.specs.declared.rows.Row.{Row}
 use Rattle.source_book.specs.History.{History}
 use Rattle.source_book.specs.declared.accepting.Verdict.{Verdict}
@@ -36,23 +41,29 @@ use Rattle.connector_core.specs.declared.asking.Ask.{Ask}
 use Rattle.connector_core.specs.declared.asking.Ask.TheVariants as asks
 use Rattle.connector_core.specs.declared.changing.ChangeFault.{ChangeFault}
 use Rattle.connector_core.specs.declared.knowledge.Known.{Known}
-use Rattle.world_model.specs.World.{World, Message, names as world_names, Asked, Answered, Event, Changes, Sends, Delivers, Restarts_provider, Restarts_connector, judged, sends, delivers, message_at, with_message, happens, empty, run}
+use Rattle.world_model.specs.World.{World, Message, names as world_names, Asked, Answered, Event, Changes, Sends, Delivers, Cuts, Restarts_provider, Restarts_connector, judged, sends, delivers, message_at, with_message, happens, empty, run}
 use Rattle.world_model.specs.Reports as model
 use Rattle.world_model.specs.Safe.{rows as world_rows}
 use Rattle.world_model.proofs.Safety.{always_safe}
 use Rattle.world_model.proofs.Onwards.{always_onward}
 use Rattle.world_model.proofs.Headlines.{headline_holds}
 use Rattle.world_sim.specs.Events.{report_of}
+use Rattle.world_sim.specs.Fitting.{IsFormed}
 use Rattle.world_sim.specs.Messages.{IsMessage, messages_of, text_at, texts_of, message_text, message_size, says}
-use Rattle.world_sim.specs.Running.{IsSound, Is, Makes, Happens, Arrives, Fails, IsExcused, IsShutOff, Stays, Starts, Runs, RunsFromEmpty, book_in, names_in, journal_in, if_restart}
+use Rattle.world_sim.specs.Running.{IsSound, Is, Mirrors, Makes, Happens, Arrives, Fails, IsExcused, IsShutOff, Stays, Starts, Runs, RunsFromEmpty, book_in, names_in, journal_in, if_restart}
 use Rattle.world_sim.specs.Sides.{CountsWorldFault, IsKeptIn, IsOpenedIn}
+use Rattle.world_sim.specs.Reading.{IsReadAs, IsOrMemory}
 use Rattle.world_sim.specs.declared.messages.Sent.{Sent}
+use Rattle.world_sim.specs.declared.reading.ReadingFault.TheVariants.{Unread}
 use Rattle.world_sim.specs.declared.reports.Report.{Report}
+use Rattle.world_sim.specs.declared.reports.Report.TheVariants.{CutShort}
 use Rattle.world_sim.specs.declared.reports.WorldFault.{WorldFault}
 use Rattle.world_sim.specs.declared.reports.WorldFault.TheVariants.{Memory, Store}
 use Rattle.world_sim.specs.declared.sides.Side.{Side}
 use Rattle.world_sim.specs.declared.sides.Side.TheVariants.{Open, Shut}
 use Rattle.world_sim.specs.declared.worlds.World.{World as Running}
+use Rattle.world_sim.proofs.Reaching.{at_map, run-more, formed_more, formed_same, formed_none, is_after, is_empty, is_still, sent_is_read, text_is}
+use Rattle.world_sim.proofs.Readings.{cut_read, no_unread, one_read}
 
 -- ---- the names of the records
 
@@ -67,11 +78,6 @@ changed_names m history row (Ok verdicts.Older) same = same
 changed_names m history row (Err fault) same = same
 
 -- ---- what was sent
-
-at_map : {X Y : Type 0} (f : X → Y) (xs : List X) (place : ℕ) → option_map f (slice_get xs place) ≡ slice_get (map f xs) place
-at_map f [] place = refl
-at_map f (x ∷ xs) zero = refl
-at_map f (x ∷ xs) (suc place) = at_map f xs place
 
 less_one : (place : ℕ) → suc place - 1 ≡ place
 less_one place = omega arith
@@ -98,10 +104,10 @@ opened_twice (Some entry) = refl
 module _ {R J : Type 0} (g : Registries R) (h : Journals J) (old : Running R J) where
   -- the book and the names of an open connector are those of the world
   here_book : (before : State J) → old.connector ≡ Open before → (w : World) → Is g h old w → book_of before.book ≡ w.book
-  here_book before e w is = sym (ap (book_in h) e) ∙ is.book
+  here_book before e w is = sym (ap (book_in h) e) ∙ is.mirrors.book
 
   here_names : (before : State J) → old.connector ≡ Open before → (w : World) → Is g h old w → keys before.book ≡ world_names w
-  here_names before e w is = sym (ap (names_in h) e) ∙ is.names
+  here_names before e w is = sym (ap (names_in h) e) ∙ is.mirrors.names
 
   was_faithful : (before : State J) → old.connector ≡ Open before → h.is_faithful before.journal → h.is_faithful (journal_in old.connector)
   was_faithful before e faithful = subst (λ s. h.is_faithful (journal_in s)) (sym e) faithful
@@ -110,37 +116,38 @@ module _ {R J : Type 0} (g : Registries R) (h : Journals J) (old : Running R J) 
   judged_same : (before : State J) → old.connector ≡ Open before → (row : Row) (w : World) → Is g h old w → judging (book_of before.book) (keys before.book) row ≡ judged w row
   judged_same before e row w is = ap (λ b. judging b (keys before.book) row) (here_book before e w is) ∙ ap (λ names. judging w.book names row) (here_names before e w is)
 
-  pub changes_row : (before after : State J) (row : Row) (told : Report) → old.connector ≡ Open before
+  pub changes_row : (before after : State J) (row : Row) (told : Report) → IsRow row → old.connector ≡ Open before
       → (h.is_faithful after.journal → h.is_faithful before.journal)
       → after.book ≡ accepted_map before.book row (judging (book_of before.book) (keys before.book) row)
       → report_of told ≡ model.Judged (judging (book_of before.book) (keys before.book) row)
       → Happens g h old (record old { connector = Open after }) (Changes row) told
-  changes_row before after row told e was made said = record {
+  changes_row before after row told law e was made said = record {
     was = λ sound. record { registry = sound.registry; journal = was_faithful before e (was sound.journal) };
     base = refl;
     stays_open = λ sound faithful. faithful;
-    is = λ sound w is. record {
-      rows = is.rows;
-      found = is.found;
-      table = is.table;
+    is = λ sound w is. is_after g h old (record old { connector = Open after }) w (Changes row) law refl is (record {
+      rows = is.mirrors.rows;
+      found = is.mirrors.found;
+      table = is.mirrors.table;
       book = ap book_of made ∙ maps_accept before.book row (judging (book_of before.book) (keys before.book) row)
           ∙ ap (λ b. book_after b row (judging (book_of before.book) (keys before.book) row)) (here_book before e w is) ∙ ap (book_after w.book row) (judged_same before e row w is);
       names = ap keys made ∙ changed_names before.book w.history row (judging (book_of before.book) (keys before.book) row) (here_names before e w is)
           ∙ ap (λ v. names_of (history_after w.history row v)) (judged_same before e row w is);
-      messages = is.messages;
-      texts = is.texts;
-    };
+      messages = is.mirrors.messages;
+      texts = is.mirrors.texts;
+      formed = is.mirrors.formed;
+    });
     report = λ sound w is. said ∙ ap model.Judged (judged_same before e row w is);
   }
 
   -- the same of what the connector said, if it said something
-  pub changes_told : (before after : State J) (row copy : Row) (result : Result Report WorldFault) → copy ≡ row → old.connector ≡ Open before
+  pub changes_told : (before after : State J) (row copy : Row) (result : Result Report WorldFault) → IsRow row → copy ≡ row → old.connector ≡ Open before
       → (h.is_faithful after.journal → h.is_faithful before.journal)
       → OnOk result (after.book ≡ accepted_map before.book copy (judging (book_of before.book) (keys before.book) copy))
       → IfOk result (λ told. report_of told ≡ model.Judged (judging (book_of before.book) (keys before.book) copy))
       → IfOk result (λ told. Happens g h old (record old { connector = Open after }) (Changes row) told)
-  changes_told before after row copy (Ok told) same e was made said = subst (λ r. Happens g h old (record old { connector = Open after }) (Changes r) told) same (changes_row before after copy told e was made said)
-  changes_told before after row copy (Err fault) same e was made said = tt
+  changes_told before after row copy (Ok told) law same e was made said = subst (λ r. Happens g h old (record old { connector = Open after }) (Changes r) told) same (changes_row before after copy told (subst IsRow (sym same) law) e was made said)
+  changes_told before after row copy (Err fault) law same e was made said = tt
 
   asked_same : (before : State J) → old.connector ≡ Open before → (name : RecordName) (ask : Option Ask) → asking (book_of before.book) name ≡ ask → (w : World) → Is g h old w → asking w.book name ≡ ask
   asked_same before at name ask e w is = ap (λ b. asking b name) (sym (here_book before at w is)) ∙ e
@@ -157,48 +164,50 @@ module _ {R J : Type 0} (g : Registries R) (h : Journals J) (old : Running R J) 
   }
 
   pub sends_request : (new : Running R J) (before : State J) (name : RecordName) (request : Request) (told : Report) → old.connector ≡ Open before → asking (book_of before.book) name ≡ Some (asks.Send request)
-      → Makes g h old new (λ w. with_message w (Asked request)) (λ w. model.sending_report (model.next_number w) request) told
+      → Makes g h old new (λ w. Mirrors g h new (with_message w (Asked request))) (λ w. model.sending_report (model.next_number w) request) told
       → Happens g h old new (Sends name) told
   sends_request new before name request told at e m = record {
     was = m.was;
     base = m.base;
     stays_open = m.stays_open;
-    is = λ sound w is. subst (λ v. Is g h new v) (sym (ap (sends w) (asked_same before at name (Some (asks.Send request)) e w is))) (m.is sound w is);
+    is = λ sound w is. is_after g h old new w (Sends name) tt m.base is
+        (subst (λ v. Mirrors g h new v) (sym (ap (sends w) (asked_same before at name (Some (asks.Send request)) e w is))) (m.is sound w is));
     report = λ sound w is. m.report sound w is ∙ sym (ap (model.ask_report (model.next_number w)) (asked_same before at name (Some (asks.Send request)) e w is));
   }
 
   pub sends_told : (new : Running R J) (before : State J) (name : RecordName) (request : Request) (result : Result Report WorldFault) → old.connector ≡ Open before → asking (book_of before.book) name ≡ Some (asks.Send request)
-      → IfOk result (λ told. Makes g h old new (λ w. with_message w (Asked request)) (λ w. model.sending_report (model.next_number w) request) told)
+      → IfOk result (λ told. Makes g h old new (λ w. Mirrors g h new (with_message w (Asked request))) (λ w. model.sending_report (model.next_number w) request) told)
       → IfOk result (λ told. Happens g h old new (Sends name) told)
   sends_told new before name request (Ok told) at e m = sends_request new before name request told at e m
   sends_told new before name request (Err fault) at e m = tt
 
   more_messages : (w : World) (sent : Sent) (message : Message) → IsMessage old.service sent message → Is g h old w → messages_of (old.sent.items ++ sent ∷ []) ≡ w.messages ++ message ∷ []
-  more_messages w sent message in_bytes is = map_push (λ (s : Sent). says s.said) old.sent.items sent ∙ ap (λ ms. ms ++ says sent.said ∷ []) is.messages ∙ ap (λ m. w.messages ++ m ∷ []) in_bytes.is
+  more_messages w sent message in_bytes is = map_push (λ (s : Sent). says s.said) old.sent.items sent ∙ ap (λ ms. ms ++ says sent.said ∷ []) is.mirrors.messages ∙ ap (λ m. w.messages ++ m ∷ []) in_bytes.is
 
   more_texts : (w : World) (sent : Sent) (message : Message) → IsMessage old.service sent message → Is g h old w → texts_of (old.sent.items ++ sent ∷ []) ≡ map (message_text old.service) (w.messages ++ message ∷ [])
-  more_texts w sent message in_bytes is = map_push (λ (s : Sent). s.bytes.items) old.sent.items sent ∙ ap (λ ts. ts ++ sent.bytes.items ∷ []) is.texts ∙ ap (λ t. map (message_text old.service) w.messages ++ t ∷ []) in_bytes.text
+  more_texts w sent message in_bytes is = map_push (λ (s : Sent). s.bytes.items) old.sent.items sent ∙ ap (λ ts. ts ++ sent.bytes.items ∷ []) is.mirrors.texts ∙ ap (λ t. map (message_text old.service) w.messages ++ t ∷ []) in_bytes.text
       ∙ sym (map_push (message_text old.service) w.messages message)
 
   as_many : (w : World) → Is g h old w → length old.sent.items ≡ length w.messages
-  as_many w is = sym (length-map old.sent.items (λ (s : Sent). says s.said)) ∙ ap length is.messages
+  as_many w is = sym (length-map old.sent.items (λ (s : Sent). says s.said)) ∙ ap length is.mirrors.messages
 
-  pub posts : (new : Running R J) (message : Sent) (request : Request) (told : Report) → IsMessage old.service message (Asked request)
+  pub posts : (new : Running R J) (message : Sent) (request : Request) (told : Report) → IsMessage old.service message (Asked request) → IsFormed old.service (Asked request)
       → new.provider ≡ old.provider → new.connector ≡ old.connector → new.service ≡ old.service → new.sent.items ≡ old.sent.items ++ message ∷ []
       → report_of told ≡ model.sending_report (suc (length old.sent.items)) request
-      → Makes g h old new (λ w. with_message w (Asked request)) (λ w. model.sending_report (model.next_number w) request) told
-  posts new message request told in_bytes provider connector base sent said = record {
+      → Makes g h old new (λ w. Mirrors g h new (with_message w (Asked request))) (λ w. model.sending_report (model.next_number w) request) told
+  posts new message request told in_bytes formed provider connector base sent said = record {
     was = λ sound. record { registry = subst g.is_honest provider sound.registry; journal = subst (λ s. h.is_faithful (journal_in s)) connector sound.journal };
     base = base;
     stays_open = λ sound faithful. subst g.is_faithful (sym provider) faithful;
     is = λ sound w is. record {
-      rows = subst (λ p. g.is_faithful p → g.rows p ≡ world_rows w) (sym provider) is.rows;
-      found = subst (λ p. (found : List StoredRecord) → g.may_hold p found → found ≡ world_rows w) (sym provider) is.found;
-      table = is.table;
-      book = ap (book_in h) connector ∙ is.book;
-      names = ap (names_in h) connector ∙ is.names;
+      rows = subst (λ p. g.is_faithful p → g.rows p ≡ world_rows w) (sym provider) is.mirrors.rows;
+      found = subst (λ p. (found : List StoredRecord) → g.may_hold p found → found ≡ world_rows w) (sym provider) is.mirrors.found;
+      table = is.mirrors.table;
+      book = ap (book_in h) connector ∙ is.mirrors.book;
+      names = ap (names_in h) connector ∙ is.mirrors.names;
       messages = ap messages_of sent ∙ more_messages w message (Asked request) in_bytes is;
       texts = ap texts_of sent ∙ more_texts w message (Asked request) in_bytes is ∙ ap (λ b. map (message_text b) (w.messages ++ Asked request ∷ [])) (sym base);
+      formed = formed_more old.service new.service w.messages (Asked request) base is.mirrors.formed formed;
     };
     report = λ sound w is. said ∙ ap (λ n. model.sending_report (suc n) request) (as_many w is);
   }
@@ -206,7 +215,7 @@ module _ {R J : Type 0} (g : Registries R) (h : Journals J) (old : Running R J) 
   -- ---- messages that arrive
 
   message_same : (number : ℕ) (message : Option Message) → message_at (messages_of old.sent.items) number ≡ message → (w : World) → Is g h old w → message_at w.messages number ≡ message
-  message_same number message e w is = ap (λ ms. message_at ms number) (sym is.messages) ∙ e
+  message_same number message e w is = ap (λ ms. message_at ms number) (sym is.mirrors.messages) ∙ e
 
   pub delivers_nothing : (number : ℕ) (told : Report) → message_at (messages_of old.sent.items) number ≡ None → report_of told ≡ model.No_message → Happens g h old old (Delivers number) told
   delivers_nothing number told e said = record {
@@ -217,37 +226,141 @@ module _ {R J : Type 0} (g : Registries R) (h : Journals J) (old : Running R J) 
     report = λ sound w is. said ∙ sym (ap (model.delivery_report w) (message_same number None e w is));
   }
 
-  pub delivers_message : (new : Running R J) (number : ℕ) (message : Message) (told : Report) → message_at (messages_of old.sent.items) number ≡ Some message
-      → Arrives g h old new message told → Happens g h old new (Delivers number) told
-  delivers_message new number message told e m = record {
+  -- the request that is read from the bytes with a number is the one that was sent
+  same_asked : (number : ℕ) (asked heard : Request) (bytes : List ℕ) → message_at (messages_of old.sent.items) number ≡ Some (Asked asked) → text_at (texts_of old.sent.items) number ≡ Some bytes
+      → ((request : Request) → SpellsRequest bytes request → IsOrMemory request (Ok heard)) → (w : World) → Is g h old w → heard ≡ asked
+  same_asked number asked heard bytes said text only w is = one_read asked heard (only asked (sent_is_read g h old number (Asked asked) bytes said text w is))
+
+  pub delivers_request : (new : Running R J) (number : ℕ) (asked heard : Request) (bytes : List ℕ) (told : Report)
+      → message_at (messages_of old.sent.items) number ≡ Some (Asked asked) → text_at (texts_of old.sent.items) number ≡ Some bytes
+      → ((request : Request) → SpellsRequest bytes request → IsOrMemory request (Ok heard))
+      → Arrives g h old new (Asked heard) told → Happens g h old new (Delivers number) told
+  delivers_request new number asked heard bytes told said text only m = record {
     was = m.was;
     base = m.base;
     stays_open = m.stays_open;
-    is = λ sound w is. subst (λ v. Is g h new v) (sym (ap (delivers w) (message_same number (Some message) e w is))) (m.is sound w is);
-    report = λ sound w is. m.report sound w is ∙ sym (ap (model.delivery_report w) (message_same number (Some message) e w is));
+    is = λ sound w is. is_after g h old new w (Delivers number) tt m.base is (subst (λ v. Mirrors g h new v) (sym (ap (delivers w) (heard_at w is))) (m.is sound w is));
+    report = λ sound w is. m.report sound w is ∙ sym (ap (model.delivery_report w) (heard_at w is));
   }
+    where
+      heard_at : (w : World) → Is g h old w → message_at w.messages number ≡ Some (Asked heard)
+      heard_at w is = message_same number (Some (Asked asked)) said w is ∙ ap (λ r. Some (Asked r)) (sym (same_asked number asked heard bytes said text only w is))
 
-  pub learns : (before after : State J) (request : Request) (answer : Answer) (told : Report) → old.connector ≡ Open before
-      → report_of told ≡ model.Taught (model.learnt_of (learn (book_of before.book) request answer))
-      → book_of after.book ≡ after_learning (book_of before.book) (learn (book_of before.book) request answer)
+  pub request_told : (new : Running R J) (number : ℕ) (asked heard : Request) (bytes : List ℕ) (result : Result Report WorldFault)
+      → message_at (messages_of old.sent.items) number ≡ Some (Asked asked) → text_at (texts_of old.sent.items) number ≡ Some bytes
+      → ((request : Request) → SpellsRequest bytes request → IsOrMemory request (Ok heard))
+      → IfOk result (Arrives g h old new (Asked heard)) → IfOk result (Happens g h old new (Delivers number))
+  request_told new number asked heard bytes (Ok told) said text only m = delivers_request new number asked heard bytes told said text only m
+  request_told new number asked heard bytes (Err fault) said text only m = tt
+
+  -- bytes that aren't read as a request aren't those of one
+  pub delivers_unread : (number : ℕ) (asked : Request) (bytes : List ℕ) (told : Report)
+      → message_at (messages_of old.sent.items) number ≡ Some (Asked asked) → text_at (texts_of old.sent.items) number ≡ Some bytes
+      → ((request : Request) → SpellsRequest bytes request → IsOrMemory request (Err Unread)) → Happens g h old old (Delivers number) told
+  delivers_unread number asked bytes told said text only = record {
+    was = λ sound. sound;
+    base = refl;
+    stays_open = λ sound faithful. faithful;
+    is = λ sound w is. absurd (never w is);
+    report = λ sound w is. absurd (never w is);
+  }
+    where
+      never : (w : World) → Is g h old w → ⊥
+      never w is = no_unread asked (only asked (sent_is_read g h old number (Asked asked) bytes said text w is))
+
+  pub learns : (before after : State J) (number : ℕ) (request : Request) (answer : Answer) (bytes : List ℕ) (told : Report)
+      → message_at (messages_of old.sent.items) number ≡ Some (Answered request answer) → text_at (texts_of old.sent.items) number ≡ Some bytes
+      → old.connector ≡ Open before
+      → ((a : Answer) → AnswersSo bytes request a → report_of told ≡ model.Taught (model.learnt_of (learn (book_of before.book) request a)))
+      → ((a : Answer) → AnswersSo bytes request a → book_of after.book ≡ after_learning (book_of before.book) (learn (book_of before.book) request a))
       → keys after.book ≡ keys before.book
       → (h.is_faithful after.journal → h.is_faithful before.journal)
-      → Arrives g h old (record old { connector = Open after }) (Answered request answer) told
-  learns before after request answer told e said made named was = record {
+      → Happens g h old (record old { connector = Open after }) (Delivers number) told
+  learns before after number request answer bytes told sent text e said made named was = record {
     was = λ sound. record { registry = sound.registry; journal = was_faithful before e (was sound.journal) };
     base = refl;
     stays_open = λ sound faithful. faithful;
-    is = λ sound w is. record {
-      rows = is.rows;
-      found = is.found;
-      table = is.table;
-      book = made ∙ ap (λ b. after_learning b (learn b request answer)) (here_book before e w is);
-      names = named ∙ here_names before e w is;
-      messages = is.messages;
-      texts = is.texts;
-    };
-    report = λ sound w is. said ∙ ap (λ b. model.Taught (model.learnt_of (learn b request answer))) (here_book before e w is);
+    is = λ sound w is. is_after g h old (record old { connector = Open after }) w (Delivers number) tt refl is
+        (subst (λ v. Mirrors g h (record old { connector = Open after }) v) (sym (ap (delivers w) (message_same number (Some (Answered request answer)) sent w is))) (record {
+          rows = is.mirrors.rows;
+          found = is.mirrors.found;
+          table = is.mirrors.table;
+          book = made answer (reads w is) ∙ ap (λ b. after_learning b (learn b request answer)) (here_book before e w is);
+          names = named ∙ here_names before e w is;
+          messages = is.mirrors.messages;
+          texts = is.mirrors.texts;
+          formed = is.mirrors.formed;
+        }));
+    report = λ sound w is. said answer (reads w is) ∙ ap (λ b. model.Taught (model.learnt_of (learn b request answer))) (here_book before e w is)
+        ∙ sym (ap (model.delivery_report w) (message_same number (Some (Answered request answer)) sent w is));
   }
+    where
+      reads : (w : World) → Is g h old w → AnswersSo bytes request answer
+      reads w is = sent_is_read g h old number (Answered request answer) bytes sent text w is
+
+  pub learns_told : (before after : State J) (number : ℕ) (request : Request) (answer : Answer) (bytes : List ℕ) (result : Result Report WorldFault)
+      → message_at (messages_of old.sent.items) number ≡ Some (Answered request answer) → text_at (texts_of old.sent.items) number ≡ Some bytes
+      → old.connector ≡ Open before
+      → ((a : Answer) → AnswersSo bytes request a → IfOk result (λ told. report_of told ≡ model.Taught (model.learnt_of (learn (book_of before.book) request a))))
+      → ((a : Answer) → AnswersSo bytes request a → OnOk result (book_of after.book ≡ after_learning (book_of before.book) (learn (book_of before.book) request a)))
+      → keys after.book ≡ keys before.book
+      → (h.is_faithful after.journal → h.is_faithful before.journal)
+      → IfOk result (Happens g h old (record old { connector = Open after }) (Delivers number))
+  learns_told before after number request answer bytes (Ok told) sent text e said made named was = learns before after number request answer bytes told sent text e said made named was
+  learns_told before after number request answer bytes (Err fault) sent text e said made named was = tt
+
+  -- the same fault, whichever number the request has
+  pub fails_numbered : (new : Running R J) (number : ℕ) (result : Result Report WorldFault)
+      → IfErr result (λ fault. (n : ℕ) → Fails g h old new (Delivers n) fault) → IfErr result (Fails g h old new (Delivers number))
+  fails_numbered new number (Ok told) fails = tt
+  fails_numbered new number (Err fault) fails = fails number
+
+  -- without a message, or with all bytes of one, nothing is cut
+  pub cuts_none : (number count : ℕ) (told : Report) → message_at (messages_of old.sent.items) number ≡ None → report_of told ≡ model.No_message → Happens g h old old (Cuts number count) told
+  cuts_none number count told none said = record {
+    was = λ sound. sound;
+    base = refl;
+    stays_open = λ sound faithful. faithful;
+    is = λ sound w is. is_still g h old old w refl is is.mirrors;
+    report = λ sound w is. said ∙ sym (ap (λ m. model.cut_report (message_size old.service) m count) (message_same number None none w is));
+  }
+
+  pub cuts_whole : (number count : ℕ) (message : Message) (bytes : List ℕ) (told : Report)
+      → message_at (messages_of old.sent.items) number ≡ Some message → text_at (texts_of old.sent.items) number ≡ Some bytes
+      → length bytes ≤ count → report_of told ≡ model.No_message → Happens g h old old (Cuts number count) told
+  cuts_whole number count message bytes told said text whole none = record {
+    was = λ sound. sound;
+    base = refl;
+    stays_open = λ sound faithful. faithful;
+    is = λ sound w is. is_still g h old old w refl is is.mirrors;
+    report = λ sound w is. none ∙ sym (ap (λ m. model.cut_report (message_size old.service) m count) (message_same number (Some message) said w is) ∙ ap model.cut_at (is_whole w is));
+  }
+    where
+      not_less : nat_lt count (length bytes) ≡ false
+      not_less = false_from_ne_true _ (λ (less : nat_lt count (length bytes) ≡ true). absurd (omega (arith, (Decides-ltb count (length bytes)).0 less, whole)))
+
+      is_whole : (w : World) → Is g h old w → nat_lt count (message_size old.service message) ≡ false
+      is_whole w is = ap (λ (t : List ℕ). nat_lt count (length t)) (sym (text_is g h old number message bytes said text w is)) ∙ not_less
+
+  -- the first bytes of a message aren't read as one
+  pub cuts_message : (number count : ℕ) (message : Message) (bytes front : List ℕ) (told : Report)
+      → message_at (messages_of old.sent.items) number ≡ Some message → text_at (texts_of old.sent.items) number ≡ Some bytes
+      → count < length bytes → front ≡ take count bytes
+      → ((more : List ℕ) → 0 < length more → IsReadAs (front ++ more) message → told ≡ CutShort)
+      → Happens g h old old (Cuts number count) told
+  cuts_message number count message bytes front told said text less first cut = record {
+    was = λ sound. sound;
+    base = refl;
+    stays_open = λ sound faithful. faithful;
+    is = λ sound w is. is_still g h old old w refl is is.mirrors;
+    report = λ sound w is.
+        let short : told ≡ CutShort = cut_read bytes count front message less first (told ≡ CutShort) cut (sent_is_read g h old number message bytes said text w is) in
+        ap report_of short ∙ sym (ap (λ m. model.cut_report (message_size old.service) m count) (message_same number (Some message) said w is)
+        ∙ ap model.cut_at (is_short w is));
+  }
+    where
+      is_short : (w : World) → Is g h old w → nat_lt count (message_size old.service message) ≡ true
+      is_short w is = ap (λ (t : List ℕ). nat_lt count (length t)) (sym (text_is g h old number message bytes said text w is)) ∙ (Decides-ltb count (length bytes)).1 less
 
   -- a request is answered: the registry is read, and then written
   pub answers : (new : Running R J) (mid : R) (pending : Outcome) (request : Request) (message : Sent) (told : Report)
@@ -258,23 +371,24 @@ module _ {R J : Type 0} (g : Registries R) (h : Journals J) (old : Running R J) 
       → (g.is_faithful mid → g.rows mid ≡ g.rows old.provider) → (g.is_faithful mid → pending ≡ outcome (g.rows old.provider) request)
       → (g.is_faithful new.provider → g.rows new.provider ≡ changed_rows (g.rows mid) pending.change)
       → ((found : List StoredRecord) → g.is_faithful new.provider → g.may_hold new.provider found → found ≡ g.rows new.provider)
-      → IsMessage old.service message (Answered request pending.answer)
+      → IsMessage old.service message (Answered request pending.answer) → IsFormed old.service (Answered request pending.answer)
       → report_of told ≡ model.Answering (suc (length old.sent.items)) (answer_status pending.answer)
       → Arrives g h old new (Asked request) told
-  answers new mid pending request message told connector base sent was_old was_mid was_open opened stays same out done settled in_bytes said = record {
+  answers new mid pending request message told connector base sent was_old was_mid was_open opened stays same out done settled in_bytes formed said = record {
     was = λ sound. record { registry = was_old (was_mid sound.registry); journal = subst (λ s. h.is_faithful (journal_in s)) connector sound.journal };
     base = base;
     stays_open = λ sound faithful. is_open_now sound.registry;
     is = λ sound w is. let step_is = answer_same sound.registry w is in record {
       rows = λ faithful. done faithful ∙ rows_same sound.registry w is;
       found = λ found holds. settled found (is_open_now sound.registry) holds ∙ done (is_open_now sound.registry) ∙ rows_same sound.registry w is;
-      table = (rows_follow_stories w.entries request is.table).table;
-      book = ap (book_in h) connector ∙ is.book;
-      names = ap (names_in h) connector ∙ is.names;
+      table = (rows_follow_stories w.entries request is.mirrors.table).table;
+      book = ap (book_in h) connector ∙ is.mirrors.book;
+      names = ap (names_in h) connector ∙ is.mirrors.names;
       messages = ap messages_of sent ∙ more_messages w message (Answered request pending.answer) in_bytes is ∙ ap (λ a. w.messages ++ Answered request a ∷ []) step_is;
       texts = ap texts_of sent ∙ more_texts w message (Answered request pending.answer) in_bytes is
           ∙ ap (λ a. map (message_text old.service) (w.messages ++ Answered request a ∷ [])) step_is
           ∙ ap (λ b. map (message_text b) (w.messages ++ Answered request (step w.entries request).answer ∷ [])) (sym base);
+      formed = formed_more old.service new.service w.messages (Answered request (step w.entries request).answer) base is.mirrors.formed (subst (λ a. IsFormed old.service (Answered request a)) step_is formed);
     };
     report = λ sound w is. said ∙ ap (λ n. model.Answering (suc n) (answer_status pending.answer)) (as_many w is)
         ∙ ap (λ a. model.Answering (model.next_number w) (answer_status a)) (answer_same sound.registry w is);
@@ -284,17 +398,17 @@ module _ {R J : Type 0} (g : Registries R) (h : Journals J) (old : Running R J) 
       is_open_now honest = stays honest (opened (was_mid honest))
 
       held_same : g.is_honest new.provider → (w : World) → Is g h old w → g.rows old.provider ≡ rows_of w.entries
-      held_same honest w is = is.rows (was_open (opened (was_mid honest)))
+      held_same honest w is = is.mirrors.rows (was_open (opened (was_mid honest)))
 
       pending_same : g.is_honest new.provider → (w : World) → Is g h old w → pending ≡ outcome (rows_of w.entries) request
       pending_same honest w is = out (opened (was_mid honest)) ∙ ap (λ rows. outcome rows request) (held_same honest w is)
 
       answer_same : g.is_honest new.provider → (w : World) → Is g h old w → pending.answer ≡ (step w.entries request).answer
-      answer_same honest w is = ap (λ p. p.answer) (pending_same honest w is) ∙ (rows_follow_stories w.entries request is.table).answer
+      answer_same honest w is = ap (λ p. p.answer) (pending_same honest w is) ∙ (rows_follow_stories w.entries request is.mirrors.table).answer
 
       rows_same : g.is_honest new.provider → (w : World) → Is g h old w → changed_rows (g.rows mid) pending.change ≡ rows_of (step w.entries request).entries
       rows_same honest w is = ap (λ rows. changed_rows rows pending.change) (same (opened (was_mid honest)) ∙ held_same honest w is)
-          ∙ ap (λ p. changed_rows (rows_of w.entries) p.change) (pending_same honest w is) ∙ (rows_follow_stories w.entries request is.table).rows
+          ∙ ap (λ p. changed_rows (rows_of w.entries) p.change) (pending_same honest w is) ∙ (rows_follow_stories w.entries request is.mirrors.table).rows
 
   -- ---- restarts
 
@@ -321,18 +435,19 @@ module _ {R J : Type 0} (g : Registries R) (h : Journals J) (old : Running R J) 
       → (h.is_faithful (journal_in side) → h.is_faithful (journal_in old.connector))
       → (h.is_faithful (journal_in side) → h.entries (journal_in side) ≡ h.entries (journal_in old.connector))
       → IsSound g h (record old { connector = side }) → (w : World) → Is g h old w → Is g h (record old { connector = side }) (happens w Restarts_connector)
-  restarted side kept found was same sound w is = record {
-    rows = is.rows;
-    found = is.found;
-    table = is.table;
+  restarted side kept found was same sound w is = is_after g h old (record old { connector = side }) w Restarts_connector tt refl is (record {
+    rows = is.mirrors.rows;
+    found = is.mirrors.found;
+    table = is.mirrors.table;
     book = λ i name. book_same name i;
-    names = found_names (journal_in old.connector) side found sound.journal (same sound.journal) ∙ kept_names old.connector kept (was sound.journal) ∙ is.names;
-    messages = is.messages;
-    texts = is.texts;
-  }
+    names = found_names (journal_in old.connector) side found sound.journal (same sound.journal) ∙ kept_names old.connector kept (was sound.journal) ∙ is.mirrors.names;
+    messages = is.mirrors.messages;
+    texts = is.mirrors.texts;
+    formed = is.mirrors.formed;
+  })
     where
       book_same : (name : RecordName) → book_in h side name ≡ reopened w.book name
-      book_same name = found_book (journal_in old.connector) side found sound.journal (same sound.journal) name ∙ kept_book old.connector kept (was sound.journal) name ∙ ap (λ b. option_map forgotten (b name)) is.book
+      book_same name = found_book (journal_in old.connector) side found sound.journal (same sound.journal) name ∙ kept_book old.connector kept (was sound.journal) name ∙ ap (λ b. option_map forgotten (b name)) is.mirrors.book
 
   pub reopens_connector : (side : Side J) (told : Report) → IsKeptIn h old.connector → IsOpenedIn h (journal_in old.connector) side
       → (h.is_faithful (journal_in side) → h.is_faithful (journal_in old.connector))
@@ -368,15 +483,16 @@ module _ {R J : Type 0} (g : Registries R) (h : Journals J) (old : Running R J) 
   reopened_registry : (registry : R) → ((found : List StoredRecord) → g.may_hold registry found → (w : World) → Is g h old w → found ≡ world_rows w)
       → (g.is_faithful registry → g.may_hold registry (g.rows registry))
       → (openness : Bool) → (w : World) → Is g h old w → Is g h (record old { provider = registry; is_provider_open = openness }) w
-  reopened_registry registry finds stays openness w is = record {
+  reopened_registry registry finds stays openness w is = is_still g h old (record old { provider = registry; is_provider_open = openness }) w refl is (record {
     rows = λ faithful. finds (g.rows registry) (stays faithful) w is;
     found = λ found holds. finds found holds w is;
-    table = is.table;
-    book = is.book;
-    names = is.names;
-    messages = is.messages;
-    texts = is.texts;
-  }
+    table = is.mirrors.table;
+    book = is.mirrors.book;
+    names = is.mirrors.names;
+    messages = is.mirrors.messages;
+    texts = is.mirrors.texts;
+    formed = is.mirrors.formed;
+  })
 
   pub reopens_provider : (registry : R) (told : Report) → (g.is_honest registry → g.is_honest old.provider) → (g.is_honest registry → g.is_faithful registry)
       → (g.is_honest registry → g.may_hold old.provider (g.rows registry))
@@ -388,7 +504,7 @@ module _ {R J : Type 0} (g : Registries R) (h : Journals J) (old : Running R J) 
     was = λ sound. record { registry = was sound.registry; journal = sound.journal };
     base = refl;
     stays_open = λ sound faithful. opened sound.registry;
-    is = λ sound w is. reopened_registry registry (λ found at v here. settled found (opened sound.registry) at ∙ here.found (g.rows registry) (holds sound.registry)) stays true w is;
+    is = λ sound w is. reopened_registry registry (λ found at v here. settled found (opened sound.registry) at ∙ here.mirrors.found (g.rows registry) (holds sound.registry)) stays true w is;
     report = λ sound w is. said;
   }
 
@@ -401,7 +517,7 @@ module _ {R J : Type 0} (g : Registries R) (h : Journals J) (old : Running R J) 
     was = λ sound. record { registry = was sound.registry; journal = sound.journal };
     base = refl;
     sent = refl;
-    is = λ sound known w is. reopened_registry registry (λ found at v here. here.found found (leaves sound.registry found at)) stays false w is;
+    is = λ sound known w is. reopened_registry registry (λ found at v here. here.mirrors.found found (leaves sound.registry found at)) stays false w is;
     excused = excuse fault counted;
   }
     where
@@ -412,15 +528,16 @@ module _ {R J : Type 0} (g : Registries R) (h : Journals J) (old : Running R J) 
   -- ---- faults
 
   staying : (new : Running R J) → Stays old new → (w : World) → Is g h old w → Is g h new w
-  staying new s w is = record {
-    rows = subst (λ p. g.is_faithful p → g.rows p ≡ world_rows w) (sym s.provider) is.rows;
-    found = subst (λ p. (found : List StoredRecord) → g.may_hold p found → found ≡ world_rows w) (sym s.provider) is.found;
-    table = is.table;
-    book = ap (book_in h) s.connector ∙ is.book;
-    names = ap (names_in h) s.connector ∙ is.names;
-    messages = ap messages_of s.sent ∙ is.messages;
-    texts = ap texts_of s.sent ∙ is.texts ∙ ap (λ b. map (message_text b) w.messages) (sym s.base);
-  }
+  staying new s w is = is_still g h old new w s.base is (record {
+    rows = subst (λ p. g.is_faithful p → g.rows p ≡ world_rows w) (sym s.provider) is.mirrors.rows;
+    found = subst (λ p. (found : List StoredRecord) → g.may_hold p found → found ≡ world_rows w) (sym s.provider) is.mirrors.found;
+    table = is.mirrors.table;
+    book = ap (book_in h) s.connector ∙ is.mirrors.book;
+    names = ap (names_in h) s.connector ∙ is.mirrors.names;
+    messages = ap messages_of s.sent ∙ is.mirrors.messages;
+    texts = ap texts_of s.sent ∙ is.mirrors.texts ∙ ap (λ b. map (message_text b) w.messages) (sym s.base);
+    formed = formed_same old.service new.service w.messages s.base is.mirrors.formed;
+  })
 
   fails_staying : (new : Running R J) (event : Event) (fault : WorldFault) → Stays old new → ((w : World) → if_restart w event ≡ w) → IsExcused g h old new event fault → Fails g h old new event fault
   fails_staying new event fault s still excused = record {
@@ -445,15 +562,16 @@ module _ {R J : Type 0} (g : Registries R) (h : Journals J) (old : Running R J) 
     was = λ sound. record { registry = sound.registry; journal = was_faithful before e (was sound.journal) };
     base = refl;
     sent = refl;
-    is = λ sound known w is. subst (λ v. Is g h (record old { connector = Open after }) v) (sym (still w)) (record {
-      rows = is.rows;
-      found = is.found;
-      table = is.table;
+    is = λ sound known w is. subst (λ v. Is g h (record old { connector = Open after }) v) (sym (still w)) (is_still g h old (record old { connector = Open after }) w refl is (record {
+      rows = is.mirrors.rows;
+      found = is.mirrors.found;
+      table = is.mirrors.table;
       book = ap book_of same ∙ here_book before e w is;
       names = ap keys same ∙ here_names before e w is;
-      messages = is.messages;
-      texts = is.texts;
-    });
+      messages = is.mirrors.messages;
+      texts = is.mirrors.texts;
+      formed = is.mirrors.formed;
+    }));
     excused = counted_excuse (Open after) event fault (subst (λ side. CountsWorldFault (h.faults (journal_in side)) (h.faults after.journal) fault) (sym e) counted);
   }
 
@@ -468,15 +586,16 @@ module _ {R J : Type 0} (g : Registries R) (h : Journals J) (old : Running R J) 
     was = λ sound. record { registry = was sound.registry; journal = subst (λ s. h.is_faithful (journal_in s)) connector sound.journal };
     base = base;
     sent = sent;
-    is = λ sound known w is. record {
-      rows = λ faithful. same faithful ∙ is.rows (was_open faithful);
-      found = λ found holds. settled found known holds ∙ same known ∙ is.rows (was_open known);
-      table = is.table;
-      book = ap (book_in h) connector ∙ is.book;
-      names = ap (names_in h) connector ∙ is.names;
-      messages = ap messages_of sent ∙ is.messages;
-      texts = ap texts_of sent ∙ is.texts ∙ ap (λ b. map (message_text b) w.messages) (sym base);
-    };
+    is = λ sound known w is. is_still g h old new w base is (record {
+      rows = λ faithful. same faithful ∙ is.mirrors.rows (was_open faithful);
+      found = λ found holds. settled found known holds ∙ same known ∙ is.mirrors.rows (was_open known);
+      table = is.mirrors.table;
+      book = ap (book_in h) connector ∙ is.mirrors.book;
+      names = ap (names_in h) connector ∙ is.mirrors.names;
+      messages = ap messages_of sent ∙ is.mirrors.messages;
+      texts = ap texts_of sent ∙ is.mirrors.texts ∙ ap (λ b. map (message_text b) w.messages) (sym base);
+      formed = formed_same old.service new.service w.messages base is.mirrors.formed;
+    });
     excused = excuse fault counted;
   }
     where
@@ -492,10 +611,6 @@ nothing f (x ∷ xs) e = absurd (omega (arith, e))
 
 keys-empty : keys (fin.empty {X = Entry} {R = name_cmp}) ≡ []
 keys-empty = nothing (λ e. e.0) (fin.entries (fin.empty {X = Entry} {R = name_cmp})) (sym (fin.len-entries (fin.empty {X = Entry} {R = name_cmp})) ∙ fin.len-empty name_cmp Entry)
-
-run-more : (w : World) (events : List Event) (event : Event) → run w (events ++ event ∷ []) ≡ happens (run w events) event
-run-more w [] event = refl
-run-more w (e ∷ events) event = run-more (happens w e) events event
 
 reports-more : (size : Message → ℕ) (w : World) (events : List Event) (event : Event)
     → model.reports size w (events ++ event ∷ []) ≡ model.reports size w events ++ model.report size (run w events) event ∷ []
@@ -519,14 +634,14 @@ module _ {R J : Type 0} (g : Registries R) (h : Journals J) where
         ∙ sym (reports-more (message_size old.service) w events event);
   }
 
-  pub starts_now : (r : Running R J) (registry : R) (connector : State J) (journal : J) → r.provider ≡ registry → r.connector ≡ Open connector → r.sent.items ≡ []
+  pub starts_now : (r : Running R J) (registry : R) (connector : State J) (journal : J) → IsBase r.service → r.provider ≡ registry → r.connector ≡ Open connector → r.sent.items ≡ []
       → (h.is_faithful connector.journal → IsOpened (h.entries journal) connector.book) → (h.is_faithful connector.journal → h.is_faithful journal)
       → ((found : List StoredRecord) → g.is_faithful registry → g.may_hold registry found → found ≡ g.rows registry)
       → Starts g h registry journal r
-  starts_now r registry connector journal at e sent opens was settled = record {
+  starts_now r registry connector journal base at e sent opens was settled = record {
     was = λ sound. (subst g.is_honest at sound.registry, was (now sound));
     stays_open = λ faithful. subst g.is_faithful (sym at) faithful;
-    is = λ sound faithful rows kept. record {
+    is = λ sound faithful rows kept. is_empty g h r base (record {
       rows = λ _. ap g.rows at ∙ rows;
       found = λ found holds. settled found faithful (subst (λ p. g.may_hold p found) at holds) ∙ rows;
       table = tt;
@@ -534,7 +649,8 @@ module _ {R J : Type 0} (g : Registries R) (h : Journals J) where
       names = ap (names_in h) e ∙ (opens (now sound)).names ∙ ap keys kept ∙ keys-empty;
       messages = ap messages_of sent;
       texts = ap texts_of sent;
-    };
+      formed = formed_none g h r;
+    });
   }
     where
       now : IsSound g h r → h.is_faithful connector.journal

@@ -1,8 +1,8 @@
 pub mod Messages
 pub mod Events
 pub mod Sides
-pub mod Running
 pub mod Reading
 pub mod Fitting
+pub mod Running
 pub mod Schedules
 pub mod Views

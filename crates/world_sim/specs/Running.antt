@@ -2,7 +2,9 @@
 use Rattle.std.specs.Prelude.{◌≡◌, ◌⊎◌, ℕ, Bool, true, false, List, [], ◌++◌, map, Option, Some, None, Result, Ok, Err}
 use Rattle.std.specs.FinMap.{get, keys}
 use Rattle.std.specs.FinMap as fin
+use Rattle.std.specs.List.{AllByRecursion}
 use Rattle.std.specs.Option.{option_map}
+use Rattle.scim_key.specs.Bases.{IsBase}
 use Rattle.scim_key.specs.Stores.{HasRisen}
 use Rattle.scim_key.specs.declared.records.RecordName.{RecordName}
 use Rattle.scim_resource.specs.Rows.{StoredRecord}
@@ -14,7 +16,9 @@ use Rattle.connector_core.specs.Maps.{book_of}
 use Rattle.connector_core.specs.State.{opened}
 use Rattle.world_model.specs.World.{World, Message, Asked, Answered, Event, Changes, Sends, Delivers, Cuts, Restarts_provider, Restarts_connector, message_at, names as world_names, arrives, happens, empty, run}
 use Rattle.world_model.specs.Reports.{Report, report, reports, arrival_report}
-use Rattle.world_model.specs.Safe.{Headline, Onward, Safe, rows as world_rows}
+use Rattle.world_model.specs.Safe.{Has, Headline, Onward, Safe, rows as world_rows}
+use Rattle.world_model.specs.Untroubled.{IsLawful}
+use Rattle.world_sim.specs.Fitting.{IsFormed}
 use Rattle.world_sim.specs.Messages.{message_text, message_size, messages_of, texts_of}
 use Rattle.world_sim.specs.Events.{report_of}
 use Rattle.world_sim.specs.declared.reports.Report.{Report as ReportOf}
@@ -73,9 +77,15 @@ pub record IsSound {R J : Type 0} (g : Registries R) (h : Journals J) (r : Runni
   pub registry : g.is_honest r.provider
   pub journal : h.is_faithful (journal_in r.connector)
 
--- What runs is this world: its rows, also where the registry is opened again, its book, the names of its records, and its
--- messages, each in its bytes
-pub record Is {R J : Type 0} (g : Registries R) (h : Journals J) (r : Running R J) (w : World) : Type 0 where
+-- The world is one that lawful events lead to
+pub record IsReached (w : World) : Type 0 where
+  pub events : List Event
+  pub lawful : AllByRecursion IsLawful events
+  pub is : run empty events ≡ w
+
+-- What runs has the parts of this world: its rows, also where the registry is opened again, its book, the names of its records,
+-- and its messages, each in its bytes, as they are formed
+pub record Mirrors {R J : Type 0} (g : Registries R) (h : Journals J) (r : Running R J) (w : World) : Type 0 where
   pub rows : g.is_faithful r.provider → g.rows r.provider ≡ world_rows w
   pub found : (found : List StoredRecord) → g.may_hold r.provider found → found ≡ world_rows w
   pub table : IsTable w.entries
@@ -83,25 +93,32 @@ pub record Is {R J : Type 0} (g : Registries R) (h : Journals J) (r : Running R 
   pub names : names_in h r.connector ≡ world_names w
   pub messages : messages_of r.sent.items ≡ w.messages
   pub texts : texts_of r.sent.items ≡ map (message_text r.service) w.messages
+  pub formed : (message : Message) → Has w.messages message → IsFormed r.service message
+
+-- What runs is this world, at a lawful base
+pub record Is {R J : Type 0} (g : Registries R) (h : Journals J) (r : Running R J) (w : World) : Type 0 where
+  pub mirrors : Mirrors g h r w
+  pub base : IsBase r.service
+  pub reached : IsReached w
 
 -- ---- what is done
 
--- What was done, with its report: where the stores are sound after it, they were so before, an open registry stays open, and of
--- each world that ran before it the world after it runs now
-pub record Makes {R J : Type 0} (g : Registries R) (h : Journals J) (old new : Running R J) (after : World → World) (says : World → Report) (told : ReportOf) : Type 0 where
+-- What was done, with its report: where the stores are sound after it, they were so before, an open registry stays open, and
+-- this is so after it of each world that ran before it
+pub record Makes {R J : Type 0} (g : Registries R) (h : Journals J) (old new : Running R J) (after : World → Type 0) (says : World → Report) (told : ReportOf) : Type 0 where
   pub was : IsSound g h new → IsSound g h old
   pub base : new.service ≡ old.service
   pub stays_open : IsSound g h new → g.is_faithful old.provider → g.is_faithful new.provider
-  pub is : IsSound g h new → (w : World) → Is g h old w → Is g h new (after w)
+  pub is : IsSound g h new → (w : World) → Is g h old w → after w
   pub report : IsSound g h new → (w : World) → Is g h old w → report_of told ≡ says w
 
--- One event
+-- One event: of each world that ran before it the world after it runs now
 abbrev pub Happens : {R J : Type 0} → Registries R → Journals J → (old new : Running R J) → Event → ReportOf → Type 0
-Happens g h old new event told = Makes g h old new (λ w. happens w event) (λ w. report (message_size old.service) w event) told
+Happens g h old new event told = Makes g h old new (λ w. Is g h new (happens w event)) (λ w. report (message_size old.service) w event) told
 
--- a message arrives
+-- a message arrives: what runs has the parts of the world after that
 abbrev pub Arrives : {R J : Type 0} → Registries R → Journals J → (old new : Running R J) → Message → ReportOf → Type 0
-Arrives g h old new message told = Makes g h old new (λ w. arrives w message) (λ w. arrival_report w message) told
+Arrives g h old new message told = Makes g h old new (λ w. Mirrors g h new (arrives w message)) (λ w. arrival_report w message) told
 
 -- ---- faults
 

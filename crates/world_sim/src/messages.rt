@@ -1,8 +1,9 @@
 //! The messages of a world.
-ghost use Rattle.std.specs.Prelude.{◌≡◌, IfOk};
+ghost use Rattle.std.specs.Prelude.{◌≡◌, IfOk, OnOk};
 ghost use Rattle.std.specs.List.{slice_get};
 ghost use Rattle.std.specs.Option.{option_copied, option_map};
 ghost use Rattle.world_model.specs.World.{Asked, message_at};
+ghost use Rattle.world_sim.specs.Fitting.{IsFormed};
 ghost use Rattle.world_sim.specs.Messages.{IsMessage, messages_of, says, text_at, texts_of};
 
 use scim_client::ScimService;
@@ -10,7 +11,8 @@ use scim_message::{Answer, Request};
 use std::alloc::{AllocError, Global};
 use std::rc::Rc;
 
-/// What a message says.
+/// What a message says. Of a message that arrives only its bytes are read: what it says tells which
+/// side they go to, and which request a reply answers.
 #[derive(Drop)]
 pub(crate) enum Said {
     Asked(Rc<Request>),
@@ -30,7 +32,8 @@ pub(crate) fn asked(
     service: &ScimService,
     request: Request,
 ) -> Result<Sent, AllocError>
-    ensures { IfOk result (λ sent. IsMessage service.now sent (Asked request)) }
+    ensures message { IfOk result (λ sent. IsMessage service.now sent (Asked request)) }
+    ensures formed { OnOk result (IsFormed service.now (Asked request)) }
 {
     let bytes = service.bytes_of(alloc, &request)?;
     Ok(Sent {

@@ -6,16 +6,23 @@ ghost use Rattle.connector_core.specs.Learning as spec;
 ghost use Rattle.connector_core.specs.Maps.{book_of};
 ghost use Rattle.journal_core.specs.Stores.{OnlyReads};
 ghost use Rattle.provider_core.specs.Outcomes.{outcome};
+ghost use Rattle.scim_client.specs.Answers.{AnswersSo};
+ghost use Rattle.scim_key.specs.Bases.{IsBase};
+ghost use Rattle.scim_message.specs.declared.messages.Answer.{Answer};
 ghost use Rattle.scim_server.specs.Replies.{answer_text};
+ghost use Rattle.source_csv.specs.Records.{IsRow};
 ghost use Rattle.world_model.specs.Reports.{Judged, Taught, learnt_of, next_number, sending_report};
 ghost use Rattle.world_model.specs.World.{Answered, Asked, Changes, Cuts, Delivers, Restarts_connector, Restarts_provider, Sends, with_message};
 ghost use Rattle.world_sim.specs.Events.{event_of, report_of};
-ghost use Rattle.world_sim.specs.Running.{Arrives, Fails, Happens, IsOpenedBy, IsShutOff, Makes, Starts, Stays, journal_after, opens_after, opens_of};
+ghost use Rattle.world_sim.specs.Fitting.{IsFormed};
+ghost use Rattle.world_sim.specs.Running.{Arrives, Fails, Happens, IsOpenedBy, IsShutOff, Makes, Mirrors, Starts, Stays, journal_after, opens_after, opens_of};
 ghost use Rattle.world_sim.specs.Sides.{CountsStart, CountsWorldFault};
+ghost use Rattle.world_sim.specs.declared.reports.Report.TheVariants.{CutShort};
 ghost use Rattle.world_sim.specs.declared.reports.WorldFault.TheVariants.{Memory, Store};
 
 use crate::events::Event;
 use crate::messages::{Said, Sent, asked, sent_at};
+use crate::reading::{ReadingFault, read_answered, read_asked, read_cut};
 use crate::reports::{Report, WorldFault};
 use crate::sides::{Side, reopened};
 use connector_core::{Ask, AskFault, ChangeFault, Connector, LearnFault};
@@ -95,6 +102,54 @@ fn judge<J: Journal>(connector: &mut Connector<J>, row: Row) -> Result<Report, W
     }
 }
 
+/// The answer to a request arrives, in these bytes.
+fn hear<J: Journal>(
+    alloc: Global,
+    connector: &mut Connector<J>,
+    request: &Request,
+    bytes: &[u8],
+) -> Result<Report, WorldFault>
+    ensures report { (answer : Answer) → AnswersSo bytes.now request.now answer
+        → IfOk result (λ told. report_of told ≡ Taught (learnt_of (spec.learn (book_of connector.old.book) request.now answer))) }
+    ensures book { (answer : Answer) → AnswersSo bytes.now request.now answer
+        → OnOk result (book_of connector.new.book ≡ spec.after_learning (book_of connector.old.book) (spec.learn (book_of connector.old.book) request.now answer)) }
+    ensures names { keys connector.new.book ≡ keys connector.old.book }
+    ensures same { OnErr result (connector.new.book ≡ connector.old.book) }
+    ensures was { J.is_faithful connector.new.journal → J.is_faithful connector.old.journal }
+    ensures counted { IfErr result (CountsWorldFault (J.faults connector.old.journal) (J.faults connector.new.journal)) }
+{
+    match read_answered(alloc, request, bytes) {
+        Ok(answer) => learn(connector, request, &answer),
+        Err(ReadingFault::Unread) => Ok(Report::NoMessage),
+        Err(ReadingFault::Memory) => Err(WorldFault::Memory),
+    }
+}
+
+/// The report of the first bytes of a message, by whether they were read as one.
+fn cut_short(is_read: bool) -> Report
+    ensures { is_read ≡ false → result ≡ CutShort }
+{
+    if is_read {
+        Report::NoMessage
+    } else {
+        Report::CutShort
+    }
+}
+
+/// The type of a row keeps the limits of the source.
+fn keeps_limits(row: &Row)
+    ensures { IsRow row.now }
+{
+    let _ = row.revision();
+}
+
+/// The type of a base keeps its form.
+fn keeps_form(base: &Base)
+    ensures { IsBase base.now }
+{
+    let _ = base.as_str();
+}
+
 /// What a request is answered and what becomes of the rows, and the bytes of the reply.
 fn prepared<R: Registry>(
     alloc: Global,
@@ -104,6 +159,7 @@ fn prepared<R: Registry>(
 ) -> Result<(Pending, Vec<u8>), WorldFault>
     ensures ok { R.is_faithful provider.new → IfOk result (λ formed. formed.0 ≡ outcome (R.rows provider.old) request.now) }
     ensures text { IfOk result (λ formed. formed.1.items ≡ answer_text base.now false formed.0.answer) }
+    ensures formed { IfOk result (λ formed. IsFormed base.now (Answered request.now formed.0.answer)) }
     ensures reads { OnlyReads R.rows R.is_faithful R.is_honest R.may_hold R.faults R.writes CountsWorldFault provider.old provider.new result }
 {
     let pending = provider.prepare(alloc, request)?;
@@ -125,6 +181,7 @@ impl<R: Registry + Drop, J: Journal + Drop> World<R, J> {
         ensures refused { IfErr result (λ refused. refused.1 ≡ registry) }
         ensures journal { OnlyReads J.entries J.is_faithful J.is_honest J.may_hold J.faults J.writes CountsStart journal (journal_after result) result }
     {
+        keeps_form(&base);
         match Connector::open(alloc, journal) {
             Ok(connector) => Ok(World {
                 alloc,
@@ -146,7 +203,10 @@ impl<R: Registry + Drop, J: Journal + Drop> World<R, J> {
         ensures opens { opens_of self.new ≡ opens_of self.old }
     {
         match &mut self.connector {
-            Side::Open(connector) => judge(connector, row.clone()?),
+            Side::Open(connector) => {
+                keeps_limits(row);
+                judge(connector, row.clone()?)
+            }
             Side::Shut(_) => Err(WorldFault::Store),
         }
     }
@@ -172,7 +232,7 @@ impl<R: Registry + Drop, J: Journal + Drop> World<R, J> {
 
     /// Sends a request.
     fn post(&mut self, request: Request) -> Result<Report, WorldFault>
-        ensures sent { IfOk result (Makes R.Registry J.Journal self.old self.new (λ w. with_message w (Asked request)) (λ w. sending_report (next_number w) request)) }
+        ensures sent { IfOk result (Makes R.Registry J.Journal self.old self.new (λ w. Mirrors R.Registry J.Journal self.new (with_message w (Asked request))) (λ w. sending_report (next_number w) request)) }
         ensures memory { IfErr result (λ fault. fault ≡ Memory) }
         ensures stays { OnErr result (Stays self.old self.new) }
         ensures opens { opens_of self.new ≡ opens_of self.old }
@@ -195,12 +255,13 @@ impl<R: Registry + Drop, J: Journal + Drop> World<R, J> {
         };
         match &message.said {
             Said::Asked(_) if !self.is_provider_open => Err(WorldFault::Store),
-            Said::Asked(request) => {
-                let request = request.clone()?;
-                self.answer(request)
-            }
-            Said::Answered(request, answer) => match &mut self.connector {
-                Side::Open(connector) => learn(connector, request, answer),
+            Said::Asked(_) => match read_asked(self.alloc, &message.bytes) {
+                Ok(request) => self.answer(request),
+                Err(ReadingFault::Unread) => Ok(Report::NoMessage),
+                Err(ReadingFault::Memory) => Err(WorldFault::Memory),
+            },
+            Said::Answered(request, _) => match &mut self.connector {
+                Side::Open(connector) => hear(self.alloc, connector, request, &message.bytes),
                 Side::Shut(_) => Err(WorldFault::Store),
             },
         }
@@ -208,8 +269,8 @@ impl<R: Registry + Drop, J: Journal + Drop> World<R, J> {
 
     /// A request arrives, and its reply is sent. All that takes memory is done before the rows
     /// change.
-    fn answer(&mut self, request: Rc<Request>) -> Result<Report, WorldFault>
-        ensures done { IfOk result (Arrives R.Registry J.Journal self.old self.new (Asked request.value)) }
+    fn answer(&mut self, request: Request) -> Result<Report, WorldFault>
+        ensures done { IfOk result (Arrives R.Registry J.Journal self.old self.new (Asked request)) }
         ensures fails { IfErr result (λ fault. (number : ℕ) → Fails R.Registry J.Journal self.old self.new (Delivers number) fault) }
         ensures opens { opens_of self.new ≡ opens_of self.old }
     {
@@ -220,6 +281,7 @@ impl<R: Registry + Drop, J: Journal + Drop> World<R, J> {
             &request,
         )?;
         let status = pending.answer().status();
+        let request = Rc::new(self.alloc, request)?;
         self.sent.reserve(1)?;
         let answer = self.provider.commit(pending)?;
         let said = Said::Answered(request, answer);
@@ -228,13 +290,17 @@ impl<R: Registry + Drop, J: Journal + Drop> World<R, J> {
         Ok(Report::Answering { number, status })
     }
 
-    /// Only the first bytes of a message arrive: nothing happens.
-    fn cut(&self, number: usize, length: usize) -> Report
-        ensures { Happens R.Registry J.Journal self.now self.now (Cuts number length) result }
+    /// Only the first bytes of a message arrive: they aren't read as one, and nothing happens.
+    fn cut(&self, number: usize, length: usize) -> Result<Report, WorldFault>
+        ensures done { IfOk result (Happens R.Registry J.Journal self.now self.now (Cuts number length)) }
+        ensures fails { IfErr result (Fails R.Registry J.Journal self.now self.now (Cuts number length)) }
     {
         match sent_at(&self.sent, number) {
-            Some(sent) if length < sent.bytes.len() => Report::CutShort,
-            _ => Report::NoMessage,
+            Some(sent) if length < sent.bytes.len() => {
+                let is_read = read_cut(self.alloc, &sent.said, &sent.bytes[..length])?;
+                Ok(cut_short(is_read))
+            }
+            _ => Ok(Report::NoMessage),
         }
     }
 
@@ -278,7 +344,7 @@ impl<R: Reopen + Drop, J: Journal + Drop> World<R, J> {
             Event::Change(row) => self.change(row),
             Event::Send(name) => self.send(name),
             Event::Deliver(number) => self.deliver(*number),
-            Event::Cut { number, length } => Ok(self.cut(*number, *length)),
+            Event::Cut { number, length } => self.cut(*number, *length),
             Event::RestartProvider => self.restart_provider(),
             Event::RestartConnector => self.restart_connector(),
         }

@@ -1,8 +1,8 @@
-use Rattle.std.proofs.Common.{◌≡◌, suc, [], ◌∷◌, ◌++◌, length, refl, ap, ◌∙◌, rules}
+use Rattle.std.proofs.Common.{◌≡◌, suc, [], ◌∷◌, ◌++◌, length, refl, ap, ◌∙◌, subst, rules}
 use Rattle.scim_message.specs.Messages.{answer_status}
-use Rattle.provider_core.specs.Outcomes.{outcome}
 use Rattle.world_model.specs.Reports as model
 use Rattle.world_model.specs.World.{Answered}
+use Rattle.world_sim.specs.Fitting.{IsFormed}
 use Rattle.world_sim.specs.Messages.{message_text}
 use Rattle.world_sim.specs.declared.messages.Said.TheVariants as said
 use Rattle.world_sim.specs.declared.messages.Sent.{Sent}
@@ -13,16 +13,18 @@ pub returns-clause-done : goal.returns-clause-done
 returns-clause-done g c =
     let reads = c.in_ok-pending.ensures.reads in
     let writes = c.in_ok-answer.ensures.writes in
-    let message : Sent = record { said = said.Answered c.args.request c.in_ok-answer.answer; bytes = c.in_ok-pending.bytes } in
-    let asked : c.deref.result.now ≡ c.args.request.value = search rules in
+    let message : Sent = record { said = said.Answered c.in_ok-request.request c.in_ok-answer.answer; bytes = c.in_ok-pending.bytes } in
+    let kept : c.in_ok-request.request.value ≡ c.args.request = search rules in
+    let base : c.base.result.now ≡ c.args.self.now.service = search rules in
     let answer : c.in_ok-answer.answer ≡ c.in_ok-pending.pending.answer = search rules in
-    let text : c.in_ok-pending.bytes.items ≡ message_text c.args.self.now.service (Answered c.args.request.value c.in_ok-pending.pending.answer) = search rules in
+    let text : c.in_ok-pending.bytes.items ≡ message_text c.args.self.now.service (Answered c.args.request c.in_ok-pending.pending.answer) = search rules in
     let sent : c.push.new.self.items ≡ c.args.self.now.sent.items ++ message ∷ [] = search rules in
     let many : c.len-number.result ≡ suc (length c.args.self.now.sent.items) = search rules in
     let status : c.status-status.result ≡ answer_status c.in_ok-pending.pending.answer = search rules in
-    answers g.R.Registry g.J.Journal c.args.self.now _ c.prepared.new.provider c.in_ok-pending.pending c.args.request.value message _
+    answers g.R.Registry g.J.Journal c.args.self.now _ c.prepared.new.provider c.in_ok-pending.pending c.args.request message _
     refl refl sent reads.honest writes.honest reads.was reads.opened c.in_ok-answer.ensures.open reads.same
-    (λ faithful. c.in_ok-pending.ensures.ok faithful ∙ ap (outcome (g.R.Registry.rows c.args.self.now.provider)) asked)
+    c.in_ok-pending.ensures.ok
     writes.done (g.met.R.Registry.settled c.commit.new.self)
-    (record { is = ap (Answered c.args.request.value) answer; text = text })
+    (record { is = ap (λ r. Answered r c.in_ok-answer.answer) kept ∙ ap (Answered c.args.request) answer; text = text })
+    (subst (λ b. IsFormed b (Answered c.args.request c.in_ok-pending.pending.answer)) base c.in_ok-pending.ensures.formed)
     (ap (λ n. model.Answering n c.status-status.result) many ∙ ap (model.Answering (suc (length c.args.self.now.sent.items))) status)

@@ -6,5 +6,5 @@ pub returns-in_ok-clone-in-Open-clause-done : goal.returns-in_ok-clone-in-Open-c
 returns-in_ok-clone-in-Open-clause-done g c =
     let copied : c.in_ok-clone-in-Open.field-0 ≡ c.args.row.now = search rules in
     let told = c.judge.ensures in
-    changes_told g.R.Registry g.J.Journal c.args.self.now c.in-Open.connector c.judge.new.connector c.args.row.now c.in_ok-clone-in-Open.field-0 c.judge.result copied c.in-Open.is
+    changes_told g.R.Registry g.J.Journal c.args.self.now c.in-Open.connector c.judge.new.connector c.args.row.now c.in_ok-clone-in-Open.field-0 c.judge.result (search rules) copied c.in-Open.is
     told.was told.book told.report
