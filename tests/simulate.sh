@@ -22,6 +22,8 @@ runs_as restarts 0
 runs_as waiting-group 1
 runs_as repeated-messages 0
 runs_as refused-rows 1
+runs_as group-after-its-members 0
+runs_as cut-messages 0
 
 # the example of the README
 expect example 0 '' "$program" simulate examples/late-leaver.schedule
