@@ -29,7 +29,7 @@ laid_mid old mid same laid = laid_still old mid (unchanged_keeps old mid same) s
 
 query_at : (s : State) (sql : List ℕ) → IsQuery sql → IsLaid s → IsPlain (understood s.now.schema sql) × (reads_listing s.now.schema sql ≡ false)
 query_at s sql query laid =
-    subst (λ (schema : Schema). IsPlain (understood schema sql) × (reads_listing schema sql ≡ false)) (sym laid.schema) (query laid.format_checks laid.resource_checks laid.order)
+    subst (λ (schema : Schema). IsPlain (understood schema sql) × (reads_listing schema sql ≡ false)) (sym laid.schema) (query laid.format_checks laid.users laid.groups)
 
 pub asked : (old mid new : State) (sql : List ℕ) (params : Row) (rows : List Row) → IsQuery sql → IsLaid old → IsUnchanged old mid → Shown sql params mid new rows → Answers sql params old rows
 asked old mid new sql params rows query laid same shown c is =
@@ -84,7 +84,7 @@ on_err (Err e) p = p
 -- ---- writes
 
 edit_at : (s : State) (sql : List ℕ) (c : Compiled) → IsEditText sql → IsLaid s → understood s.now.schema sql ≡ Ok c → (c.returning ≡ None) × (c.formats ≡ []) × IsEdit c.command
-edit_at s sql c edit laid is = edit laid.format_checks laid.resource_checks laid.order c (ap (λ schema. understood schema sql) (sym laid.schema) ∙ is)
+edit_at s sql c edit laid is = edit laid.format_checks laid.users laid.groups c (ap (λ schema. understood schema sql) (sym laid.schema) ∙ is)
 
 shows_none : (command : Command) → IsEdit command → (is_query command ≡ false) × (is_pragma command ≡ false)
 shows_none (Insert at from) edit = (refl, refl)

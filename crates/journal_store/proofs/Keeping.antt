@@ -27,8 +27,8 @@ laid_still old new keeps still laid =
     let same = keeps.same still laid in
     record {
       format_checks = laid.format_checks;
-      resource_checks = laid.resource_checks;
-      order = laid.order;
+      users = laid.users;
+      groups = laid.groups;
       schema = ap (λ (d : Database). d.schema) same.0 ∙ laid.schema;
       committed = same.1;
       autocommit = same.2;

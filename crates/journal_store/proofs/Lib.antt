@@ -1,1 +1,12 @@
 pub mod Texts
+pub mod Keeping
+pub mod Asking
+pub mod Values
+pub mod Trees
+pub mod Selecting
+pub mod Writing
+pub mod Decoding
+pub mod Tables
+pub mod Putting
+pub mod Finding
+pub mod Written

@@ -1,1 +1,3 @@
 pub mod Format
+pub mod Rows
+pub mod Connections

@@ -106,7 +106,7 @@ infixl 10 ◌>>=◌
 abbrev ◌>>=◌ : {A B : Type 0} → Option A → (A → Option B) → Option B
 o >>= f = option_and_then f o
 
-abbrev pub user_in : Row → Option Entry
+abbrev pub user_in : Row → Option source.Row
 user_in r = do
   login ← text_in (column r 1)
   revision ← revision_in (column r 2)
@@ -115,22 +115,25 @@ user_in r = do
   family ← text_in (column r 5)
   mail ← text_in (column r 6)
   active ← active_in (column r 7)
-  confirmed ← confirmed_in (column r 8)
-  id ← id_in (column r 9)
-  Some (record { row = User (record { login = login; revision = revision; number = number; given = given; family = family; mail = mail; active = active }); confirmed = confirmed; id = id })
+  Some (User (record { login = login; revision = revision; number = number; given = given; family = family; mail = mail; active = active }))
 
-abbrev pub group_in : Row → Option Entry
+abbrev pub group_in : Row → Option source.Row
 group_in r = do
   name ← text_in (column r 1)
   revision ← revision_in (column r 2)
   members ← members_in (column r 3)
-  confirmed ← confirmed_in (column r 4)
-  id ← id_in (column r 5)
-  Some (record { row = Group (record { name = name; revision = revision; members = members }); confirmed = confirmed; id = id })
+  Some (Group (record { name = name; revision = revision; members = members }))
+
+abbrev pub entry_by : Option source.Row → Option RevisionValue → Option (Option (List ℕ)) → Option Entry
+entry_by row confirmed id = do
+  source ← row
+  revision ← confirmed
+  given ← id
+  Some (record { row = source; confirmed = revision; id = given })
 
 abbrev pub fields_in : Kind → Row → Option Entry
-fields_in kind.User r = user_in r
-fields_in kind.Group r = group_in r
+fields_in kind.User r = entry_by (user_in r) (confirmed_in (column r 8)) (id_in (column r 9))
+fields_in kind.Group r = entry_by (group_in r) (confirmed_in (column r 4)) (id_in (column r 5))
 
 -- the entry, where it is that of the record with this key
 abbrev pub keyed : Kind → List ℕ → Option Entry → Option Entry
