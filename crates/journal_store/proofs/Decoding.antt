@@ -1,7 +1,7 @@
 -- What is written of an entry is read as that entry.
 use Rattle.std.proofs.Common.{◌≡◌, ◌==◌, ◌&&◌, ◌<◌, ◌≤◌, ℕ, zero, suc, ℤ, pos, Bool, true, false, List, [], ◌∷◌, ◌++◌, ◌+◌, get_or, length, take, nat_lt, nat_le, All, Option, Some, None, refl, sym, ap, ◌∙◌, subst, inl, inr, arith}
 use Rattle.std.proofs.lemmas.Bool.{and_parts, cases_Bool, eqb-true, false_from_ne_true}
-use Rattle.std.proofs.lemmas.List.{take_more}
+use Rattle.std.proofs.lemmas.List.{append_assoc, take_more}
 use Rattle.std.proofs.lemmas.List.Folds.{list_all_at}
 use Rattle.sqlite_trees.proofs.ListLemmas.{all-append}
 use Rattle.std.proofs.lemmas.Bool.Decides.{nat_tests}
@@ -80,7 +80,7 @@ split_join key (next ∷ keys) are =
     slice_split_at (λ c. c == 32) key 32 (members_text (next ∷ keys)) (no_spaces key (named_bytes key are.0.named).0) refl ∙ ap (λ l. key ∷ l) (split_join next keys are.1)
 
 not_empty : (key : List ℕ) (keys : List (List ℕ)) → (length key == 0) ≡ false → (length (members_text (key ∷ keys)) == 0) ≡ false
-not_empty [] keys some = absurd (let none : (length {X = ℕ} [] == 0) ≡ true = refl in cc)
+not_empty [] keys some = absurd (cc)
 not_empty (b ∷ key) [] some = some
 not_empty (b ∷ key) (next ∷ keys) some = false_from_ne_true _ (λ none. absurd (omega (arith, eqb-true _ 0 none)))
 
@@ -155,3 +155,21 @@ one_more names n name key keys fits at is lawful so_far are = (
   (λ i. so_far i ++ (is ∙ at) i ∷ []) ∙ sym (take_more names n name fits),
   all-append keys (key ∷ []) are (lawful, tt),
 )
+
+-- ---- the text of the members, key by key
+
+join_push : (first : List ℕ) (keys : List (List ℕ)) (key : List ℕ) → members_text (first ∷ (keys ++ key ∷ [])) ≡ members_text (first ∷ keys) ++ (32 ∷ key)
+join_push first [] key = refl
+join_push first (next ∷ keys) key = ap (λ l. first ++ 32 ∷ l) (join_push next keys key) ∙ sym (append_assoc first (32 ∷ members_text (next ∷ keys)) (32 ∷ key))
+
+pub join_first : (keys : List (List ℕ)) (n : ℕ) (key : List ℕ) → n < length keys → key ≡ get_or keys n key → n ≡ 0 → members_text (take (n + 1) keys) ≡ key
+join_first [] n key fits at is = absurd (omega arith)
+join_first (first ∷ keys) n key fits at is = rw is (sym (rw is at at))
+
+pub join_later : (keys : List (List ℕ)) (n : ℕ) (key : List ℕ) → n < length keys → key ≡ get_or keys n key → 0 < n → members_text (take (n + 1) keys) ≡ members_text (take n keys) ++ (32 ∷ key)
+join_later [] n key fits at some = absurd (omega arith)
+join_later (first ∷ keys) zero key fits at some = absurd (omega arith)
+join_later (first ∷ keys) (suc n) key fits at some =
+    let more : take (n + 1) keys ≡ take n keys ++ key ∷ [] = take_more keys n key (omega arith) ∙ ap (λ k. take n keys ++ k ∷ []) (sym at) in
+    let here : take (suc n + 1) (first ∷ keys) ≡ first ∷ (take n keys ++ key ∷ []) = (let step : suc n + 1 ≡ suc (n + 1) = omega arith in ap (λ m. take m (first ∷ keys)) step ∙ ap (λ l. first ∷ l) more) in
+    ap members_text here ∙ join_push first (take n keys) key

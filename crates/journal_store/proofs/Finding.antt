@@ -20,7 +20,7 @@ use Rattle.scim_key.specs.declared.records.RecordName.{RecordName}
 use Rattle.journal_core.specs.declared.entries.Entry.{Entry}
 use Rattle.journal_store.specs.Format.{entry_tree, find_text, all_text, journal_schema}
 use Rattle.journal_store.specs.Rows.{shown_row}
-use Rattle.journal_store.specs.Connections.{Answers, Finds, IsLaid, IsQuery, Shows, has_key}
+use Rattle.journal_store.specs.Connections.{Answers, Finds, IsLaid, IsOnly, IsQuery, Shows, has_key}
 use Rattle.journal_store.proofs.Texts.{query, shown_terms, names, key_is, find_is, find_query, all_is, all_query, all_order}
 use Rattle.journal_store.proofs.Selecting.{passes, selected, shows, shows_all, key_passes}
 
@@ -61,11 +61,6 @@ rows_of_key s kind key rows laid answers =
     let tests : filter (passes (key_is ∷ []) params) table ≡ filter (has_key key) table =
     filter_same (passes (key_is ∷ []) params) (has_key key) table (all_of (λ x. passes (key_is ∷ []) params x ≡ has_key key x) (λ x. key_passes key [] x) table) in
     subst (λ l. IsPermutation l rows) (ap (map (shows (shown_terms kind) params)) tests ∙ map_same (shows (shown_terms kind) params) (shown_row kind) (shows_all kind params) (filter (has_key key) table)) all
-
--- what one row at most shows of a name
-abbrev pub IsOnly : Kind → List Row → Option Entry → Type 0
-IsOnly kind rows None = rows ≡ []
-IsOnly kind rows (Some e) = (r : Row) × (rows ≡ r ∷ []) × Shows kind r e
 
 pub finds : (s : State) (name : RecordName) (rows : List Row) (held : Option Entry) → IsLaid s → Answers (find_text name.kind) (Text name.key ∷ []) s rows → IsOnly name.kind rows held → Finds s.now.trees name held
 finds s name rows None laid answers only = empty (shown_row name.kind) _ (subst (IsPermutation (map (shown_row name.kind) (filter (has_key name.key) (s.now.trees (entry_tree name.kind))))) only (rows_of_key s name.kind name.key rows laid answers))

@@ -6,7 +6,11 @@ pub mod Trees
 pub mod Selecting
 pub mod Writing
 pub mod Decoding
-pub mod Tables
+pub mod Standing
 pub mod Putting
 pub mod Finding
 pub mod Written
+pub mod Reading
+pub mod Loading
+pub mod Calls
+pub mod Changing

@@ -22,7 +22,7 @@ use Rattle.sqlite.proofs.StateLemmas.{survives_weaker}
 use Rattle.scim_key.specs.Revisions.{RevisionValue, revision_number}
 use Rattle.scim_key.specs.declared.records.Kind.{Kind}
 use Rattle.scim_key.specs.declared.records.Kind.TheVariants as kind
-use Rattle.source_csv.specs.Records.{row_name}
+use Rattle.source_csv.specs.Records.{IsRow, row_name}
 use Rattle.source_csv.specs.declared.rows.Row as source
 use Rattle.source_csv.specs.declared.rows.Row.TheVariants.{User, Group}
 use Rattle.journal_core.specs.declared.entries.Entry.{Entry}
@@ -70,42 +70,42 @@ module _ (limit : Option ℕ) (old : State) (after : Database) (tally : Tally) (
   abbrev same_schema : Type 0
   same_schema = after.schema ≡ journal_schema laid.format_checks laid.users laid.groups
 
-  adds : (row : source.Row) (confirmed : RevisionValue) (id : Option (List ℕ)) → Does limit plain_mode (row_by row confirmed id) old.now sql None (put_command false (row_name row).kind) (Ok (tally, after))
+  adds : (row : source.Row) (confirmed : RevisionValue) (id : Option (List ℕ)) → IsRow row → Does limit plain_mode (row_by row confirmed id) old.now sql None (put_command false (row_name row).kind) (Ok (tally, after))
       → same_schema × PutsIn false (record { row = row; confirmed = confirmed; id = id }) old.now.trees after.trees
-  adds (User u) confirmed id does =
+  adds (User u) confirmed id lawful does =
       let made = inserts_user limit laid.format_checks laid.users laid.groups old.now after tally sql laid.schema (row_name (User u)).key u.login u.number u.given u.family u.mail
           (pos (revision_number u.revision)) (pos (active_number u.active)) (pos (revision_number confirmed)) id does in
-      (made.1, record { puts = (made.0, made.2, made.3); users = λ e. absurd (cc); groups = λ _. made.4 })
-  adds (Group g) confirmed id does =
+      (made.1, record { lawful = lawful; puts = (made.0, made.2, made.3); users = λ e. absurd (cc); groups = λ _. made.4 })
+  adds (Group g) confirmed id lawful does =
       let made = inserts_group limit laid.format_checks laid.users laid.groups old.now after tally sql laid.schema (row_name (Group g)).key g.name (members_text g.members)
           (pos (revision_number g.revision)) (pos (revision_number confirmed)) id does in
-      (made.1, record { puts = (made.0, made.2, made.3); users = λ _. made.4; groups = λ e. absurd (cc) })
+      (made.1, record { lawful = lawful; puts = (made.0, made.2, made.3); users = λ _. made.4; groups = λ e. absurd (cc) })
 
-  renews : (row : source.Row) (confirmed : RevisionValue) (id : Option (List ℕ)) → IsThere old.now.trees (row_name row)
+  renews : (row : source.Row) (confirmed : RevisionValue) (id : Option (List ℕ)) → IsRow row → IsThere old.now.trees (row_name row)
       → Does limit plain_mode (row_by row confirmed id) old.now sql None (put_command true (row_name row).kind) (Ok (tally, after))
       → same_schema × PutsIn true (record { row = row; confirmed = confirmed; id = id }) old.now.trees after.trees
-  renews (User u) confirmed id there does =
+  renews (User u) confirmed id lawful there does =
       let made = updates_user limit laid.format_checks laid.users laid.groups old.now after tally sql laid.schema (row_name (User u)).key u.login u.number u.given u.family u.mail
           (pos (revision_number u.revision)) (pos (active_number u.active)) (pos (revision_number confirmed)) id there.row there.number there.only there.numbered there.keyed does in
-      (made.0, record { puts = (there.row, there.number, there.numbered, there.only, made.1); users = λ e. absurd (cc); groups = λ _. made.2 })
-  renews (Group g) confirmed id there does =
+      (made.0, record { lawful = lawful; puts = (there.row, there.number, there.numbered, there.only, made.1); users = λ e. absurd (cc); groups = λ _. made.2 })
+  renews (Group g) confirmed id lawful there does =
       let made = updates_group limit laid.format_checks laid.users laid.groups old.now after tally sql laid.schema (row_name (Group g)).key g.name (members_text g.members)
           (pos (revision_number g.revision)) (pos (revision_number confirmed)) id there.row there.number there.only there.numbered there.keyed does in
-      (made.0, record { puts = (there.row, there.number, there.numbered, there.only, made.1); users = λ _. made.2; groups = λ e. absurd (cc) })
+      (made.0, record { lawful = lawful; puts = (there.row, there.number, there.numbered, there.only, made.1); users = λ _. made.2; groups = λ e. absurd (cc) })
 
-  puts_it : (is_there : Bool) (entry : Entry) → (is_there ≡ true → IsThere old.now.trees (row_name entry.row))
+  puts_it : (is_there : Bool) (entry : Entry) → IsRow entry.row → (is_there ≡ true → IsThere old.now.trees (row_name entry.row))
       → Does limit plain_mode (row_of entry) old.now sql None (put_command is_there (row_name entry.row).kind) (Ok (tally, after))
       → same_schema × PutsIn is_there entry old.now.trees after.trees
-  puts_it false entry there does = adds entry.row entry.confirmed entry.id does
-  puts_it true entry there does = renews entry.row entry.confirmed entry.id (there refl) does
+  puts_it false entry lawful there does = adds entry.row entry.confirmed entry.id lawful does
+  puts_it true entry lawful there does = renews entry.row entry.confirmed entry.id lawful (there refl) does
 
-pub put_made : (old new : State) (is_there : Bool) (entry : Entry) → IsLaid old → (is_there ≡ true → IsThere old.now.trees (row_name entry.row))
+pub put_made : (old new : State) (is_there : Bool) (entry : Entry) → IsRow entry.row → IsLaid old → (is_there ≡ true → IsThere old.now.trees (row_name entry.row))
     → Ran (put_text is_there (row_name entry.row).kind) (row_of entry) old new → Makes is_there entry old new
-put_made old new is_there entry laid there ran =
+put_made old new is_there entry lawful laid there ran =
     let type = (row_name entry.row).kind in
     let command = command_is old (put_text is_there type) ran.compiled (put_command is_there type) laid (put_is is_there type laid.format_checks laid.users laid.groups) ran.is in
     let does = subst (λ k. Does ran.limit plain_mode (row_of entry) old.now ran.text None k (Ok (ran.tally, new.now))) command ran.does in
-    let made = puts_it ran.limit old new.now ran.tally ran.text laid is_there entry there does in
+    let made = puts_it ran.limit old new.now ran.tally ran.text laid is_there entry lawful there does in
     record {
       was_open = ran.was_open;
       is_open = ran.is_open;
@@ -113,18 +113,18 @@ put_made old new is_there entry laid there ran =
       puts = made.1;
     }
 
-pub put_leaves : (old : State) (is_there : Bool) (entry : Entry) (db : Trees) → IsLaid old → (is_there ≡ true → IsThere old.now.trees (row_name entry.row))
+pub put_leaves : (old : State) (is_there : Bool) (entry : Entry) (db : Trees) → IsRow entry.row → IsLaid old → (is_there ≡ true → IsThere old.now.trees (row_name entry.row))
     → MayLeave (put_text is_there (row_name entry.row).kind) (row_of entry) old db → PutsIn is_there entry old.now.trees db
-put_leaves old is_there entry db laid there may =
+put_leaves old is_there entry db lawful laid there may =
     let type = (row_name entry.row).kind in
     let command = command_is old (put_text is_there type) may.compiled (put_command is_there type) laid (put_is is_there type laid.format_checks laid.users laid.groups) may.is in
     let does = subst (λ k. Does may.limit plain_mode (row_of entry) old.now may.text None k (Ok (may.tally, may.after))) command may.does in
-    subst (PutsIn is_there entry old.now.trees) (sym may.trees) (puts_it may.limit old may.after may.tally may.text laid is_there entry there does).1
+    subst (PutsIn is_there entry old.now.trees) (sym may.trees) (puts_it may.limit old may.after may.tally may.text laid is_there entry lawful there does).1
 
-pub put_stops : (old new : State) (is_there : Bool) (entry : Entry) → (HasCleanDisk old → IsTrue old.is_open → IsLaid old)
+pub put_stops : (old new : State) (is_there : Bool) (entry : Entry) → IsRow entry.row → (HasCleanDisk old → IsTrue old.is_open → IsLaid old)
     → (HasCleanDisk old → IsTrue old.is_open → is_there ≡ true → IsThere old.now.trees (row_name entry.row))
     → Survives old new (MayLeave (put_text is_there (row_name entry.row).kind) (row_of entry) old) → Survives old new (λ db. IsTrue old.is_open × PutsIn is_there entry old.now.trees db)
-put_stops old new is_there entry laid there it =
+put_stops old new is_there entry lawful laid there it =
     survives_weaker old new _ _ (λ clean db may.
     let early : HasCleanDisk old = omega (arith, clean, it.clean) in
-    (may.was_open, put_leaves old is_there entry db (laid early may.was_open) (there early may.was_open) may)) it
+    (may.was_open, put_leaves old is_there entry db lawful (laid early may.was_open) (there early may.was_open) may)) it

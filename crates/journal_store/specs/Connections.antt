@@ -1,5 +1,8 @@
 -- What the calls of the statements ask of a connection, and what they leave of it.
-use Rattle.std.specs.Prelude.{◌≡◌, ℕ, ℤ, pos, Bool, true, false, List, [], ◌∷◌, Option, Some, None, Ok, IsTrue, filter}
+use Rattle.std.specs.Prelude.{◌≡◌, ℕ, ℤ, pos, Bool, true, false, List, [], ◌∷◌, Option, Some, None, Ok, IsTrue, IsPermutation, filter, is_some, map}
+use Rattle.std.specs.List.{AllZip}
+use Rattle.std.specs.List.Sorted.{IsStrictlySortedBy}
+use Rattle.scim_key.specs.Records.{name_cmp}
 use Rattle.std.specs.Ordering.{is_eq}
 use Rattle.sqlite_value.specs.declared.keys.Order.{Order}
 use Rattle.sqlite_value.specs.declared.value.Value.TheVariants.{Int, Text}
@@ -76,6 +79,32 @@ Finds db name None = filter (has_key name.key) (db (entry_tree name.kind)) ≡ [
 Finds db name (Some entry) =
     (r : Row) × (filter (has_key name.key) (db (entry_tree name.kind)) ≡ r ∷ []) × Shows name.kind (shown_row name.kind r) entry
 
+-- what the rows of a name show: one row at most
+abbrev pub IsOnly : Kind → List Row → Option Entry → Type 0
+IsOnly kind rows None = rows ≡ []
+IsOnly kind rows (Some entry) = (r : Row) × (rows ≡ r ∷ []) × Shows kind r entry
+
+-- the same, where it is known whether there is one
+abbrev pub FindsIf : Trees → RecordName → Bool → Type 0
+FindsIf db name is_there = (held : Option Entry) × (is_there ≡ is_some held) × Finds db name held
+
+-- the last of some names
+abbrev pub last_name : List RecordName → Option RecordName
+last_name [] = None
+last_name (name ∷ []) = Some name
+last_name (name ∷ next ∷ names) = last_name (next ∷ names)
+
+-- the rows show these entries, one after the other, in order of their names
+pub record AreShown (kind : Kind) (rows : List Row) (list : List Entry) : Type 0 where
+  pub each : AllZip (Shows kind) rows list
+  pub rising : IsStrictlySortedBy name_cmp (map (λ (entry : Entry). row_name entry.row) list)
+
+-- they are those of all rows of the table
+pub record ListsAll (kind : Kind) (db : Trees) (list : List Entry) : Type 0 where
+  pub rows : List Row
+  pub all : IsPermutation (map (shown_row kind) (db (entry_tree kind))) rows
+  pub shown : AreShown kind rows list
+
 -- each row has a number that no other has
 abbrev pub AreNumbered : List Row → Type 0
 AreNumbered table = (r : Row) → Has table r → (n : ℤ) × (rowid r ≡ Int n) × (filter (has_rowid n) table ≡ r ∷ [])
@@ -141,6 +170,7 @@ Puts true entry old new =
 
 -- and the other table stays
 pub record PutsIn (is_there : Bool) (entry : Entry) (old new : Trees) : Type 0 where
+  pub lawful : IsRow entry.row
   pub puts : Puts is_there entry (old (entry_tree (row_name entry.row).kind)) (new (entry_tree (row_name entry.row).kind))
   pub users : (row_name entry.row).kind ≡ Group → new (entry_tree User) ≡ old (entry_tree User)
   pub groups : (row_name entry.row).kind ≡ User → new (entry_tree Group) ≡ old (entry_tree Group)

@@ -2,4 +2,8 @@
 #![tactic(auto)]
 
 mod columns;
+mod journal;
 mod statements;
+mod tables;
+
+pub use journal::SqlJournal;
