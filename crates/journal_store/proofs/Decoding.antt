@@ -153,7 +153,7 @@ pub one_more : (names : List (List ℕ)) (n : ℕ) (name key : List ℕ) (keys :
     → keys ≡ take n names → AreUserKeys keys → (keys ++ key ∷ [] ≡ take (n + 1) names) × AreUserKeys (keys ++ key ∷ [])
 one_more names n name key keys fits at is lawful so_far are = (
   (λ i. so_far i ++ (is ∙ at) i ∷ []) ∙ sym (take_more names n name fits),
-  all-append keys (key ∷ []) are (lawful, tt),
+  all-append IsUserKey keys (key ∷ []) are (lawful, tt),
 )
 
 -- ---- the text of the members, key by key

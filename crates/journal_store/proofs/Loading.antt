@@ -1,11 +1,12 @@
 -- All entries, in order of their names.
-use Rattle.std.proofs.Common.{◌≡◌, ℕ, zero, suc, true, length, List, [], ◌∷◌, ◌++◌, map, map-append, Option, Some, None, Ordering, Less, refl, sym, ap, ◌∙◌, subst, inl, inr, ◌⊎◌, IsPermutation, arith}
+use Rattle.std.proofs.Common.{◌≡◌, ℕ, zero, suc, true, length, List, [], ◌∷◌, ◌++◌, map, Option, Some, None, Ordering, Less, refl, sym, ap, ◌∙◌, subst, inl, inr, ◌⊎◌, IsPermutation, arith}
 use Rattle.std.specs.Prelude.{MatchOption}
 use Rattle.std.specs.FinMap.{entries, find, from_entries, get, get-from_entries, same_map}
 use Rattle.std.specs.List.{All, AllByRecursion, AllZip}
 use Rattle.std.specs.List.Sorted.{IsStrictlySortedBy}
 use Rattle.std.specs.Ordering.{is_eq}
 use Rattle.std.proofs.lemmas.List.Sorted.{IsPermutation-sym}
+use Rattle.std.proofs.lemmas.List.{map-append}
 use Rattle.sqlite_rules.specs.Lists.{Has}
 use Rattle.sqlite_rules.proofs.ListLemmas.{all_has, all_from, has_either, has_left, has_right}
 use Rattle.sqlite_trees.proofs.ListLemmas.{all-append, all-permutation}
@@ -41,13 +42,13 @@ below_last (x ∷ y ∷ names) new sorted last = let later = below_last (y ∷ n
 sorted_push : (names : List RecordName) (new : RecordName) → Sorted names → AllByRecursion (λ k. name_cmp k new ≡ Less) names → Sorted (names ++ new ∷ [])
 unfolding IsStrictlySortedBy
 sorted_push [] new sorted below = (tt, tt)
-sorted_push (x ∷ names) new sorted below = (all-append names (new ∷ []) sorted.0 (below.0, tt), sorted_push names new sorted.1 below.1)
+sorted_push (x ∷ names) new sorted below = (all-append (λ y. name_cmp x y ≡ Less) names (new ∷ []) sorted.0 (below.0, tt), sorted_push names new sorted.1 below.1)
 
 sorted_append : (xs ys : List RecordName) → Sorted xs → Sorted ys → ((x y : RecordName) → Has xs x → Has ys y → name_cmp x y ≡ Less) → Sorted (xs ++ ys)
 unfolding IsStrictlySortedBy
 sorted_append [] ys first second apart = second
 sorted_append (x ∷ xs) ys first second apart =
-    (all-append xs ys first.0 (all_from (λ y. name_cmp x y ≡ Less) ys (λ y there. apart x y (inl refl) there)), sorted_append xs ys first.1 second (λ a b here there. apart a b (inr here) there))
+    (all-append (λ y. name_cmp x y ≡ Less) xs ys first.0 (all_from (λ y. name_cmp x y ≡ Less) ys (λ y there. apart x y (inl refl) there)), sorted_append xs ys first.1 second (λ a b here there. apart a b (inr here) there))
 
 abbrev names_of : List Entry → List RecordName
 names_of list = map (λ (e : Entry). row_name e.row) list
@@ -160,7 +161,7 @@ users_first a b users groups = rw (users, groups) refl
 
 zip_within : (kind : Kind) (rows : List Row) (list : List Entry) → AllZip (Shows kind) rows list → AllByRecursion (λ (e : Entry). e.confirmed ≼ row_revision e.row) list
 zip_within kind [] [] zip = tt
-zip_within kind [] (e ∷ list) zip = tt
+zip_within kind [] (e ∷ list) zip = absurd zip
 zip_within kind (r ∷ rows) [] zip = tt
 zip_within kind (r ∷ rows) (e ∷ list) zip = (zip.0.within, zip_within kind rows list zip.1)
 
@@ -213,5 +214,5 @@ module _ (db : Trees) (users groups : List Entry) (lists_users : ListsAll User d
   lists_both = record {
     whole = ap entries same_entries ∙ listed (map named both) sorted_pairs;
     lawful = all_by (λ (e : Entry). e.confirmed ≼ row_revision e.row) both
-        (all-append users groups (zip_within User lists_users.rows users lists_users.shown.each) (zip_within Group lists_groups.rows groups lists_groups.shown.each));
+        (all-append (λ (e : Entry). e.confirmed ≼ row_revision e.row) users groups (zip_within User lists_users.rows users lists_users.shown.each) (zip_within Group lists_groups.rows groups lists_groups.shown.each));
   }

@@ -18,10 +18,10 @@ use Rattle.journal_store.specs.Kept.{Kept, IsFaithful, IsHonest, IsSound, IsWhol
 use Rattle.journal_store.proofs.Keeping.{laid_still}
 use Rattle.journal_store.proofs.Putting.{entry_put, numbers_still, there_of}
 
-abbrev answered : Result (Unit {0}) JournalFault
+abbrev pub answered : Result (Unit {0}) JournalFault
 answered = Ok tt
 
-abbrev failing : JournalFault → Result (Unit {0}) JournalFault
+abbrev pub failing : JournalFault → Result (Unit {0}) JournalFault
 failing fault = Err fault
 
 module _ {S : Type 0} (g : Ghosts S) where

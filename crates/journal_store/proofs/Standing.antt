@@ -70,7 +70,7 @@ find_both q (x ∷ xs) ys =
 
 -- ---- the entries of a table
 
-named_has : (kind : Kind) (table : List Row) (r : Row) (e : Entry) → Has table r → entry_in kind (shown_row kind r) ≡ Some e → Has (named_in kind table) (named e)
+pub named_has : (kind : Kind) (table : List Row) (r : Row) (e : Entry) → Has table r → entry_in kind (shown_row kind r) ≡ Some e → Has (named_in kind table) (named e)
 named_has kind [] r e h is = h
 named_has kind (x ∷ xs) r e (inl same) is =
     let here : entry_in kind (shown_row kind x) ≡ Some e = ap (λ (y : Row). entry_in kind (shown_row kind y)) (sym same) ∙ is in
@@ -83,7 +83,7 @@ one_named (Some e) p (inl same) =
     (ap (λ (x : RecordName × Entry). Some x.1) (sym same), ap (λ (x : RecordName × Entry). x.0) same ∙ ap (λ (x : RecordName × Entry). row_name x.1.row) (sym same))
 one_named (Some e) p (inr none) = absurd none
 
-has_named : (kind : Kind) (table : List Row) (p : RecordName × Entry) → Has (named_in kind table) p → (r : Row) × Has table r × (entry_in kind (shown_row kind r) ≡ Some p.1) × (p.0 ≡ row_name p.1.row)
+pub has_named : (kind : Kind) (table : List Row) (p : RecordName × Entry) → Has (named_in kind table) p → (r : Row) × Has table r × (entry_in kind (shown_row kind r) ≡ Some p.1) × (p.0 ≡ row_name p.1.row)
 has_named kind [] p h = absurd h
 has_named kind (x ∷ xs) p h = elim (has_either (named_if (entry_in kind (shown_row kind x))) (named_in kind xs) p h) [
   | inl here ↦ let it = one_named (entry_in kind (shown_row kind x)) p here in (x, inl refl, it.0, it.1)
