@@ -12,7 +12,8 @@ use Rattle.std.proofs.lemmas.Map.Keys.{IsDistinct-head, IsDistinct-tail}
 use Rattle.sqlite_value.specs.declared.value.Value.TheVariants.{Int, Text}
 use Rattle.sqlite_value.specs.declared.keys.Order.{Order}
 use Rattle.sqlite_value.specs.Order.{Row, column}
-use Rattle.sqlite_trees.specs.Tree.{rowid, has_rowid}
+use Rattle.sqlite_trees.specs.Tree.{Trees, rowid, has_rowid}
+use Rattle.sqlite_sql.specs.Program.{overlay}
 use Rattle.sqlite_trees.proofs.ListLemmas.{filter_same, all_of}
 use Rattle.sqlite_sql.specs.Term.{Term}
 use Rattle.sqlite_schema.specs.declared.command.Command.TheVariants.{Select}
@@ -38,8 +39,8 @@ use Rattle.provider_store.specs.Rows.{kind_code, shown_row, IsRowOf, record_in, 
 use Rattle.provider_store.specs.Connections.{IsLaid, IsQuery, Answers, IsOnly, IsNamed, FindsName, FindsNumber, resources}
 use Rattle.provider_store.specs.declared.tables.Found.{Found}
 use Rattle.provider_store.specs.declared.tables.Found.TheVariants.{Nothing, Damaged, There}
-use Rattle.provider_store.proofs.Texts.{query, shown_terms, names, number_is, name_terms, named_is, named_query, numbered_is, numbered_query}
-use Rattle.provider_store.proofs.Selecting.{passes, selected, number_passes, name_passes}
+use Rattle.provider_store.proofs.Texts.{query, query_over, shown_terms, names, number_is, name_terms, named_is, named_query, numbered_is, numbered_query}
+use Rattle.provider_store.proofs.Selecting.{passes, shows, selected_over, number_passes, name_passes}
 use Rattle.provider_store.proofs.Holding.{has_own, shown_record}
 
 -- ---- the rows of an answer
@@ -48,20 +49,25 @@ read_by : (r : Result Compiled CompileError) (db : Database) (params : Row) (row
 read_by (Ok c) db params rows plain reads = reads c refl
 read_by (Err e) db params rows plain reads = absurd plain
 
-pub picked : (s : State) (sql : List ℕ) (terms : List Term) (params : Row) (rows : List Row)
-    → ((a b : List Term) (o : Order) → command_of (understood (provider_schema a b o) sql) ≡ Select (record { lets = []; body = query terms shown_terms }) names)
-    → IsQuery sql → IsLaid s → Answers sql params s rows → IsPermutation (map shown_row (filter (passes terms params) (resources s))) rows
-picked s sql terms params rows means query_text laid answers =
+pub answered_by : (s : State) (sql : List ℕ) (tree : ℕ) → ((db : Trees) → overlay db [] tree ≡ db tree) → (terms shown : List Term) (heads : List (List ℕ)) (params : Row) (rows : List Row)
+    → ((a b : List Term) (o : Order) → command_of (understood (provider_schema a b o) sql) ≡ Select (record { lets = []; body = query_over tree terms shown }) heads)
+    → IsQuery sql → IsLaid s → Answers sql params s rows → IsPermutation (map (shows shown params) (filter (passes terms params) (s.now.trees tree))) rows
+answered_by s sql tree own terms shown heads params rows means query_text laid answers =
     let schema = provider_schema laid.format_checks laid.resource_checks laid.order in
     let plain = (query_text laid.format_checks laid.resource_checks laid.order).0 in
     let reads = read_by (understood schema sql) s.now params rows plain (λ c is. answers c (ap (λ x. understood x sql) laid.schema ∙ is)) in
-    selected terms shown_terms params s.now rows (subst (λ command. Reads command s.now params rows) (means laid.format_checks laid.resource_checks laid.order) reads)
+    selected_over tree terms shown params own s.now rows (subst (λ command. Reads command s.now params rows) (means laid.format_checks laid.resource_checks laid.order) reads)
 
-empty : {A B : Type 0} (f : A → B) (xs : List A) → IsPermutation (map f xs) [] → xs ≡ []
+pub picked : (s : State) (sql : List ℕ) (terms : List Term) (params : Row) (rows : List Row)
+    → ((a b : List Term) (o : Order) → command_of (understood (provider_schema a b o) sql) ≡ Select (record { lets = []; body = query terms shown_terms }) names)
+    → IsQuery sql → IsLaid s → Answers sql params s rows → IsPermutation (map shown_row (filter (passes terms params) (resources s))) rows
+picked s sql terms params rows means query_text laid answers = answered_by s sql 1 (λ _. refl) terms shown_terms names params rows means query_text laid answers
+
+pub empty : {A B : Type 0} (f : A → B) (xs : List A) → IsPermutation (map f xs) [] → xs ≡ []
 empty f [] same = refl
 empty f (x ∷ xs) same = absurd (omega (arith, length_permutation (map f (x ∷ xs)) [] same))
 
-single : {A B : Type 0} (f : A → B) (xs : List A) (y : B) → IsPermutation (map f xs) (y ∷ []) → (x : A) × (xs ≡ x ∷ []) × (y ≡ f x)
+pub single : {A B : Type 0} (f : A → B) (xs : List A) (y : B) → IsPermutation (map f xs) (y ∷ []) → (x : A) × (xs ≡ x ∷ []) × (y ≡ f x)
 single f [] y same = absurd (omega (arith, length_permutation (map f []) (y ∷ []) same))
 single f (x ∷ []) y same = (x, refl, let one : y ∷ [] ≡ f x ∷ [] = one_permutation (f x) (y ∷ []) same in cc)
 single f (x ∷ z ∷ xs) y same = absurd (omega (arith, length_permutation (map f (x ∷ z ∷ xs)) (y ∷ []) same))

@@ -47,7 +47,7 @@ numbered_at m [] k s numbered at = absurd (cc)
 numbered_at m (r ∷ rows) zero s numbered at = let same : r ≡ s = cc in ap (λ (x : StoredRecord). x.number) (sym same) ∙ omega (arith, numbered.0)
 numbered_at m (r ∷ rows) (suc k) s numbered at = omega (arith, numbered_at (suc m) rows k s numbered.1 at)
 
-numbered_append : (n : ℕ) (rows : List StoredRecord) (row : StoredRecord) → IsNumberedFrom n rows → row.number ≡ n + length rows → IsNumberedFrom n (rows ++ row ∷ [])
+pub numbered_append : (n : ℕ) (rows : List StoredRecord) (row : StoredRecord) → IsNumberedFrom n rows → row.number ≡ n + length rows → IsNumberedFrom n (rows ++ row ∷ [])
 numbered_append n [] row numbered at = (omega arith, tt)
 numbered_append n (r ∷ rs) row numbered at = (numbered.0, numbered_append (suc n) rs row numbered.1 (omega arith))
 

@@ -2,9 +2,13 @@ pub mod Texts
 pub mod Trees
 pub mod Values
 pub mod Selecting
+pub mod Outside
 pub mod Holding
 pub mod Keeping
 pub mod Writing
+pub mod Making
+pub mod Fields
+pub mod Leaving
 pub mod Asking
 pub mod Finding
 pub mod Written
@@ -13,3 +17,6 @@ pub mod RowReading
 pub mod Spelling
 pub mod Storing
 pub mod Scanning
+pub mod Checking
+pub mod Made
+pub mod Reopening

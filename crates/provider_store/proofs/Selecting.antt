@@ -13,8 +13,8 @@ use Rattle.sqlite_trees.proofs.ListLemmas.{all-permutation, IsPermutation-flat_m
 use Rattle.sqlite.specs.Effect.{Database, Answers}
 use Rattle.std.specs.Ordering.{int_eq}
 use Rattle.std.specs.Str.{bytes_eq}
-use Rattle.sqlite_trees.specs.Tree.{has_rowid}
-use Rattle.provider_store.proofs.Texts.{query, number_is, name_terms}
+use Rattle.sqlite_trees.specs.Tree.{Trees, has_rowid}
+use Rattle.provider_store.proofs.Texts.{query, query_over, number_is, name_terms}
 use Rattle.provider_store.proofs.Values.{equal_rowid, equal_numbers, equal_texts}
 
 -- the row is shown so where it passes each test
@@ -31,9 +31,9 @@ one_each f (x ∷ xs) = ap (λ l. f x ∷ l) (one_each f xs)
 mapped : {A B : Type 0} (f : A → B) (xs ys : List A) → IsPermutation xs ys → IsPermutation (map f xs) (map f ys)
 mapped f xs ys same = rw (one_each f xs, one_each f ys) (IsPermutation-flat_map (λ x. f x ∷ []) xs ys same)
 
-module _ (terms shown : List Term) (params : Row) where
+module _ (tree : ℕ) (terms shown : List Term) (params : Row) where
   abbrev asked : Query
-  asked = query terms shown
+  asked = query_over tree terms shown
 
   each_shown : (table : List Row) → map (λ (o : Output). o.1) (map (output asked) (flat_map (λ r. cond (passes terms params r) ((params ∷ r ∷ []) ∷ []) []) table)) ≡ map (shows shown params) (filter (passes terms params) table)
   each_shown [] = refl
@@ -43,13 +43,17 @@ module _ (terms shown : List Term) (params : Row) where
       [ true ↦ ap (λ l. shows shown params r ∷ l) (each_shown table) | false ↦ each_shown table ]
 
   -- the answer is what is shown of the rows that pass, in some order
-  pub selected : (db : Database) (rows : List Row) → Answers db (record { lets = []; body = asked }) params rows → IsPermutation (map (shows shown params) (filter (passes terms params) (db.trees 1))) rows
-  selected db rows h =
+  pub selected_over : ((db : Trees) → overlay db [] tree ≡ db tree) → (db : Database) (rows : List Row) → Answers db (record { lets = []; body = asked }) params rows → IsPermutation (map (shows shown params) (filter (passes terms params) (db.trees tree))) rows
+  selected_over own db rows h =
       let a : IsAnswer asked (overlay db.trees []) params rows = h.answer Null in
       let kept = a.distinct ∙ ap (map (output asked)) a.grouped in
       let same = mapped (λ (o : Output). o.1) a.kept a.ordered a.same in
-      subst (λ l. IsPermutation l rows) (ap (map (λ (o : Output). o.1)) kept ∙ each_shown (db.trees 1))
-      (subst (λ l. IsPermutation (map (λ (o : Output). o.1) a.kept) l) (sym a.shown) same)
+      subst (λ table. IsPermutation (map (shows shown params) (filter (passes terms params) table)) rows) (own db.trees)
+      (subst (λ l. IsPermutation l rows) (ap (map (λ (o : Output). o.1)) kept ∙ each_shown (overlay db.trees [] tree))
+      (subst (λ l. IsPermutation (map (λ (o : Output). o.1) a.kept) l) (sym a.shown) same))
+
+pub selected : (terms shown : List Term) (params : Row) (db : Database) (rows : List Row) → Answers db (record { lets = []; body = query terms shown }) params rows → IsPermutation (map (shows shown params) (filter (passes terms params) (db.trees 1))) rows
+selected terms shown params = selected_over 1 terms shown params (λ _. refl)
 
 -- ---- what stands in an answer
 

@@ -6,14 +6,14 @@ use Rattle.sqlite_value.specs.declared.keys.Collation.TheVariants.{Binary}
 use Rattle.sqlite_sql.specs.Term.{Term, lit, col, op1, op2}
 use Rattle.sqlite_sql.specs.Query.{Query, inner, end}
 use Rattle.sqlite_sql.specs.declared.ops.UnaryOp.TheVariants.{ToNumeric}
-use Rattle.sqlite_sql.specs.declared.ops.BinaryOp.TheVariants.{Compare}
-use Rattle.sqlite_sql.specs.declared.ops.CompareOp.TheVariants.{Eq}
+use Rattle.sqlite_sql.specs.declared.ops.BinaryOp.TheVariants.{Compare, Or}
+use Rattle.sqlite_sql.specs.declared.ops.CompareOp.TheVariants.{Eq, Lt, Gt}
 use Rattle.sqlite_schema.specs.declared.command.Source.TheVariants.{Values}
 use Rattle.sqlite_schema.specs.declared.command.Command.TheVariants.{Insert, Update, Select}
 use Rattle.sqlite_tied.specs.Compute.{everything}
 use Rattle.sqlite.specs.Listing.{understood, reads_listing}
 use Rattle.sqlite.proofs.Callers.{IsPlain, command_of}
-use Rattle.provider_store.specs.Format.{provider_schema, insert_text, update_text, named_text, numbered_text}
+use Rattle.provider_store.specs.Format.{provider_schema, insert_text, update_text, named_text, numbered_text, marked_text, outside_text}
 
 abbrev pub insert_terms : List Term
 insert_terms = col 0 0 ∷ lit Null ∷ col 0 1 ∷ col 0 2 ∷ col 0 3 ∷ col 0 4 ∷ []
@@ -25,9 +25,10 @@ pub insert_is : (a b : List Term) (o : Order) → command_of (understood (provid
 unfolding understood everything
 insert_is a b o = refl
 
-abbrev pub query : List Term → List Term → Query
-query terms shown = record {
-  from = inner 1 end;
+-- a query over one table
+abbrev pub query_over : ℕ → List Term → List Term → Query
+query_over tree terms shown = record {
+  from = inner tree end;
   filter = terms;
   group = None;
   project = shown;
@@ -37,6 +38,9 @@ query terms shown = record {
   limit = lit (Int (negsuc 0));
   offset = lit (Int (pos 0));
 }
+
+abbrev pub query : List Term → List Term → Query
+query = query_over 1
 
 abbrev pub shown_terms : List Term
 shown_terms = col 1 0 ∷ col 1 2 ∷ col 1 3 ∷ col 1 4 ∷ col 1 5 ∷ []
@@ -64,6 +68,25 @@ pub numbered_is : (a b : List Term) (o : Order) → command_of (understood (prov
 unfolding understood everything
 numbered_is a b o = refl
 
+-- the number of the format
+abbrev pub marked_shown : List Term
+marked_shown = col 1 2 ∷ []
+
+pub marked_is : (a b : List Term) (o : Order) → command_of (understood (provider_schema a b o) marked_text) ≡ Select (record { lets = []; body = query_over 0 [] marked_shown }) (codes "number" ∷ [])
+unfolding understood everything
+marked_is a b o = refl
+
+-- a number outside the first ones
+abbrev pub outside_term : Term
+outside_term = op2 Or (op2 (Compare Lt Binary) (col 1 0) (lit (Int (pos 1)))) (op2 (Compare Gt Binary) (col 1 0) (col 0 0))
+
+abbrev pub outside_shown : List Term
+outside_shown = col 1 0 ∷ []
+
+pub outside_is : (a b : List Term) (o : Order) → command_of (understood (provider_schema a b o) outside_text) ≡ Select (record { lets = []; body = query_over 1 (outside_term ∷ []) outside_shown }) (codes "number" ∷ [])
+unfolding understood everything
+outside_is a b o = refl
+
 -- ---- none reads the time or the schema, and none shows what it wrote
 
 pub insert_plain : (a b : List Term) (o : Order) → IsPlain (understood (provider_schema a b o) insert_text)
@@ -81,3 +104,11 @@ named_query a b o = ((refl, refl), refl)
 pub numbered_query : (a b : List Term) (o : Order) → IsPlain (understood (provider_schema a b o) numbered_text) × (reads_listing (provider_schema a b o) numbered_text ≡ false)
 unfolding understood everything
 numbered_query a b o = ((refl, refl), refl)
+
+pub marked_query : (a b : List Term) (o : Order) → IsPlain (understood (provider_schema a b o) marked_text) × (reads_listing (provider_schema a b o) marked_text ≡ false)
+unfolding understood everything
+marked_query a b o = ((refl, refl), refl)
+
+pub outside_query : (a b : List Term) (o : Order) → IsPlain (understood (provider_schema a b o) outside_text) × (reads_listing (provider_schema a b o) outside_text ≡ false)
+unfolding understood everything
+outside_query a b o = ((refl, refl), refl)

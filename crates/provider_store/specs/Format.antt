@@ -11,6 +11,10 @@ use Rattle.sqlite_schema.specs.declared.schema.Schema.{Schema}
 use Rattle.sqlite_schema.specs.declared.schema.Kind.{Kind}
 use Rattle.sqlite_schema.specs.declared.schema.Kind.TheVariants.{Integer, Text}
 
+-- the number of the format
+abbrev pub format_number : ℕ
+format_number = 1
+
 -- ---- columns
 
 abbrev pub required : List ℕ → Kind → Column
@@ -51,11 +55,14 @@ format_table checks = record {
 abbrev pub name_places : List ℕ
 name_places = 2 ∷ 3 ∷ []
 
+abbrev pub resource_columns : List Column
+resource_columns = numbering (codes "number") ∷ required (codes "kind") Integer ∷ required (codes "name_key") Text ∷ required (codes "version") Integer ∷ required (codes "content") Text ∷ []
+
 abbrev pub resource_table : List Term → Order → Table
 resource_table checks order = record {
   name = codes "resource";
   tree = resource_tree;
-  columns = numbering (codes "number") ∷ required (codes "kind") Integer ∷ required (codes "name_key") Text ∷ required (codes "version") Integer ∷ required (codes "content") Text ∷ [];
+  columns = resource_columns;
   key = Some 0;
   primary = 0 ∷ [];
   uniques = name_places ∷ [];
@@ -82,6 +89,9 @@ no_schema = record { tables = []; indexes = []; views = [] }
 abbrev pub format_text : List ℕ
 format_text = codes "CREATE TABLE IF NOT EXISTS provider_format (one INTEGER PRIMARY KEY CHECK (one = 1), number INTEGER NOT NULL)"
 
+abbrev pub mark_text : List ℕ
+mark_text = codes "INSERT INTO provider_format (one, number) VALUES (1, ?1)"
+
 abbrev pub resource_text : List ℕ
 resource_text = codes "CREATE TABLE resource (number INTEGER PRIMARY KEY CHECK (number >= 1), kind INTEGER NOT NULL CHECK (kind = 1 OR kind = 2), name_key TEXT NOT NULL, version INTEGER NOT NULL CHECK (version >= 1), content TEXT NOT NULL, UNIQUE (kind, name_key))"
 
@@ -96,3 +106,10 @@ named_text = codes "SELECT number, kind, name_key, version, content FROM resourc
 
 abbrev pub numbered_text : List ℕ
 numbered_text = codes "SELECT number, kind, name_key, version, content FROM resource WHERE number = ?1"
+
+abbrev pub marked_text : List ℕ
+marked_text = codes "SELECT number FROM provider_format"
+
+-- the numbers outside the first ones
+abbrev pub outside_text : List ℕ
+outside_text = codes "SELECT number FROM resource WHERE number < 1 OR number > ?1"

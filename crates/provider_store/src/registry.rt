@@ -1,12 +1,16 @@
 //! A registry in SQLite.
-ghost use Rattle.std.specs.Prelude.{◌≡◌, ◌≤◌, ◌+◌, ◌-◌, min, Ok, IfOk, slice_get};
+ghost use Rattle.std.specs.Prelude.{◌≡◌, ◌≤◌, ◌+◌, ◌-◌, min, Ok, IfErr, IfOk, slice_get};
 ghost use Rattle.provider_core.specs.Rows.{row_named};
 ghost use Rattle.provider_core.specs.Stores.{CountsFault, CountsFaults, OnlyReads};
 ghost use Rattle.provider_store.specs.Kept.{IsFaithful, IsHonest, MayHold, kept_rows};
 ghost use Rattle.provider_store.specs.Lookups.{found_of};
+ghost use Rattle.provider_store.specs.Opening.{IsCause, LeavesNone, LeavesStore, Stands};
+ghost use Rattle.sqlite.specs.Held.{state};
+ghost use Rattle.sqlite.specs.State.{HasCleanDisk, Survives};
 
+use crate::opening::{OpenFault, check_tables, open_tables};
 use crate::tables::{Found, find_named, find_numbered, insert_row, update_row};
-use provider_core::{Registry, RegistryFault};
+use provider_core::{Registry, RegistryFault, Reopen};
 use scim_key::{RecordName, ResourceId};
 use scim_resource::Stored;
 use sqlite::{Alter, Connection};
@@ -46,6 +50,14 @@ fn counted(faults: &mut u64, fault: RegistryFault) -> RegistryFault
     fault
 }
 
+/// The fault of a registry at one of an opening.
+fn registry_fault(fault: OpenFault) -> RegistryFault {
+    match fault {
+        OpenFault::Memory => RegistryFault::Memory,
+        OpenFault::Store | OpenFault::Damaged(_) | OpenFault::Newer => RegistryFault::Store,
+    }
+}
+
 /// What a look-up found; a row that isn't lawful is a fault of the store.
 fn one_of(
     faults: &mut u64,
@@ -63,6 +75,48 @@ fn one_of(
 }
 
 impl<S: Alter> SqlRegistry<S> {
+    /// Opens the store of a connection. Where no table stands the tables are made; else they are
+    /// tested, with their format and each row. A refused opening hands the connection back.
+    pub fn open(
+        alloc: Global,
+        mut conn: Connection<S>,
+    ) -> Result<SqlRegistry<S>, (OpenFault, Connection<S>)>
+        ensures faithful { IfOk result (λ r. IsHonest S.Store r → IsFaithful S.Store r) }
+        ensures rows { IfOk result (λ r. IsHonest S.Store r → Stands (state S.Store conn) (kept_rows S.Store r)) }
+        ensures counts { IfOk result (λ r. (r.faults ≡ 0) × (r.writes ≡ 0)) }
+        ensures stop { IfOk result (λ r. Survives (state S.Store conn) (state S.Store r.conn) LeavesNone) }
+        ensures cause { IfErr result (λ e. HasCleanDisk (state S.Store e.1) → IsCause (state S.Store conn) e.0) }
+        ensures left { IfErr result (λ e. HasCleanDisk (state S.Store e.1) → LeavesStore (state S.Store conn) (state S.Store e.1)) }
+        ensures refused { IfErr result (λ e. Survives (state S.Store conn) (state S.Store e.1) LeavesNone) }
+    {
+        match open_tables(alloc, &mut conn) {
+            Ok(count) => Ok(SqlRegistry {
+                conn,
+                alloc,
+                is_usable: true,
+                count,
+                faults: 0,
+                writes: 0,
+            }),
+            Err(fault) => Err((fault, conn)),
+        }
+    }
+
+    /// Gives the connection back.
+    pub fn close(self) -> Connection<S>
+        ensures { result ≡ self.conn }
+    {
+        let SqlRegistry {
+            conn,
+            alloc: _,
+            is_usable: _,
+            count: _,
+            faults: _,
+            writes: _,
+        } = self;
+        conn
+    }
+
     /// The row with this number, if there is one.
     fn row_at(&mut self, number: u32) -> Result<Option<Stored>, RegistryFault>
         requires { 1 ≤ number }
@@ -177,4 +231,22 @@ impl<S: Alter> Registry for SqlRegistry<S> {
     ghost settled = { kept_settled _ S.Store.settled };
 
     ghost stays = { kept_stays _ S.Store.stays };
+}
+
+impl<S: Alter> Reopen for SqlRegistry<S> {
+    /// Tests the tables, their format and each row again, on the same connection. After a fault of
+    /// its own each call but this one and `close` answers a store fault.
+    fn reopen(&mut self) -> Result<(), RegistryFault> {
+        match check_tables(self.alloc, &mut self.conn) {
+            Ok(count) => {
+                self.is_usable = true;
+                self.count = count;
+                Ok(())
+            }
+            Err(fault) => {
+                self.is_usable = false;
+                Err(counted(&mut self.faults, registry_fault(fault)))
+            }
+        }
+    }
 }

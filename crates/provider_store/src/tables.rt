@@ -29,7 +29,7 @@ pub enum Found {
 }
 
 /// The fault of a registry at an error of the database.
-fn fault_of(error: Error) -> RegistryFault {
+pub(crate) fn fault_of(error: Error) -> RegistryFault {
     match error {
         Error::SqliteFailure(ErrorCode::OutOfMemory) => RegistryFault::Memory,
         _ => RegistryFault::Store,
@@ -39,7 +39,7 @@ fn fault_of(error: Error) -> RegistryFault {
 // ---- statements
 
 /// The rows that a query answers.
-fn ask<S: Alter>(
+pub(crate) fn ask<S: Alter>(
     conn: &mut Connection<S>,
     sql: &str,
     params: &[ValueRef<'_>],
@@ -75,7 +75,7 @@ fn write<S: Alter>(
 // ---- rows
 
 /// The number in a column, if one is there and isn't negative.
-fn number_at(row: &Row, at: usize) -> Option<u64>
+pub(crate) fn number_at(row: &Row, at: usize) -> Option<u64>
     ensures { IfSome result (λ n. column row.now at ≡ Int (pos n)) }
 {
     match row.get_ref(at) {

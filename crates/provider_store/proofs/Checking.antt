@@ -1,0 +1,194 @@
+-- What the checks of an opening show, and what they leave.
+use Rattle.std.proofs.Common.{◌≡◌, ◌<◌, ◌≤◌, ℕ, zero, suc, ◌+◌, ◌-◌, ℤ, pos, Bool, true, false, List, [], ◌∷◌, ◌++◌, map, filter, length, codes, Some, None, Option, Result, Ok, Err, IsTrue, OnOk, OnErr, IfOk, IfErr, refl, sym, ap, ◌∙◌, subst, inl, inr, arith, length-append, IsPermutation}
+use Rattle.std.specs.Prelude.{slice_get}
+use Rattle.std.proofs.lemmas.Option.{slice_get_within}
+use Rattle.sqlite_value.specs.declared.value.Value.TheVariants.{Int}
+use Rattle.sqlite_value.specs.Order.{Row, column}
+use Rattle.sqlite_trees.specs.Tree.{Trees, rowid, has_rowid}
+use Rattle.sqlite_rules.specs.Lists.{Has}
+use Rattle.sqlite_rules.proofs.ListLemmas.{has_filtered}
+use Rattle.sqlite.specs.Effect.{Database}
+use Rattle.sqlite.specs.State.{State, HasCleanDisk, Survives}
+use Rattle.sqlite.proofs.StateLemmas.{survives_then}
+use Rattle.scim_resource.specs.Contents.{content_name}
+use Rattle.scim_resource.specs.Rows.{StoredRecord}
+use Rattle.provider_core.specs.Rows.{is_named, row_named, IsNumberedFrom}
+use Rattle.provider_core.specs.declared.registry.RegistryFault.{RegistryFault}
+use Rattle.provider_core.specs.declared.registry.RegistryFault.TheVariants as registry
+use Rattle.provider_core.proofs.RowLaws.{same_name-eq, find-passes}
+use Rattle.provider_core.proofs.MemoryLaws.{found-at, apart-none}
+use Rattle.provider_core.proofs.TableLaws.{at_push}
+use Rattle.scim_key.specs.declared.records.RecordName.{RecordName}
+use Rattle.provider_store.specs.Format.{format_number, marked_text, outside_text}
+use Rattle.provider_store.specs.Rows.{shown_row, IsRowOf, Holds}
+use Rattle.provider_store.specs.Connections.{IsLaid, IsNamed, Answers, FindsName, Keeps, resources}
+use Rattle.provider_store.specs.Opening.{IsFormat, IsMarked, IsFor, IsCause, IsAlone, HasLawful, HoldsFirst, IsStore, IsProvider, Looks, LeavesStore, open_fault}
+use Rattle.provider_store.specs.declared.opening.OpenFault.{OpenFault}
+use Rattle.provider_store.specs.declared.opening.OpenFault.TheVariants.{Store, Damaged, Newer, Memory}
+use Rattle.provider_store.specs.declared.tables.Found.TheVariants.{There}
+use Rattle.provider_store.proofs.Texts.{marked_shown, marked_is, marked_query, outside_term, outside_shown, outside_is, outside_query}
+use Rattle.provider_store.proofs.Selecting.{passes, shows}
+use Rattle.provider_store.proofs.Outside.{outside_passes, none_passes}
+use Rattle.provider_store.proofs.Finding.{answered_by, empty, single}
+use Rattle.provider_store.proofs.Holding.{numbered_at, numbered_append, apart_append, none_past, number_of}
+use Rattle.provider_store.proofs.Keeping.{laid_still, keeps_then}
+use Rattle.provider_store.proofs.Leaving.{keeps_leaves}
+
+-- ---- results
+
+pub on_ok : {T F P Q : Type 0} (r : Result T F) → (P → Q) → OnOk r P → OnOk r Q
+on_ok (Ok x) f p = f p
+on_ok (Err e) f p = tt
+
+pub if_err : {T F : Type 0} {P Q : F → Type 0} (r : Result T F) → ((e : F) → P e → Q e) → IfErr r P → IfErr r Q
+if_err (Ok x) f p = tt
+if_err (Err e) f p = f e p
+
+pub is_for : {P Q : Type 0} (f : P → Q) (fault : OpenFault) → IsFor P fault → IsFor Q fault
+is_for f Store h = tt
+is_for f (Damaged n) h = tt
+is_for f Newer h = f h
+is_for f Memory h = tt
+
+pub no_cause : (P : Type 0) (fault : RegistryFault) → IsFor P (open_fault fault)
+no_cause P registry.Store = tt
+no_cause P registry.Memory = tt
+
+-- ---- looking
+
+pub survives_same : (s : State) (P : Trees → Type 0) → Survives s s P
+survives_same s P = record { clean = omega arith; shield = λ h. h; counts = omega arith; limit = refl; closes = λ clean still. inl still; crash = λ clean db may. inl may }
+
+pub looks_same : (s : State) → Looks s s
+looks_same s = record { keeps = λ _. record { was_open = λ still. still; same = λ still laid. (refl, laid.committed, laid.autocommit) }; quiet = survives_same s (λ _. ⊥) }
+
+pub looks_then : (a b c : State) → Looks a b → Looks b c → Looks a c
+looks_then a b c first second = record {
+  keeps = λ clean. keeps_then a b c (first.keeps (omega (arith, clean, second.quiet.clean))) (second.keeps clean);
+  quiet = survives_then a b c _ _ (λ _. ⊥) (λ _ db none. none) (λ _ db none. none) first.quiet second.quiet;
+}
+
+abbrev pub LaidIfOpen : State → Type 0
+LaidIfOpen s = HasCleanDisk s → IsTrue s.is_open → IsLaid s
+
+module _ (old new : State) (looks : Looks old new) (laid : LaidIfOpen old) where
+  pub was_clean : HasCleanDisk new → HasCleanDisk old
+  was_clean clean = omega (arith, clean, looks.quiet.clean)
+
+  pub was_laid : HasCleanDisk new → IsTrue new.is_open → IsLaid old
+  was_laid clean still = laid (was_clean clean) ((looks.keeps clean).was_open still)
+
+  pub laid_on : LaidIfOpen new
+  laid_on clean still = laid_still old new (looks.keeps clean) still (was_laid clean still)
+
+  pub same_now : HasCleanDisk new → IsTrue new.is_open → new.now ≡ old.now
+  same_now clean still = ((looks.keeps clean).same still (was_laid clean still)).0
+
+  pub same_rows : HasCleanDisk new → IsTrue new.is_open → resources new ≡ resources old
+  same_rows clean still = ap (λ (d : Database). d.trees 1) (same_now clean still)
+
+  pub looks_leaves : HasCleanDisk new → LeavesStore old new
+  looks_leaves clean = keeps_leaves old new (looks.keeps clean) (laid (was_clean clean))
+
+-- ---- the tables
+
+pub laid_from : (s : State) → s.in_transaction ≡ false → (IsTrue s.is_open → s.now ≡ s.committed) → IsProvider s.now.schema → IsTrue s.is_open → IsLaid s
+laid_from s autocommit settled provider still = record {
+  format_checks = provider.format_checks;
+  resource_checks = provider.resource_checks;
+  order = provider.order;
+  schema = provider.is;
+  committed = sym (settled still);
+  autocommit = autocommit;
+}
+
+-- ---- the format
+
+all_pass : (rows : List Row) → filter (λ _. true) rows ≡ rows
+all_pass [] = refl
+all_pass (r ∷ rows) = ap (λ l. r ∷ l) (all_pass rows)
+
+pub marked_found : (s : State) (rows given : List Row) (number : ℕ) → given ≡ rows → IsLaid s → Answers marked_text [] s rows → IsMarked given number → IsFormat s number
+marked_found s rows given number same laid answers marked =
+    let all = answered_by s marked_text 0 (λ _. refl) [] marked_shown (codes "number" ∷ []) [] rows marked_is marked_query laid answers in
+    let one = single (shows marked_shown []) (filter (passes [] []) (s.now.trees 0)) marked.0 (subst (IsPermutation (map (shows marked_shown []) (filter (passes [] []) (s.now.trees 0)))) (sym same ∙ marked.1) all) in
+    let table : s.now.trees 0 ≡ one.0 ∷ [] = sym (all_pass (s.now.trees 0)) ∙ one.1 in
+    let number_is : column one.0 2 ≡ Int (pos number) = sym (ap (λ row. column row 0) one.2) ∙ marked.2 in
+    ap (map (λ (r : Row). column r 2)) table ∙ ap (λ v. v ∷ []) number_is
+
+-- ---- the rows outside
+
+pub outside_found : (s : State) (number : ℤ) (count : ℕ) (rows given : List Row) → number ≡ pos count → given ≡ rows → IsLaid s → Answers outside_text (Int number ∷ []) s rows → given ≡ [] → (k : ℕ) → count < k → filter (has_rowid (pos k)) (resources s) ≡ []
+outside_found s number count rows given is same laid answers none k far =
+    let params : Row = Int (pos count) ∷ [] in
+    let all = answered_by s outside_text 1 (λ _. refl) (outside_term ∷ []) outside_shown (codes "number" ∷ []) params rows outside_is outside_query laid (subst (λ n. Answers outside_text (Int n ∷ []) s rows) is answers) in
+    let nothing = empty (shows outside_shown params) (filter (passes (outside_term ∷ []) params) (resources s)) (subst (IsPermutation (map (shows outside_shown params) (filter (passes (outside_term ∷ []) params) (resources s)))) (sym same ∙ none) all) in
+    none_passes (passes (outside_term ∷ []) params) (has_rowid (pos k)) (resources s) (λ r has. outside_passes count k r far has) nothing
+
+-- ---- one row
+
+pub alone_from : (table : List Row) (name : RecordName) (s : StoredRecord) → FindsName table name (There s) → IsAlone table name
+alone_from table name s found q r t u first second = found.2 q t first ∙ sym (found.2 r u second)
+
+-- ---- the rows in turn
+
+pub first_none : (table : List Row) → HoldsFirst table []
+first_none table = record { numbered = tt; apart = apart-none; each = λ n s at. absurd (cc) }
+
+module _ (table : List Row) (rows : List StoredRecord) (first : HoldsFirst table rows) (lawful : HasLawful table (length rows + 1)) where
+  abbrev new : StoredRecord
+  new = lawful.held
+
+  number_is : new.number ≡ suc (length rows)
+  number_is =
+      let at : rowid lawful.row ≡ Int (pos (length rows + 1)) = number_of lawful.row new (length rows + 1) table lawful.shows lawful.only in
+      let own : Int (pos new.number) ≡ Int (pos (length rows + 1)) = sym (ap (λ row. column row 0) lawful.shows.shows) ∙ at in
+      let same : new.number ≡ length rows + 1 = cc in
+      omega (arith, same)
+
+  here : (n : ℕ) (s : StoredRecord) (row : Row) → filter (has_rowid (pos n)) table ≡ row ∷ [] → Has table row
+  here n s row only = (has_filtered (has_rowid (pos n)) table row (subst (λ l. Has l row) (sym only) (inl refl))).0
+
+  other_name : row_named (content_name new.content) rows ≡ None
+  other_name = elim (row_named (content_name new.content) rows) as (λ found. row_named (content_name new.content) rows ≡ found → found ≡ None) [
+    | None ↦ λ _. refl
+    | Some s ↦ λ is.
+        let name = content_name new.content in
+        let at = found-at (is_named name) 1 rows s first.numbered is in
+        let same : name ≡ content_name s.content = same_name-eq name (content_name s.content) (find-passes (is_named name) rows s is) in
+        let it = first.each (s.number - 1) s at.1 in
+        let both = lawful.alone it.0 lawful.row s new
+            (record { there = here (suc (s.number - 1)) s it.0 it.1; shows = it.2; named = sym same })
+            (record { there = here (length rows + 1) new lawful.row lawful.only; shows = lawful.shows; named = refl }) in
+        let numbers : Int (pos s.number) ≡ Int (pos new.number) = sym (ap (λ row. column row 0) it.2.shows) ∙ ap (λ row. column row 0) both ∙ ap (λ row. column row 0) lawful.shows.shows in
+        let one : s.number ≡ new.number = cc in
+        let near = slice_get_within rows (s.number - 1) s at.1 in
+        absurd (omega (arith, one, near, number_is, at.0))
+  ] refl
+
+  pub first_next : HoldsFirst table (rows ++ new ∷ [])
+  first_next = record {
+    numbered = numbered_append 1 rows new first.numbered (omega (arith, number_is));
+    apart = apart_append rows new first.apart other_name;
+    each = λ n s at. elim (at_push rows new n s at) [
+      | inl old ↦ first.each n s old
+      | inr last ↦ (
+          lawful.row,
+          let e : length rows + 1 ≡ suc n = omega (arith, last.0) in subst (λ k. filter (has_rowid (pos k)) table ≡ lawful.row ∷ []) e lawful.only,
+          subst (IsRowOf (shown_row lawful.row)) last.1 lawful.shows,
+        )
+    ];
+  }
+
+pub first_all : (table : List Row) (rows : List StoredRecord) → HoldsFirst table rows → ((n : ℕ) → length rows < n → filter (has_rowid (pos n)) table ≡ []) → Holds table rows
+first_all table rows first none = record {
+  numbered = first.numbered;
+  apart = first.apart;
+  each = first.each;
+  none = λ n at. none (suc n) (past rows n at);
+}
+  where
+    past : (xs : List StoredRecord) (n : ℕ) → slice_get xs n ≡ None → length xs < suc n
+    past [] n none = omega arith
+    past (x ∷ xs) zero none = absurd (cc)
+    past (x ∷ xs) (suc n) none = omega (arith, past xs n none)

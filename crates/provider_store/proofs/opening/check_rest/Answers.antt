@@ -1,0 +1,18 @@
+use Rattle.std.proofs.Common.{arith}
+use Rattle.sqlite.specs.Held.{state}
+use Rattle.sqlite.specs.State.{HasCleanDisk}
+use Rattle.provider_store.proofs.Texts.{outside_query}
+use Rattle.provider_store.proofs.Values.{bound_int}
+use Rattle.provider_store.proofs.Checking.{on_ok, outside_found}
+use Rattle.provider_store.proofs.opening.check_rest.Goals as goal
+
+pub ask-requires-clause-query : goal.ask-requires-clause-query
+ask-requires-clause-query g c = outside_query
+
+pub returns-in-Ok-clause-none : goal.returns-in-Ok-clause-none
+returns-in-Ok-clause-none g c clean =
+    let early : HasCleanDisk (state g.S.Store c.args.conn.now) = omega (arith, clean, c.in-Ok.ensures.quiet.clean) in
+    let laid = c.requires.laid early ((c.in-Ok.ensures.keeps clean).was_open (c.in-Ok.ensures.open clean)) in
+    on_ok c.none_in.result
+    (outside_found (state g.S.Store c.args.conn.now) _ c.args.count c.in-Ok.rows.items c.as_slice.result.now (bound_int c.from.result c.args.count c.from.ensures (omega (arith, c.ranges.count.fits))) c.as_slice.ensures.value laid (c.in-Ok.ensures.rows clean))
+    c.none_in.ensures.none

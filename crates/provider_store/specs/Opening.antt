@@ -1,0 +1,128 @@
+-- What an opening looks for, what it finds, and what it leaves where it refuses.
+use Rattle.std.specs.Prelude.{◌≡◌, ◌⊎◌, ℕ, suc, ◌<◌, pos, false, List, [], ◌∷◌, Some, IsTrue, map, filter, slice_get, codes}
+use Rattle.sqlite_value.specs.declared.keys.Order.{Order}
+use Rattle.sqlite_value.specs.declared.value.Value.TheVariants.{Int}
+use Rattle.sqlite_value.specs.Order.{Row, column}
+use Rattle.sqlite_trees.specs.Tree.{Trees, has_rowid}
+use Rattle.sqlite_sql.specs.Term.{Term}
+use Rattle.sqlite_schema.specs.declared.schema.Stamps.{Stamps}
+use Rattle.sqlite_schema.specs.declared.schema.Table.{Table}
+use Rattle.sqlite_schema.specs.declared.schema.Schema.{Schema}
+use Rattle.sqlite.specs.State.{State, HasCleanDisk, Survives}
+use Rattle.scim_key.specs.declared.records.RecordName.{RecordName}
+use Rattle.scim_resource.specs.Contents.{content_name}
+use Rattle.scim_resource.specs.Rows.{StoredRecord}
+use Rattle.provider_core.specs.Rows.{IsNumberedFrom, AreNamedApart}
+use Rattle.provider_store.specs.Format.{provider_schema, no_schema, format_tree, resource_tree, resource_columns, name_places, format_number}
+use Rattle.provider_store.specs.Rows.{shown_row, IsRowOf, Holds}
+use Rattle.provider_store.specs.Connections.{IsLaid, Keeps, IsNamed, resources}
+use Rattle.provider_store.specs.declared.opening.OpenFault.{OpenFault}
+use Rattle.provider_store.specs.declared.opening.OpenFault.TheVariants.{Store, Newer, Memory}
+use Rattle.provider_core.specs.declared.registry.RegistryFault.{RegistryFault}
+use Rattle.provider_core.specs.declared.registry.RegistryFault.TheVariants as registry
+
+-- ---- the tables
+
+abbrev pub no_stamps : Stamps
+no_stamps = record { places = []; terms = []; formats = [] }
+
+-- the first column stands for the number of the row, and nothing else is said of the table
+pub record IsPlainTable (table : Table) : Type 0 where
+  pub key : table.key ≡ Some 0
+  pub primary : table.primary ≡ 0 ∷ []
+  pub references : table.references ≡ []
+  pub computed : table.computed ≡ []
+  pub stamps : table.stamps ≡ no_stamps
+  pub uncounted : table.is_counted ≡ false
+
+-- the table is that of the resources, but for the order of its index
+pub record IsResourceTable (table : Table) : Type 0 where
+  pub name : table.name ≡ codes "resource"
+  pub tree : table.tree ≡ resource_tree
+  pub columns : table.columns ≡ resource_columns
+  pub plain : IsPlainTable table
+  pub uniques : table.uniques ≡ name_places ∷ []
+
+-- the schema is that of the tables
+pub record IsProvider (schema : Schema) : Type 0 where
+  pub format_checks : List Term
+  pub resource_checks : List Term
+  pub order : Order
+  pub is : schema ≡ provider_schema format_checks resource_checks order
+
+-- no table stands, and no transaction is under way
+pub record IsBlank (s : State) : Type 0 where
+  pub schema : s.now.schema ≡ no_schema
+  pub committed : s.committed ≡ s.now
+  pub autocommit : s.in_transaction ≡ false
+
+-- ---- the format
+
+-- the table of the format has one row, with this number
+abbrev pub IsFormat : State → ℕ → Type 0
+IsFormat s number = map (λ (r : Row). column r 2) (s.now.trees format_tree) ≡ Int (pos number) ∷ []
+
+-- an answer shows this number alone
+abbrev pub IsMarked : List Row → ℕ → Type 0
+IsMarked rows number = (r : Row) × (rows ≡ r ∷ []) × (column r 0 ≡ Int (pos number))
+
+-- ---- faults
+
+abbrev pub open_fault : RegistryFault → OpenFault
+open_fault registry.Store = Store
+open_fault registry.Memory = Memory
+
+-- a fault that tells of a newer format has its cause
+abbrev pub IsFor : Type 0 → OpenFault → Type 0
+IsFor newer Newer = newer
+IsFor newer fault = Unit {0}
+
+-- ---- the rows
+
+-- no two rows show resources of this name
+abbrev pub IsAlone : List Row → RecordName → Type 0
+IsAlone table name = (q r : Row) (s t : StoredRecord) → IsNamed table name q s → IsNamed table name r t → shown_row q ≡ shown_row r
+
+-- one row has this number, and shows a resource whose name no other row has
+pub record HasLawful (table : List Row) (number : ℕ) : Type 0 where
+  pub row : Row
+  pub held : StoredRecord
+  pub only : filter (has_rowid (pos number)) table ≡ row ∷ []
+  pub shows : IsRowOf (shown_row row) held
+  pub alone : IsAlone table (content_name held.content)
+
+-- the rows with the first numbers show these records, no two of one name
+pub record HoldsFirst (table : List Row) (rows : List StoredRecord) : Type 0 where
+  pub numbered : IsNumberedFrom 1 rows
+  pub apart : AreNamedApart rows
+  pub each : (n : ℕ) (s : StoredRecord) → slice_get rows n ≡ Some s → (r : Row) × (filter (has_rowid (pos (suc n))) table ≡ r ∷ []) × IsRowOf (shown_row r) s
+
+-- ---- the store
+
+-- the tables are of the format, and hold these records
+pub record IsStore (s : State) (rows : List StoredRecord) : Type 0 where
+  pub laid : IsLaid s
+  pub format : IsFormat s format_number
+  pub holds : Holds (resources s) rows
+
+-- what stands in a store: the records of its tables, and none where no tables stand
+abbrev pub Stands : State → List StoredRecord → Type 0
+Stands s rows = IsStore s rows ⊎ (IsBlank s × (rows ≡ []))
+
+-- a call that only looks: the connection is as it was, and nothing is committed
+pub record Looks (old new : State) : Type 0 where
+  pub keeps : HasCleanDisk new → Keeps old new
+  pub quiet : Survives old new (λ _. ⊥)
+
+-- what was committed stands
+pub record LeavesStore (old new : State) : Type 0 where
+  pub was_open : IsTrue new.is_open → IsTrue old.is_open
+  pub committed : IsTrue new.is_open → new.committed ≡ old.committed
+
+-- a newer format stands in the table
+abbrev pub IsCause : State → OpenFault → Type 0
+IsCause s = IsFor ((number : ℕ) × (format_number < number) × IsFormat s number)
+
+-- a stop leaves no row
+abbrev pub LeavesNone : Trees → Type 0
+LeavesNone db = db resource_tree ≡ []

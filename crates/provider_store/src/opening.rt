@@ -1,0 +1,268 @@
+//! The opening of a store: its tables are made, or tested with each of their rows.
+ghost use Rattle.std.specs.Prelude.{◌≡◌, ◌<◌, ℕ, false, List, [], length, pos, IfErr, IfOk, OnErr, OnOk, IsTrue, filter};
+ghost use Rattle.sqlite_value.specs.declared.value.Value.TheVariants.{Int};
+ghost use Rattle.sqlite_value.specs.Order.{column};
+ghost use Rattle.sqlite_trees.specs.Tree.{has_rowid};
+ghost use Rattle.sqlite.specs.Held.{state};
+ghost use Rattle.sqlite.specs.State.{HasCleanDisk, Survives};
+ghost use Rattle.scim_resource.specs.Contents.{content_name};
+ghost use Rattle.scim_resource.specs.Rows.{StoredRecord};
+ghost use Rattle.provider_store.specs.Format.{format_number};
+ghost use Rattle.provider_store.specs.Connections.{IsLaid, resources};
+ghost use Rattle.provider_store.specs.Opening.{HasLawful, HoldsFirst, IsAlone, IsBlank, IsCause, IsFormat, IsFor, IsMarked, IsStore, LeavesNone, LeavesStore, Looks, Stands};
+
+use crate::format::{FORMAT, is_blank, is_provider};
+use crate::tables::{Found, ask, fault_of, find_named, find_numbered, number_at};
+use provider_core::RegistryFault;
+use scim_key::LAST_NUMBER;
+use scim_resource::Stored;
+use sqlite::{Alter, Connection, Error, Row};
+use sqlite_value::value::ValueRef;
+use std::alloc::{AllocError, Global};
+use thiserror::Error as Fault;
+
+/// Why a store wasn't opened. What it holds is then as it was.
+#[derive(Clone, Copy, Debug, PartialEq, Eq, Fault)]
+pub enum OpenFault {
+    /// The database failed, or a transaction is under way.
+    #[error("Y1")]
+    Store,
+    /// The row with this number isn't lawful, or isn't to be there. The number is 0 where the tables
+    /// aren't those of the format.
+    #[error("Y2")]
+    Damaged(u64),
+    /// The tables are of a newer format.
+    #[error("Y3")]
+    Newer,
+    #[error("Y4")]
+    Memory,
+}
+
+impl From<AllocError> for OpenFault {
+    ghost use Rattle.provider_store.specs.declared.opening.OpenFault.TheVariants.{Memory};
+
+    ghost from_gives = { λ _ fault. fault ≡ Memory };
+
+    fn from(_: AllocError) -> OpenFault {
+        OpenFault::Memory
+    }
+}
+
+impl From<RegistryFault> for OpenFault {
+    ghost use Rattle.provider_store.specs.Opening.{open_fault};
+
+    ghost from_gives = { λ fault given. given ≡ open_fault fault };
+
+    fn from(fault: RegistryFault) -> OpenFault {
+        match fault {
+            RegistryFault::Store => OpenFault::Store,
+            RegistryFault::Memory => OpenFault::Memory,
+        }
+    }
+}
+
+// ---- the tables
+
+/// Makes the tables with the row of the format, all or none.
+fn make_tables<S: Alter>(conn: &mut Connection<S>) -> Result<(), Error>
+    requires outside { (state S.Store conn.old).in_transaction ≡ false }
+    requires blank { HasCleanDisk (state S.Store conn.old) → IsTrue (state S.Store conn.old).is_open → IsBlank (state S.Store conn.old) }
+    ensures made { HasCleanDisk (state S.Store conn.new) → OnOk result (IsTrue (state S.Store conn.new).is_open × IsBlank (state S.Store conn.old) × IsStore (state S.Store conn.new) []) }
+    ensures left { HasCleanDisk (state S.Store conn.new) → OnErr result (LeavesStore (state S.Store conn.old) (state S.Store conn.new)) }
+    ensures stop { Survives (state S.Store conn.old) (state S.Store conn.new) LeavesNone }
+{
+    let mut tables = conn.transaction();
+    tables.execute(
+        "CREATE TABLE IF NOT EXISTS provider_format (one INTEGER PRIMARY KEY CHECK (one = 1), number INTEGER NOT NULL)",
+        &[],
+    )?;
+    tables.execute(
+        "INSERT INTO provider_format (one, number) VALUES (1, ?1)",
+        &[ValueRef::Int(FORMAT as i64)],
+    )?;
+    tables.execute(
+        "CREATE TABLE resource (number INTEGER PRIMARY KEY CHECK (number >= 1), kind INTEGER NOT NULL CHECK (kind = 1 OR kind = 2), name_key TEXT NOT NULL, version INTEGER NOT NULL CHECK (version >= 1), content TEXT NOT NULL, UNIQUE (kind, name_key))",
+        &[],
+    )?;
+    tables.commit()
+}
+
+/// Tests the number of the format.
+fn check_format<S: Alter>(conn: &mut Connection<S>) -> Result<(), OpenFault>
+    requires laid { HasCleanDisk (state S.Store conn.old) → IsTrue (state S.Store conn.old).is_open → IsLaid (state S.Store conn.old) }
+    ensures known { HasCleanDisk (state S.Store conn.new) → OnOk result (IsFormat (state S.Store conn.old) format_number) }
+    ensures cause { HasCleanDisk (state S.Store conn.new) → IfErr result (IsCause (state S.Store conn.old)) }
+    ensures open { HasCleanDisk (state S.Store conn.new) → OnOk result (IsTrue (state S.Store conn.new).is_open) }
+    ensures looks { Looks (state S.Store conn.old) (state S.Store conn.new) }
+{
+    match ask(conn, "SELECT number FROM provider_format", &[]) {
+        Ok(rows) => format_in(rows.as_slice()),
+        Err(error) => Err(OpenFault::from(fault_of(error))),
+    }
+}
+
+/// Tests that the rows show the number of the format, and no other.
+fn format_in(rows: &[Row]) -> Result<(), OpenFault>
+    ensures known { OnOk result (IsMarked rows.now format_number) }
+    ensures cause { IfErr result (IsFor ((number : ℕ) × (format_number < number) × IsMarked rows.now number)) }
+{
+    let [row] = rows else {
+        return Err(OpenFault::Damaged(0));
+    };
+    match number_at(row, 0) {
+        Some(FORMAT) => Ok(()),
+        Some(number) if number > FORMAT => Err(OpenFault::Newer),
+        _ => Err(OpenFault::Damaged(0)),
+    }
+}
+
+// ---- the rows
+
+/// Tests the row with this number, if it is there.
+fn check_row<S: Alter>(
+    alloc: Global,
+    conn: &mut Connection<S>,
+    number: u32,
+) -> Result<bool, OpenFault>
+    requires laid { HasCleanDisk (state S.Store conn.old) → IsTrue (state S.Store conn.old).is_open → IsLaid (state S.Store conn.old) }
+    ensures lawful { HasCleanDisk (state S.Store conn.new) → IfOk result (λ is. IsTrue is → HasLawful (resources (state S.Store conn.old)) number) }
+    ensures cause { IfErr result (IsFor ⊥) }
+    ensures open { HasCleanDisk (state S.Store conn.new) → OnOk result (IsTrue (state S.Store conn.new).is_open) }
+    ensures looks { Looks (state S.Store conn.old) (state S.Store conn.new) }
+{
+    match find_numbered(alloc, conn, number)? {
+        Found::There(row) => {
+            check_name(alloc, conn, &row)?;
+            Ok(true)
+        }
+        Found::Nothing => Ok(false),
+        Found::Damaged => Err(OpenFault::Damaged(u64::from(number))),
+    }
+}
+
+/// Tests that no other row has the name of this one.
+fn check_name<S: Alter>(
+    alloc: Global,
+    conn: &mut Connection<S>,
+    row: &Stored,
+) -> Result<(), OpenFault>
+    requires laid { HasCleanDisk (state S.Store conn.old) → IsTrue (state S.Store conn.old).is_open → IsLaid (state S.Store conn.old) }
+    ensures alone { HasCleanDisk (state S.Store conn.new) → OnOk result (IsAlone (resources (state S.Store conn.old)) (content_name row.now.content)) }
+    ensures cause { IfErr result (IsFor ⊥) }
+    ensures open { HasCleanDisk (state S.Store conn.new) → OnOk result (IsTrue (state S.Store conn.new).is_open) }
+    ensures looks { Looks (state S.Store conn.old) (state S.Store conn.new) }
+{
+    let name = row.content().name(alloc)?;
+    match find_named(alloc, conn, &name)? {
+        Found::There(_row) => Ok(()),
+        Found::Nothing | Found::Damaged => Err(OpenFault::Damaged(u64::from(row.number()))),
+    }
+}
+
+/// Tests the rows in order of their numbers, and tells how many follow each other from 1.
+fn check_rows<S: Alter>(alloc: Global, conn: &mut Connection<S>) -> Result<u32, OpenFault>
+    requires laid { HasCleanDisk (state S.Store conn.old) → IsTrue (state S.Store conn.old).is_open → IsLaid (state S.Store conn.old) }
+    ensures first { HasCleanDisk (state S.Store conn.new) → IfOk result (λ count. (rows : List StoredRecord) × HoldsFirst (resources (state S.Store conn.old)) rows × (length rows ≡ count)) }
+    ensures cause { IfErr result (IsFor ⊥) }
+    ensures looks { Looks (state S.Store conn.old) (state S.Store conn.new) }
+{
+    for count in 0..LAST_NUMBER {
+        if !check_row(alloc, conn, count + 1)? {
+            return Ok(count);
+        }
+    }
+    Ok(LAST_NUMBER)
+}
+
+/// Tests that no row stands outside the first ones.
+fn check_rest<S: Alter>(conn: &mut Connection<S>, count: u32) -> Result<(), OpenFault>
+    requires laid { HasCleanDisk (state S.Store conn.old) → IsTrue (state S.Store conn.old).is_open → IsLaid (state S.Store conn.old) }
+    ensures none { HasCleanDisk (state S.Store conn.new) → OnOk result ((n : ℕ) → count < n → filter (has_rowid (pos n)) (resources (state S.Store conn.old)) ≡ []) }
+    ensures cause { IfErr result (IsFor ⊥) }
+    ensures open { HasCleanDisk (state S.Store conn.new) → OnOk result (IsTrue (state S.Store conn.new).is_open) }
+    ensures looks { Looks (state S.Store conn.old) (state S.Store conn.new) }
+{
+    match ask(
+        conn,
+        "SELECT number FROM resource WHERE number < 1 OR number > ?1",
+        &[ValueRef::Int(i64::from(count))],
+    ) {
+        Ok(rows) => none_in(rows.as_slice()),
+        Err(error) => Err(OpenFault::from(fault_of(error))),
+    }
+}
+
+/// Tests that there is no row, or tells the number of the first.
+fn none_in(rows: &[Row]) -> Result<(), OpenFault>
+    ensures none { OnOk result (rows.now ≡ []) }
+    ensures cause { IfErr result (IsFor ⊥) }
+{
+    match rows {
+        [] => Ok(()),
+        [row, ..] => Err(OpenFault::Damaged(number_at(row, 0).unwrap_or(0))),
+    }
+}
+
+// ---- the store
+
+/// Tests the format and each row, and tells how many rows there are.
+fn check_laid<S: Alter>(alloc: Global, conn: &mut Connection<S>) -> Result<u32, OpenFault>
+    requires laid { HasCleanDisk (state S.Store conn.old) → IsTrue (state S.Store conn.old).is_open → IsLaid (state S.Store conn.old) }
+    ensures store { HasCleanDisk (state S.Store conn.new) → IfOk result (λ count. (rows : List StoredRecord) × IsStore (state S.Store conn.old) rows × (length rows ≡ count)) }
+    ensures cause { HasCleanDisk (state S.Store conn.new) → IfErr result (IsCause (state S.Store conn.old)) }
+    ensures open { HasCleanDisk (state S.Store conn.new) → OnOk result (IsTrue (state S.Store conn.new).is_open) }
+    ensures looks { Looks (state S.Store conn.old) (state S.Store conn.new) }
+{
+    check_format(conn)?;
+    let count = check_rows(alloc, conn)?;
+    check_rest(conn, count)?;
+    Ok(count)
+}
+
+/// Whether the tables are laid out, and no transaction is under way.
+fn is_laid<S: Alter>(conn: &Connection<S>) -> bool
+    ensures { IsTrue result → IsTrue (state S.Store conn.now).is_open → IsLaid (state S.Store conn.now) }
+{
+    conn.is_autocommit() && is_provider(conn.schema())
+}
+
+/// Tests the tables, their format and each row, and tells how many rows there are.
+pub(crate) fn check_tables<S: Alter>(
+    alloc: Global,
+    conn: &mut Connection<S>,
+) -> Result<u32, OpenFault>
+    ensures store { HasCleanDisk (state S.Store conn.new) → IfOk result (λ count. (rows : List StoredRecord) × IsStore (state S.Store conn.old) rows × (length rows ≡ count)) }
+    ensures cause { HasCleanDisk (state S.Store conn.new) → IfErr result (IsCause (state S.Store conn.old)) }
+    ensures open { HasCleanDisk (state S.Store conn.new) → OnOk result (IsTrue (state S.Store conn.new).is_open) }
+    ensures looks { Looks (state S.Store conn.old) (state S.Store conn.new) }
+    ensures left { HasCleanDisk (state S.Store conn.new) → LeavesStore (state S.Store conn.old) (state S.Store conn.new) }
+{
+    if is_laid(conn) {
+        check_laid(alloc, conn)
+    } else {
+        Err(OpenFault::Damaged(0))
+    }
+}
+
+/// Makes the tables where none stand, else tests them, and tells how many rows there are.
+pub(crate) fn open_tables<S: Alter>(
+    alloc: Global,
+    conn: &mut Connection<S>,
+) -> Result<u32, OpenFault>
+    ensures stands { HasCleanDisk (state S.Store conn.new) → IfOk result (λ count. (rows : List StoredRecord) × Stands (state S.Store conn.old) rows × IsStore (state S.Store conn.new) rows × (length rows ≡ count)) }
+    ensures cause { HasCleanDisk (state S.Store conn.new) → IfErr result (IsCause (state S.Store conn.old)) }
+    ensures open { HasCleanDisk (state S.Store conn.new) → OnOk result (IsTrue (state S.Store conn.new).is_open) }
+    ensures left { HasCleanDisk (state S.Store conn.new) → OnErr result (LeavesStore (state S.Store conn.old) (state S.Store conn.new)) }
+    ensures stop { Survives (state S.Store conn.old) (state S.Store conn.new) LeavesNone }
+{
+    if !conn.is_autocommit() {
+        return Err(OpenFault::Store);
+    }
+    if !is_blank(conn.schema()) {
+        return check_tables(alloc, conn);
+    }
+    match make_tables(conn) {
+        Ok(()) => Ok(0),
+        Err(error) => Err(OpenFault::from(fault_of(error))),
+    }
+}
