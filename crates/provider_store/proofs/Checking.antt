@@ -158,8 +158,8 @@ module _ (table : List Row) (rows : List StoredRecord) (first : HoldsFirst table
         let same : name ≡ content_name s.content = same_name-eq name (content_name s.content) (find-passes (is_named name) rows s is) in
         let it = first.each (s.number - 1) s at.1 in
         let both = lawful.alone it.0 lawful.row s new
-            (record { there = here (suc (s.number - 1)) s it.0 it.1; shows = it.2; named = sym same })
-            (record { there = here (length rows + 1) new lawful.row lawful.only; shows = lawful.shows; named = refl }) in
+        (record { there = here (suc (s.number - 1)) s it.0 it.1; shows = it.2; named = sym same })
+        (record { there = here (length rows + 1) new lawful.row lawful.only; shows = lawful.shows; named = refl }) in
         let numbers : Int (pos s.number) ≡ Int (pos new.number) = sym (ap (λ row. column row 0) it.2.shows) ∙ ap (λ row. column row 0) both ∙ ap (λ row. column row 0) lawful.shows.shows in
         let one : s.number ≡ new.number = cc in
         let near = slice_get_within rows (s.number - 1) s at.1 in
@@ -173,10 +173,10 @@ module _ (table : List Row) (rows : List StoredRecord) (first : HoldsFirst table
     each = λ n s at. elim (at_push rows new n s at) [
       | inl old ↦ first.each n s old
       | inr last ↦ (
-          lawful.row,
-          let e : length rows + 1 ≡ suc n = omega (arith, last.0) in subst (λ k. filter (has_rowid (pos k)) table ≡ lawful.row ∷ []) e lawful.only,
-          subst (IsRowOf (shown_row lawful.row)) last.1 lawful.shows,
-        )
+        lawful.row,
+        let e : length rows + 1 ≡ suc n = omega (arith, last.0) in subst (λ k. filter (has_rowid (pos k)) table ≡ lawful.row ∷ []) e lawful.only,
+        subst (IsRowOf (shown_row lawful.row)) last.1 lawful.shows,
+      )
     ];
   }
 

@@ -32,16 +32,36 @@ pub format_fields : (table : Table) → table.name ≡ codes "provider_format" �
     → table ≡ format_table table.checks
 format_fields table name tree columns uniques orders plain =
     let same : table ≡ record {
-      name = table.name; tree = table.tree; columns = table.columns; key = table.key; primary = table.primary; uniques = table.uniques; orders = table.orders; checks = table.checks;
-      references = table.references; computed = table.computed; stamps = table.stamps; is_counted = table.is_counted;
+      name = table.name;
+      tree = table.tree;
+      columns = table.columns;
+      key = table.key;
+      primary = table.primary;
+      uniques = table.uniques;
+      orders = table.orders;
+      checks = table.checks;
+      references = table.references;
+      computed = table.computed;
+      stamps = table.stamps;
+      is_counted = table.is_counted;
     } = refl in
     same ∙ rw (name, tree, columns, plain.key, plain.primary, uniques, orders, plain.references, plain.computed, plain.stamps, plain.uncounted) refl
 
 pub resource_fields : (table : Table) (order : Order) → IsResourceTable table → table.orders ≡ order ∷ [] → table ≡ resource_table table.checks order
 resource_fields table order it orders =
     let same : table ≡ record {
-      name = table.name; tree = table.tree; columns = table.columns; key = table.key; primary = table.primary; uniques = table.uniques; orders = table.orders; checks = table.checks;
-      references = table.references; computed = table.computed; stamps = table.stamps; is_counted = table.is_counted;
+      name = table.name;
+      tree = table.tree;
+      columns = table.columns;
+      key = table.key;
+      primary = table.primary;
+      uniques = table.uniques;
+      orders = table.orders;
+      checks = table.checks;
+      references = table.references;
+      computed = table.computed;
+      stamps = table.stamps;
+      is_counted = table.is_counted;
     } = refl in
     same ∙ rw (it.name, it.tree, it.columns, it.plain.key, it.plain.primary, it.uniques, orders, it.plain.references, it.plain.computed, it.plain.stamps, it.plain.uncounted) refl
 

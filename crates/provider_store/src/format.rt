@@ -51,14 +51,13 @@ fn is_format(table: &Table) -> bool
     ensures { IsTrue result → table.now ≡ format_table table.now.checks }
 {
     match table.columns.as_slice() {
-        [one, number] =>
-            table.name.as_slice() == b"provider_format".as_slice()
-                && table.tree == 0
-                && is_column(one, b"one", Kind::Integer, false)
-                && is_column(number, b"number", Kind::Integer, true)
-                && table.uniques.is_empty()
-                && table.orders.is_empty()
-                && is_plain(table),
+        [one, number] => table.name.as_slice() == b"provider_format".as_slice()
+            && table.tree == 0
+            && is_column(one, b"one", Kind::Integer, false)
+            && is_column(number, b"number", Kind::Integer, true)
+            && table.uniques.is_empty()
+            && table.orders.is_empty()
+            && is_plain(table),
         _ => false,
     }
 }
@@ -78,12 +77,15 @@ fn has_columns(columns: &[Column]) -> bool
     ensures { IsTrue result → columns.now ≡ resource_columns }
 {
     match columns {
-        [number, kind, name_key, version, content] =>
-            is_column(number, b"number", Kind::Integer, false)
-                && is_column(kind, b"kind", Kind::Integer, true)
-                && is_column(name_key, b"name_key", Kind::Text, true)
-                && is_column(version, b"version", Kind::Integer, true)
-                && is_column(content, b"content", Kind::Text, true),
+        [number, kind, name_key, version, content] => is_column(
+            number,
+            b"number",
+            Kind::Integer,
+            false,
+        ) && is_column(kind, b"kind", Kind::Integer, true)
+            && is_column(name_key, b"name_key", Kind::Text, true)
+            && is_column(version, b"version", Kind::Integer, true)
+            && is_column(content, b"content", Kind::Text, true),
         _ => false,
     }
 }

@@ -5,6 +5,6 @@ use Rattle.provider_store.proofs.format.has_unique.Goals as goal
 
 pub returns-in-len1 : goal.returns-in-len1
 returns-in-len1 c is =
-  let all = one_item c.as_slice.result.now c.places-item.result c.in-len1.len_at_least c.in-len1.len_below c.places-item.is in
-  let places : c.places-item.result ≡ name_places = search (rules, tests) in
-  sym c.as_slice.ensures ∙ all ∙ ap (λ p. p ∷ []) places
+    let all = one_item c.as_slice.result.now c.places-item.result c.in-len1.len_at_least c.in-len1.len_below c.places-item.is in
+    let places : c.places-item.result ≡ name_places = search (rules, tests) in
+    sym c.as_slice.ensures ∙ all ∙ ap (λ p. p ∷ []) places

@@ -24,5 +24,5 @@ returns-clause-store g c clean =
     let first = rows.first later in
     let none = rest.none clean in
     let holds = first_all (resources (state g.S.Store old)) first.0 (subst (λ table. HoldsFirst table first.0) to_old first.1)
-        (λ n far. subst (λ table. filter (has_rowid (pos n)) table ≡ []) (to_marked ∙ to_old) (none n (omega (arith, far, first.2)))) in
+    (λ n far. subst (λ table. filter (has_rowid (pos n)) table ≡ []) (to_marked ∙ to_old) (none n (omega (arith, far, first.2)))) in
     (first.0, record { laid = was_laid (state g.S.Store old) (state g.S.Store marked) format.looks c.requires.laid early was; format = format.known early; holds = holds }, first.2)

@@ -18,5 +18,5 @@ returns-in-Ok g c =
     let new : Kept g.row.S.Denot = record { conn = c.check_tables.new.conn; is_usable = true; count = c.in-Ok.count; faults = c.self.inside.faults; writes = c.self.inside.writes } in
     record {
       reopens = subst (λ (k : Kept g.row.S.Denot). Reopens (kept_rows g.S.Store) (IsFaithful g.S.Store) (IsHonest g.S.Store) (MayHold g.S.Store) (λ j. j.faults) (λ j. j.writes) CountsFault k new answered) c.self.view_is
-      (reopened g.S.Store old new c.in-Ok.ensures.looks g.met.S.Store.stays refl c.in-Ok.ensures.store c.in-Ok.ensures.open refl refl);
+          (reopened g.S.Store old new c.in-Ok.ensures.looks g.met.S.Store.stays refl c.in-Ok.ensures.store c.in-Ok.ensures.open refl refl);
     }
