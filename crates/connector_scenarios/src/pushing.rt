@@ -63,21 +63,14 @@ fn answer_of(alloc: Global, peer: &RefCell<Peer>) -> io::Result<Vec<u8>> {
     Ok(writer.into_inner())
 }
 
-/// Copies what comes next of an answer.
-fn copy_next(answer: &[u8], taken: usize, buffer: &mut [u8]) -> usize {
-    let rest = answer.get(taken..).unwrap_or(&[]);
-    let count = rest.len().min(buffer.len());
-    buffer[..count].copy_from_slice(&rest[..count]);
-    count
-}
-
 impl<'a> Read for Reply<'a> {
     fn read(&mut self, buffer: &mut [u8]) -> io::Result<usize> {
         let answer = match self.answer.take() {
             Some(answer) => answer,
             None => answer_of(self.alloc, self.peer)?,
         };
-        let count = copy_next(answer.as_slice(), self.taken, buffer);
+        let mut rest = answer.get(self.taken..).unwrap_or(&[]);
+        let count = rest.read(buffer)?;
         self.taken = self.taken.saturating_add(count);
         self.answer = Some(answer);
         Ok(count)
