@@ -2,9 +2,10 @@
 """Wrong programs, each of which the prover must refuse: an edit of edits/NAME turns the meaning of a
 function of the crate NAME.
 
-tests/edits.py           tries all of them
-tests/edits.py NAME..    tries those of these crates
-tests/edits.py --apply   says only which of them don't apply to the sources
+tests/edits.py                    tries those of every crate
+tests/edits.py NAME..             tries those of these crates
+tests/edits.py --further NAME..   tries those of edits/NAME/further too, which the gate leaves out
+tests/edits.py --apply            says only which of them don't apply to the sources
 
 It needs the libraries that `rt ci`, or `rt all check`, has built. The edits of a crate are tried
 together, as long as no two of them touch one function: each must be refused by a goal of its own
@@ -24,7 +25,9 @@ ROOT = pathlib.Path(__file__).resolve().parent.parent
 PARTS = ("src", "specs", "proofs")
 # what says that a goal of a function isn't proved: a place in its code, or in its own proofs
 IN_CODE = re.compile(r"^note: (?:\./)?(src/\S+\.rt):(\d+):\d+: it is not proved", re.M)
-IN_PROOF = re.compile(r"^(?:\./)?proofs/(\S+)/[A-Z]\w*\.antt:\d+:\d+: error", re.M)
+IN_PROOF = re.compile(r"^(?:\./)?proofs/(\S+)/[A-Z]\w*\.antt:\d+:\d+: error(.*)", re.M)
+# a proof that names what the edit took away says little of the contract
+OF_NAMES = re.compile(r"has no field|is not in scope|has no `|was not admitted")
 FUNCTION = re.compile(r"^( *)(?:pub(?:\([a-z]+\))? )?(?:const )?fn (\w+)")
 
 
@@ -33,8 +36,9 @@ class Edit:
 
     def __init__(self, path):
         self.path = path
-        self.crate = path.relative_to(ROOT / "edits").parts[0]
-        self.name = f"{self.crate}/{path.stem}"
+        inside = path.relative_to(ROOT / "edits")
+        self.crate, self.is_further = inside.parts[0], len(inside.parts) > 2
+        self.name = str(inside.with_suffix(""))
         self.pairs = [*pairs(path)]
 
     def fault(self):
@@ -162,10 +166,10 @@ def refusal_by(said, file, name, first, last):
     for found in IN_CODE.finditer(said):
         if found[1] == file and first <= int(found[2]) <= last:
             return f"{name}, line {found[2]}"
-    for found in IN_PROOF.finditer(said):
-        if found[1].startswith(f"{module}/") and found[1].split("/")[-1] == name:
-            return f"{name}, in its proof"
-    return None
+    of_proof = [it for it in IN_PROOF.finditer(said) if it[1].startswith(f"{module}/") and it[1].split("/")[-1] == name]
+    if any(not OF_NAMES.search(it[2]) for it in of_proof):
+        return f"{name}, in its proof"
+    return f"{name}, only by a name in its proof" if of_proof else None
 
 
 def tried(name, edits):
@@ -188,13 +192,16 @@ def tried(name, edits):
 
 
 def main(names):
-    edits = {}
-    for path in sorted(ROOT.glob("edits/*/*.edit")):
-        edits.setdefault(path.parent.name, []).append(Edit(path))
-    faults = [f"{it.name}: {it.fault()}" for each in edits.values() for it in each if it.fault()]
+    every = [Edit(it) for it in sorted(ROOT.glob("edits/**/*.edit"))]
+    faults = [f"{it.name}: {it.fault()}" for it in every if it.fault()]
     print(*faults, sep="\n", end="\n" if faults else "")
     if faults or names == ["--apply"]:
         return bool(faults)
+    edits, has_further = {}, "--further" in names
+    for it in every:
+        if has_further or not it.is_further:
+            edits.setdefault(it.crate, []).append(it)
+    names = [it for it in names if it != "--further"]
     chosen = [it for it in edits if it in names or not names]
     size = lambda it: sum(file.stat().st_size for file in (ROOT / "crates" / it).rglob("*.[ra]*t*") if "out" not in file.parts)
     failed = total = 0
