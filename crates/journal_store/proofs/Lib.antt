@@ -1,0 +1,16 @@
+pub mod Texts
+pub mod Keeping
+pub mod Asking
+pub mod Values
+pub mod Trees
+pub mod Selecting
+pub mod Writing
+pub mod Decoding
+pub mod Standing
+pub mod Putting
+pub mod Finding
+pub mod Written
+pub mod Reading
+pub mod Loading
+pub mod Calls
+pub mod Changing

@@ -1,0 +1,5 @@
+pub mod Format
+pub mod Rows
+pub mod Connections
+pub mod Kept
+pub mod KeptLaws
