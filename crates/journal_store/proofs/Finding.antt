@@ -6,7 +6,9 @@ use Rattle.sqlite_value.specs.declared.keys.Order.{Order}
 use Rattle.sqlite_value.specs.declared.value.Value.TheVariants.{Text}
 use Rattle.sqlite_value.specs.Order.{Row}
 use Rattle.sqlite_trees.proofs.ListLemmas.{all_of, filter_same}
+use Rattle.sqlite_sql.specs.Program.{overlay}
 use Rattle.sqlite_sql.specs.Term.{Term}
+use Rattle.sqlite_trees.specs.Tree.{Trees}
 use Rattle.sqlite_schema.specs.declared.command.Command.TheVariants.{Select}
 use Rattle.sqlite_resolve.specs.declared.compiled.Compiled.{Compiled}
 use Rattle.sqlite_resolve.specs.declared.error.CompileError.{CompileError}
@@ -22,20 +24,25 @@ use Rattle.journal_store.specs.Format.{entry_tree, find_text, all_text, journal_
 use Rattle.journal_store.specs.Rows.{shown_row}
 use Rattle.journal_store.specs.Connections.{Answers, Finds, IsLaid, IsOnly, IsQuery, Shows, has_key}
 use Rattle.journal_store.proofs.Texts.{query, shown_terms, names, key_is, find_is, find_query, all_is, all_query, all_order}
-use Rattle.journal_store.proofs.Selecting.{passes, selected, shows, shows_all, key_passes}
+use Rattle.journal_store.proofs.Selecting.{passes, same_tree, selected_over, shows, shows_all, key_passes}
 
 read_by : (r : Result Compiled CompileError) (db : Database) (params : Row) (rows : List Row) → IsPlain r → ((c : Compiled) → r ≡ Ok c → Reads c.command db params rows) → Reads (command_of r) db params rows
 read_by (Ok c) db params rows plain reads = reads c refl
 read_by (Err e) db params rows plain reads = absurd plain
 
-picked : (s : State) (sql : List ℕ) (kind : Kind) (terms : List Term) (order : List (Term × Key)) (params : Row) (rows : List Row)
-    → ((a : List Term) (o p : Order) → command_of (understood (journal_schema a o p) sql) ≡ Select (record { lets = []; body = query (entry_tree kind) terms (shown_terms kind) order }) (names kind))
-    → IsQuery sql → IsLaid s → Answers sql params s rows → IsPermutation (map (shows (shown_terms kind) params) (filter (passes terms params) (s.now.trees (entry_tree kind)))) rows
-picked s sql kind terms order params rows means query_text laid answers =
+pub answered_by : (s : State) (sql : List ℕ) (tree : ℕ) → ((db : Trees) → overlay db [] tree ≡ db tree) → (terms shown : List Term) (order : List (Term × Key)) (heads : List (List ℕ)) (params : Row) (rows : List Row)
+    → ((a : List Term) (o p : Order) → command_of (understood (journal_schema a o p) sql) ≡ Select (record { lets = []; body = query tree terms shown order }) heads)
+    → IsQuery sql → IsLaid s → Answers sql params s rows → IsPermutation (map (shows shown params) (filter (passes terms params) (s.now.trees tree))) rows
+answered_by s sql tree own terms shown order heads params rows means query_text laid answers =
     let schema = journal_schema laid.format_checks laid.users laid.groups in
     let plain = (query_text laid.format_checks laid.users laid.groups).0 in
     let reads = read_by (understood schema sql) s.now params rows plain (λ c is. answers c (ap (λ x. understood x sql) laid.schema ∙ is)) in
-    selected kind terms (shown_terms kind) order params s.now rows (subst (λ command. Reads command s.now params rows) (means laid.format_checks laid.users laid.groups) reads)
+    selected_over tree terms shown order params own s.now rows (subst (λ command. Reads command s.now params rows) (means laid.format_checks laid.users laid.groups) reads)
+
+picked : (s : State) (sql : List ℕ) (kind : Kind) (terms : List Term) (order : List (Term × Key)) (params : Row) (rows : List Row)
+    → ((a : List Term) (o p : Order) → command_of (understood (journal_schema a o p) sql) ≡ Select (record { lets = []; body = query (entry_tree kind) terms (shown_terms kind) order }) (names kind))
+    → IsQuery sql → IsLaid s → Answers sql params s rows → IsPermutation (map (shows (shown_terms kind) params) (filter (passes terms params) (s.now.trees (entry_tree kind)))) rows
+picked s sql kind terms order = answered_by s sql (entry_tree kind) (same_tree kind) terms (shown_terms kind) order (names kind)
 
 map_same : {A B : Type 0} (f g : A → B) → ((x : A) → f x ≡ g x) → (xs : List A) → map f xs ≡ map g xs
 map_same f g same [] = refl
@@ -45,7 +52,7 @@ empty : {A B : Type 0} (f : A → B) (xs : List A) → IsPermutation (map f xs) 
 empty f [] same = refl
 empty f (x ∷ xs) same = absurd (omega (arith, length_permutation (map f (x ∷ xs)) [] same))
 
-single : {A B : Type 0} (f : A → B) (xs : List A) (y : B) → IsPermutation (map f xs) (y ∷ []) → (x : A) × (xs ≡ x ∷ []) × (y ≡ f x)
+pub single : {A B : Type 0} (f : A → B) (xs : List A) (y : B) → IsPermutation (map f xs) (y ∷ []) → (x : A) × (xs ≡ x ∷ []) × (y ≡ f x)
 single f [] y same = absurd (omega (arith, length_permutation (map f []) (y ∷ []) same))
 single f (x ∷ []) y same = (x, refl, let one : y ∷ [] ≡ f x ∷ [] = one_permutation (f x) (y ∷ []) same in cc)
 single f (x ∷ z ∷ xs) y same = absurd (omega (arith, length_permutation (map f (x ∷ z ∷ xs)) (y ∷ []) same))
@@ -70,7 +77,7 @@ finds s name rows (Some e) laid answers only =
 
 -- ---- all rows
 
-every : (table : List Row) (params : Row) → filter (passes [] params) table ≡ table
+pub every : (table : List Row) (params : Row) → filter (passes [] params) table ≡ table
 every [] params = refl
 every (r ∷ table) params = ap (λ l. r ∷ l) (every table params)
 

@@ -14,3 +14,10 @@ pub mod Reading
 pub mod Loading
 pub mod Calls
 pub mod Changing
+pub mod Making
+pub mod Made
+pub mod Numbering
+pub mod Checking
+pub mod Reopening
+pub mod Fields
+pub mod Leaving

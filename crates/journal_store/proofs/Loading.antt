@@ -93,15 +93,15 @@ zip_left kind (q ∷ rows) [] r zip there = absurd zip
 zip_left kind (q ∷ rows) (b ∷ list) r zip (inl same) = (b, inl refl, subst (λ x. Shows kind x b) (sym same) zip.0)
 zip_left kind (q ∷ rows) (b ∷ list) r zip (inr later) = let it = zip_left kind rows list r zip.1 later in (it.0, inr it.1, it.2)
 
-permuted : {X : Type 0} (xs ys : List X) (x : X) → IsPermutation xs ys → Has ys x → Has xs x
+pub permuted : {X : Type 0} (xs ys : List X) (x : X) → IsPermutation xs ys → Has ys x → Has xs x
 permuted xs ys x same = all_has (Has xs) ys x (all-permutation (Has xs) xs ys same (all_from (Has xs) xs (λ e h. h)))
 
-map_has : {A B : Type 0} (f : A → B) (xs : List A) (x : A) → Has xs x → Has (map f xs) (f x)
+pub map_has : {A B : Type 0} (f : A → B) (xs : List A) (x : A) → Has xs x → Has (map f xs) (f x)
 map_has f [] x h = absurd h
 map_has f (y ∷ xs) x (inl same) = inl (ap f same)
 map_has f (y ∷ xs) x (inr later) = inr (map_has f xs x later)
 
-has_map : {A B : Type 0} (f : A → B) (xs : List A) (y : B) → Has (map f xs) y → (x : A) × Has xs x × (y ≡ f x)
+pub has_map : {A B : Type 0} (f : A → B) (xs : List A) (y : B) → Has (map f xs) y → (x : A) × Has xs x × (y ≡ f x)
 has_map f [] y h = absurd h
 has_map f (x ∷ xs) y (inl same) = (x, inl refl, same)
 has_map f (x ∷ xs) y (inr later) = let found = has_map f xs y later in (found.0, inr found.1, found.2)

@@ -29,12 +29,12 @@ one_each : {A B : Type 0} (f : A → B) (xs : List A) → map f xs ≡ flat_map 
 one_each f [] = refl
 one_each f (x ∷ xs) = ap (λ l. f x ∷ l) (one_each f xs)
 
-mapped : {A B : Type 0} (f : A → B) (xs ys : List A) → IsPermutation xs ys → IsPermutation (map f xs) (map f ys)
+pub mapped : {A B : Type 0} (f : A → B) (xs ys : List A) → IsPermutation xs ys → IsPermutation (map f xs) (map f ys)
 mapped f xs ys same = rw (one_each f xs, one_each f ys) (IsPermutation-flat_map (λ x. f x ∷ []) xs ys same)
 
-module _ (kind : Kind) (terms shown : List Term) (order : List (Term × Key)) (params : Row) where
+module _ (tree : ℕ) (terms shown : List Term) (order : List (Term × Key)) (params : Row) where
   abbrev asked : Query
-  asked = query (entry_tree kind) terms shown order
+  asked = query tree terms shown order
 
   each_shown : (table : List Row) → map (λ (o : Output). o.1) (map (output asked) (flat_map (λ r. cond (passes terms params r) ((params ∷ r ∷ []) ∷ []) []) table)) ≡ map (shows shown params) (filter (passes terms params) table)
   each_shown [] = refl
@@ -43,19 +43,24 @@ module _ (kind : Kind) (terms shown : List Term) (order : List (Term × Key)) (p
       ≡ map (shows shown params) (cond b (r ∷ filter (passes terms params) table) (filter (passes terms params) table)))
       [ true ↦ ap (λ l. shows shown params r ∷ l) (each_shown table) | false ↦ each_shown table ]
 
-  -- without tables of its own a query sees those of the database
-  same_tree : (db : Trees) (k : Kind) → overlay db [] (entry_tree k) ≡ db (entry_tree k)
-  same_tree db User = refl
-  same_tree db Group = refl
-
   -- the answer is what is shown of the rows that pass, in some order
-  pub selected : (db : Database) (rows : List Row) → Answers db (record { lets = []; body = asked }) params rows → IsPermutation (map (shows shown params) (filter (passes terms params) (db.trees (entry_tree kind)))) rows
-  selected db rows h =
+  pub selected_over : ((db : Trees) → overlay db [] tree ≡ db tree) → (db : Database) (rows : List Row) → Answers db (record { lets = []; body = asked }) params rows → IsPermutation (map (shows shown params) (filter (passes terms params) (db.trees tree))) rows
+  selected_over own db rows h =
       let a : IsAnswer asked (overlay db.trees []) params rows = h.answer Null in
       let kept = a.distinct ∙ ap (map (output asked)) a.grouped in
       let same = mapped (λ (o : Output). o.1) a.kept a.ordered a.same in
-      subst (λ l. IsPermutation l rows) (ap (map (λ (o : Output). o.1)) kept ∙ each_shown (overlay db.trees [] (entry_tree kind)) ∙ ap (λ (t : List Row). map (shows shown params) (filter (passes terms params) t)) (same_tree db.trees kind))
-      (subst (λ l. IsPermutation (map (λ (o : Output). o.1) a.kept) l) (sym a.shown) same)
+      subst (λ table. IsPermutation (map (shows shown params) (filter (passes terms params) table)) rows) (own db.trees)
+      (subst (λ l. IsPermutation l rows) (ap (map (λ (o : Output). o.1)) kept ∙ each_shown (overlay db.trees [] tree))
+      (subst (λ l. IsPermutation (map (λ (o : Output). o.1) a.kept) l) (sym a.shown) same))
+
+-- without tables of its own a query sees those of the database
+pub same_tree : (kind : Kind) (db : Trees) → overlay db [] (entry_tree kind) ≡ db (entry_tree kind)
+same_tree User db = refl
+same_tree Group db = refl
+
+pub selected : (kind : Kind) (terms shown : List Term) (order : List (Term × Key)) (params : Row) (db : Database) (rows : List Row) → Answers db (record { lets = []; body = query (entry_tree kind) terms shown order }) params rows
+    → IsPermutation (map (shows shown params) (filter (passes terms params) (db.trees (entry_tree kind)))) rows
+selected kind terms shown order params = selected_over (entry_tree kind) terms shown order params (same_tree kind)
 
 -- ---- the tests
 

@@ -15,7 +15,7 @@ use Rattle.sqlite.specs.Listing.{understood, reads_listing}
 use Rattle.sqlite.proofs.Callers.{IsPlain, command_of}
 use Rattle.scim_key.specs.declared.records.Kind.{Kind}
 use Rattle.scim_key.specs.declared.records.Kind.TheVariants.{User, Group}
-use Rattle.journal_store.specs.Format.{journal_schema, entry_tree, entry_place, find_text, all_text, insert_text, update_text}
+use Rattle.journal_store.specs.Format.{journal_schema, format_tree, entry_tree, entry_place, find_text, all_text, insert_text, update_text, marked_text, numbers_text}
 
 abbrev pub query : ℕ → List Term → List Term → List (Term × Key) → Query
 query tree terms shown order = record {
@@ -98,3 +98,33 @@ pub all_query : (kind : Kind) (a : List Term) (o p : Order) → IsPlain (underst
 unfolding understood everything
 all_query User a o p = ((refl, refl), refl)
 all_query Group a o p = ((refl, refl), refl)
+
+-- ---- the opening
+
+abbrev pub marked_shown : List Term
+marked_shown = col 1 2 ∷ []
+
+pub marked_is : (a : List Term) (o p : Order) → command_of (understood (journal_schema a o p) marked_text) ≡ Select (record { lets = []; body = query format_tree [] marked_shown [] }) (codes "number" ∷ [])
+unfolding understood everything
+marked_is a o p = refl
+
+pub marked_query : (a : List Term) (o p : Order) → IsPlain (understood (journal_schema a o p) marked_text) × (reads_listing (journal_schema a o p) marked_text ≡ false)
+unfolding understood everything
+marked_query a o p = ((refl, refl), refl)
+
+-- the number of a row
+abbrev pub number_shown : List Term
+number_shown = col 1 0 ∷ []
+
+abbrev pub number_order : List (Term × Key)
+number_order = (col 1 0, record { collation = Binary; descending = false }) ∷ []
+
+pub numbers_is : (kind : Kind) (a : List Term) (o p : Order) → command_of (understood (journal_schema a o p) (numbers_text kind)) ≡ Select (record { lets = []; body = query (entry_tree kind) [] number_shown number_order }) (codes "rowid" ∷ [])
+unfolding understood everything
+numbers_is User a o p = refl
+numbers_is Group a o p = refl
+
+pub numbers_query : (kind : Kind) (a : List Term) (o p : Order) → IsPlain (understood (journal_schema a o p) (numbers_text kind)) × (reads_listing (journal_schema a o p) (numbers_text kind) ≡ false)
+unfolding understood everything
+numbers_query User a o p = ((refl, refl), refl)
+numbers_query Group a o p = ((refl, refl), refl)

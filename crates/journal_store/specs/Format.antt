@@ -13,6 +13,10 @@ use Rattle.sqlite_schema.specs.declared.schema.Kind.TheVariants.{Integer, Text}
 use Rattle.scim_key.specs.declared.records.Kind.{Kind}
 use Rattle.scim_key.specs.declared.records.Kind.TheVariants.{User, Group}
 
+-- the number of the format
+abbrev pub format_number : ℕ
+format_number = 1
+
 -- ---- columns
 
 abbrev pub required : List ℕ → column.Kind → Column
@@ -105,7 +109,28 @@ journal_schema format_checks users groups =
       views = [];
     }
 
+abbrev pub no_schema : Schema
+no_schema = record { tables = []; indexes = []; views = [] }
+
 -- ---- statements
+
+abbrev pub format_text : List ℕ
+format_text = codes "CREATE TABLE IF NOT EXISTS journal_format (one INTEGER PRIMARY KEY CHECK (one = 1), number INTEGER NOT NULL)"
+
+abbrev pub mark_text : List ℕ
+mark_text = codes "INSERT INTO journal_format (one, number) VALUES (1, ?1)"
+
+abbrev pub create_text : Kind → List ℕ
+create_text User = codes "CREATE TABLE user_entry (name_key TEXT PRIMARY KEY NOT NULL, login TEXT NOT NULL, revision INTEGER NOT NULL, number TEXT NOT NULL, given TEXT NOT NULL, family TEXT NOT NULL, mail TEXT NOT NULL, active INTEGER NOT NULL, confirmed INTEGER NOT NULL, id TEXT)"
+create_text Group = codes "CREATE TABLE group_entry (name_key TEXT PRIMARY KEY NOT NULL, name TEXT NOT NULL, revision INTEGER NOT NULL, members TEXT NOT NULL, confirmed INTEGER NOT NULL, id TEXT)"
+
+abbrev pub marked_text : List ℕ
+marked_text = codes "SELECT number FROM journal_format"
+
+-- the numbers of the rows
+abbrev pub numbers_text : Kind → List ℕ
+numbers_text User = codes "SELECT rowid FROM user_entry ORDER BY rowid"
+numbers_text Group = codes "SELECT rowid FROM group_entry ORDER BY rowid"
 
 abbrev pub find_text : Kind → List ℕ
 find_text User = codes "SELECT name_key, login, revision, number, given, family, mail, active, confirmed, id FROM user_entry WHERE name_key = ?1"

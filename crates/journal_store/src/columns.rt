@@ -18,7 +18,17 @@ use sqlite_value::value::ValueRef;
 use std::alloc::Global;
 use std::str;
 
-fn number_at(row: &Row, at: usize) -> Result<u64, TableFault>
+/// The integer in a column.
+pub(crate) fn integer_at(row: &Row, at: usize) -> Result<i64, TableFault>
+    ensures { IfOk result (λ n. column row.now at ≡ Int n) }
+{
+    match row.get_ref(at) {
+        Ok(ValueRef::Int(number)) => Ok(number),
+        _ => Err(TableFault::Damaged),
+    }
+}
+
+pub(crate) fn number_at(row: &Row, at: usize) -> Result<u64, TableFault>
     ensures { IfOk result (λ n. column row.now at ≡ Int (pos n)) }
 {
     match row.get_ref(at) {

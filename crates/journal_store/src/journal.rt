@@ -1,14 +1,18 @@
 //! A journal in SQLite.
-ghost use Rattle.std.specs.Prelude.{◌≡◌, Some, IfOk, OnOk};
+ghost use Rattle.std.specs.Prelude.{◌≡◌, Some, IfErr, IfOk, OnOk};
+ghost use Rattle.std.specs.Result.{is_ok};
 ghost use Rattle.std.specs.FinMap.{insert};
 ghost use Rattle.sqlite.specs.Held.{state};
+ghost use Rattle.sqlite.specs.State.{HasCleanDisk, Survives};
 ghost use Rattle.source_csv.specs.Records.{IsRow, row_name};
 ghost use Rattle.journal_core.specs.Entries.{entry_with};
-ghost use Rattle.journal_core.specs.Stores.{CountsFault, HasRisen, OnlyReads, WritesOnce};
+ghost use Rattle.journal_core.specs.Stores.{CountsFault, HasRisen, OnlyReads, Reopens, WritesOnce};
 ghost use Rattle.journal_store.specs.Connections.{Finds, FindsIf, ListsAll};
 ghost use Rattle.journal_store.specs.Kept.{IsFaithful, IsHonest, MayHold, kept_entries};
+ghost use Rattle.journal_store.specs.Opening.{IsCause, LeavesNone, LeavesStore, Stands, journal_fault};
 ghost use Rattle.journal_store.specs.Rows.{entry_in, row_of};
 
+use crate::opening::{OpenFault, check_tables, open_tables};
 use crate::statements::TableFault;
 use crate::tables::{find_entry, list_entries, put_entry};
 use journal_core::{Entry, Journal, JournalFault};
@@ -185,4 +189,76 @@ impl<S: Alter> Journal for SqlJournal<S> {
     ghost settled = { kept_settled _ S.Store.settled };
 
     ghost stays = { kept_stays _ S.Store.stays };
+}
+
+// ---- opening and closing
+
+/// The fault of a journal at one of an opening.
+fn journal_fault(fault: OpenFault) -> JournalFault
+    ensures { result ≡ journal_fault fault }
+{
+    match fault {
+        OpenFault::Memory => JournalFault::Memory,
+        OpenFault::Store | OpenFault::Damaged | OpenFault::Newer => JournalFault::Store,
+    }
+}
+
+impl<S: Alter> SqlJournal<S> {
+    /// Opens the journal of a connection. Where no table stands the tables are made; else they are
+    /// tested, with their format and each row. A refused opening hands the connection back.
+    pub fn open(
+        alloc: Global,
+        mut conn: Connection<S>,
+    ) -> Result<SqlJournal<S>, (OpenFault, Connection<S>)>
+        ensures faithful { IfOk result (λ j. IsHonest S.Store j → IsFaithful S.Store j) }
+        ensures entries { IfOk result (λ j. IsHonest S.Store j → Stands (state S.Store conn) (kept_entries S.Store j)) }
+        ensures counts { IfOk result (λ j. (j.faults ≡ 0) × (j.writes ≡ 0)) }
+        ensures stop { IfOk result (λ j. Survives (state S.Store conn) (state S.Store j.conn) LeavesNone) }
+        ensures cause { IfErr result (λ e. HasCleanDisk (state S.Store e.1) → IsCause (state S.Store conn) e.0) }
+        ensures left { IfErr result (λ e. HasCleanDisk (state S.Store e.1) → LeavesStore (state S.Store conn) (state S.Store e.1)) }
+        ensures refused { IfErr result (λ e. Survives (state S.Store conn) (state S.Store e.1) LeavesNone) }
+    {
+        match open_tables(alloc, &mut conn) {
+            Ok(()) => Ok(SqlJournal {
+                conn,
+                alloc,
+                is_usable: true,
+                faults: 0,
+                writes: 0,
+            }),
+            Err(fault) => Err((fault, conn)),
+        }
+    }
+
+    /// Gives the connection back.
+    pub fn close(self) -> Connection<S>
+        ensures { result ≡ self.conn }
+    {
+        let SqlJournal {
+            conn,
+            alloc: _,
+            is_usable: _,
+            faults: _,
+            writes: _,
+        } = self;
+        conn
+    }
+
+    /// Tests the tables, their format and each row again, on the same connection. After a fault of
+    /// its own each call but this one and `close` answers a store fault.
+    pub fn reopen(&mut self) -> Result<(), JournalFault>
+        ensures reopens { Reopens (kept_entries S.Store) (IsFaithful S.Store) (IsHonest S.Store) (MayHold S.Store) (λ k. k.faults) (λ k. k.writes) CountsFault self.old self.new result }
+        ensures usable { self.new.is_usable ≡ is_ok result }
+    {
+        match check_tables(self.alloc, &mut self.conn) {
+            Ok(()) => {
+                self.is_usable = true;
+                Ok(())
+            }
+            Err(fault) => {
+                self.is_usable = false;
+                Err(counted(&mut self.faults, journal_fault(fault)))
+            }
+        }
+    }
 }

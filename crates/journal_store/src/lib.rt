@@ -2,8 +2,12 @@
 #![tactic(auto)]
 
 mod columns;
+mod format;
 mod journal;
+mod lawful;
+mod opening;
 mod statements;
 mod tables;
 
 pub use journal::SqlJournal;
+pub use opening::OpenFault;
