@@ -17,6 +17,7 @@ pub mod Changing
 pub mod Making
 pub mod Made
 pub mod Numbering
+pub mod Members
 pub mod Checking
 pub mod Reopening
 pub mod Fields

@@ -1,5 +1,5 @@
 -- Rows whose numbers rise have each a number of its own.
-use Rattle.std.proofs.Common.{◌≡◌, ◌≤◌, ℕ, zero, suc, ℤ, Bool, true, false, cond, length, List, [], ◌∷◌, ◌++◌, map, filter, Option, Some, None, Ordering, Less, int_cmp, refl, sym, ap, ◌∙◌, subst, inl, inr, IsPermutation, arith}
+use Rattle.std.proofs.Common.{◌≡◌, ◌≤◌, ◌<◌, ◌+◌, ℕ, zero, suc, ℤ, Bool, true, false, cond, length, take, get_or, List, [], ◌∷◌, ◌++◌, map, filter, Option, Some, None, Ordering, Less, int_cmp, refl, sym, ap, ◌∙◌, subst, inl, inr, IsPermutation, arith}
 use Rattle.std.specs.Prelude.{MatchOption}
 use Rattle.std.specs.Cmp.{int_cmp_total}
 use Rattle.std.specs.List.{AllByRecursion}
@@ -7,7 +7,7 @@ use Rattle.std.specs.List.Sorted.{IsStrictlySortedBy}
 use Rattle.std.specs.Ordering.{is_eq, int_eq}
 use Rattle.std.proofs.lemmas.Bool.{cases_Bool}
 use Rattle.std.proofs.lemmas.Bool.Decides.{Decides-int_eq}
-use Rattle.std.proofs.lemmas.List.{map-append}
+use Rattle.std.proofs.lemmas.List.{map-append, take_all, take_more}
 use Rattle.std.proofs.lemmas.List.Sorted.{length_permutation, IsPermutation-sym}
 use Rattle.sqlite_value.specs.declared.value.Value.{Value}
 use Rattle.sqlite_value.specs.declared.value.Value.TheVariants.{Int}
@@ -54,6 +54,21 @@ rising_none = tt
 
 pub rising_push : (numbers : List ℤ) (new : ℤ) → Rising numbers → MatchOption (last_of numbers) (Unit {0}) (λ n. int_cmp n new ≡ Less) → Rising (numbers ++ new ∷ [])
 rising_push numbers new rising last = rising_below numbers new rising (below_last numbers new rising last)
+
+-- one more row, whose number is above the last
+pub rising_more : (rows : List Row) (at : ℕ) (row : Row) (number : ℤ) (numbers : List ℤ) (last : Option ℤ) → at < length rows → row ≡ get_or rows at row → column row 0 ≡ Int number
+    → map (λ (r : Row). column r 0) (take at rows) ≡ map Int numbers → Rising numbers → last ≡ last_of numbers → MatchOption last (Unit {0}) (λ n. int_cmp n number ≡ Less)
+    → (later : List ℤ) × (map (λ (r : Row). column r 0) (take (at + 1) rows) ≡ map Int later) × Rising later × (Some number ≡ last_of later)
+rising_more rows at row number numbers last within is shows shown rising last_is above =
+    let more : take (at + 1) rows ≡ take at rows ++ row ∷ [] = take_more rows at row within ∙ ap (λ r. take at rows ++ r ∷ []) (sym is) in (
+      numbers ++ number ∷ [],
+      ap (map (λ (r : Row). column r 0)) more ∙ map-append (λ (r : Row). column r 0) (take at rows) (row ∷ []) ∙ (λ i. shown i ++ shows i ∷ []) ∙ sym (map-append Int numbers (number ∷ [])),
+      rising_push numbers number rising (subst (λ o. MatchOption o (Unit {0}) (λ n. int_cmp n number ≡ Less)) last_is above),
+      sym (last_push numbers number),
+    )
+
+pub all_rising : (rows : List Row) (at : ℕ) (numbers : List ℤ) → length rows ≤ at → map (λ (r : Row). column r 0) (take at rows) ≡ map Int numbers → Rising numbers → AreRising rows
+all_rising rows at numbers past shown rising = record { numbers = numbers; shown = ap (map (λ (r : Row). column r 0)) (sym (take_all at rows past)) ∙ shown; rising = rising }
 
 -- ---- one row of each number
 

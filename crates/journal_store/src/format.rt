@@ -175,11 +175,20 @@ fn index_name(kind: RecordKind) -> &'static [u8]
     }
 }
 
+fn key_tree(kind: RecordKind) -> u32
+    ensures { result ≡ key_tree kind }
+{
+    match kind {
+        RecordKind::User => 2,
+        RecordKind::Group => 4,
+    }
+}
+
 fn is_key_index(kind: RecordKind, index: &Index) -> bool
     ensures { IsTrue result → index.now ≡ key_index kind index.now.order }
 {
     index.name.as_slice() == index_name(kind)
-        && index.tree == entry_tree(kind) + 1
+        && index.tree == key_tree(kind)
         && index.table == entry_tree(kind)
         && index.columns.as_slice() == [1].as_slice()
         && index.is_unique

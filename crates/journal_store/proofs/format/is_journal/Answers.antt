@@ -21,4 +21,4 @@ returns-then-has_order c is =
     let is_group_keys : group_keys ≡ key_index Group group_keys.order = search (rules, tests) in
     let views : c.args.schema.now.views ≡ [] = search (rules, tests) in
     let user_orders : users.orders ≡ user_keys.order ∷ [] = search (rules, tests) in
-    journal_fields c.args.schema.now format users groups user_keys group_keys (sym c.as_slice.ensures ∙ tables) (sym c.as_slice-2.ensures ∙ indexes) views is_format is_users is_groups is_user_keys is_group_keys user_orders (c.has_order-2.ensures is)
+    journal_fields c.args.schema.now format users groups user_keys group_keys (sym c.as_slice.ensures ∙ tables) (sym c.as_slice-2.ensures ∙ indexes) views is_format is_users is_groups is_user_keys is_group_keys user_orders (c.has_order-then-has_order.ensures is)
