@@ -1,6 +1,7 @@
+use Rattle.std.proofs.Common.{subst}
 use Rattle.sqlite.specs.Held.{state}
-use Rattle.journal_store.specs.Opening.{Looks}
-use Rattle.journal_store.proofs.Checking.{entries_both}
+use Rattle.journal_store.specs.Opening.{AreLawful, Looks}
+use Rattle.journal_store.proofs.Checking.{entries_both, on_ok}
 use Rattle.journal_store.proofs.opening.check_entries.Goals as goal
 
 pub returns-clause-holds : goal.returns-clause-holds
@@ -12,4 +13,8 @@ returns-clause-holds g c clean =
     let second = c.in_ok-groups.ensures in
     let to_mid : Looks old mid = record { keeps = first.keeps; quiet = first.quiet } in
     let to_new : Looks mid new = record { keeps = second.keeps; quiet = second.quiet } in
-    entries_both old mid new c.check_lists.result to_mid c.requires.laid to_new clean c.in_ok-users.users.items c.in_ok-groups.groups.items first.all (second.all clean) (second.open clean) c.check_lists.ensures.lawful
+    let users = c.in_ok-users.users.items in
+    let groups = c.in_ok-groups.groups.items in
+    let lawful = on_ok {Q = AreLawful users groups} c.check_lists.result
+    (λ (it : AreLawful c.as_slice.result.now c.as_slice-2.result.now). subst (λ l. AreLawful l groups) c.as_slice.ensures.value (subst (AreLawful c.as_slice.result.now) c.as_slice-2.ensures.value it)) c.check_lists.ensures.lawful in
+    entries_both old mid new c.check_lists.result to_mid c.requires.laid to_new clean users groups first.all (second.all clean) (second.open clean) lawful
