@@ -132,11 +132,11 @@ fn numbers_statement(kind: Kind) -> &'static str
 }
 
 /// Whether the number is above the last one, if there is one.
-fn rises(last: &Option<i64>, number: &i64) -> bool
-    ensures { IsTrue result → MatchOption last.now (Unit {0}) (λ n. int_cmp n number.now ≡ Less) }
+fn rises(last: Option<i64>, number: i64) -> bool
+    ensures { IsTrue result → MatchOption last (Unit {0}) (λ n. int_cmp n number ≡ Less) }
 {
     match last {
-        Some(last) => *last < *number,
+        Some(last) => last < number,
         None => true,
     }
 }
@@ -149,7 +149,7 @@ fn check_rising(rows: &[Row]) -> Result<(), OpenFault>
     let mut last = None;
     for row in rows {
         let number = integer_at(row, 0)?;
-        if !rises(&last, &number) {
+        if !rises(last, number) {
             return Err(OpenFault::Damaged);
         }
         last = Some(number);
