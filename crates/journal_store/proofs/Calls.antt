@@ -12,6 +12,10 @@ on_err : {T F : Type 0} {P Q : Type 0} (r : Result T F) → (P → Q) → OnErr 
 on_err (Ok x) f p = tt
 on_err (Err e) f p = f p
 
+-- a fault, as the result of a call that would have answered this
+abbrev pub fault_as : (T : Type 0) → JournalFault → Result T JournalFault
+fault_as T fault = Err fault
+
 module _ {S : Type 0} {entries : S → EntryMap} {is_faithful is_honest : S → Type 0} {may_hold : S → EntryMap → Type 0} {faults writes : S → ℕ} where
   -- a call that only reads, after one that read and answered
   pub reads_on : {T U : Type 0} {old mid new : S} {value : T} {result : Result U JournalFault}
@@ -48,4 +52,23 @@ module _ {S : Type 0} {entries : S → EntryMap} {is_faithful is_honest : S → 
     counted = subst (λ n. CountsFaults CountsFault n (faults new) result) one.counted two.counted;
     written = omega (arith, two.written, one.unwritten);
     unwritten = on_err result (λ is. is ∙ one.unwritten) two.unwritten;
+  }
+
+  -- a call that fails, after one that read
+  pub fails_so : {T : Type 0} (U : Type 0) {old new : S} {x : T} (fault : JournalFault) → OnlyReads entries is_faithful is_honest may_hold faults writes CountsFault old new (Ok x)
+      → CountsFault (faults old) (faults new) fault → OnlyReads entries is_faithful is_honest may_hold faults writes CountsFault old new (fault_as U fault)
+  fails_so U fault r counts = record { was = r.was; same = r.same; honest = r.honest; opened = λ _. tt; stop = r.stop; counted = counts; unwritten = r.unwritten }
+
+  -- a call that would have made the entries these, and failed before
+  pub fails_first : {T : Type 0} {old new : S} {fault : JournalFault} (later : EntryMap) → OnlyReads entries is_faithful is_honest may_hold faults writes CountsFault old new (fault_as T fault)
+      → WritesOnce entries is_faithful is_honest may_hold faults writes CountsFault old new later (fault_as (Unit {0}) fault)
+  fails_first later r = record {
+    was = r.was;
+    done = λ _. tt;
+    same = r.same;
+    honest = r.honest;
+    stop = λ honest found holds. inl (r.stop honest found holds);
+    counted = r.counted;
+    written = omega (arith, r.unwritten);
+    unwritten = r.unwritten;
   }

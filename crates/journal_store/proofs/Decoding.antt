@@ -173,3 +173,17 @@ join_later (first ∷ keys) (suc n) key fits at some =
     let more : take (n + 1) keys ≡ take n keys ++ key ∷ [] = take_more keys n key (omega arith) ∙ ap (λ k. take n keys ++ k ∷ []) (sym at) in
     let here : take (suc n + 1) (first ∷ keys) ≡ first ∷ (take n keys ++ key ∷ []) = (let step : suc n + 1 ≡ suc (n + 1) = omega arith in ap (λ m. take m (first ∷ keys)) step ∙ ap (λ l. first ∷ l) more) in
     ap members_text here ∙ join_push first (take n keys) key
+
+no_keys : (keys : List (List ℕ)) → members_text (take 0 keys) ≡ []
+no_keys [] = refl
+no_keys (key ∷ keys) = refl
+
+pub text_first : (keys : List (List ℕ)) (n : ℕ) (key old new : List ℕ) → n < length keys → key ≡ get_or keys n key → n ≡ 0 → old ≡ members_text (take n keys) → new ≡ old ++ key
+    → new ≡ members_text (take (n + 1) keys)
+text_first keys n key old new fits at is so_far pushed =
+    pushed ∙ ap (λ (b : List ℕ). b ++ key) (so_far ∙ ap (λ m. members_text (take m keys)) is ∙ no_keys keys) ∙ sym (join_first keys n key fits at is)
+
+pub text_later : (keys : List (List ℕ)) (n : ℕ) (key old new : List ℕ) → n < length keys → key ≡ get_or keys n key → 0 < n → old ≡ members_text (take n keys) → new ≡ (old ++ 32 ∷ []) ++ key
+    → new ≡ members_text (take (n + 1) keys)
+text_later keys n key old new fits at some so_far pushed =
+    pushed ∙ append_assoc old (32 ∷ []) key ∙ ap (λ (b : List ℕ). b ++ 32 ∷ key) so_far ∙ sym (join_later keys n key fits at some)

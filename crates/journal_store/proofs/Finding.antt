@@ -1,5 +1,5 @@
 -- What the rows of an answer show.
-use Rattle.std.proofs.Common.{◌≡◌, ℕ, List, [], ◌∷◌, map, filter, Option, Some, None, Ok, Err, Result, false, refl, sym, ap, ◌∙◌, subst, arith, IsPermutation}
+use Rattle.std.proofs.Common.{◌≡◌, ℕ, List, [], ◌∷◌, map, filter, Option, Some, None, Ok, Err, Result, IfOk, false, refl, sym, ap, ◌∙◌, subst, arith, IsPermutation}
 use Rattle.std.proofs.lemmas.List.Sorted.{length_permutation}
 use Rattle.sqlite_value.specs.declared.keys.Key.{Key}
 use Rattle.sqlite_value.specs.declared.keys.Order.{Order}
@@ -22,7 +22,7 @@ use Rattle.scim_key.specs.declared.records.RecordName.{RecordName}
 use Rattle.journal_core.specs.declared.entries.Entry.{Entry}
 use Rattle.journal_store.specs.Format.{entry_tree, find_text, all_text, journal_schema}
 use Rattle.journal_store.specs.Rows.{shown_row}
-use Rattle.journal_store.specs.Connections.{Answers, Finds, IsLaid, IsOnly, IsQuery, Shows, has_key}
+use Rattle.journal_store.specs.Connections.{Answers, AreShown, Finds, IsLaid, IsOnly, IsQuery, ListsAll, Shows, has_key}
 use Rattle.journal_store.proofs.Texts.{query, shown_terms, names, key_is, find_is, find_query, all_is, all_query, all_order}
 use Rattle.journal_store.proofs.Selecting.{passes, same_tree, selected_over, shows, shows_all, key_passes}
 
@@ -86,3 +86,22 @@ rows_of_all s kind rows laid answers =
     let table = s.now.trees (entry_tree kind) in
     subst (λ l. IsPermutation l rows) (ap (map (shows (shown_terms kind) [])) (every table []) ∙ map_same (shows (shown_terms kind) []) (shown_row kind) (shows_all kind []) table)
     (picked s (all_text kind) kind [] all_order [] rows (all_is kind) (all_query kind) laid answers)
+
+-- ---- what the calls answer
+
+if_ok : {X F : Type 0} {P Q : X → Type 0} (r : Result X F) → ((x : X) → P x → Q x) → IfOk r P → IfOk r Q
+if_ok (Ok x) f p = f x p
+if_ok (Err e) f p = tt
+
+pub found_by : {F : Type 0} (s : State) (name : RecordName) (sql : List ℕ) (params : Row) (rows given : List Row) (r : Result (Option Entry) F) → sql ≡ find_text name.kind → params ≡ Text name.key ∷ [] → given ≡ rows
+    → IsLaid s → Answers sql params s rows → IfOk r (IsOnly name.kind given) → IfOk r (Finds s.now.trees name)
+found_by s name sql params rows given r text key same laid answers only =
+    let asked : Answers (find_text name.kind) (Text name.key ∷ []) s rows =
+    subst (λ p. Answers (find_text name.kind) p s rows) key (subst (λ t. Answers t params s rows) text answers) in
+    if_ok r (λ held is. finds s name rows held laid asked (subst (λ l. IsOnly name.kind l held) same is)) only
+
+pub listed_by : {X F : Type 0} (items : X → List Entry) (s : State) (kind : Kind) (sql : List ℕ) (rows given : List Row) (r : Result X F) → sql ≡ all_text kind → given ≡ rows → IsLaid s → Answers sql [] s rows
+    → IfOk r (λ x. AreShown kind given (items x)) → IfOk r (λ x. ListsAll kind s.now.trees (items x))
+listed_by items s kind sql rows given r text same laid answers shown =
+    let asked : Answers (all_text kind) [] s rows = subst (λ t. Answers t [] s rows) text answers in
+    if_ok r (λ x are. record { rows = rows; all = rows_of_all s kind rows laid asked; shown = subst (λ l. AreShown kind l (items x)) same are }) shown

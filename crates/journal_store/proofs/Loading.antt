@@ -77,6 +77,20 @@ shown_push kind rows list row entry are shows after =
       ap last_name names ∙ last_push (names_of list) (row_name entry.row),
     )
 
+pub none_shown : (kind : Kind) (list : List Entry) → list ≡ [] → AreShown kind [] list × (None ≡ last_name (names_of list))
+unfolding IsStrictlySortedBy
+none_shown kind list none = (subst (AreShown kind []) (sym none) (record { each = tt; rising = tt }), ap (λ l. last_name (names_of l)) (sym none))
+
+-- the same, of what a turn of the loop gave
+pub next_shown : (kind : Kind) (rows : List Row) (list : List Entry) (row : Row) (entry : Entry) (previous : Option RecordName) (name : RecordName) (rows_now : List Row) (list_now : List Entry)
+    → rows_now ≡ rows ++ row ∷ [] → list_now ≡ list ++ entry ∷ [] → name ≡ row_name entry.row → AreShown kind rows list → previous ≡ last_name (names_of list) → Shows kind row entry
+    → MatchOption previous (Unit {0}) (λ p. name_cmp p (row_name entry.row) ≡ Less) → AreShown kind rows_now list_now × (Some name ≡ last_name (names_of list_now))
+next_shown kind rows list row entry previous name rows_now list_now more pushed name_is are last shows after =
+    let next = shown_push kind rows list row entry are shows (subst (λ (o : Option RecordName). MatchOption o (Unit {0}) (λ p. name_cmp p (row_name entry.row) ≡ Less)) last after) in (
+      subst (λ l. AreShown kind rows_now l) (sym pushed) (subst (λ r. AreShown kind r (list ++ entry ∷ [])) (sym more) next.0),
+      ap Some name_is ∙ sym next.1 ∙ ap (λ l. last_name (names_of l)) (sym pushed),
+    )
+
 -- ---- entries and rows
 
 zip_right : (kind : Kind) (rows : List Row) (list : List Entry) (e : Entry) → AllZip (Shows kind) rows list → Has list e → (r : Row) × Has rows r × Shows kind r e

@@ -1,6 +1,7 @@
 -- What the two writes leave, as rows of entries.
-use Rattle.std.proofs.Common.{◌≡◌, ℕ, ℤ, pos, Bool, true, false, List, [], ◌∷◌, None, Some, Option, Ok, Err, Result, IsTrue, refl, sym, ap, ◌∙◌, subst, arith}
+use Rattle.std.proofs.Common.{◌≡◌, ℕ, ℤ, pos, Bool, true, false, List, [], ◌∷◌, None, Some, Option, Ok, Err, Result, OnOk, IsTrue, refl, sym, ap, ◌∙◌, subst, arith}
 use Rattle.sqlite_value.specs.declared.keys.Order.{Order}
+use Rattle.sqlite_value.specs.declared.value.Value.{Value}
 use Rattle.sqlite_value.specs.declared.value.Value.TheVariants.{Int, Text}
 use Rattle.sqlite_value.specs.Order.{Row, column}
 use Rattle.sqlite_trees.specs.Tree.{Trees, put_row, rowid, without_rowid}
@@ -23,11 +24,12 @@ use Rattle.scim_key.specs.Revisions.{RevisionValue, revision_number}
 use Rattle.scim_key.specs.declared.records.Kind.{Kind}
 use Rattle.scim_key.specs.declared.records.Kind.TheVariants as kind
 use Rattle.source_csv.specs.Records.{IsRow, row_name}
+use Rattle.source_csv.specs.Rows.{GroupFields, UserFields}
 use Rattle.source_csv.specs.declared.rows.Row as source
 use Rattle.source_csv.specs.declared.rows.Row.TheVariants.{User, Group}
 use Rattle.journal_core.specs.declared.entries.Entry.{Entry}
 use Rattle.journal_store.specs.Format.{journal_schema, entry_place, entry_tree, insert_text, update_text}
-use Rattle.journal_store.specs.Rows.{active_number, members_text, row_by, row_of}
+use Rattle.journal_store.specs.Rows.{active_number, id_value, members_text, revision_value, row_by, row_of}
 use Rattle.journal_store.specs.Connections.{IsEdit, IsEditText, IsLaid, IsThere, Makes, MayLeave, Puts, PutsIn, Ran, has_key, plain_mode, put_text, stored_row}
 use Rattle.journal_store.proofs.Texts.{query, key_is, insert_terms, insert_width, insert_is, insert_plain, update_terms, update_is, update_plain}
 use Rattle.journal_store.proofs.Writing.{inserts_user, inserts_group, updates_user, updates_group}
@@ -128,3 +130,39 @@ put_stops old new is_there entry lawful laid there it =
     survives_weaker old new _ _ (λ clean db may.
     let early : HasCleanDisk old = omega (arith, clean, it.clean) in
     (may.was_open, put_leaves old is_there entry db lawful (laid early may.was_open) (there early may.was_open) may)) it
+
+-- ---- what is bound is the row
+
+pub user_bound : (u : UserFields) (confirmed : RevisionValue) (id : Option (List ℕ)) {k l r n g f m a c i : Value} → k ≡ Text (row_name (User u)).key → l ≡ Text u.login → r ≡ revision_value u.revision → n ≡ Text u.number
+    → g ≡ Text u.given → f ≡ Text u.family → m ≡ Text u.mail → a ≡ Int (pos (active_number u.active)) → c ≡ revision_value confirmed → i ≡ id_value id
+    → ◌≡◌ {A = Row} (k ∷ l ∷ r ∷ n ∷ g ∷ f ∷ m ∷ a ∷ c ∷ i ∷ []) (row_by (User u) confirmed id)
+user_bound u confirmed id k l r n g f m a c i = λ j. k j ∷ l j ∷ r j ∷ n j ∷ g j ∷ f j ∷ m j ∷ a j ∷ c j ∷ i j ∷ []
+
+pub group_bound : (g : GroupFields) (confirmed : RevisionValue) (id : Option (List ℕ)) {k l r m c i : Value} → k ≡ Text (row_name (Group g)).key → l ≡ Text g.name → r ≡ revision_value g.revision → m ≡ Text (members_text g.members)
+    → c ≡ revision_value confirmed → i ≡ id_value id → ◌≡◌ {A = Row} (k ∷ l ∷ r ∷ m ∷ c ∷ i ∷ []) (row_by (Group g) confirmed id)
+group_bound g confirmed id k l r m c i = λ j. k j ∷ l j ∷ r j ∷ m j ∷ c j ∷ i j ∷ []
+
+-- ---- the same, of a row of one type
+
+module _ (old new : State) (is_there : Bool) (entry : Entry) (row : source.Row) (type : Kind) (sql : List ℕ) (is : entry.row ≡ row) (lawful : IsRow row) (type_is : type ≡ (row_name entry.row).kind)
+    (text : sql ≡ put_text is_there type) where
+  its_text : sql ≡ put_text is_there (row_name entry.row).kind
+  its_text = text ∙ ap (put_text is_there) type_is
+
+  its_row : row_by row entry.confirmed entry.id ≡ row_of entry
+  its_row = ap (λ r. row_by r entry.confirmed entry.id) (sym is)
+
+  its_lawful : IsRow entry.row
+  its_lawful = subst IsRow (sym is) lawful
+
+  pub ran_makes : {T F : Type 0} (r : Result T F) → (IsTrue old.is_open → IsLaid old) → (IsTrue old.is_open → is_there ≡ true → IsThere old.now.trees (row_name entry.row))
+      → OnOk r (Ran sql (row_by row entry.confirmed entry.id) old new) → OnOk r (Makes is_there entry old new)
+  ran_makes (Ok x) laid there ran =
+      put_made old new is_there entry its_lawful (laid ran.was_open) (there ran.was_open) (subst (λ p. Ran p (row_of entry) old new) its_text (subst (λ p. Ran sql p old new) its_row ran))
+  ran_makes (Err e) laid there ran = tt
+
+  pub may_puts : (HasCleanDisk old → IsTrue old.is_open → IsLaid old) → (HasCleanDisk old → IsTrue old.is_open → is_there ≡ true → IsThere old.now.trees (row_name entry.row))
+      → Survives old new (MayLeave sql (row_by row entry.confirmed entry.id) old) → Survives old new (λ db. IsTrue old.is_open × PutsIn is_there entry old.now.trees db)
+  may_puts laid there it =
+      put_stops old new is_there entry its_lawful laid there
+      (subst (λ p. Survives old new (MayLeave p (row_of entry) old)) its_text (subst (λ p. Survives old new (MayLeave sql p old)) its_row it))
