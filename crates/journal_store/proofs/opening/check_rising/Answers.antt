@@ -1,5 +1,5 @@
-use Rattle.std.proofs.Common.{◌≡◌, ℤ, [], Less, int_cmp, to_z, of_z, to_z-of_z, w64, refl, subst, IsTrue, arith, rules, tests}
-use Rattle.std.specs.Prelude.{MatchOption}
+use Rattle.std.proofs.Common.{◌≡◌, ◌∙◌, [], to_z, of_z, to_z-of_z, w64, refl, sym, ap, IsTrue, arith, rules, tests}
+use Rattle.sqlite_value.specs.declared.value.Value.TheVariants.{Int}
 use Rattle.journal_store.proofs.Numbering.{all_rising, rising_more, rising_none}
 use Rattle.journal_store.proofs.opening.check_rising.Goals as goal
 
@@ -12,8 +12,8 @@ loop-row-preserved c =
     let is : IsTrue c.rises.result = search (rules, tests) in
     let number = c.in_ok-number.number in
     let same : to_z w64 (of_z w64 number) ≡ number = grind (arith, to_z-of_z) in
-    rising_more c.args.rows.now c.loop-row.row-index c.row-item.result number so_far.0 c.loop-row.last (omega (arith, c.loop-row-test.true)) c.row-item.is c.in_ok-number.ensures so_far.1 so_far.2 so_far.3
-    (subst (λ (z : ℤ). MatchOption c.loop-row.last (Unit {0}) (λ n. int_cmp n z ≡ Less)) same (c.rises.ensures is))
+    rising_more c.args.rows.now c.loop-row.row-index c.row-item.result (to_z w64 (of_z w64 number)) so_far.0 c.loop-row.last (omega (arith, c.loop-row-test.true)) c.row-item.is (c.in_ok-number.ensures ∙ ap Int (sym same)) so_far.1 so_far.2 so_far.3
+    (c.rises.ensures is)
 
 pub returns-clause-rising : goal.returns-clause-rising
 returns-clause-rising c =
