@@ -65,6 +65,7 @@ groups_created a o p = refl
 pub mark_is : (a : List Term) → (command_of (understood (format_schema a) mark_text) ≡ Insert 0 (Values mark_terms 3)) × IsPlain (understood (format_schema a) mark_text)
 unfolding understood everything
 mark_is a = (refl, (refl, refl))
+
 -- ---- a table is made
 
 pub creates : (sql : List ℕ) (schema : Schema) (table : Table) (old new : State) (count : ℕ) → IsTable sql schema table → lacks_sequence (created schema table) ≡ false → old.now.schema ≡ schema → Executes sql [] old new (Ok count)
