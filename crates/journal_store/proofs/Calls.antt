@@ -1,5 +1,5 @@
 -- Two calls one after the other.
-use Rattle.std.proofs.Common.{◌≡◌, ◌≤◌, ◌+◌, ℕ, Result, Ok, Err, OnOk, OnErr, subst, sym, ◌∙◌, inl, inr, arith}
+use Rattle.std.proofs.Common.{◌≡◌, ℕ, Result, Ok, Err, OnOk, OnErr, subst, ◌∙◌, inl, inr, arith}
 use Rattle.journal_core.specs.Entries.{EntryMap}
 use Rattle.journal_core.specs.Stores.{CountsFault, CountsFaults, OnlyReads, WritesOnce}
 use Rattle.journal_core.specs.declared.journals.JournalFault.{JournalFault}

@@ -1,14 +1,13 @@
 -- What is written of an entry is read as that entry.
-use Rattle.std.proofs.Common.{◌≡◌, ◌==◌, ◌&&◌, ◌<◌, ◌≤◌, ℕ, zero, suc, ℤ, pos, Bool, true, false, List, [], ◌∷◌, ◌++◌, ◌+◌, get_or, length, take, nat_lt, nat_le, All, Option, Some, None, refl, sym, ap, ◌∙◌, subst, inl, inr, arith}
-use Rattle.std.proofs.lemmas.Bool.{and_parts, cases_Bool, eqb-true, false_from_ne_true}
+use Rattle.std.proofs.Common.{◌≡◌, ◌==◌, ◌<◌, ℕ, zero, suc, ℤ, Bool, true, false, List, [], ◌∷◌, ◌++◌, ◌+◌, get_or, length, take, nat_lt, nat_le, All, Option, Some, None, refl, sym, ap, ◌∙◌, inl, inr, arith}
+use Rattle.std.proofs.lemmas.Bool.{cases_Bool, eqb-true, false_from_ne_true}
 use Rattle.std.proofs.lemmas.List.{append_assoc, take_more}
 use Rattle.std.proofs.lemmas.List.Folds.{list_all_at}
 use Rattle.sqlite_trees.proofs.ListLemmas.{all-append}
 use Rattle.std.proofs.lemmas.Bool.Decides.{nat_tests}
 use Rattle.std.proofs.lemmas.List.Splits.{slice_split_none, slice_split_at}
-use Rattle.std.specs.List.{AllByRecursion, list_all, slice_split, join_with_byte}
+use Rattle.std.specs.List.{list_all, slice_split}
 use Rattle.std.specs.Option.{option_and_then}
-use Rattle.std.specs.Ordering.{is_eq}
 use Rattle.sqlite_value.specs.declared.value.Value.{Value}
 use Rattle.sqlite_value.specs.declared.value.Value.TheVariants.{Null, Int, Real, Text, Blob}
 use Rattle.sqlite_value.specs.Order.{Row, column}
@@ -16,7 +15,7 @@ use Rattle.scim_key.proofs.RecordLaws.{same as same_names}
 use Rattle.scim_key.proofs.RevisionLaws.{are_read_back}
 use Rattle.scim_key.specs.Names.{IsUserName, is_user_name_byte, user_name_fault}
 use Rattle.scim_key.specs.Records.{same_name}
-use Rattle.scim_key.specs.Revisions.{RevisionValue, IsRevision, ◌≼◌, before, is_revision, no_revision, revision_number, revision_of_number}
+use Rattle.scim_key.specs.Revisions.{RevisionValue, IsRevision, ◌≼◌, before, is_revision, revision_number, revision_of_number}
 use Rattle.scim_key.specs.declared.records.Kind.{Kind}
 use Rattle.scim_key.specs.declared.records.Kind.TheVariants as kind
 use Rattle.scim_key.specs.declared.records.RecordName.{RecordName}
@@ -28,7 +27,7 @@ use Rattle.source_csv.specs.declared.rows.Row as source
 use Rattle.source_csv.specs.declared.rows.Row.TheVariants.{User, Group}
 use Rattle.journal_core.proofs.Trees.{name_from_test}
 use Rattle.journal_core.specs.declared.entries.Entry.{Entry}
-use Rattle.journal_store.specs.Rows.{id_value, id_in, active_number, active_of, members_text, row_by, row_of, confirmed_of, entry_in, fields_in, keyed, text_in, shown_row}
+use Rattle.journal_store.specs.Rows.{id_value, id_in, active_number, active_of, members_text, row_by, confirmed_of, entry_in, fields_in, keyed, text_in, shown_row}
 use Rattle.journal_store.specs.Connections.{stored_row}
 
 -- ---- columns

@@ -1,7 +1,7 @@
 -- All entries, in order of their names.
-use Rattle.std.proofs.Common.{◌≡◌, ℕ, zero, suc, true, length, List, [], ◌∷◌, ◌++◌, map, Option, Some, None, Ordering, Less, refl, sym, ap, ◌∙◌, subst, inl, inr, ◌⊎◌, IsPermutation, arith}
+use Rattle.std.proofs.Common.{◌≡◌, zero, suc, true, List, [], ◌∷◌, ◌++◌, map, Option, Some, None, Less, refl, sym, ap, ◌∙◌, subst, inl, inr, IsPermutation, arith}
 use Rattle.std.specs.Prelude.{MatchOption}
-use Rattle.std.specs.FinMap.{entries, find, from_entries, get, get-from_entries, same_map}
+use Rattle.std.specs.FinMap.{entries, find, from_entries, get-from_entries, same_map}
 use Rattle.std.specs.List.{All, AllByRecursion, AllZip}
 use Rattle.std.specs.List.Sorted.{IsStrictlySortedBy}
 use Rattle.std.specs.Ordering.{is_eq}
@@ -19,7 +19,7 @@ use Rattle.scim_key.specs.declared.records.Kind.{Kind}
 use Rattle.scim_key.specs.declared.records.Kind.TheVariants.{User, Group}
 use Rattle.scim_key.specs.declared.records.RecordName.{RecordName}
 use Rattle.source_csv.specs.Records.{row_name, row_revision}
-use Rattle.journal_core.specs.Entries.{EntryMap, IsListOf, named}
+use Rattle.journal_core.specs.Entries.{IsListOf, named}
 use Rattle.journal_core.specs.declared.entries.Entry.{Entry}
 use Rattle.journal_core.proofs.Trees.{listed, names_same}
 use Rattle.journal_store.specs.Format.{entry_tree}

@@ -1,5 +1,5 @@
 -- What the tables hold once an entry is put.
-use Rattle.std.proofs.Common.{◌≡◌, ◌≢◌, ◌⊎◌, ℕ, ℤ, Bool, true, false, not, cond, ◌||◌, List, [], ◌∷◌, filter, Option, Some, None, Ordering, Less, Equal, Greater, refl, sym, ap, ◌∙◌, subst, inl, inr}
+use Rattle.std.proofs.Common.{◌≡◌, ◌⊎◌, ℕ, ℤ, Bool, true, false, not, cond, List, [], ◌∷◌, filter, Option, Some, None, Ordering, Less, Equal, Greater, refl, sym, ap, ◌∙◌, subst, inl, inr}
 use Rattle.std.specs.Prelude.{is_some}
 use Rattle.std.specs.FinMap.{get, get-insert, insert, same_map}
 use Rattle.std.specs.List.{list_any}
@@ -10,7 +10,7 @@ use Rattle.sqlite_rules.specs.Edit.{is_taken}
 use Rattle.sqlite_rules.specs.Lists.{Has}
 use Rattle.sqlite_rules.proofs.ListLemmas.{has_kept, has_filtered}
 use Rattle.sqlite_value.specs.declared.value.Value.TheVariants.{Int, Text}
-use Rattle.sqlite_value.specs.Order.{Row, column, value_cmp}
+use Rattle.sqlite_value.specs.Order.{Row, value_cmp}
 use Rattle.sqlite_trees.specs.Tree.{Trees, rowid, has_rowid, put_row, without_rowid}
 use Rattle.scim_key.specs.RecordOrder.{names_total}
 use Rattle.scim_key.specs.Records.{name_cmp}
@@ -22,9 +22,9 @@ use Rattle.journal_core.specs.declared.entries.Entry.{Entry}
 use Rattle.journal_core.proofs.Trees.{names_same}
 use Rattle.journal_store.specs.Format.{entry_tree}
 use Rattle.journal_store.specs.Rows.{entries_in, entry_in, row_of, shown_row}
-use Rattle.journal_store.specs.Connections.{AreNumbered, Finds, HasNumbers, IsThere, Puts, PutsIn, Shows, has_key, stored_row}
+use Rattle.journal_store.specs.Connections.{AreNumbered, Finds, HasNumbers, IsThere, Puts, PutsIn, has_key, stored_row}
 use Rattle.journal_store.proofs.Decoding.{shown_stored}
-use Rattle.journal_store.proofs.Standing.{Stands, get_none, get_same, get_some, has_own_key, is_of, name_of_key, same_from, shows_key, tie_if, tied_self}
+use Rattle.journal_store.proofs.Standing.{Stands, get_none, get_same, get_some, has_own_key, is_of, name_of_key, same_from, shows_key, tie_if}
 use Rattle.journal_store.proofs.Trees.{free, put_here, put_other, without_here}
 use Rattle.journal_store.proofs.Values.{rowid_is}
 
@@ -265,9 +265,9 @@ found_some db name e finds =
     let was = has_filtered (has_key name.key) (db (entry_tree name.kind)) r (subst (λ l. Has l r) (sym finds.1) (inl refl)) in
     let is : row_name e.row ≡ name = name_of_key name.kind r e name.key finds.2.entry_is was.1 in (
       get_some db name e (record { row = r; there = was.0; shows = finds.2.entry_is }) is (λ f stands name_is.
-      let same : stands.row ≡ r = only_one _ r stands.row finds.1 (has_kept (has_key name.key) (db (entry_tree name.kind)) stands.row stands.there (has_own_key name.kind stands.row f name stands.shows name_is)) in
-      let both : Some f ≡ Some e = sym stands.shows ∙ ap (λ y. entry_in name.kind (shown_row name.kind y)) same ∙ finds.2.entry_is in
-      cc),
+          let same : stands.row ≡ r = only_one _ r stands.row finds.1 (has_kept (has_key name.key) (db (entry_tree name.kind)) stands.row stands.there (has_own_key name.kind stands.row f name stands.shows name_is)) in
+          let both : Some f ≡ Some e = sym stands.shows ∙ ap (λ y. entry_in name.kind (shown_row name.kind y)) same ∙ finds.2.entry_is in
+          cc),
       is,
     )
 

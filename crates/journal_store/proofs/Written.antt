@@ -1,11 +1,10 @@
 -- What the two writes leave, as rows of entries.
-use Rattle.std.proofs.Common.{◌≡◌, ℕ, ℤ, pos, Bool, true, false, List, [], ◌∷◌, None, Some, Option, Ok, Err, Result, OnOk, IsTrue, refl, sym, ap, ◌∙◌, subst, arith}
+use Rattle.std.proofs.Common.{◌≡◌, ℕ, pos, Bool, true, false, List, [], ◌∷◌, None, Option, Ok, Err, Result, OnOk, IsTrue, refl, sym, ap, ◌∙◌, subst, arith}
 use Rattle.sqlite_value.specs.declared.keys.Order.{Order}
 use Rattle.sqlite_value.specs.declared.value.Value.{Value}
 use Rattle.sqlite_value.specs.declared.value.Value.TheVariants.{Int, Text}
-use Rattle.sqlite_value.specs.Order.{Row, column}
-use Rattle.sqlite_trees.specs.Tree.{Trees, put_row, rowid, without_rowid}
-use Rattle.sqlite_rules.specs.Edit.{is_taken}
+use Rattle.sqlite_value.specs.Order.{Row}
+use Rattle.sqlite_trees.specs.Tree.{Trees}
 use Rattle.sqlite_schema.specs.declared.schema.Schema.{Schema}
 use Rattle.sqlite_schema.specs.declared.command.Command.{Command}
 use Rattle.sqlite_schema.specs.declared.command.Command.TheVariants.{Insert, Update}
@@ -22,15 +21,14 @@ use Rattle.sqlite.proofs.Callers.{command_of}
 use Rattle.sqlite.proofs.StateLemmas.{survives_weaker}
 use Rattle.scim_key.specs.Revisions.{RevisionValue, revision_number}
 use Rattle.scim_key.specs.declared.records.Kind.{Kind}
-use Rattle.scim_key.specs.declared.records.Kind.TheVariants as kind
 use Rattle.source_csv.specs.Records.{IsRow, row_name}
 use Rattle.source_csv.specs.Rows.{GroupFields, UserFields}
 use Rattle.source_csv.specs.declared.rows.Row as source
 use Rattle.source_csv.specs.declared.rows.Row.TheVariants.{User, Group}
 use Rattle.journal_core.specs.declared.entries.Entry.{Entry}
-use Rattle.journal_store.specs.Format.{journal_schema, entry_place, entry_tree, insert_text, update_text}
+use Rattle.journal_store.specs.Format.{journal_schema, entry_place, entry_tree}
 use Rattle.journal_store.specs.Rows.{active_number, id_value, members_text, revision_value, row_by, row_of}
-use Rattle.journal_store.specs.Connections.{IsEdit, IsEditText, IsLaid, IsThere, Makes, MayLeave, Puts, PutsIn, Ran, has_key, plain_mode, put_text, stored_row}
+use Rattle.journal_store.specs.Connections.{IsEdit, IsEditText, IsLaid, IsThere, Makes, MayLeave, PutsIn, Ran, plain_mode, put_text}
 use Rattle.journal_store.proofs.Texts.{query, key_is, insert_terms, insert_width, insert_is, insert_plain, update_terms, update_is, update_plain}
 use Rattle.journal_store.proofs.Writing.{inserts_user, inserts_group, updates_user, updates_group}
 
@@ -76,11 +74,11 @@ module _ (limit : Option ℕ) (old : State) (after : Database) (tally : Tally) (
       → same_schema × PutsIn false (record { row = row; confirmed = confirmed; id = id }) old.now.trees after.trees
   adds (User u) confirmed id lawful does =
       let made = inserts_user limit laid.format_checks laid.users laid.groups old.now after tally sql laid.schema (row_name (User u)).key u.login u.number u.given u.family u.mail
-          (pos (revision_number u.revision)) (pos (active_number u.active)) (pos (revision_number confirmed)) id does in
+      (pos (revision_number u.revision)) (pos (active_number u.active)) (pos (revision_number confirmed)) id does in
       (made.1, record { lawful = lawful; puts = (made.0, made.2, made.3); users = λ e. absurd (cc); groups = λ _. made.4 })
   adds (Group g) confirmed id lawful does =
       let made = inserts_group limit laid.format_checks laid.users laid.groups old.now after tally sql laid.schema (row_name (Group g)).key g.name (members_text g.members)
-          (pos (revision_number g.revision)) (pos (revision_number confirmed)) id does in
+      (pos (revision_number g.revision)) (pos (revision_number confirmed)) id does in
       (made.1, record { lawful = lawful; puts = (made.0, made.2, made.3); users = λ _. made.4; groups = λ e. absurd (cc) })
 
   renews : (row : source.Row) (confirmed : RevisionValue) (id : Option (List ℕ)) → IsRow row → IsThere old.now.trees (row_name row)
@@ -88,11 +86,11 @@ module _ (limit : Option ℕ) (old : State) (after : Database) (tally : Tally) (
       → same_schema × PutsIn true (record { row = row; confirmed = confirmed; id = id }) old.now.trees after.trees
   renews (User u) confirmed id lawful there does =
       let made = updates_user limit laid.format_checks laid.users laid.groups old.now after tally sql laid.schema (row_name (User u)).key u.login u.number u.given u.family u.mail
-          (pos (revision_number u.revision)) (pos (active_number u.active)) (pos (revision_number confirmed)) id there.row there.number there.only there.numbered there.keyed does in
+      (pos (revision_number u.revision)) (pos (active_number u.active)) (pos (revision_number confirmed)) id there.row there.number there.only there.numbered there.keyed does in
       (made.0, record { lawful = lawful; puts = (there.row, there.number, there.numbered, there.only, made.1); users = λ e. absurd (cc); groups = λ _. made.2 })
   renews (Group g) confirmed id lawful there does =
       let made = updates_group limit laid.format_checks laid.users laid.groups old.now after tally sql laid.schema (row_name (Group g)).key g.name (members_text g.members)
-          (pos (revision_number g.revision)) (pos (revision_number confirmed)) id there.row there.number there.only there.numbered there.keyed does in
+      (pos (revision_number g.revision)) (pos (revision_number confirmed)) id there.row there.number there.only there.numbered there.keyed does in
       (made.0, record { lawful = lawful; puts = (there.row, there.number, there.numbered, there.only, made.1); users = λ _. made.2; groups = λ e. absurd (cc) })
 
   puts_it : (is_there : Bool) (entry : Entry) → IsRow entry.row → (is_there ≡ true → IsThere old.now.trees (row_name entry.row))

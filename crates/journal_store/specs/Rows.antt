@@ -1,5 +1,5 @@
 -- The rows of the tables of entries, and the entries that they show.
-use Rattle.std.specs.Prelude.{◌≡◌, ℕ, zero, suc, ℤ, pos, Bool, true, false, if◌then◌else◌, List, [], ◌∷◌, ◌++◌, flat_map, Option, Some, None}
+use Rattle.std.specs.Prelude.{ℕ, zero, suc, ℤ, pos, Bool, true, false, if◌then◌else◌, List, [], ◌∷◌, ◌++◌, flat_map, Option, Some, None}
 use Rattle.std.specs.FinMap.{from_entries}
 use Rattle.std.specs.List.{join_with_byte}
 use Rattle.std.specs.Option.{option_and_then, option_map}
@@ -8,13 +8,12 @@ use Rattle.sqlite_value.specs.declared.value.Value.TheVariants.{Null, Int, Real,
 use Rattle.sqlite_value.specs.Order.{Row, column}
 use Rattle.sqlite_trees.specs.Tree.{Trees}
 use Rattle.scim_key.specs.Revisions.{RevisionValue, no_revision, revision_number, revision_of_number}
-use Rattle.scim_key.specs.Records.{name_cmp, same_name}
+use Rattle.scim_key.specs.Records.{same_name}
 use Rattle.scim_key.specs.declared.records.Kind.{Kind}
 use Rattle.scim_key.specs.declared.records.Kind.TheVariants as kind
 use Rattle.scim_key.specs.declared.records.RecordName.{RecordName}
 use Rattle.source_csv.specs.Fields.{pieces}
 use Rattle.source_csv.specs.Records.{row_name}
-use Rattle.source_csv.specs.Rows.{GroupFields, UserFields}
 use Rattle.source_csv.specs.declared.rows.Row as source
 use Rattle.source_csv.specs.declared.rows.Row.TheVariants.{User, Group}
 use Rattle.journal_core.specs.Entries.{EntryMap, named}

@@ -1,12 +1,10 @@
-use Rattle.std.proofs.Common.{◌≡◌, ◌∙◌, ◌<◌, ◌++◌, ◌∷◌, [], ℕ, true, sym, subst, lit<, length, take, get_or, arith, rules}
+use Rattle.std.proofs.Common.{◌≡◌, ◌∙◌, true, sym, lit<, length, arith, rules}
 use Rattle.std.proofs.lemmas.Iterator.Consumers.{YieldsList-end, YieldsList-turn}
 use Rattle.std.proofs.lemmas.Iterator.Splits.{YieldsList-from_str_split}
-use Rattle.std.proofs.lemmas.List.{length_push, take_all, take_more}
+use Rattle.std.proofs.lemmas.List.{length_push, take_all}
 use Rattle.std.specs.Result.{is_ok}
-use Rattle.sqlite_trees.proofs.ListLemmas.{all-append}
 use Rattle.source_csv.proofs.MemberLemmas.{pieces-some}
 use Rattle.source_csv.specs.Fields.{pieces}
-use Rattle.source_csv.specs.Rows.{AreUserKeys, IsUserKey}
 use Rattle.journal_store.proofs.Decoding.{no_pieces, one_more}
 use Rattle.journal_store.proofs.columns.members_of.Goals as goal
 

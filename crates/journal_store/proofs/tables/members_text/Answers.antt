@@ -1,4 +1,4 @@
-use Rattle.std.proofs.Common.{◌≡◌, ◌<◌, ◌++◌, ◌∙◌, ℕ, List, sym, ap, length, get_or, string_bytes, arith}
+use Rattle.std.proofs.Common.{◌≡◌, ◌<◌, ◌++◌, ◌∙◌, ℕ, List, ap, length, string_bytes, arith}
 use Rattle.journal_store.proofs.Decoding.{text_first, text_later}
 use Rattle.journal_store.proofs.tables.members_text.Goals as goal
 use Rattle.journal_store.proofs.tables.members_text.Goals.{then-at-gt0+in_ok-push_str, else-at-gt0}

@@ -1,10 +1,9 @@
-use Rattle.std.proofs.Common.{◌≡◌, ◌++◌, ◌∷◌, [], ◌∙◌, List, Option, Less, sym, ap, subst, take, IsTrue, rules, tests}
+use Rattle.std.proofs.Common.{◌≡◌, ◌++◌, ◌∷◌, [], ◌∙◌, List, Less, sym, ap, subst, take, IsTrue, rules, tests}
 use Rattle.std.specs.Prelude.{MatchOption}
 use Rattle.std.proofs.lemmas.List.{take_more}
 use Rattle.sqlite_value.specs.Order.{Row}
 use Rattle.scim_key.specs.Records.{name_cmp}
 use Rattle.scim_key.specs.declared.records.RecordName.{RecordName}
-use Rattle.source_csv.specs.Records.{row_name}
 use Rattle.journal_store.proofs.Loading.{next_shown, none_shown}
 use Rattle.journal_store.proofs.tables.read_all.Goals as goal
 
