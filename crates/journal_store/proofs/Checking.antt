@@ -1,5 +1,5 @@
 -- What the checks of an opening show, and what they leave.
-use Rattle.std.proofs.Common.{◌≡◌, ℕ, pos, true, false, List, [], ◌∷◌, map, filter, codes, Result, Ok, Err, IsTrue, OnOk, IfErr, refl, sym, ap, ◌∙◌, subst, inl, arith, IsPermutation}
+use Rattle.std.proofs.Common.{◌≡◌, ℕ, pos, false, List, [], ◌∷◌, map, filter, codes, Result, Ok, Err, IsTrue, OnOk, IfErr, refl, sym, ap, ◌∙◌, subst, inl, arith, IsPermutation}
 use Rattle.sqlite_value.specs.declared.value.Value.TheVariants.{Int}
 use Rattle.sqlite_value.specs.Order.{Row, column}
 use Rattle.sqlite_trees.specs.Tree.{Trees, rowid}
@@ -16,7 +16,7 @@ use Rattle.journal_store.specs.Rows.{entries_in}
 use Rattle.journal_store.specs.Opening.{AreLawful, AreRising, HoldsEntries, IsFormat, IsMarked, IsFor, IsJournal, IsStore, Looks, LeavesStore}
 use Rattle.journal_store.specs.declared.opening.OpenFault.{OpenFault}
 use Rattle.journal_store.specs.declared.opening.OpenFault.TheVariants.{Store, Damaged, Newer, Memory}
-use Rattle.journal_store.proofs.Texts.{query, marked_shown, marked_is, marked_query, number_shown, number_order, numbers_is, numbers_query}
+use Rattle.journal_store.proofs.Texts.{marked_shown, marked_is, marked_query, number_shown, number_order, numbers_is, numbers_query}
 use Rattle.journal_store.proofs.Selecting.{passes, same_tree, shows}
 use Rattle.journal_store.proofs.Finding.{answered_by, every, single}
 use Rattle.journal_store.proofs.Keeping.{laid_still, keeps_then}

@@ -1,5 +1,5 @@
 -- A list of known length is the list of its items, and a table is what its fields say.
-use Rattle.std.proofs.Common.{◌≡◌, ◌≤◌, ◌<◌, None, Some, List, [], ◌∷◌, length, get_or, codes, refl, sym, ap, ◌∙◌, arith}
+use Rattle.std.proofs.Common.{◌≡◌, ◌≤◌, ◌<◌, Some, List, [], ◌∷◌, length, get_or, codes, refl, sym, ap, ◌∙◌, arith}
 use Rattle.sqlite_value.specs.declared.keys.Order.{Order}
 use Rattle.sqlite_schema.specs.declared.schema.Index.{Index}
 use Rattle.sqlite_schema.specs.declared.schema.Schema.{Schema}

@@ -1,5 +1,5 @@
 -- The tables that one transaction makes, and what its end leaves.
-use Rattle.std.proofs.Common.{◌≡◌, ℕ, ℤ, pos, false, true, List, [], ◌∷◌, map, Ok, IsTrue, refl, sym, ap, ◌∙◌, subst, arith, IsPermutation}
+use Rattle.std.proofs.Common.{◌≡◌, ℕ, ℤ, pos, false, List, [], ◌∷◌, map, Ok, IsTrue, refl, sym, ap, ◌∙◌, subst, arith, IsPermutation}
 use Rattle.std.specs.FinMap.{empty}
 use Rattle.std.specs.List.Sorted.{IsStrictlySortedBy}
 use Rattle.std.proofs.lemmas.List.Sorted.{IsPermutation-refl}

@@ -1,5 +1,5 @@
 -- Keys that a search finds.
-use Rattle.std.proofs.Common.{◌≡◌, ◌<◌, ℕ, List, length, get_or, Result, Ok, Err, IfOk, Equal, nat_cmp, sym}
+use Rattle.std.proofs.Common.{◌≡◌, ℕ, List, length, get_or, Result, Ok, Err, IfOk, Equal, nat_cmp, sym}
 use Rattle.std.specs.Cmp.Lexicographic.{slice_cmp}
 use Rattle.std.specs.FinMap.{nat_cmp-IsAntisymmetric, slice_cmp-IsAntisymmetric}
 use Rattle.std.specs.List.{HoldsAt}

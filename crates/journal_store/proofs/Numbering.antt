@@ -1,10 +1,10 @@
 -- Rows whose numbers rise have each a number of its own.
-use Rattle.std.proofs.Common.{◌≡◌, ◌≤◌, ◌<◌, ◌+◌, ℕ, zero, suc, ℤ, Bool, true, false, cond, length, take, get_or, List, [], ◌∷◌, ◌++◌, map, filter, Option, Some, None, Ordering, Less, int_cmp, refl, sym, ap, ◌∙◌, subst, inl, inr, IsPermutation, arith}
+use Rattle.std.proofs.Common.{◌≡◌, ◌≤◌, ◌<◌, ◌+◌, ℕ, suc, ℤ, Bool, true, false, cond, length, take, get_or, List, [], ◌∷◌, ◌++◌, map, filter, Option, Some, None, Less, int_cmp, refl, sym, ap, ◌∙◌, subst, inl, inr, IsPermutation, arith}
 use Rattle.std.specs.Prelude.{MatchOption}
 use Rattle.std.specs.Cmp.{int_cmp_total}
 use Rattle.std.specs.List.{AllByRecursion}
 use Rattle.std.specs.List.Sorted.{IsStrictlySortedBy}
-use Rattle.std.specs.Ordering.{is_eq, int_eq}
+use Rattle.std.specs.Ordering.{is_eq}
 use Rattle.std.proofs.lemmas.Bool.{cases_Bool}
 use Rattle.std.proofs.lemmas.Bool.Decides.{Decides-int_eq}
 use Rattle.std.proofs.lemmas.List.{map-append, take_all, take_more}

@@ -1,5 +1,5 @@
 -- What an opening makes of a journal, and a reopening.
-use Rattle.std.proofs.Common.{◌≡◌, List, [], ◌∷◌, pos, IsTrue, refl, sym, ap, ◌∙◌, subst, inl, inr, arith, map, Result, Ok, Err, OnOk}
+use Rattle.std.proofs.Common.{◌≡◌, [], ◌∷◌, pos, IsTrue, sym, ap, ◌∙◌, subst, inl, inr, arith, map}
 use Rattle.sqlite_value.specs.Order.{Row, column}
 use Rattle.sqlite_value.specs.declared.value.Value.TheVariants.{Int}
 use Rattle.sqlite_trees.specs.declared.store.Store.{Ghosts}

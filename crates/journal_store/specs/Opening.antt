@@ -1,5 +1,5 @@
 -- What an opening looks for, what it finds, and what it leaves where it refuses.
-use Rattle.std.specs.Prelude.{◌≡◌, ◌⊎◌, ◌≤◌, ℕ, ◌<◌, ℤ, pos, Bool, true, false, ◌||◌, List, [], ◌∷◌, Some, None, IsTrue, length, map, codes}
+use Rattle.std.specs.Prelude.{◌≡◌, ◌⊎◌, ◌≤◌, ℕ, ◌<◌, ℤ, pos, Bool, true, false, ◌||◌, List, [], ◌∷◌, None, IsTrue, length, map}
 use Rattle.std.specs.Prelude.{is_some}
 use Rattle.std.specs.FinMap.{empty}
 use Rattle.std.specs.List.{AllByRecursion, list_all}

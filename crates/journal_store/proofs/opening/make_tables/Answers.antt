@@ -1,4 +1,4 @@
-use Rattle.std.proofs.Common.{◌≡◌, true, [], pos, OnOk, IsTrue, ap, ◌∙◌, subst, arith, rules}
+use Rattle.std.proofs.Common.{◌≡◌, true, pos, OnOk, IsTrue, ap, ◌∙◌, subst, arith, rules}
 use Rattle.std.specs.FinMap.{empty}
 use Rattle.sqlite_trees.specs.Tree.{Trees}
 use Rattle.sqlite.specs.Held.{state}
