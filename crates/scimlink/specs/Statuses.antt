@@ -22,6 +22,13 @@ use Rattle.world_sim.specs.declared.reports.WorldFault.TheVariants as world
 use Rattle.world_sim.specs.declared.schedules.ScheduleFault.{ScheduleFault}
 use Rattle.world_sim.specs.declared.schedules.ScheduleFault.TheVariants as schedule
 use Rattle.world_sim.specs.declared.views.View.{View}
+use Rattle.provisioning.specs.declared.faults.PushFault.TheVariants as push
+use Rattle.source_offers.specs.declared.faults.OfferFault.{OfferFault}
+use Rattle.source_offers.specs.declared.faults.OfferFault.TheVariants as offer
+use Rattle.sync_runs.specs.Carrying.{is_done}
+use Rattle.sync_runs.specs.declared.carrying.Outcome.{Outcome}
+use Rattle.sync_runs.specs.declared.faults.RunFault.{RunFault as LoopFault}
+use Rattle.sync_runs.specs.declared.faults.RunFault.TheVariants as looping
 use Rattle.scimlink.specs.declared.status.RunFault.{RunFault}
 use Rattle.scimlink.specs.declared.status.RunFault.TheVariants as fault
 use Rattle.scimlink.specs.declared.status.Status.{Status}
@@ -47,6 +54,7 @@ fault_status (fault.Schedule schedule.Memory) = Fault
 fault_status fault.Store = Fault
 fault_status fault.File = Fault
 fault_status (fault.Connection why) = Fault
+fault_status (fault.Push why) = Fault
 fault_status fault.Memory = Fault
 
 -- What the parser of the command line told in place of a choice: help and the version are no fault, but where they
@@ -115,3 +123,18 @@ is_confirmed view = same_revision view.confirmed view.wanted
 -- all is done where no row was refused and every record is confirmed in the end
 abbrev pub simulated_status : List Report → List View → Status
 simulated_status reports views = if list_all is_taken reports && list_all is_confirmed views then Done else Refused
+
+-- what ended a run with a provider of its own
+abbrev pub loop_fault : LoopFault → RunFault
+loop_fault (looping.Ended why) = fault.Push why
+loop_fault looping.Store = fault.Store
+
+-- what ended a run while its rows were read and offered
+abbrev pub offer_fault : OfferFault → RunFault
+offer_fault offer.Journal = fault.Push push.Journal
+offer_fault offer.File = fault.File
+offer_fault offer.Memory = fault.Memory
+
+-- a run of the connector is done where nothing was refused and every record is confirmed
+abbrev pub carried_status : Outcome → Status
+carried_status outcome = if is_done outcome then Done else Refused

@@ -1,5 +1,6 @@
 //! The command line.
 ghost use Rattle.std.specs.Prelude.{◌≡◌, ◌<◌, ◌≤◌, IfOk, Some, codes, string_bytes};
+ghost use Rattle.std.specs.Option.{option_map};
 ghost use Rattle.clap.specs.Matches.{first_value, found_of};
 ghost use Rattle.scimlink.specs.Statuses.{base_fault, words_status};
 
@@ -22,6 +23,12 @@ const DEFAULT_BASE: &str = "http://localhost:8080/v2";
 pub enum Choice {
     /// One request from standard input is answered on standard output.
     Answer {
+        base: Base,
+    },
+    /// The records of files are carried to a provider in the same program.
+    Loop {
+        users: String,
+        groups: Option<String>,
         base: Base,
     },
     /// The image of each row of a users file is printed.
@@ -67,9 +74,32 @@ fn base_option<'a>(alloc: Global) -> Arg<'a> {
         .default_value(DEFAULT_BASE)
 }
 
+fn users_option<'a>(alloc: Global) -> Arg<'a> {
+    Arg::new(alloc, "users")
+        .long("users")
+        .value_name("FILE")
+        .help("the file of users: login,revision,number,given,family,mail,status")
+        .required(true)
+}
+
+fn groups_option<'a>(alloc: Global) -> Arg<'a> {
+    Arg::new(alloc, "groups")
+        .long("groups")
+        .value_name("FILE")
+        .help("the file of groups: name,revision,members")
+}
+
 fn answer_command<'a>(alloc: Global) -> Result<Command<'a>, AllocError> {
     Command::new(alloc, "answer")
         .about("answers one HTTP request from standard input on standard output")
+        .arg(base_option(alloc))
+}
+
+fn loop_command<'a>(alloc: Global) -> Result<Command<'a>, AllocError> {
+    Command::new(alloc, "loop")
+        .about("carries the records of files to a provider in memory, over TCP, and prints how each stands")
+        .arg(users_option(alloc))?
+        .arg(groups_option(alloc))?
         .arg(base_option(alloc))
 }
 
@@ -121,7 +151,8 @@ fn program<'a>(alloc: Global) -> Command<'a> {
 
 fn command<'a>(alloc: Global) -> Result<Command<'a>, AllocError> {
     let answering = with_subcommand(program(alloc), answer_command(alloc))?;
-    let mapping = with_subcommand(answering, map_command(alloc))?;
+    let looping = with_subcommand(answering, loop_command(alloc))?;
+    let mapping = with_subcommand(looping, map_command(alloc))?;
     let serving = with_subcommand(mapping, serve_command(alloc))?;
     with_subcommand(serving, simulate_command(alloc))
 }
@@ -143,6 +174,11 @@ fn chosen(alloc: Global, matches: &ArgMatches<'_>) -> Result<Choice, RunFault> {
     match matches.subcommand() {
         Some(("answer", answer)) => Ok(Choice::Answer {
             base: base(alloc, answer)?,
+        }),
+        Some(("loop", run)) => Ok(Choice::Loop {
+            users: users(alloc, run)?,
+            groups: groups(alloc, run)?,
+            base: base(alloc, run)?,
         }),
         Some(("map", map)) => Ok(Choice::Map {
             file: file(alloc, map)?,
@@ -189,6 +225,28 @@ fn file(alloc: Global, matches: &ArgMatches<'_>) -> Result<String, RunFault>
     match matches.get_str("FILE") {
         Some(text) => Ok(String::from_str(alloc, text)?),
         None => Err(RunFault::File),
+    }
+}
+
+/// The file of users that the words name.
+fn users(alloc: Global, matches: &ArgMatches<'_>) -> Result<String, RunFault>
+    ensures { IfOk result
+        (λ file. first_value (found_of matches.now) (codes "users") ≡ Some (string_bytes file)) }
+{
+    match matches.get_str("users") {
+        Some(text) => Ok(String::from_str(alloc, text)?),
+        None => Err(RunFault::File),
+    }
+}
+
+/// The file of groups that the words name, if they do.
+fn groups(alloc: Global, matches: &ArgMatches<'_>) -> Result<Option<String>, RunFault>
+    ensures { IfOk result
+        (λ file. first_value (found_of matches.now) (codes "groups") ≡ option_map string_bytes file) }
+{
+    match matches.get_str("groups") {
+        Some(text) => Ok(Some(String::from_str(alloc, text)?)),
+        None => Ok(None),
     }
 }
 

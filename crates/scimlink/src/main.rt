@@ -3,6 +3,7 @@
 
 mod answering;
 mod command;
+mod looping;
 mod map_users;
 mod serving;
 mod simulating;
@@ -30,6 +31,11 @@ fn done<R: Runtime + Net + AllocGlobal>(rt: &R) -> Result<Status, RunFault> {
     let words = command::words(rt)?;
     match choose(rt, words.as_slice())? {
         Choice::Answer { base } => answering::answer(rt, &base),
+        Choice::Loop {
+            users,
+            groups,
+            base,
+        } => looping::run(rt, users.as_str(), as_str(&groups), base),
         Choice::Map { file } => map_users::map(rt, file.as_str()),
         Choice::Serve {
             address,
@@ -38,5 +44,13 @@ fn done<R: Runtime + Net + AllocGlobal>(rt: &R) -> Result<Status, RunFault> {
         } => serving::serve(rt, address.as_str(), requests, &base),
         Choice::Simulate { file, base } => simulating::simulate(rt, file.as_str(), base),
         Choice::Told(status) => Ok(status),
+    }
+}
+
+/// The text, if there is one.
+fn as_str(text: &Option<String>) -> Option<&str> {
+    match text {
+        Some(text) => Some(text.as_str()),
+        None => None,
     }
 }

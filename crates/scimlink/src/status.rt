@@ -1,11 +1,13 @@
 //! How a run ends.
 ghost use Rattle.std.specs.Prelude.{◌≡◌, ◌≢◌};
-ghost use Rattle.scimlink.specs.Statuses.{fault_status, lines_fault, schedule_fault, status_code, users_fault, world_fault};
+ghost use Rattle.scimlink.specs.Statuses.{fault_status, lines_fault, loop_fault, offer_fault, schedule_fault, status_code, users_fault, world_fault};
 ghost use Rattle.scimlink.specs.declared.status.RunFault.TheVariants.{Memory};
 
 use connection::ConnectionFault;
 use mapping::WriteFault;
+use provisioning::PushFault;
 use source_csv::SourceFault;
+use source_offers::OfferFault;
 use std::alloc::{AllocError, AllocFailed};
 use std::io;
 use std::io::ErrorKind;
@@ -68,6 +70,9 @@ pub enum RunFault {
     /// No request came, its answer couldn't be written whole, or nothing can be listened to.
     #[error("{0}")]
     Connection(ConnectionFault),
+    /// A run of the connector.
+    #[error("{0}")]
+    Push(PushFault),
     #[error("memory fault")]
     Memory,
 }
@@ -85,6 +90,7 @@ impl RunFault {
             RunFault::Schedule(ScheduleFault::Line(_)) => Status::Refused,
             RunFault::Schedule(ScheduleFault::Memory) | RunFault::Store => Status::Fault,
             RunFault::File | RunFault::Connection(_) | RunFault::Memory => Status::Fault,
+            RunFault::Push(_) => Status::Fault,
         }
     }
 }
@@ -162,6 +168,37 @@ impl From<WorldFault> for RunFault {
         match fault {
             WorldFault::Memory => RunFault::Memory,
             WorldFault::Store => RunFault::Store,
+        }
+    }
+}
+
+impl From<PushFault> for RunFault {
+    ghost from_gives = { λ push fault. fault ≡ RunFault.Push push };
+
+    fn from(fault: PushFault) -> RunFault {
+        RunFault::Push(fault)
+    }
+}
+
+impl From<OfferFault> for RunFault {
+    ghost from_gives = { λ offer fault. fault ≡ offer_fault offer };
+
+    fn from(fault: OfferFault) -> RunFault {
+        match fault {
+            OfferFault::Journal => RunFault::Push(PushFault::Journal),
+            OfferFault::File => RunFault::File,
+            OfferFault::Memory => RunFault::Memory,
+        }
+    }
+}
+
+impl From<sync_runs::RunFault> for RunFault {
+    ghost from_gives = { λ ended fault. fault ≡ loop_fault ended };
+
+    fn from(fault: sync_runs::RunFault) -> RunFault {
+        match fault {
+            sync_runs::RunFault::Ended(fault) => RunFault::Push(fault),
+            sync_runs::RunFault::Store => RunFault::Store,
         }
     }
 }
