@@ -74,7 +74,7 @@ loops 'no records' 0 '' 'settled in 0 exchanges'
 
 # the longest group that there may be, and many exchanges
 awk -v head="$users_header" 'BEGIN { print head; for (n = 1; n <= 400; n++) printf "u%d,1,,,,,active\n", n }' > "$room/users"
-awk -v head="$groups_header" 'BEGIN { print head; printf "all,1,"; for (n = 1; n <= 400; n++) printf "%su%d", n > 1 ? " " : "", n; print "" }' > "$room/groups"
+awk -v head="$groups_header" 'BEGIN { print head; printf "all,1,"; for (n = 1; n <= 400; n++) printf "%su%d", (n > 1 ? " " : ""), n; print "" }' > "$room/groups"
 expect '400 members' 0 '' "$program" loop --users "$room/users" --groups "$room/groups"
 lines '400 members' 803
 grep -qx 'settled in 802 exchanges' "$room/out" || fails '400 members: not settled in 802 exchanges'

@@ -12,7 +12,7 @@ use source_offers::{Sources, read_source};
 use std::alloc::{AllocError, Global};
 use std::cell::RefCell;
 use std::io;
-use std::io::{ErrorKind, Read, Write};
+use std::io::{Eprint, ErrorKind, Read, Write};
 use std::process::Abort;
 use std::test::Fail;
 use sync_runs::{Outcome, carry};
@@ -423,14 +423,14 @@ fn sources(alloc: Global, users: &[u8], groups: &[u8]) -> Result<Sources, Fail> 
 
 /// Asserts how a run over files with these bytes ends, and the lines that it prints.
 fn carries<D: Dial>(
-    rt: &HostRuntime,
+    rt: &(impl Abort + Eprint),
+    alloc: Global,
     users: &[u8],
     groups: &[u8],
     dial: &mut D,
     end: Result<Outcome, PushFault>,
     lines: &str,
 ) -> Result<(), Fail> {
-    let alloc = rt.alloc();
     let service = ScimService::new(Base::read(alloc, "http://localhost:8080/v2")?);
     let mut connector = new_connector(alloc)?;
     let sources = sources(alloc, users, groups)?;
@@ -452,6 +452,7 @@ fn the_lines_of_a_run(rt: HostRuntime) -> Result<(), Fail> {
     let mut streams = Streams { alloc, peer: &peer };
     carries(
         &rt,
+        alloc,
         b"login,revision,number,given,family,mail,status\nbob,1,,,,,active\nbob,1,,,,,left\n",
         b"name,revision,members\ncrew,1,bob\n",
         &mut streams,
@@ -471,6 +472,7 @@ fn the_lines_of_a_run(rt: HostRuntime) -> Result<(), Fail> {
     };
     carries(
         &rt,
+        alloc,
         b"login,revision,number,given,family,mail,status\nbob,1,,,,,active\n",
         b"name,revision,members\ncrew,1,bob\n",
         &mut answers,

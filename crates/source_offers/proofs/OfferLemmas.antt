@@ -44,7 +44,7 @@ module _ {J : Type 0} (g : Ghosts J) (of : Kind) where
   dealt_more place [] source first more old between new are one =
       let here : IsDealt g of place source more between new = subst (λ (n : ℕ). IsDealt g of n source more between new) (from_zero place) one in
       let from : IsDealt g of place source more old new = subst (λ (s : State J). IsDealt g of place source more s new) are.1 here in
-      (more, [], new, ap (λ xs. xs ++ more) are.0 ∙ sym (append-nil more), from, refl, refl)
+      (more, [], new, ap (λ xs. xs ++ more) are.0 ∙ sym (append-nil more), from, (refl, refl))
   dealt_more place (s ∷ done) source first more old between new are one =
       let next : IsDealt g of ((place + 1) + length done) source more between new = subst (λ (n : ℕ). IsDealt g of n source more between new) (one_on place (length done)) one in
       (are.0, are.1 ++ more, are.2, ap (λ xs. xs ++ more) are.3 ∙ append_assoc are.0 are.1 more, are.4, dealt_more (place + 1) done source are.1 more are.2 between new are.5 next)

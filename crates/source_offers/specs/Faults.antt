@@ -8,7 +8,7 @@ use Rattle.source_offers.specs.declared.faults.OfferFault.TheVariants.{File, Mem
 -- a file that can't be read, or a row that can't be told
 abbrev pub file_fault : ErrorKind → OfferFault
 file_fault kinds.OutOfMemory = Memory
-file_fault other = File
+file_fault _ = File
 
 -- a row can't be told
 abbrev pub IsUntold : OfferFault → Type 0

@@ -34,27 +34,18 @@ pub record IsOffered {J : Type 0} (g : Ghosts J) (row : Row) (said : Result Verd
   pub journal : WritesOnce g.entries g.is_faithful g.is_honest g.may_hold g.faults g.writes CountsChange old.journal new.journal (accepted_entries (g.entries old.journal) row (judging (book_of old.book) (keys old.book) row)) said
   pub quiet : IfOk said (λ verdict. verdict ≢ New → g.writes new.journal ≡ g.writes old.journal)
 
--- it says something of the row
-abbrev pub IsVerdict : Result Verdict ChangeFault → Type 0
-IsVerdict (Ok verdict) = Unit {0}
-IsVerdict (Err Differs) = Unit {0}
-IsVerdict (Err (NoSuchMember key)) = Unit {0}
-IsVerdict (Err TooMany) = Unit {0}
-IsVerdict (Err Store) = ⊥
-IsVerdict (Err Memory) = ⊥
-
 -- what ends the run where nothing is said of the row
-abbrev pub IsStop : Result Verdict ChangeFault → OfferFault → Type 0
-IsStop (Ok verdict) fault = ⊥
-IsStop (Err Differs) fault = ⊥
-IsStop (Err (NoSuchMember key)) fault = ⊥
-IsStop (Err TooMany) fault = ⊥
-IsStop (Err Store) fault = fault ≡ fault_of.Journal
-IsStop (Err Memory) fault = fault ≡ fault_of.Memory
+abbrev pub stop_of : Result Verdict ChangeFault → Option OfferFault
+stop_of (Ok verdict) = None
+stop_of (Err Differs) = None
+stop_of (Err (NoSuchMember key)) = None
+stop_of (Err TooMany) = None
+stop_of (Err Store) = Some fault_of.Journal
+stop_of (Err Memory) = Some fault_of.Memory
 
 abbrev pub Judges : {J : Type 0} → Ghosts J → Row → (old new : State J) → Result (Result Verdict ChangeFault) OfferFault → Type 0
-Judges g row old new (Ok said) = IsOffered g row said old new × IsVerdict said
-Judges g row old new (Err fault) = ((said : Result Verdict ChangeFault) × IsOffered g row said old new × IsStop said fault) ⊎ ((new ≡ old) × (fault ≡ fault_of.Memory))
+Judges g row old new (Ok said) = IsOffered g row said old new × (stop_of said ≡ None)
+Judges g row old new (Err fault) = ((said : Result Verdict ChangeFault) × IsOffered g row said old new × (stop_of said ≡ Some fault)) ⊎ ((new ≡ old) × (fault ≡ fault_of.Memory))
 
 -- ---- telling
 
@@ -73,12 +64,12 @@ is_taken judged = is_ok judged.verdict
 -- a record that is no row is passed over, and a row is offered
 abbrev pub IsDealt : {J : Type 0} → Ghosts J → Kind → (place : ℕ) → Result Row RowFault → List Judged → (old new : State J) → Type 0
 IsDealt g of place (Err refusal) judged old new = (judged ≡ []) × (new ≡ old)
-IsDealt g of place (Ok row) judged old new = (said : Result Verdict ChangeFault) × (judged ≡ record { kind = of; place = place; verdict = said } ∷ []) × IsOffered g row said old new × IsVerdict said
+IsDealt g of place (Ok row) judged old new = (said : Result Verdict ChangeFault) × (judged ≡ record { kind = of; place = place; verdict = said } ∷ []) × IsOffered g row said old new × (stop_of said ≡ None)
 
 -- the row of this record ended the run, or telling it did
 abbrev pub IsHalt : {J : Type 0} → Ghosts J → Result Row RowFault → (old new : State J) → OfferFault → Type 0
 IsHalt g (Err refusal) old new fault = ⊥
-IsHalt g (Ok row) old new fault = Judges g row old new (Err fault) ⊎ ((said : Result Verdict ChangeFault) × IsOffered g row said old new × IsVerdict said × IsUntold fault)
+IsHalt g (Ok row) old new fault = Judges g row old new (Err fault) ⊎ ((said : Result Verdict ChangeFault) × IsOffered g row said old new × (stop_of said ≡ None) × IsUntold fault)
 
 abbrev pub OffersRecord : {J : Type 0} → Ghosts J → Kind → (place : ℕ) → Result Row RowFault → (old new : State J) → (before after : Option (List Judged)) → Result Bool OfferFault → Type 0
 OffersRecord g of place source old new before after (Ok taken) = (judged : List Judged) × IsDealt g of place source judged old new × Hears before after judged × (taken ≡ list_all is_taken judged)
@@ -124,7 +115,7 @@ OffersGroups g None old new before after result = (new ≡ old) × (after ≡ be
 OffersGroups g (Some source) old new before after result = OffersFile g source.kind (records_of source) old new before after result
 
 abbrev pub both : Bool → Result Bool OfferFault → Result Bool OfferFault
-both users (Ok groups) = Ok (groups && users)
+both users (Ok groups) = Ok (users && groups)
 both users (Err fault) = Err fault
 
 -- the file of users, and then the one of groups; or one of the users ended the run

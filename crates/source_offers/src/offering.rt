@@ -1,7 +1,6 @@
 //! Rows of files, offered to the connector.
-ghost use Rattle.std.specs.Prelude.{◌∷◌, [], List, Option, None, OnOk};
-ghost use Rattle.source_offers.specs.Offering.{Hears, Judges, OffersRecord, OffersFile, OffersAll};
-ghost use Rattle.source_offers.specs.Sources.{records_of};
+ghost use Rattle.std.specs.Prelude.{◌≡◌, ◌∷◌, [], List, Option, None, OnOk};
+ghost use Rattle.source_offers.specs.Offering.{Hears, Judges, OffersRecord, OffersFile, OffersGroups, OffersAll, stop_of};
 ghost use Rattle.source_offers.specs.declared.offering.Judged.{Judged as JudgedRow};
 
 use crate::faults::{OfferFault, file_fault};
@@ -32,6 +31,18 @@ pub trait Hear {
         ensures { OnOk result (Hears (heard self.old) (heard self.new) (judged ∷ [])) };
 }
 
+/// What ends the run where the connector says nothing of a row.
+fn stop_of(said: &Result<Verdict, ChangeFault>) -> Option<OfferFault>
+    ensures { result ≡ stop_of said.now }
+{
+    match said {
+        Err(ChangeFault::Store) => Some(OfferFault::Journal),
+        Err(ChangeFault::Memory) => Some(OfferFault::Memory),
+        Err(ChangeFault::Differs | ChangeFault::NoSuchMember(_) | ChangeFault::TooMany) => None,
+        Ok(_) => None,
+    }
+}
+
 /// Offers a row. A fault of the journal and out of memory say nothing of the row.
 fn judge<J: Journal>(
     connector: &mut Connector<J>,
@@ -39,10 +50,10 @@ fn judge<J: Journal>(
 ) -> Result<Result<Verdict, ChangeFault>, OfferFault>
     ensures { Judges J.Journal row.now connector.old connector.new result }
 {
-    match connector.change(row.clone()?) {
-        Err(ChangeFault::Store) => Err(OfferFault::Journal),
-        Err(ChangeFault::Memory) => Err(OfferFault::Memory),
-        verdict => Ok(verdict),
+    let said = connector.change(row.clone()?);
+    match stop_of(&said) {
+        Some(fault) => Err(fault),
+        None => Ok(said),
     }
 }
 
@@ -76,18 +87,34 @@ fn offer_record<J: Journal, T: Hear>(
 /// Offers the rows of a file, one after another.
 fn offer_file<J: Journal, T: Hear>(
     connector: &mut Connector<J>,
-    source: &Source,
+    kind: Kind,
+    records: &[Result<Row, RowFault>],
     teller: &mut T,
 ) -> Result<bool, OfferFault>
-    ensures { OffersFile J.Journal source.now.kind (records_of source.now) connector.old connector.new
+    ensures { OffersFile J.Journal kind records.now connector.old connector.new
         (T.heard teller.old) (T.heard teller.new) result }
 {
     let mut is_taken = true;
-    for (index, found) in source.records().iter().enumerate() {
-        let taken = offer_record(connector, source.kind, index + 1, found, teller)?;
+    for (index, found) in records.iter().enumerate() {
+        let taken = offer_record(connector, kind, index + 1, found, teller)?;
         is_taken = is_taken && taken;
     }
     Ok(is_taken)
+}
+
+/// Offers the rows of the file of groups, if there is one.
+fn offer_groups<J: Journal, T: Hear>(
+    connector: &mut Connector<J>,
+    groups: &Option<Source>,
+    teller: &mut T,
+) -> Result<bool, OfferFault>
+    ensures { OffersGroups J.Journal groups.now connector.old connector.new
+        (T.heard teller.old) (T.heard teller.new) result }
+{
+    match groups {
+        Some(groups) => offer_file(connector, groups.kind, groups.records(), teller),
+        None => Ok(true),
+    }
 }
 
 /// Offers the rows of the files, users first. Each is told as soon as it is judged. It tells whether
@@ -101,9 +128,10 @@ pub fn offer_all<J: Journal, T: Hear>(
     ensures { OffersAll J.Journal sources.now connector.old connector.new
         (T.heard teller.old) (T.heard teller.new) result }
 {
-    let are_users_taken = offer_file(connector, &sources.users, teller)?;
-    match &sources.groups {
-        Some(groups) => Ok(offer_file(connector, groups, teller)? && are_users_taken),
-        None => Ok(are_users_taken),
+    let users = &sources.users;
+    let are_users_taken = offer_file(connector, users.kind, users.records(), teller)?;
+    match offer_groups(connector, &sources.groups, teller) {
+        Ok(are_groups_taken) => Ok(are_users_taken && are_groups_taken),
+        Err(fault) => Err(fault),
     }
 }

@@ -1,5 +1,6 @@
 //! The files of a run.
-ghost use Rattle.std.specs.Prelude.{◌≡◌, IfErr, IfOk, List};
+ghost use Rattle.std.specs.Prelude.{◌≡◌, IfErr, IfOk, List, is_ok};
+ghost use Rattle.std.specs.List.{list_all};
 ghost use Rattle.source_csv.specs.Fields.{Record};
 ghost use Rattle.source_csv.specs.Files.{AreRecordsOf, rows_of};
 ghost use Rattle.source_offers.specs.declared.faults.OfferFault.TheVariants.{Memory};
@@ -28,6 +29,13 @@ pub struct Sources {
     pub groups: Option<Source>,
 }
 
+/// Whether each record is a row.
+fn all_rows(records: &[Result<Row, RowFault>]) -> bool
+    ensures { result ≡ list_all is_ok records.now }
+{
+    records.iter().all(|record| record.is_ok())
+}
+
 impl Source {
     /// The records of the file, the one at place 1 first.
     pub fn records(&self) -> &[Result<Row, RowFault>]
@@ -43,7 +51,10 @@ impl Source {
     pub fn is_whole(&self) -> bool
         ensures { result ≡ is_whole self.now }
     {
-        self.rows.is_some() && self.records().iter().all(|record| record.is_ok())
+        match &self.rows {
+            Some(rows) => all_rows(rows.as_slice()),
+            None => false,
+        }
     }
 }
 

@@ -28,8 +28,8 @@ const OWN_ADDRESS: &str = "127.0.0.1:0";
 /// Runs the connector against a provider that listens at a free port of its own. Each row's report is
 /// printed, then how many exchanges there were where all is settled, then a line for each record. A
 /// store that a fault has shut ends the run, whatever else did.
-pub fn run_loop<N: Net + Clock, R: Registry, J: Journal, W: Write>(
-    rt: &N,
+pub fn run_loop<'a, N: Net + Clock, R: Registry + 'a, J: Journal, W: Write>(
+    rt: &'a N,
     alloc: Global,
     service: &ScimService,
     connector: &mut Connector<J>,
@@ -37,8 +37,8 @@ pub fn run_loop<N: Net + Clock, R: Registry, J: Journal, W: Write>(
     sources: &Sources,
     out: &mut W,
 ) -> Result<Outcome, RunFault>
-    ensures { IfOk result (λ outcome. CarriesSilently ⟦<OwnReader<'static, 'static, N, R> as Read>⟧.remaining
-        ⟦<TimedStream<'static, N::Stream, N> as Write>⟧.contents J.Journal service.now sources.now
+    ensures { IfOk result (λ outcome. CarriesSilently ⟦<OwnReader<'a, 'a, N, R> as Read>⟧.remaining
+        ⟦<TimedStream<'a, N::Stream, N> as Write>⟧.contents J.Journal service.now sources.now
         connector.old connector.new (Ok outcome)) }
 {
     let carried = carry_over(rt, alloc, service, connector, provider, sources, out);
@@ -60,8 +60,8 @@ fn print_settled<W: Write>(outcome: Outcome, out: &mut W) -> io::Result<()> {
 }
 
 /// Runs the connector against a provider over TCP.
-fn carry_over<N: Net + Clock, R: Registry, J: Journal, W: Write>(
-    rt: &N,
+fn carry_over<'a, N: Net + Clock, R: Registry + 'a, J: Journal, W: Write>(
+    rt: &'a N,
     alloc: Global,
     service: &ScimService,
     connector: &mut Connector<J>,
@@ -69,8 +69,8 @@ fn carry_over<N: Net + Clock, R: Registry, J: Journal, W: Write>(
     sources: &Sources,
     out: &mut W,
 ) -> Result<Outcome, PushFault>
-    ensures { CarriesSilently ⟦<OwnReader<'static, 'static, N, R> as Read>⟧.remaining
-        ⟦<TimedStream<'static, N::Stream, N> as Write>⟧.contents J.Journal service.now sources.now
+    ensures { CarriesSilently ⟦<OwnReader<'a, 'a, N, R> as Read>⟧.remaining
+        ⟦<TimedStream<'a, N::Stream, N> as Write>⟧.contents J.Journal service.now sources.now
         connector.old connector.new result }
 {
     let (listener, taken) = listen(rt).map_err(|_| PushFault::Connection)?;

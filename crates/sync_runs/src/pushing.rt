@@ -19,8 +19,8 @@ pub(crate) const EXCHANGE_SECONDS: u64 = 30;
 
 /// Runs the connector against the provider at an address, HOST:PORT. A line is printed for each record
 /// as soon as it is done, and rows that the connector refuses are told on standard error.
-pub fn push<N: Net + Clock + Eprint, J: Journal, W: Write>(
-    rt: &N,
+pub fn push<'a, N: Net + Clock + Eprint, J: Journal, W: Write>(
+    rt: &'a N,
     alloc: Global,
     service: &ScimService,
     connector: &mut Connector<J>,
@@ -28,8 +28,8 @@ pub fn push<N: Net + Clock + Eprint, J: Journal, W: Write>(
     address: &str,
     out: &mut W,
 ) -> Result<Outcome, PushFault>
-    ensures { CarriesSilently ⟦<TimedStream<'static, N::Stream, N> as Read>⟧.remaining
-        ⟦<TimedStream<'static, N::Stream, N> as Write>⟧.contents J.Journal service.now sources.now
+    ensures { CarriesSilently ⟦<TimedStream<'a, N::Stream, N> as Read>⟧.remaining
+        ⟦<TimedStream<'a, N::Stream, N> as Write>⟧.contents J.Journal service.now sources.now
         connector.old connector.new result }
 {
     let mut remote = Remote {
