@@ -439,7 +439,14 @@ fn carries<D: Dial>(
         out: &mut text,
         stderr: rt,
     };
-    let ended = carry(alloc, &service, &mut connector, &sources, dial, &mut printed);
+    let ended = carry(
+        alloc,
+        &service,
+        &mut connector,
+        &sources,
+        dial,
+        &mut printed,
+    );
     assert_eq!(rt; ended, end);
     assert_eq!(rt; text.as_slice(), lines.as_bytes());
     Ok(())

@@ -97,7 +97,9 @@ fn answer_command<'a>(alloc: Global) -> Result<Command<'a>, AllocError> {
 
 fn loop_command<'a>(alloc: Global) -> Result<Command<'a>, AllocError> {
     Command::new(alloc, "loop")
-        .about("carries the records of files to a provider in memory, over TCP, and prints how each stands")
+        .about(
+            "carries the records of files to a provider in memory, over TCP, and prints how each stands",
+        )
         .arg(users_option(alloc))?
         .arg(groups_option(alloc))?
         .arg(base_option(alloc))

@@ -25,8 +25,9 @@ pub fn run<R: Runtime + Net + AllocGlobal>(
 ) -> Result<Status, RunFault> {
     let alloc = rt.alloc();
     let mut provider = Provider::new(MemoryRegistry::new(alloc));
-    let mut connector = Connector::open(alloc, MemoryJournal::new(alloc))
-        .map_err(|refused| PushFault::from(refused.0))?;
+    let mut connector = Connector::open(alloc, MemoryJournal::new(alloc)).map_err(
+        |refused| PushFault::from(refused.0),
+    )?;
     run_over(rt, &mut provider, &mut connector, users, groups, base)
 }
 
@@ -42,7 +43,15 @@ fn run_over<R: Runtime + Net + AllocGlobal, S: Registry, J: Journal>(
     let sources = read_sources(rt, users, groups)?;
     let service = ScimService::new(base);
     let mut out = BufWriter::new(rt.alloc(), io::writer(rt))?;
-    let outcome = run_loop(rt, rt.alloc(), &service, connector, provider, &sources, &mut out)?;
+    let outcome = run_loop(
+        rt,
+        rt.alloc(),
+        &service,
+        connector,
+        provider,
+        &sources,
+        &mut out,
+    )?;
     Ok(carried_status(outcome))
 }
 

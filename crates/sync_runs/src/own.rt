@@ -26,10 +26,7 @@ pub(crate) fn is_open<R: Registry>(provider: &mut Provider<R>) -> bool {
 }
 
 /// How many rows a provider has, where its store is open.
-fn count<R: Registry>(
-    provider: Provider<R>,
-    _: (),
-) -> (Provider<R>, Result<u32, RegistryFault>) {
+fn count<R: Registry>(provider: Provider<R>, _: ()) -> (Provider<R>, Result<u32, RegistryFault>) {
     let mut registry = provider.close();
     let count = registry.count();
     (Provider::new(registry), count)

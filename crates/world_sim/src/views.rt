@@ -91,12 +91,7 @@ fn held_nowhere(name: RecordName, wanted: Revision, confirmed: Revision) -> View
 
 impl View {
     /// What is held of a record, by the provider's row of it, if it has one.
-    pub fn of(
-        name: RecordName,
-        wanted: Revision,
-        confirmed: Revision,
-        row: Option<&Stored>,
-    ) -> View
+    pub fn of(name: RecordName, wanted: Revision, confirmed: Revision, row: Option<&Stored>) -> View
         ensures { result ≡ viewed name wanted confirmed (option_copied row) }
     {
         match row {
