@@ -24,4 +24,4 @@ push_fault offer.Memory = push.Memory
 -- a line that can't be written
 abbrev pub written : ErrorKind → PushFault
 written kinds.OutOfMemory = push.Memory
-written other = push.Untold
+written _ = push.Untold
