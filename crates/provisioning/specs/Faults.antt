@@ -7,10 +7,17 @@ use Rattle.scim_client.specs.declared.exchange.ExchangeFault.{ExchangeFault}
 use Rattle.scim_client.specs.declared.exchange.ExchangeFault.TheVariants.{Unsent, EndedEarly, ReadFailed, OutOfMemory, TurnsExhausted, NoAnswer}
 use Rattle.connector_core.specs.declared.learning.LearnFault.{LearnFault}
 use Rattle.connector_core.specs.declared.learning.LearnFault.TheVariants as learning
+use Rattle.connector_core.specs.declared.opening.OpenFault.{OpenFault}
+use Rattle.connector_core.specs.declared.opening.OpenFault.TheVariants as opening
 use Rattle.provisioning.specs.declared.faults.PushFault.{PushFault}
 use Rattle.provisioning.specs.declared.faults.PushFault.TheVariants.{Connection, Journal, Memory}
 use Rattle.provisioning.specs.declared.faults.RecordFault.{RecordFault}
 use Rattle.provisioning.specs.declared.faults.RecordFault.TheVariants.{Unanswered, Unfit, Unversioned, Refused, NoSuchRecord}
+
+-- a connector that isn't opened
+abbrev pub unopened : OpenFault → PushFault
+unopened opening.Store = Journal
+unopened opening.Memory = Memory
 
 -- a stream that can't be opened
 abbrev pub open_fault : ErrorKind → PushFault

@@ -2,7 +2,7 @@
 ghost use Rattle.std.specs.Prelude.{◌≡◌};
 ghost use Rattle.provisioning.specs.Faults.{open_fault, unanswered, unlearnt};
 
-use connector_core::LearnFault;
+use connector_core::{LearnFault, OpenFault};
 use scim_client::{AnswerFault, ExchangeFault};
 use std::alloc::AllocError;
 use std::io::ErrorKind;
@@ -51,6 +51,19 @@ impl From<AllocError> for PushFault {
 
     fn from(_: AllocError) -> PushFault {
         PushFault::Memory
+    }
+}
+
+impl From<OpenFault> for PushFault {
+    ghost use Rattle.provisioning.specs.Faults.{unopened};
+
+    ghost from_gives = { λ opening fault. fault ≡ unopened opening };
+
+    fn from(fault: OpenFault) -> PushFault {
+        match fault {
+            OpenFault::Store => PushFault::Journal,
+            OpenFault::Memory => PushFault::Memory,
+        }
     }
 }
 

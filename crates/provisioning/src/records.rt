@@ -11,6 +11,7 @@ use journal_core::Journal;
 use scim_client::ScimService;
 use scim_key::{Key, RecordName, Revision};
 use std::alloc::Global;
+use std::fmt;
 
 /// How many exchanges there are for a record at most.
 pub const MOST_EXCHANGES: u32 = 3;
@@ -24,6 +25,19 @@ pub enum Standing {
     Waits(Key),
     /// The wanted revision isn't confirmed. The last fault, if there was one.
     Unconfirmed(Option<RecordFault>),
+}
+
+impl fmt::Display for Standing {
+    /// How it stands, in a few words: `confirmed 2`, `unconfirmed C4`, `unconfirmed waits ann`, and
+    /// `unconfirmed -` where there was no fault.
+    fn fmt<W: fmt::Write>(&self, f: &mut fmt::Formatter<W>) -> fmt::Result {
+        match self {
+            Standing::Confirmed(revision) => write!(f, "confirmed {revision}"),
+            Standing::Waits(member) => write!(f, "unconfirmed waits {}", member.as_str()),
+            Standing::Unconfirmed(Some(fault)) => write!(f, "unconfirmed {fault}"),
+            Standing::Unconfirmed(None) => f.write_str("unconfirmed -"),
+        }
+    }
 }
 
 /// What became of a record.

@@ -10,6 +10,10 @@ use Rattle.scim_server.specs.declared.serving.Served.TheVariants.{Answered, NoRe
 use Rattle.connection.specs.declared.serving.ConnectionFault.{ConnectionFault}
 use Rattle.provider_store.specs.declared.opening.OpenFault.{OpenFault}
 use Rattle.provider_store.specs.declared.opening.OpenFault.TheVariants as opening
+use Rattle.journal_store.specs.declared.opening.OpenFault.{OpenFault as JournalOpenFault}
+use Rattle.journal_store.specs.declared.opening.OpenFault.TheVariants as journal
+use Rattle.journal_file.specs.declared.showing.ShowFault.{ShowFault as ShowJournalFault}
+use Rattle.journal_file.specs.declared.showing.ShowFault.TheVariants as show_journal
 use Rattle.provider_file.specs.declared.showing.ShowFault.{ShowFault}
 use Rattle.provider_file.specs.declared.showing.ShowFault.TheVariants as show
 use Rattle.source_csv.specs.declared.faults.RowFault.{RowFault}
@@ -26,6 +30,13 @@ use Rattle.world_sim.specs.declared.reports.WorldFault.TheVariants as world
 use Rattle.world_sim.specs.declared.schedules.ScheduleFault.{ScheduleFault}
 use Rattle.world_sim.specs.declared.schedules.ScheduleFault.TheVariants as schedule
 use Rattle.world_sim.specs.declared.views.View.{View}
+use Rattle.provisioning.specs.declared.faults.PushFault.TheVariants as push
+use Rattle.source_offers.specs.declared.faults.OfferFault.{OfferFault}
+use Rattle.source_offers.specs.declared.faults.OfferFault.TheVariants as offer
+use Rattle.sync_runs.specs.Carrying.{is_done}
+use Rattle.sync_runs.specs.declared.carrying.Outcome.{Outcome}
+use Rattle.sync_runs.specs.declared.faults.RunFault.{RunFault as LoopFault}
+use Rattle.sync_runs.specs.declared.faults.RunFault.TheVariants as looping
 use Rattle.scimlink.specs.declared.status.RunFault.{RunFault}
 use Rattle.scimlink.specs.declared.status.RunFault.TheVariants as fault
 use Rattle.scimlink.specs.declared.status.Status.{Status}
@@ -51,8 +62,10 @@ fault_status (fault.Schedule (schedule.Line number)) = Refused
 fault_status (fault.Schedule schedule.Memory) = Fault
 fault_status fault.Store = Fault
 fault_status (fault.StoreFile why) = Fault
+fault_status (fault.JournalFile why) = Fault
 fault_status fault.File = Fault
 fault_status (fault.Connection why) = Fault
+fault_status (fault.Push why) = Fault
 fault_status fault.Memory = Fault
 
 -- What the parser of the command line told in place of a choice: help and the version are no fault, but where they
@@ -85,6 +98,16 @@ store_fault why = fault.StoreFile why
 abbrev pub show_fault : ShowFault → RunFault
 show_fault (show.Store why) = store_fault why
 show_fault show.Output = fault.File
+
+-- the file of a journal that isn't opened, or failed
+abbrev pub journal_fault : JournalOpenFault → RunFault
+journal_fault journal.Memory = fault.Memory
+journal_fault why = fault.JournalFile why
+
+-- entries that weren't shown whole
+abbrev pub show_journal_fault : ShowJournalFault → RunFault
+show_journal_fault (show_journal.Journal why) = journal_fault why
+show_journal_fault show_journal.Output = fault.File
 
 -- each fault of these connections was told when it came
 abbrev pub outcome_status : Result (Unit {0}) ConnectionFault → Status
@@ -131,3 +154,18 @@ is_confirmed view = same_revision view.confirmed view.wanted
 -- all is done where no row was refused and every record is confirmed in the end
 abbrev pub simulated_status : List Report → List View → Status
 simulated_status reports views = if list_all is_taken reports && list_all is_confirmed views then Done else Refused
+
+-- what ended a run with a provider of its own
+abbrev pub loop_fault : LoopFault → RunFault
+loop_fault (looping.Ended why) = fault.Push why
+loop_fault looping.Store = fault.Store
+
+-- what ended a run while its rows were read and offered
+abbrev pub offer_fault : OfferFault → RunFault
+offer_fault offer.Journal = fault.Push push.Journal
+offer_fault offer.File = fault.File
+offer_fault offer.Memory = fault.Memory
+
+-- a run of the connector is done where nothing was refused and every record is confirmed
+abbrev pub carried_status : Outcome → Status
+carried_status outcome = if is_done outcome then Done else Refused

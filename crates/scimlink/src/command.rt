@@ -26,6 +26,12 @@ pub enum Choice {
         base: Base,
         store: Option<String>,
     },
+    /// The records of files are carried to a provider in the same program.
+    Loop {
+        users: String,
+        groups: Option<String>,
+        base: Base,
+    },
     /// The image of each row of a users file is printed.
     Map {
         file: String,
@@ -37,9 +43,21 @@ pub enum Choice {
         base: Base,
         store: Option<String>,
     },
-    /// The rows of a store are printed.
-    Show {
+    /// The records of files are carried to the provider at an address.
+    Push {
+        users: String,
+        groups: Option<String>,
+        journal: String,
+        to: String,
+        base: Base,
+    },
+    /// The rows of a provider's store are printed.
+    ShowStore {
         store: String,
+    },
+    /// The entries of a connector's journal are printed.
+    ShowJournal {
+        journal: String,
     },
     /// The events of a schedule are run over both sides in memory.
     Simulate {
@@ -82,11 +100,44 @@ fn store_option<'a>(alloc: Global) -> Arg<'a> {
         .help("the file of the provider's rows, made where it isn't there")
 }
 
+/// The option of the commands that keep the connector's journal in a file.
+fn journal_option<'a>(alloc: Global) -> Arg<'a> {
+    Arg::new(alloc, "journal")
+        .long("journal")
+        .value_name("FILE")
+        .help("the file of the connector's journal, made where it isn't there")
+}
+
+fn users_option<'a>(alloc: Global) -> Arg<'a> {
+    Arg::new(alloc, "users")
+        .long("users")
+        .value_name("FILE")
+        .help("the file of users: login,revision,number,given,family,mail,status")
+        .required(true)
+}
+
+fn groups_option<'a>(alloc: Global) -> Arg<'a> {
+    Arg::new(alloc, "groups")
+        .long("groups")
+        .value_name("FILE")
+        .help("the file of groups: name,revision,members")
+}
+
 fn answer_command<'a>(alloc: Global) -> Result<Command<'a>, AllocError> {
     Command::new(alloc, "answer")
         .about("answers one HTTP request from standard input on standard output")
         .arg(base_option(alloc))?
         .arg(store_option(alloc))
+}
+
+fn loop_command<'a>(alloc: Global) -> Result<Command<'a>, AllocError> {
+    Command::new(alloc, "loop")
+        .about(
+            "carries the records of files to a provider in memory, over TCP, and prints how each stands",
+        )
+        .arg(users_option(alloc))?
+        .arg(groups_option(alloc))?
+        .arg(base_option(alloc))
 }
 
 fn map_command<'a>(alloc: Global) -> Result<Command<'a>, AllocError> {
@@ -118,10 +169,30 @@ fn serve_command<'a>(alloc: Global) -> Result<Command<'a>, AllocError> {
         .arg(store_option(alloc))
 }
 
+fn push_command<'a>(alloc: Global) -> Result<Command<'a>, AllocError> {
+    let to = Arg::new(alloc, "to")
+        .long("to")
+        .value_name("HOST:PORT")
+        .help("the provider's address")
+        .required(true);
+    Command::new(alloc, "push")
+        .about(
+            "carries the records of files to the provider at an address, and prints how each stands",
+        )
+        .arg(users_option(alloc))?
+        .arg(groups_option(alloc))?
+        .arg(journal_option(alloc).required(true))?
+        .arg(to)?
+        .arg(base_option(alloc))
+}
+
 fn show_command<'a>(alloc: Global) -> Result<Command<'a>, AllocError> {
     Command::new(alloc, "show")
-        .about("prints the rows of a store, a line each, in order of creation")
-        .arg(store_option(alloc))
+        .about(
+            "prints the rows of a provider's store, or the entries of a connector's journal, a line each",
+        )
+        .arg(store_option(alloc))?
+        .arg(journal_option(alloc))
 }
 
 fn simulate_command<'a>(alloc: Global) -> Result<Command<'a>, AllocError> {
@@ -144,8 +215,10 @@ fn program<'a>(alloc: Global) -> Command<'a> {
 
 fn command<'a>(alloc: Global) -> Result<Command<'a>, AllocError> {
     let answering = with_subcommand(program(alloc), answer_command(alloc))?;
-    let mapping = with_subcommand(answering, map_command(alloc))?;
-    let serving = with_subcommand(mapping, serve_command(alloc))?;
+    let looping = with_subcommand(answering, loop_command(alloc))?;
+    let mapping = with_subcommand(looping, map_command(alloc))?;
+    let pushing = with_subcommand(mapping, push_command(alloc))?;
+    let serving = with_subcommand(pushing, serve_command(alloc))?;
     let showing = with_subcommand(serving, show_command(alloc))?;
     with_subcommand(showing, simulate_command(alloc))
 }
@@ -169,6 +242,11 @@ fn chosen(alloc: Global, matches: &ArgMatches<'_>) -> Result<Choice, RunFault> {
             base: base(alloc, answer)?,
             store: store(alloc, answer)?,
         }),
+        Some(("loop", run)) => Ok(Choice::Loop {
+            users: users(alloc, run)?,
+            groups: groups(alloc, run)?,
+            base: base(alloc, run)?,
+        }),
         Some(("map", map)) => Ok(Choice::Map {
             file: file(alloc, map)?,
         }),
@@ -178,9 +256,14 @@ fn chosen(alloc: Global, matches: &ArgMatches<'_>) -> Result<Choice, RunFault> {
             base: base(alloc, serve)?,
             store: store(alloc, serve)?,
         }),
-        Some(("show", show)) => Ok(Choice::Show {
-            store: shown_store(alloc, show)?,
+        Some(("push", push)) => Ok(Choice::Push {
+            users: users(alloc, push)?,
+            groups: groups(alloc, push)?,
+            journal: pushed_journal(alloc, push)?,
+            to: to(alloc, push)?,
+            base: base(alloc, push)?,
         }),
+        Some(("show", show)) => shown(store(alloc, show)?, journal(alloc, show)?),
         Some(("simulate", simulate)) => Ok(Choice::Simulate {
             file: file(alloc, simulate)?,
             base: Base::read(alloc, DEFAULT_BASE).map_err(base_fault)?,
@@ -221,6 +304,28 @@ fn file(alloc: Global, matches: &ArgMatches<'_>) -> Result<String, RunFault>
     }
 }
 
+/// The file of users that the words name.
+fn users(alloc: Global, matches: &ArgMatches<'_>) -> Result<String, RunFault>
+    ensures { IfOk result
+        (λ file. first_value (found_of matches.now) (codes "users") ≡ Some (string_bytes file)) }
+{
+    match matches.get_str("users") {
+        Some(text) => Ok(String::from_str(alloc, text)?),
+        None => Err(RunFault::File),
+    }
+}
+
+/// The file of groups that the words name, if they do.
+fn groups(alloc: Global, matches: &ArgMatches<'_>) -> Result<Option<String>, RunFault>
+    ensures { IfOk result
+        (λ file. first_value (found_of matches.now) (codes "groups") ≡ option_map string_bytes file) }
+{
+    match matches.get_str("groups") {
+        Some(text) => Ok(Some(String::from_str(alloc, text)?)),
+        None => Ok(None),
+    }
+}
+
 /// The address that the words name.
 fn address(alloc: Global, matches: &ArgMatches<'_>) -> Result<String, RunFault>
     ensures { IfOk result
@@ -243,14 +348,46 @@ fn store(alloc: Global, matches: &ArgMatches<'_>) -> Result<Option<String>, RunF
     }
 }
 
-/// The store that is shown.
-fn shown_store(alloc: Global, matches: &ArgMatches<'_>) -> Result<String, RunFault>
+/// The file of the journal that the words name, if they do.
+fn journal(alloc: Global, matches: &ArgMatches<'_>) -> Result<Option<String>, RunFault>
     ensures { IfOk result
-        (λ store. first_value (found_of matches.now) (codes "store") ≡ Some (string_bytes store)) }
+        (λ journal. first_value (found_of matches.now) (codes "journal") ≡ option_map string_bytes journal) }
 {
-    match store(alloc, matches)? {
-        Some(store) => Ok(store),
-        None => Err(RunFault::Show),
+    match matches.get_str("journal") {
+        Some(text) => Ok(Some(String::from_str(alloc, text)?)),
+        None => Ok(None),
+    }
+}
+
+/// The journal of a push.
+fn pushed_journal(alloc: Global, matches: &ArgMatches<'_>) -> Result<String, RunFault>
+    ensures { IfOk result
+        (λ journal. first_value (found_of matches.now) (codes "journal") ≡ Some (string_bytes journal)) }
+{
+    match matches.get_str("journal") {
+        Some(text) => Ok(String::from_str(alloc, text)?),
+        None => Err(RunFault::File),
+    }
+}
+
+/// The provider's address that the words name.
+fn to(alloc: Global, matches: &ArgMatches<'_>) -> Result<String, RunFault>
+    ensures { IfOk result
+        (λ to. first_value (found_of matches.now) (codes "to") ≡ Some (string_bytes to)) }
+{
+    match matches.get_str("to") {
+        Some(text) => Ok(String::from_str(alloc, text)?),
+        None => Err(RunFault::Address),
+    }
+}
+
+/// What is shown: one of both, and no more.
+fn shown(store: Option<String>, journal: Option<String>) -> Result<Choice, RunFault> {
+    match (store, journal) {
+        (Some(store), None) => Ok(Choice::ShowStore { store }),
+        (None, Some(journal)) => Ok(Choice::ShowJournal { journal }),
+        (Some(_store), Some(_journal)) => Err(RunFault::Show),
+        (None, None) => Err(RunFault::Show),
     }
 }
 

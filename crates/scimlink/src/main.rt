@@ -3,13 +3,16 @@
 
 mod answering;
 mod command;
+mod looping;
 mod map_users;
+mod pushing;
 mod serving;
 mod showing;
 mod simulating;
 mod status;
 
 use command::{Choice, choose};
+use journal_file::JournalFile;
 use status::{RunFault, Status, told};
 use std::process::ExitCode;
 use std::rt::HostRuntime;
@@ -30,6 +33,11 @@ fn done(rt: &HostRuntime) -> Result<Status, RunFault> {
     let words = command::words(rt)?;
     match choose(rt, words.as_slice())? {
         Choice::Answer { base, store } => answering::answer(rt, &base, store.as_deref()),
+        Choice::Loop {
+            users,
+            groups,
+            base,
+        } => looping::run(rt, users.as_str(), groups.as_deref(), base),
         Choice::Map { file } => map_users::map(rt, file.as_str()),
         Choice::Serve {
             address,
@@ -37,7 +45,28 @@ fn done(rt: &HostRuntime) -> Result<Status, RunFault> {
             base,
             store,
         } => serving::serve(rt, address.as_str(), requests, &base, store.as_deref()),
-        Choice::Show { store } => showing::show(rt, store.as_str()),
+        Choice::Push {
+            users,
+            groups,
+            journal,
+            to,
+            base,
+        } => {
+            let journal = JournalFile {
+                rt,
+                path: journal.as_str(),
+            };
+            pushing::push(
+                rt,
+                &journal,
+                users.as_str(),
+                groups.as_deref(),
+                to.as_str(),
+                base,
+            )
+        }
+        Choice::ShowStore { store } => showing::show_store(rt, store.as_str()),
+        Choice::ShowJournal { journal } => showing::show_journal(rt, journal.as_str()),
         Choice::Simulate { file, base } => simulating::simulate(rt, file.as_str(), base),
         Choice::Told(status) => Ok(status),
     }

@@ -1,13 +1,15 @@
 //! How a run ends.
 ghost use Rattle.std.specs.Prelude.{◌≡◌, ◌≢◌};
-ghost use Rattle.scimlink.specs.Statuses.{fault_status, lines_fault, schedule_fault, show_fault, status_code, store_fault, users_fault, world_fault};
+ghost use Rattle.scimlink.specs.Statuses.{fault_status, journal_fault, lines_fault, loop_fault, offer_fault, schedule_fault, show_fault, show_journal_fault, status_code, store_fault, users_fault, world_fault};
 ghost use Rattle.scimlink.specs.declared.status.RunFault.TheVariants.{Memory};
 
 use connection::ConnectionFault;
 use mapping::WriteFault;
 use provider_file::ShowFault;
 use provider_store::OpenFault;
+use provisioning::PushFault;
 use source_csv::SourceFault;
+use source_offers::OfferFault;
 use std::alloc::{AllocError, AllocFailed};
 use std::io;
 use std::io::ErrorKind;
@@ -55,7 +57,7 @@ pub enum RunFault {
     Address,
     #[error("error: --requests is 1 to 1000000")]
     Requests,
-    #[error("error: show takes --store FILE")]
+    #[error("error: show takes one of --store FILE and --journal FILE")]
     Show,
     /// The users file as a whole.
     #[error("users: {0}")]
@@ -69,12 +71,18 @@ pub enum RunFault {
     /// A file of rows isn't opened, or failed.
     #[error("store fault {0}")]
     StoreFile(OpenFault),
+    /// The file of a journal isn't opened, or failed.
+    #[error("journal fault {0}")]
+    JournalFile(journal_store::OpenFault),
     /// A file couldn't be read, or standard output not be written.
     #[error("file fault")]
     File,
     /// No request came, its answer couldn't be written whole, or nothing can be listened to.
     #[error("{0}")]
     Connection(ConnectionFault),
+    /// A run of the connector.
+    #[error("{0}")]
+    Push(PushFault),
     #[error("memory fault")]
     Memory,
 }
@@ -92,8 +100,9 @@ impl RunFault {
             RunFault::Users(SourceFault::Memory) => Status::Fault,
             RunFault::Schedule(ScheduleFault::Line(_)) => Status::Refused,
             RunFault::Schedule(ScheduleFault::Memory) | RunFault::Store => Status::Fault,
-            RunFault::StoreFile(_) => Status::Fault,
+            RunFault::StoreFile(_) | RunFault::JournalFile(_) => Status::Fault,
             RunFault::File | RunFault::Connection(_) | RunFault::Memory => Status::Fault,
+            RunFault::Push(_) => Status::Fault,
         }
     }
 }
@@ -188,6 +197,50 @@ impl From<OpenFault> for RunFault {
     }
 }
 
+impl From<journal_store::OpenFault> for RunFault {
+    ghost from_gives = { λ opening fault. fault ≡ journal_fault opening };
+
+    fn from(fault: journal_store::OpenFault) -> RunFault {
+        match fault {
+            journal_store::OpenFault::Memory => RunFault::Memory,
+            journal_store::OpenFault::Store
+            | journal_store::OpenFault::Damaged
+            | journal_store::OpenFault::Newer => RunFault::JournalFile(fault),
+        }
+    }
+}
+
+impl From<journal_file::ShowFault> for RunFault {
+    ghost from_gives = { λ show fault. fault ≡ show_journal_fault show };
+
+    fn from(fault: journal_file::ShowFault) -> RunFault {
+        match fault {
+            journal_file::ShowFault::Journal(fault) => RunFault::from(fault),
+            journal_file::ShowFault::Output => RunFault::File,
+        }
+    }
+}
+
+impl From<PushFault> for RunFault {
+    ghost from_gives = { λ push fault. fault ≡ RunFault.Push push };
+
+    fn from(fault: PushFault) -> RunFault {
+        RunFault::Push(fault)
+    }
+}
+
+impl From<OfferFault> for RunFault {
+    ghost from_gives = { λ offer fault. fault ≡ offer_fault offer };
+
+    fn from(fault: OfferFault) -> RunFault {
+        match fault {
+            OfferFault::Journal => RunFault::Push(PushFault::Journal),
+            OfferFault::File => RunFault::File,
+            OfferFault::Memory => RunFault::Memory,
+        }
+    }
+}
+
 impl From<ShowFault> for RunFault {
     ghost from_gives = { λ show fault. fault ≡ show_fault show };
 
@@ -195,6 +248,17 @@ impl From<ShowFault> for RunFault {
         match fault {
             ShowFault::Store(fault) => RunFault::from(fault),
             ShowFault::Output => RunFault::File,
+        }
+    }
+}
+
+impl From<sync_runs::RunFault> for RunFault {
+    ghost from_gives = { λ ended fault. fault ≡ loop_fault ended };
+
+    fn from(fault: sync_runs::RunFault) -> RunFault {
+        match fault {
+            sync_runs::RunFault::Ended(fault) => RunFault::Push(fault),
+            sync_runs::RunFault::Store => RunFault::Store,
         }
     }
 }

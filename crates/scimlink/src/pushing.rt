@@ -1,0 +1,53 @@
+//! `push`: the connector against the provider at an address.
+use crate::looping::carried_status;
+use crate::status::{RunFault, Status};
+use connector_core::Connector;
+use journal_core::Journal;
+use journal_file::Storage;
+use provisioning::PushFault;
+use scim_client::ScimService;
+use scim_key::Base;
+use source_offers::read_sources;
+use std::io;
+use std::net::Net;
+use std::rt::Runtime;
+
+/// Opens the journal, carries the records of files to the provider at an address, and closes the
+/// journal. What was confirmed stands in it, however the run ends.
+pub fn push<R: Runtime + Net + AllocGlobal, K: Storage>(
+    rt: &R,
+    storage: &K,
+    users: &str,
+    groups: Option<&str>,
+    to: &str,
+    base: Base,
+) -> Result<Status, RunFault> {
+    let entries = storage.open()?;
+    match Connector::open(rt.alloc(), entries) {
+        Ok(mut connector) => {
+            let ended = push_from(rt, &mut connector, users, groups, to, base);
+            storage.close(connector.close());
+            ended
+        }
+        Err((fault, entries)) => {
+            storage.close(entries);
+            Err(RunFault::from(PushFault::from(fault)))
+        }
+    }
+}
+
+/// Reads the files, and carries their records.
+fn push_from<R: Runtime + Net + AllocGlobal, J: Journal>(
+    rt: &R,
+    connector: &mut Connector<J>,
+    users: &str,
+    groups: Option<&str>,
+    to: &str,
+    base: Base,
+) -> Result<Status, RunFault> {
+    let sources = read_sources(rt, users, groups)?;
+    let service = ScimService::new(base);
+    let mut out = io::writer(rt);
+    let outcome = sync_runs::push(rt, rt.alloc(), &service, connector, &sources, to, &mut out)?;
+    Ok(carried_status(outcome))
+}

@@ -1,0 +1,5 @@
+use Rattle.sync_runs.proofs.CarryLemmas.{silent}
+use Rattle.sync_runs.proofs.pushing.push.Goals as goal
+
+pub returns : goal.returns
+returns g c = silent _ _ g.J.Journal c.args.service.now c.args.sources.now c.args.connector.now c.carry.new.connector _ _ c.carry.result c.carry.ensures

@@ -1,0 +1,33 @@
+-- A whole run of the connector: the rows of its files, then its records.
+use Rattle.std.specs.Prelude.{◌≡◌, ◌⊎◌, ◌&&◌, ℕ, Bool, List, Option, None, Result, Ok, Err}
+use Rattle.journal_core.specs.declared.journals.Journal.{Ghosts}
+use Rattle.connector_core.specs.State.{State}
+use Rattle.provisioning.specs.Runs.{Done, PushesAll}
+use Rattle.provisioning.specs.declared.faults.PushFault.{PushFault}
+use Rattle.provisioning.specs.declared.pushing.Tally.{Tally}
+use Rattle.source_offers.specs.Offering.{OffersAll}
+use Rattle.source_offers.specs.Sources.{are_whole}
+use Rattle.source_offers.specs.declared.faults.OfferFault.{OfferFault}
+use Rattle.sync_runs.specs.Faults.{push_fault}
+use Rattle.sync_runs.specs.declared.carrying.Outcome.{Outcome}
+use Rattle.source_offers.specs.declared.offering.Judged.{Judged}
+use Rattle.source_offers.specs.declared.sources.Sources.{Sources}
+
+-- nothing was refused, and every record's wanted revision is confirmed
+abbrev pub is_done : Outcome → Bool
+is_done outcome = outcome.is_taken && outcome.tally.is_settled
+
+abbrev pub outcome_of : (taken : Bool) → Sources → Result Tally PushFault → Result Outcome PushFault
+outcome_of taken sources (Ok tally) = Ok (record { is_taken = taken && are_whole sources; tally = tally })
+outcome_of taken sources (Err fault) = Err fault
+
+-- The rows were offered, and then the records pushed; or a row, or telling it, ended the run
+abbrev pub Carries : {I O J T : Type 0} → (I → Option (List ℕ)) → (O → Option (List ℕ)) → Ghosts J → (heard : T → Option (List Judged)) → (told : T → Option (List Done)) → List ℕ → Sources → (old new : State J) → (before after : T) → Result Outcome PushFault → Type 0
+Carries {I} {O} {J} {T} remaining contents g heard told base sources old new before after result =
+    ((between : State J) × (mid : T) × (taken : Bool) × (tally : Result Tally PushFault) × OffersAll g sources old between (heard before) (heard mid) (Ok taken)
+    × PushesAll {I = I} {O = O} remaining contents g base between new (told mid) (told after) tally × (result ≡ outcome_of taken sources tally))
+    ⊎ ((fault : OfferFault) × OffersAll g sources old new (heard before) (heard after) (Err fault) × (result ≡ Err (push_fault fault)))
+
+-- the same, where it isn't known what a teller was told
+abbrev pub CarriesSilently : {I O J : Type 0} → (I → Option (List ℕ)) → (O → Option (List ℕ)) → Ghosts J → List ℕ → Sources → (old new : State J) → Result Outcome PushFault → Type 0
+CarriesSilently remaining contents g base sources old new result = Carries {T = Unit {0}} remaining contents g (λ told. None) (λ told. None) base sources old new tt tt result

@@ -1,0 +1,50 @@
+//! A whole run of the connector.
+ghost use Rattle.std.specs.Prelude.{◌≡◌};
+ghost use Rattle.sync_runs.specs.Carrying.{Carries, is_done};
+
+use crate::faults::push_fault;
+use connector_core::Connector;
+use journal_core::Journal;
+use provisioning::{Dial, PushFault, Tally, Tell, push_all};
+use scim_client::ScimService;
+use source_offers::{Hear, Sources, offer_all};
+use std::alloc::Global;
+
+/// How a run went that no fault ended.
+#[derive(Clone, Copy, Debug, PartialEq, Eq)]
+pub struct Outcome {
+    /// Every record of the files is a row, and the connector took each, new or not.
+    pub is_taken: bool,
+    /// What became of the connector's records.
+    pub tally: Tally,
+}
+
+impl Outcome {
+    /// Whether nothing was refused, and every record's wanted revision is confirmed.
+    pub fn is_done(self) -> bool
+        ensures { result ≡ is_done self }
+    {
+        self.is_taken && self.tally.is_settled
+    }
+}
+
+/// Offers the rows of the files to the connector, then pushes each of its records: users by key, then
+/// groups by key. Each row and each record is told as soon as it is done.
+pub fn carry<J: Journal, D: Dial, T: Hear + Tell>(
+    alloc: Global,
+    service: &ScimService,
+    connector: &mut Connector<J>,
+    sources: &Sources,
+    dial: &mut D,
+    teller: &mut T,
+) -> Result<Outcome, PushFault>
+    ensures { Carries D.Reader.remaining D.Writer.contents J.Journal T.heard T.told service.now
+        sources.now connector.old connector.new teller.old teller.new result }
+{
+    let is_taken = match offer_all(connector, sources, teller) {
+        Ok(is_taken) => is_taken && sources.are_whole(),
+        Err(fault) => return Err(push_fault(fault)),
+    };
+    let tally = push_all(alloc, service, connector, dial, teller)?;
+    Ok(Outcome { is_taken, tally })
+}
