@@ -25,7 +25,7 @@ test:
 	tests/answer.sh
 	tests/serve.sh
 	tests/stores.sh
-	tests/loop.sh
+	tests/push.sh
 	tests/simulate.sh
 	tests/edits.py
 

@@ -7,7 +7,7 @@ suite=stores
 . tests/lib.sh
 
 : > "$room/nothing"
-expect 'no store' 2 'error: show takes --store FILE' "$program" show
+expect 'no store' 2 'error: show takes one of --store FILE and --journal FILE' "$program" show
 expect 'a word more' 2 '*' "$program" show --store "$room/x" more
 expect 'a store without a name' 2 '*' "$program" answer --store
 [ -e "$room/x" ] && fails 'a word more: it opened the store'

@@ -35,8 +35,6 @@ use Rattle.source_offers.specs.declared.faults.OfferFault.{OfferFault}
 use Rattle.source_offers.specs.declared.faults.OfferFault.TheVariants as offer
 use Rattle.sync_runs.specs.Carrying.{is_done}
 use Rattle.sync_runs.specs.declared.carrying.Outcome.{Outcome}
-use Rattle.sync_runs.specs.declared.faults.RunFault.{RunFault as LoopFault}
-use Rattle.sync_runs.specs.declared.faults.RunFault.TheVariants as looping
 use Rattle.scimlink.specs.declared.status.RunFault.{RunFault}
 use Rattle.scimlink.specs.declared.status.RunFault.TheVariants as fault
 use Rattle.scimlink.specs.declared.status.Status.{Status}
@@ -154,11 +152,6 @@ is_confirmed view = same_revision view.confirmed view.wanted
 -- all is done where no row was refused and every record is confirmed in the end
 abbrev pub simulated_status : List Report → List View → Status
 simulated_status reports views = if list_all is_taken reports && list_all is_confirmed views then Done else Refused
-
--- what ended a run with a provider of its own
-abbrev pub loop_fault : LoopFault → RunFault
-loop_fault (looping.Ended why) = fault.Push why
-loop_fault looping.Store = fault.Store
 
 -- what ended a run while its rows were read and offered
 abbrev pub offer_fault : OfferFault → RunFault

@@ -26,12 +26,6 @@ pub enum Choice {
         base: Base,
         store: Option<String>,
     },
-    /// The records of files are carried to a provider in the same program.
-    Loop {
-        users: String,
-        groups: Option<String>,
-        base: Base,
-    },
     /// The image of each row of a users file is printed.
     Map {
         file: String,
@@ -130,16 +124,6 @@ fn answer_command<'a>(alloc: Global) -> Result<Command<'a>, AllocError> {
         .arg(store_option(alloc))
 }
 
-fn loop_command<'a>(alloc: Global) -> Result<Command<'a>, AllocError> {
-    Command::new(alloc, "loop")
-        .about(
-            "carries the records of files to a provider in memory, over TCP, and prints how each stands",
-        )
-        .arg(users_option(alloc))?
-        .arg(groups_option(alloc))?
-        .arg(base_option(alloc))
-}
-
 fn map_command<'a>(alloc: Global) -> Result<Command<'a>, AllocError> {
     let file = Arg::new(alloc, "FILE")
         .help("a users file: login,revision,number,given,family,mail,status")
@@ -215,8 +199,7 @@ fn program<'a>(alloc: Global) -> Command<'a> {
 
 fn command<'a>(alloc: Global) -> Result<Command<'a>, AllocError> {
     let answering = with_subcommand(program(alloc), answer_command(alloc))?;
-    let looping = with_subcommand(answering, loop_command(alloc))?;
-    let mapping = with_subcommand(looping, map_command(alloc))?;
+    let mapping = with_subcommand(answering, map_command(alloc))?;
     let pushing = with_subcommand(mapping, push_command(alloc))?;
     let serving = with_subcommand(pushing, serve_command(alloc))?;
     let showing = with_subcommand(serving, show_command(alloc))?;
@@ -241,11 +224,6 @@ fn chosen(alloc: Global, matches: &ArgMatches<'_>) -> Result<Choice, RunFault> {
         Some(("answer", answer)) => Ok(Choice::Answer {
             base: base(alloc, answer)?,
             store: store(alloc, answer)?,
-        }),
-        Some(("loop", run)) => Ok(Choice::Loop {
-            users: users(alloc, run)?,
-            groups: groups(alloc, run)?,
-            base: base(alloc, run)?,
         }),
         Some(("map", map)) => Ok(Choice::Map {
             file: file(alloc, map)?,

@@ -3,7 +3,6 @@
 
 mod answering;
 mod command;
-mod looping;
 mod map_users;
 mod pushing;
 mod serving;
@@ -33,11 +32,6 @@ fn done(rt: &HostRuntime) -> Result<Status, RunFault> {
     let words = command::words(rt)?;
     match choose(rt, words.as_slice())? {
         Choice::Answer { base, store } => answering::answer(rt, &base, store.as_deref()),
-        Choice::Loop {
-            users,
-            groups,
-            base,
-        } => looping::run(rt, users.as_str(), groups.as_deref(), base),
         Choice::Map { file } => map_users::map(rt, file.as_str()),
         Choice::Serve {
             address,

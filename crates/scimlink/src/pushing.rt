@@ -1,5 +1,7 @@
 //! `push`: the connector against the provider at an address.
-use crate::looping::carried_status;
+ghost use Rattle.std.specs.Prelude.{◌≡◌};
+ghost use Rattle.scimlink.specs.Statuses.{carried_status};
+
 use crate::status::{RunFault, Status};
 use connector_core::Connector;
 use journal_core::Journal;
@@ -11,6 +13,7 @@ use source_offers::read_sources;
 use std::io;
 use std::net::Net;
 use std::rt::Runtime;
+use sync_runs::Outcome;
 
 /// Opens the journal, carries the records of files to the provider at an address, and closes the
 /// journal. What was confirmed stands in it, however the run ends.
@@ -50,4 +53,15 @@ fn push_from<R: Runtime + Net + AllocGlobal, J: Journal>(
     let mut out = io::writer(rt);
     let outcome = sync_runs::push(rt, rt.alloc(), &service, connector, &sources, to, &mut out)?;
     Ok(carried_status(outcome))
+}
+
+/// How a run of the connector ends.
+fn carried_status(outcome: Outcome) -> Status
+    ensures { result ≡ carried_status outcome }
+{
+    if outcome.is_done() {
+        Status::Done
+    } else {
+        Status::Refused
+    }
 }
