@@ -4,18 +4,16 @@ use connector_core::Connector;
 use http_text::{Input, Output};
 use journal_core::MemoryJournal;
 use provider_core::{MemoryRegistry, Provider};
-use provisioning::{Dial, PushFault, Pushed, Tally, Tell, push_all};
+use provisioning::{Dial, PushFault, Pushed, Standing, Tally, Tell, push_all};
 use scim_client::ScimService;
 use scim_key::{Base, Kind, RecordName};
 use scim_server::serve;
-use source_offers::{Sources, read_source};
 use std::alloc::{AllocError, Global};
 use std::cell::RefCell;
 use std::io;
-use std::io::{Eprint, ErrorKind, Read, Write};
+use std::io::{ErrorKind, Read, Write};
 use std::process::Abort;
 use std::test::Fail;
-use sync_runs::{Outcome, carry};
 
 /// A provider in memory, and what it is being asked.
 #[derive(Drop)]
@@ -153,7 +151,18 @@ fn line(alloc: Global, name: &RecordName, pushed: &Pushed) -> Result<String, All
     };
     let key = name.key.as_str();
     let count = pushed.exchanges;
-    format!(in alloc; "{kind} {key} {count} {}\n", pushed.standing)
+    match &pushed.standing {
+        Standing::Confirmed(revision) => {
+            format!(in alloc; "{kind} {key} {count} confirmed {revision}\n")
+        }
+        Standing::Waits(member) => {
+            format!(in alloc; "{kind} {key} {count} waits {}\n", member.as_str())
+        }
+        Standing::Unconfirmed(Some(fault)) => {
+            format!(in alloc; "{kind} {key} {count} unconfirmed {fault}\n")
+        }
+        Standing::Unconfirmed(None) => format!(in alloc; "{kind} {key} {count} unconfirmed -\n"),
+    }
 }
 
 impl Tell for Lines {
@@ -409,87 +418,6 @@ fn a_group_waits_for_a_member(rt: HostRuntime) -> Result<(), Fail> {
         &mut connector,
         &mut streams,
         unsettled(3),
-        "user bob 3 unconfirmed C4\ngroup crew 0 unconfirmed waits bob\n",
-    )
-}
-
-/// What a file of this type with these bytes says, and the other that goes with it.
-fn sources(alloc: Global, users: &[u8], groups: &[u8]) -> Result<Sources, Fail> {
-    Ok(Sources {
-        users: read_source(alloc, Kind::User, users)?,
-        groups: Some(read_source(alloc, Kind::Group, groups)?),
-    })
-}
-
-/// Asserts how a run over files with these bytes ends, and the lines that it prints.
-fn carries<D: Dial>(
-    rt: &(impl Abort + Eprint),
-    alloc: Global,
-    users: &[u8],
-    groups: &[u8],
-    dial: &mut D,
-    end: Result<Outcome, PushFault>,
-    lines: &str,
-) -> Result<(), Fail> {
-    let service = ScimService::new(Base::read(alloc, "http://localhost:8080/v2")?);
-    let mut connector = new_connector(alloc)?;
-    let sources = sources(alloc, users, groups)?;
-    let mut text = Vec::new(alloc);
-    let mut printed = sync_runs::Lines {
-        out: &mut text,
-        stderr: rt,
-    };
-    let ended = carry(
-        alloc,
-        &service,
-        &mut connector,
-        &sources,
-        dial,
-        &mut printed,
-    );
-    assert_eq!(rt; ended, end);
-    assert_eq!(rt; text.as_slice(), lines.as_bytes());
-    Ok(())
-}
-
-#[test]
-fn the_lines_of_a_run(rt: HostRuntime) -> Result<(), Fail> {
-    let alloc = rt.alloc();
-    let peer = new_peer(alloc)?;
-    let mut streams = Streams { alloc, peer: &peer };
-    carries(
-        &rt,
-        alloc,
-        b"login,revision,number,given,family,mail,status\nbob,1,,,,,active\nbob,1,,,,,left\n",
-        b"name,revision,members\ncrew,1,bob\n",
-        &mut streams,
-        Ok(Outcome {
-            is_taken: false,
-            tally: Tally {
-                exchanges: 4,
-                is_settled: true,
-            },
-        }),
-        "user bob confirmed 1\ngroup crew confirmed 1\n",
-    )?;
-    let mut answers = Answers {
-        alloc,
-        answers: &[REFUSED, REFUSED, TWO],
-        taken: 0,
-    };
-    carries(
-        &rt,
-        alloc,
-        b"login,revision,number,given,family,mail,status\nbob,1,,,,,active\n",
-        b"name,revision,members\ncrew,1,bob\n",
-        &mut answers,
-        Ok(Outcome {
-            is_taken: true,
-            tally: Tally {
-                exchanges: 3,
-                is_settled: false,
-            },
-        }),
-        "user bob unconfirmed C1\ngroup crew unconfirmed waits bob\n",
+        "user bob 3 unconfirmed C4\ngroup crew 0 waits bob\n",
     )
 }
