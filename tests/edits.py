@@ -54,20 +54,25 @@ class Edit:
     def text(self, file):
         return (ROOT / "crates" / self.crate / file).read_text(encoding="utf-8")
 
+    def changes(self):
+        """The lines that it changes: of each file their numbers, each with the new line."""
+        found = {}
+        for file in {it for it, _, _ in self.pairs}:
+            text = was = self.text(file)
+            for _, old, new in (it for it in self.pairs if it[0] == file):
+                text = text.replace(old, new)
+            lines = enumerate(zip(was.splitlines(), text.splitlines()), 1)
+            found[file] = {at: now for at, (line, now) in lines if line != now}
+        return found
+
     def functions(self):
-        """The functions that it touches, each as its file, name, first and last line; none where
-        some text stands in no function."""
+        """The functions that it changes, each as its file, name, first and last line; none where a
+        line changes that stands in no function."""
         found = set()
-        for file, old, _ in self.pairs:
-            text = self.text(file)
-            if old not in text:
-                continue
-            line = text[: text.index(old)].count("\n") + 1
-            it = function_at(text.splitlines(), line)
-            if not file.startswith("src/") or not it:
-                return frozenset()
-            found.add((file, *it))
-        return frozenset(found)
+        for file, lines in self.changes().items():
+            was = self.text(file).splitlines()
+            found |= {(file, *(function_at(was, at) or [None])) for at in lines}
+        return frozenset() if any(not it[0].startswith("src/") or not it[1] for it in found) else frozenset(found)
 
 
 def pairs(path):
@@ -145,9 +150,11 @@ def checked(edits, told, kept):
             if (ROOT / "crates" / crate / part).is_dir():
                 shutil.copytree(ROOT / "crates" / crate / part, f"{room}/{part}")
         for edit in edits:
-            for file, old, new in edit.pairs:
+            for file, lines in edit.changes().items():
                 path = pathlib.Path(room) / file
-                path.write_text(path.read_text(encoding="utf-8").replace(old, new), encoding="utf-8")
+                text = path.read_text(encoding="utf-8").splitlines()
+                changed = (lines.get(at, line) for at, line in enumerate(text, 1))
+                path.write_text("".join(f"{it}\n" for it in changed), encoding="utf-8")
         how = {"stdin": subprocess.DEVNULL, "stdout": subprocess.PIPE, "stderr": subprocess.STDOUT}
         return subprocess.run([*told, "--incremental", kept], cwd=room, errors="replace", **how).stdout
 
