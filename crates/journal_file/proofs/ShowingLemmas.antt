@@ -18,5 +18,5 @@ pub one_more : (before middle now : Option (List ℕ)) (list : List Entry) (n : 
 one_more before middle now list n entry line within is said so_far written =
     let more : take (n + 1) list ≡ take n list ++ entry ∷ [] = take_more list n entry within ∙ ap (λ e. take n list ++ e ∷ []) (sym is) in
     let lines : lines_of (take (n + 1) list) ≡ lines_of (take n list) ++ line =
-        ap lines_of more ∙ flat_map-append entry_line (take n list) (entry ∷ []) ∙ ap (λ l. lines_of (take n list) ++ l) (append-nil (entry_line entry) ∙ sym said) in
+    ap lines_of more ∙ flat_map-append entry_line (take n list) (entry ∷ []) ∙ ap (λ l. lines_of (take n list) ++ l) (append-nil (entry_line entry) ∙ sym said) in
     subst (Appends before now) (sym lines) (appends_more before middle now (lines_of (take n list)) line so_far written)
