@@ -1,6 +1,6 @@
 //! A whole run of the connector.
 ghost use Rattle.std.specs.Prelude.{◌≡◌};
-ghost use Rattle.sync_runs.specs.Carrying.{Carries, is_done};
+ghost use Rattle.sync_runs.specs.Carrying.{Carries, is_done, outcome_of};
 
 use crate::faults::push_fault;
 use connector_core::Connector;
@@ -41,10 +41,28 @@ pub fn carry<J: Journal, D: Dial, T: Hear + Tell>(
     ensures { Carries D.Reader.remaining D.Writer.contents J.Journal T.heard T.told service.now
         sources.now connector.old connector.new teller.old teller.new result }
 {
-    let is_taken = match offer_all(connector, sources, teller) {
-        Ok(is_taken) => is_taken && sources.are_whole(),
-        Err(fault) => return Err(push_fault(fault)),
-    };
-    let tally = push_all(alloc, service, connector, dial, teller)?;
-    Ok(Outcome { is_taken, tally })
+    match offer_all(connector, sources, teller) {
+        Ok(is_taken) => {
+            let tally = push_all(alloc, service, connector, dial, teller);
+            outcome_of(is_taken, sources, tally)
+        }
+        Err(fault) => Err(push_fault(fault)),
+    }
+}
+
+/// What a run came to, of what its rows and its records did.
+fn outcome_of(
+    is_taken: bool,
+    sources: &Sources,
+    tally: Result<Tally, PushFault>,
+) -> Result<Outcome, PushFault>
+    ensures { result ≡ outcome_of is_taken sources.now tally }
+{
+    match tally {
+        Ok(tally) => Ok(Outcome {
+            is_taken: is_taken && sources.are_whole(),
+            tally,
+        }),
+        Err(fault) => Err(fault),
+    }
 }

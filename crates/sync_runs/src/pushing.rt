@@ -15,7 +15,7 @@ use std::net::Net;
 use std::time::{Clock, Duration};
 
 /// For how many seconds an exchange may take its time, in all.
-pub(crate) const EXCHANGE_SECONDS: u64 = 30;
+const EXCHANGE_SECONDS: u64 = 30;
 
 /// Runs the connector against the provider at an address, HOST:PORT. A line is printed for each record
 /// as soon as it is done, and rows that the connector refuses are told on standard error.

@@ -4,7 +4,6 @@ use scim_key::{Kind, RecordName};
 use source_offers::{Hear, Judged, label};
 use std::io;
 use std::io::{Eprint, Write};
-use world_sim::Report;
 
 /// A line for each record as soon as it is done: `user bob confirmed 1`. Rows that the connector
 /// refuses are told on standard error.
@@ -16,9 +15,14 @@ pub struct Lines<'a, W: Drop, E> {
 
 impl<'a, W: Write + Drop, E: Eprint> Hear for Lines<'a, W, E> {
     fn hear(&mut self, judged: Judged) -> io::Result<()> {
-        if let Err(fault) = judged.verdict {
-            let label = label(judged.kind);
-            let _ = eprintln!(self.stderr; "{label} record {}: {fault}", judged.place);
+        let Judged {
+            kind,
+            place,
+            verdict,
+        } = judged;
+        if let Err(fault) = verdict {
+            let label = label(kind);
+            let _ = eprintln!(self.stderr; "{label} record {place}: {fault}");
         }
         Ok(())
     }
@@ -32,27 +36,5 @@ impl<'a, W: Write + Drop, E: Eprint> Tell for Lines<'a, W, E> {
         };
         writeln!(self.out, "{kind} {} {}", name.key.as_str(), pushed.standing)?;
         self.out.flush()
-    }
-}
-
-/// A line for each row as soon as it is judged: its number from 1, and what the connector says of it.
-/// Nothing is told of the records.
-#[derive(Drop)]
-pub struct Reports<W: Drop> {
-    pub out: W,
-    pub rows: usize,
-}
-
-impl<W: Write + Drop> Hear for Reports<W> {
-    fn hear(&mut self, judged: Judged) -> io::Result<()> {
-        self.rows = self.rows.saturating_add(1);
-        let report = Report::Judged(judged.verdict);
-        writeln!(self.out, "{} {report}", self.rows)
-    }
-}
-
-impl<W: Write + Drop> Tell for Reports<W> {
-    fn tell(&mut self, _: &RecordName, _: &Pushed) -> io::Result<()> {
-        Ok(())
     }
 }
