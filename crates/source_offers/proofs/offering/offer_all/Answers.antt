@@ -8,19 +8,19 @@ pub returns-then-are_users_taken : goal.returns-then-are_users_taken
 returns-then-are_users_taken g c =
     let told = g.T.Hear.heard c.offer_file.new.teller in
     let users = subst (λ (rs : List (Result Row RowFault)). AllDealt g.J.Journal c.args.sources.now.users.kind rs c.args.connector.now c.offer_file.new.connector (g.T.Hear.heard c.args.teller.now) told c.in_ok-are_users_taken.are_users_taken)
-            c.records.ensures c.in_ok-are_users_taken.ensures in
+    c.records.ensures c.in_ok-are_users_taken.ensures in
     inl (c.offer_file.new.connector, told, c.in_ok-are_users_taken.are_users_taken, Ok c.in-Ok.are_groups_taken, users, c.in-Ok.ensures, rw c.if-are_users_taken.true refl)
 
 pub returns-else-are_users_taken : goal.returns-else-are_users_taken
 returns-else-are_users_taken g c =
     let told = g.T.Hear.heard c.offer_file.new.teller in
     let users = subst (λ (rs : List (Result Row RowFault)). AllDealt g.J.Journal c.args.sources.now.users.kind rs c.args.connector.now c.offer_file.new.connector (g.T.Hear.heard c.args.teller.now) told c.in_ok-are_users_taken.are_users_taken)
-            c.records.ensures c.in_ok-are_users_taken.ensures in
+    c.records.ensures c.in_ok-are_users_taken.ensures in
     inl (c.offer_file.new.connector, told, c.in_ok-are_users_taken.are_users_taken, Ok c.in-Ok.are_groups_taken, users, c.in-Ok.ensures, rw c.if-are_users_taken.false refl)
 
 pub returns-in-Err : goal.returns-in-Err
 returns-in-Err g c =
     let told = g.T.Hear.heard c.offer_file.new.teller in
     let users = subst (λ (rs : List (Result Row RowFault)). AllDealt g.J.Journal c.args.sources.now.users.kind rs c.args.connector.now c.offer_file.new.connector (g.T.Hear.heard c.args.teller.now) told c.in_ok-are_users_taken.are_users_taken)
-            c.records.ensures c.in_ok-are_users_taken.ensures in
+    c.records.ensures c.in_ok-are_users_taken.ensures in
     inl (c.offer_file.new.connector, told, c.in_ok-are_users_taken.are_users_taken, Err c.in-Err.fault, users, c.in-Err.ensures, refl)
