@@ -24,6 +24,7 @@ test:
 	tests/map.sh
 	tests/answer.sh
 	tests/serve.sh
+	tests/stores.sh
 	tests/simulate.sh
 	tests/edits.py
 

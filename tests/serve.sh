@@ -17,7 +17,6 @@ expect 'no requests' 2 '*' "$program" serve "${local_port[@]}"
 expect 'no address' 2 '*' "$program" serve --requests 1
 expect 'a base of another form' 2 'error: --base is http://HOST/v2' "$program" serve "${local_port[@]}" --requests 1 --base http://x
 expect 'a word more' 2 '*' "$program" serve "${local_port[@]}" --requests 1 more
-expect 'a store' 2 '*' "$program" serve "${local_port[@]}" --requests 1 --store x
 for address in 127.0.0.1 127.0.0.1:65536 192.0.2.1:0 '' :; do
     expect "address $address" 3 'connection fault' "$program" serve --listen "$address" --requests 1
     prints "address $address" "$room/nothing"

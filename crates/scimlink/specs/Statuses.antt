@@ -8,6 +8,10 @@ use Rattle.scim_key.specs.declared.names.NameFault.TheVariants as name
 use Rattle.scim_server.specs.declared.serving.Served.{Served}
 use Rattle.scim_server.specs.declared.serving.Served.TheVariants.{Answered, NoRequest, Lost}
 use Rattle.connection.specs.declared.serving.ConnectionFault.{ConnectionFault}
+use Rattle.provider_store.specs.declared.opening.OpenFault.{OpenFault}
+use Rattle.provider_store.specs.declared.opening.OpenFault.TheVariants as opening
+use Rattle.provider_file.specs.declared.showing.ShowFault.{ShowFault}
+use Rattle.provider_file.specs.declared.showing.ShowFault.TheVariants as show
 use Rattle.source_csv.specs.declared.faults.RowFault.{RowFault}
 use Rattle.source_csv.specs.declared.faults.SourceFault.{SourceFault}
 use Rattle.source_csv.specs.declared.faults.SourceFault.TheVariants as source
@@ -40,11 +44,13 @@ fault_status fault.Subcommand = Usage
 fault_status fault.Base = Usage
 fault_status fault.Address = Usage
 fault_status fault.Requests = Usage
+fault_status fault.Show = Usage
 fault_status (fault.Users source.Header) = Refused
 fault_status (fault.Users source.Memory) = Fault
 fault_status (fault.Schedule (schedule.Line number)) = Refused
 fault_status (fault.Schedule schedule.Memory) = Fault
 fault_status fault.Store = Fault
+fault_status (fault.StoreFile why) = Fault
 fault_status fault.File = Fault
 fault_status (fault.Connection why) = Fault
 fault_status fault.Memory = Fault
@@ -69,6 +75,16 @@ abbrev pub served_status : Served → Result Status RunFault
 served_status (Answered status) = Ok Done
 served_status (NoRequest why) = Err (fault.Connection (record {}))
 served_status (Lost status) = Err (fault.Connection (record {}))
+
+-- a file of rows that isn't opened, or failed
+abbrev pub store_fault : OpenFault → RunFault
+store_fault opening.Memory = fault.Memory
+store_fault why = fault.StoreFile why
+
+-- rows that weren't shown whole
+abbrev pub show_fault : ShowFault → RunFault
+show_fault (show.Store why) = store_fault why
+show_fault show.Output = fault.File
 
 -- each fault of these connections was told when it came
 abbrev pub outcome_status : Result (Unit {0}) ConnectionFault → Status

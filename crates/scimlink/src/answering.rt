@@ -1,24 +1,45 @@
 //! `answer`: one request from standard input, answered on standard output.
-ghost use Rattle.std.specs.Prelude.{◌≡◌};
-ghost use Rattle.scimlink.specs.Connections.{AnswersOne};
+ghost use Rattle.std.specs.Prelude.{◌≡◌, IfOk};
+ghost use Rattle.scimlink.specs.Connections.{AnswersOne, AnswersStored};
 ghost use Rattle.scimlink.specs.Statuses.{served_status};
 
 use crate::status::{RunFault, Status};
 use connection::answered;
 use http_text::{Input, Output};
 use provider_core::{MemoryRegistry, Provider};
+use provider_file::{Storage, StoreFile, serve_one};
 use scim_key::Base;
 use scim_server::{Served, serve};
 use std::alloc::Global;
 use std::io;
 use std::io::{Read, Write};
-use std::rt::Runtime;
+use std::rt::HostRuntime;
 
-/// Answers one request from standard input over an empty provider in memory.
-pub fn answer<R: Runtime + AllocGlobal>(rt: &R, base: &Base) -> Result<Status, RunFault> {
+/// Answers one request from standard input, over the rows of a file or an empty provider in memory.
+pub fn answer(rt: &HostRuntime, base: &Base, store: Option<&str>) -> Result<Status, RunFault> {
     let mut reader = Input::new(rt.reader());
     let mut writer = Output::new(io::writer(rt));
-    answer_one(rt.alloc(), base, &mut reader, &mut writer)
+    match store {
+        Some(path) => {
+            let storage = StoreFile { rt, path };
+            answer_stored(rt.alloc(), &storage, base, &mut reader, &mut writer)
+        }
+        None => answer_one(rt.alloc(), base, &mut reader, &mut writer),
+    }
+}
+
+/// Answers one request over rows that are opened before it is read.
+fn answer_stored<K: Storage, I: Read, O: Write>(
+    alloc: Global,
+    storage: &K,
+    base: &Base,
+    reader: &mut Input<I>,
+    writer: &mut Output<O>,
+) -> Result<Status, RunFault>
+    ensures { AnswersStored K.Rows.Registry base.now reader.old reader.new writer.old writer.new result }
+{
+    let served = serve_one(alloc, storage, base, reader, writer)?;
+    served_status(served)
 }
 
 /// Answers one request over an empty provider in memory.

@@ -1,5 +1,6 @@
 //! The command line.
 ghost use Rattle.std.specs.Prelude.{◌≡◌, ◌<◌, ◌≤◌, IfOk, Some, codes, string_bytes};
+ghost use Rattle.std.specs.Option.{option_map};
 ghost use Rattle.clap.specs.Matches.{first_value, found_of};
 ghost use Rattle.scimlink.specs.Statuses.{base_fault, words_status};
 
@@ -23,6 +24,7 @@ pub enum Choice {
     /// One request from standard input is answered on standard output.
     Answer {
         base: Base,
+        store: Option<String>,
     },
     /// The image of each row of a users file is printed.
     Map {
@@ -33,6 +35,11 @@ pub enum Choice {
         address: String,
         requests: u32,
         base: Base,
+        store: Option<String>,
+    },
+    /// The rows of a store are printed.
+    Show {
+        store: String,
     },
     /// The events of a schedule are run over both sides in memory.
     Simulate {
@@ -67,10 +74,19 @@ fn base_option<'a>(alloc: Global) -> Arg<'a> {
         .default_value(DEFAULT_BASE)
 }
 
+/// The option of the commands that keep their rows in a file.
+fn store_option<'a>(alloc: Global) -> Arg<'a> {
+    Arg::new(alloc, "store")
+        .long("store")
+        .value_name("FILE")
+        .help("the file of the provider's rows, made where it isn't there")
+}
+
 fn answer_command<'a>(alloc: Global) -> Result<Command<'a>, AllocError> {
     Command::new(alloc, "answer")
         .about("answers one HTTP request from standard input on standard output")
-        .arg(base_option(alloc))
+        .arg(base_option(alloc))?
+        .arg(store_option(alloc))
 }
 
 fn map_command<'a>(alloc: Global) -> Result<Command<'a>, AllocError> {
@@ -98,7 +114,14 @@ fn serve_command<'a>(alloc: Global) -> Result<Command<'a>, AllocError> {
         .about("serves HTTP connections to an address, one after another")
         .arg(listen)?
         .arg(requests)?
-        .arg(base_option(alloc))
+        .arg(base_option(alloc))?
+        .arg(store_option(alloc))
+}
+
+fn show_command<'a>(alloc: Global) -> Result<Command<'a>, AllocError> {
+    Command::new(alloc, "show")
+        .about("prints the rows of a store, a line each, in order of creation")
+        .arg(store_option(alloc))
 }
 
 fn simulate_command<'a>(alloc: Global) -> Result<Command<'a>, AllocError> {
@@ -123,7 +146,8 @@ fn command<'a>(alloc: Global) -> Result<Command<'a>, AllocError> {
     let answering = with_subcommand(program(alloc), answer_command(alloc))?;
     let mapping = with_subcommand(answering, map_command(alloc))?;
     let serving = with_subcommand(mapping, serve_command(alloc))?;
-    with_subcommand(serving, simulate_command(alloc))
+    let showing = with_subcommand(serving, show_command(alloc))?;
+    with_subcommand(showing, simulate_command(alloc))
 }
 
 fn with_subcommand<'a>(
@@ -143,6 +167,7 @@ fn chosen(alloc: Global, matches: &ArgMatches<'_>) -> Result<Choice, RunFault> {
     match matches.subcommand() {
         Some(("answer", answer)) => Ok(Choice::Answer {
             base: base(alloc, answer)?,
+            store: store(alloc, answer)?,
         }),
         Some(("map", map)) => Ok(Choice::Map {
             file: file(alloc, map)?,
@@ -151,6 +176,10 @@ fn chosen(alloc: Global, matches: &ArgMatches<'_>) -> Result<Choice, RunFault> {
             address: address(alloc, serve)?,
             requests: requests(serve)?,
             base: base(alloc, serve)?,
+            store: store(alloc, serve)?,
+        }),
+        Some(("show", show)) => Ok(Choice::Show {
+            store: shown_store(alloc, show)?,
         }),
         Some(("simulate", simulate)) => Ok(Choice::Simulate {
             file: file(alloc, simulate)?,
@@ -200,6 +229,28 @@ fn address(alloc: Global, matches: &ArgMatches<'_>) -> Result<String, RunFault>
     match matches.get_str("listen") {
         Some(text) => Ok(String::from_str(alloc, text)?),
         None => Err(RunFault::Address),
+    }
+}
+
+/// The file of rows that the words name, if they do.
+fn store(alloc: Global, matches: &ArgMatches<'_>) -> Result<Option<String>, RunFault>
+    ensures { IfOk result
+        (λ store. first_value (found_of matches.now) (codes "store") ≡ option_map string_bytes store) }
+{
+    match matches.get_str("store") {
+        Some(text) => Ok(Some(String::from_str(alloc, text)?)),
+        None => Ok(None),
+    }
+}
+
+/// The store that is shown.
+fn shown_store(alloc: Global, matches: &ArgMatches<'_>) -> Result<String, RunFault>
+    ensures { IfOk result
+        (λ store. first_value (found_of matches.now) (codes "store") ≡ Some (string_bytes store)) }
+{
+    match store(alloc, matches)? {
+        Some(store) => Ok(store),
+        None => Err(RunFault::Show),
     }
 }
 

@@ -5,37 +5,39 @@ mod answering;
 mod command;
 mod map_users;
 mod serving;
+mod showing;
 mod simulating;
 mod status;
 
 use command::{Choice, choose};
 use status::{RunFault, Status, told};
-use std::net::Net;
 use std::process::ExitCode;
-use std::rt::Runtime;
+use std::rt::HostRuntime;
 
 fn main(rt: HostRuntime) -> ExitCode {
     ExitCode::from(run(&rt).code())
 }
 
 /// Reads the command line and does what it says. A fault is told on standard error.
-fn run<R: Runtime + Net + AllocGlobal>(rt: &R) -> Status {
+fn run(rt: &HostRuntime) -> Status {
     match done(rt) {
         Ok(status) => status,
         Err(fault) => told(rt, fault),
     }
 }
 
-fn done<R: Runtime + Net + AllocGlobal>(rt: &R) -> Result<Status, RunFault> {
+fn done(rt: &HostRuntime) -> Result<Status, RunFault> {
     let words = command::words(rt)?;
     match choose(rt, words.as_slice())? {
-        Choice::Answer { base } => answering::answer(rt, &base),
+        Choice::Answer { base, store } => answering::answer(rt, &base, store.as_deref()),
         Choice::Map { file } => map_users::map(rt, file.as_str()),
         Choice::Serve {
             address,
             requests,
             base,
-        } => serving::serve(rt, address.as_str(), requests, &base),
+            store,
+        } => serving::serve(rt, address.as_str(), requests, &base, store.as_deref()),
+        Choice::Show { store } => showing::show(rt, store.as_str()),
         Choice::Simulate { file, base } => simulating::simulate(rt, file.as_str(), base),
         Choice::Told(status) => Ok(status),
     }

@@ -5,30 +5,67 @@ ghost use Rattle.scimlink.specs.declared.status.RunFault.TheVariants.{Memory};
 
 use crate::status::{RunFault, Status};
 use connection::{ConnectionFault, Sockets, serve_from_memory};
+use provider_file::{Storage, StoreFile, serve_stored};
 use scim_key::Base;
 use std::io;
 use std::io::ErrorKind;
 use std::net::{Net, OpenListener, SocketAddr, TcpListener};
-use std::rt::Runtime;
+use std::rt::{HostRuntime, Runtime};
 use std::time::Duration;
 
 /// For how many seconds a connection may take its time, in all.
 const CONNECTION_SECONDS: u64 = 30;
 
-/// Serves so many connections to an address from a provider in memory that is empty at first.
-pub fn serve<R: Runtime + Net + AllocGlobal>(
+/// Serves so many connections to an address, from the rows of a file, which is opened first, or from
+/// a provider in memory that is empty at first.
+pub fn serve(
+    rt: &HostRuntime,
+    address: &str,
+    requests: u32,
+    base: &Base,
+    store: Option<&str>,
+) -> Result<Status, RunFault> {
+    match store {
+        Some(path) => serve_from_file(rt, address, requests, base, &StoreFile { rt, path }),
+        None => {
+            let mut sockets = sockets(rt, address)?;
+            let outcome = serve_from_memory(rt, rt.alloc(), &mut sockets, requests, base);
+            Ok(outcome_status(outcome))
+        }
+    }
+}
+
+/// Opens the rows, listens, and serves so many connections.
+fn serve_from_file<R: Runtime + Net + AllocGlobal, K: Storage>(
     rt: &R,
     address: &str,
     requests: u32,
     base: &Base,
+    storage: &K,
 ) -> Result<Status, RunFault> {
-    let mut sockets = Sockets {
+    let rows = storage.open()?;
+    match sockets(rt, address) {
+        Ok(mut sockets) => {
+            let outcome = serve_stored(rt, rt.alloc(), storage, rows, &mut sockets, requests, base)?;
+            Ok(outcome_status(outcome))
+        }
+        Err(fault) => {
+            storage.close(rows);
+            Err(fault)
+        }
+    }
+}
+
+/// The connections of an address, each with its time.
+fn sockets<'a, R: Runtime + Net>(
+    rt: &'a R,
+    address: &str,
+) -> Result<Sockets<'a, R::Listener, R>, RunFault> {
+    Ok(Sockets {
         listener: listen(rt, address)?,
         clock: rt,
         limit: Duration::from_secs(CONNECTION_SECONDS),
-    };
-    let outcome = serve_from_memory(rt, rt.alloc(), &mut sockets, requests, base);
-    Ok(outcome_status(outcome))
+    })
 }
 
 /// Listens on an address, and prints the one that was taken.

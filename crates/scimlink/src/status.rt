@@ -1,10 +1,12 @@
 //! How a run ends.
 ghost use Rattle.std.specs.Prelude.{◌≡◌, ◌≢◌};
-ghost use Rattle.scimlink.specs.Statuses.{fault_status, lines_fault, schedule_fault, status_code, users_fault, world_fault};
+ghost use Rattle.scimlink.specs.Statuses.{fault_status, lines_fault, schedule_fault, show_fault, status_code, store_fault, users_fault, world_fault};
 ghost use Rattle.scimlink.specs.declared.status.RunFault.TheVariants.{Memory};
 
 use connection::ConnectionFault;
 use mapping::WriteFault;
+use provider_file::ShowFault;
+use provider_store::OpenFault;
 use source_csv::SourceFault;
 use std::alloc::{AllocError, AllocFailed};
 use std::io;
@@ -53,6 +55,8 @@ pub enum RunFault {
     Address,
     #[error("error: --requests is 1 to 1000000")]
     Requests,
+    #[error("error: show takes --store FILE")]
+    Show,
     /// The users file as a whole.
     #[error("users: {0}")]
     Users(SourceFault),
@@ -62,6 +66,9 @@ pub enum RunFault {
     /// A store of a world failed.
     #[error("store fault")]
     Store,
+    /// A file of rows isn't opened, or failed.
+    #[error("store fault {0}")]
+    StoreFile(OpenFault),
     /// A file couldn't be read, or standard output not be written.
     #[error("file fault")]
     File,
@@ -80,10 +87,12 @@ impl RunFault {
         match self {
             RunFault::Words | RunFault::Subcommand => Status::Usage,
             RunFault::Base | RunFault::Address | RunFault::Requests => Status::Usage,
+            RunFault::Show => Status::Usage,
             RunFault::Users(SourceFault::Header) => Status::Refused,
             RunFault::Users(SourceFault::Memory) => Status::Fault,
             RunFault::Schedule(ScheduleFault::Line(_)) => Status::Refused,
             RunFault::Schedule(ScheduleFault::Memory) | RunFault::Store => Status::Fault,
+            RunFault::StoreFile(_) => Status::Fault,
             RunFault::File | RunFault::Connection(_) | RunFault::Memory => Status::Fault,
         }
     }
@@ -162,6 +171,30 @@ impl From<WorldFault> for RunFault {
         match fault {
             WorldFault::Memory => RunFault::Memory,
             WorldFault::Store => RunFault::Store,
+        }
+    }
+}
+
+impl From<OpenFault> for RunFault {
+    ghost from_gives = { λ opening fault. fault ≡ store_fault opening };
+
+    fn from(fault: OpenFault) -> RunFault {
+        match fault {
+            OpenFault::Memory => RunFault::Memory,
+            OpenFault::Store | OpenFault::Damaged(_) | OpenFault::Newer => {
+                RunFault::StoreFile(fault)
+            }
+        }
+    }
+}
+
+impl From<ShowFault> for RunFault {
+    ghost from_gives = { λ show fault. fault ≡ show_fault show };
+
+    fn from(fault: ShowFault) -> RunFault {
+        match fault {
+            ShowFault::Store(fault) => RunFault::from(fault),
+            ShowFault::Output => RunFault::File,
         }
     }
 }

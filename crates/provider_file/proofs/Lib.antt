@@ -1,0 +1,2 @@
+mod ServingLemmas
+mod ShowingLemmas

@@ -1,0 +1,5 @@
+pub mod Opened
+pub mod Files
+pub mod Serving
+pub mod Lines
+pub mod Showing

@@ -1,0 +1,27 @@
+-- What is shown of a store.
+use Rattle.std.specs.Prelude.{◌≡◌, ℕ, List, Option}
+use Rattle.std.specs.Io.KnownBytes.{Appends}
+use Rattle.provider_core.specs.declared.registry.Registry.{Ghosts}
+use Rattle.provider_core.specs.declared.registry.RegistryFault.{RegistryFault}
+use Rattle.provider_core.specs.declared.registry.RegistryFault.TheVariants as registry
+use Rattle.provider_store.specs.declared.opening.OpenFault.TheVariants as opening
+use Rattle.provider_file.specs.declared.showing.ShowFault.{ShowFault}
+use Rattle.provider_file.specs.declared.showing.ShowFault.TheVariants.{Store}
+use Rattle.provider_file.specs.Opened.{IsOpened}
+use Rattle.provider_file.specs.Lines.{lines_of}
+
+abbrev pub registry_fault : RegistryFault → ShowFault
+registry_fault registry.Store = Store opening.Store
+registry_fault registry.Memory = Store opening.Memory
+
+-- a call that only reads: a store that is faithful after it was so before, and the rows are the same
+pub record ReadsOn {R : Type 0} (g : Ghosts R) (old new : R) : Type 0 where
+  pub was : g.is_faithful new → g.is_faithful old
+  pub same : g.is_faithful new → g.rows new ≡ g.rows old
+
+-- a line of each row that was opened, in their order, is written
+pub record ShowsFrom {R : Type 0} (g : Ghosts R) (before after : Option (List ℕ)) : Type 0 where
+  pub first : R
+  pub last : R
+  pub opened : IsOpened g first
+  pub lines : g.is_faithful last → Appends before after (lines_of (g.rows first))

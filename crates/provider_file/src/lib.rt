@@ -1,0 +1,14 @@
+//! The rows of a provider in a file: opened, served from, shown, and opened anew after a fault.
+#![tactic(auto)]
+
+mod file;
+mod lines;
+mod serving;
+mod showing;
+mod storage;
+
+pub use file::{StoreFile, open_file};
+pub use lines::row_line;
+pub use serving::{serve_one, serve_stored};
+pub use showing::{ShowFault, show_rows, write_rows};
+pub use storage::Storage;

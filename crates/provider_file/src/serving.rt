@@ -1,0 +1,75 @@
+//! Connections served from where the rows are kept.
+ghost use Rattle.std.specs.Prelude.{◌≡◌, ◌<◌, IfOk, OnErr};
+ghost use Rattle.provider_file.specs.Opened.{IsMended};
+ghost use Rattle.provider_file.specs.Serving.{AnswersFrom, IsRefused, ServesEach, ServesFrom, ServesNext};
+
+use crate::storage::Storage;
+use connection::{ConnectionFault, Listen, serve_connections};
+use http_text::{Input, Output};
+use provider_core::Provider;
+use provider_store::OpenFault;
+use scim_key::Base;
+use scim_server::{Served, serve};
+use std::alloc::Global;
+use std::io::{Eprint, Read, Write};
+
+/// Opens the rows, serves one connection from them, and closes them.
+pub fn serve_one<K: Storage, I: Read, O: Write>(
+    alloc: Global,
+    storage: &K,
+    base: &Base,
+    reader: &mut Input<I>,
+    writer: &mut Output<O>,
+) -> Result<Served, OpenFault>
+    ensures answers { IfOk result (AnswersFrom K.Rows.Registry base.now reader.old reader.new writer.old writer.new) }
+    ensures refused { OnErr result ((reader.new ≡ reader.old) × (writer.new ≡ writer.old)) }
+{
+    let mut provider = Provider::new(storage.open()?);
+    let served = serve(alloc, &mut provider, base, reader, writer);
+    storage.close(provider.close());
+    Ok(served)
+}
+
+/// Serves so many connections, as `serve_connections` does, from rows that were opened here, and
+/// closes them. After a fault of the store the rows are opened anew before the next connection is
+/// taken, and it ends where that is refused.
+pub fn serve_stored<K: Storage, L: Listen>(
+    rt: &impl Eprint,
+    alloc: Global,
+    storage: &K,
+    rows: K::Rows,
+    listener: &mut L,
+    count: u32,
+    base: &Base,
+) -> Result<Result<(), ConnectionFault>, OpenFault>
+    ensures served { IfOk result (λ outcome. (last : K.Rows) × ServesFrom L.waiting L.Reader.remaining L.Writer.contents
+        K.Rows.Registry base.now listener.old listener.new rows last count outcome) }
+    ensures refused { OnErr result (IsRefused L.waiting L.Reader.remaining L.Writer.contents
+        K.Rows.Registry base.now listener.old listener.new rows count) }
+{
+    let mut provider = Provider::new(rows);
+    let mut outcome = Ok(());
+    for _turn in 0..count {
+        provider = mended(storage, provider)?;
+        let served = serve_connections(rt, alloc, listener, 1, base, &mut provider);
+        outcome = outcome.and(served);
+    }
+    storage.close(provider.close());
+    Ok(outcome)
+}
+
+/// The provider, over rows that are opened anew where a fault of their store was counted.
+fn mended<K: Storage>(
+    storage: &K,
+    provider: Provider<K::Rows>,
+) -> Result<Provider<K::Rows>, OpenFault>
+    ensures mended { IfOk result (IsMended K.Rows.Registry provider) }
+    ensures refused { OnErr result (0 < K.Rows.faults provider) }
+{
+    let rows = provider.close();
+    if !storage.has_failed(&rows) {
+        return Ok(Provider::new(rows));
+    }
+    storage.close(rows);
+    Ok(Provider::new(storage.open()?))
+}

@@ -1,0 +1,147 @@
+//! The rows of a store as lines.
+ghost use Rattle.std.specs.Prelude.{◌≡◌, ◌≢◌, OnOk, take, drop};
+ghost use Rattle.std.specs.Io.KnownBytes.{Appends};
+ghost use Rattle.provider_file.specs.Lines.{lines_of};
+ghost use Rattle.provider_file.specs.Showing.{ShowsFrom, registry_fault, ReadsOn};
+ghost use Rattle.provider_file.specs.declared.showing.ShowFault.TheVariants.{Output};
+ghost use Rattle.provider_store.specs.declared.opening.OpenFault.TheVariants.{Memory};
+
+use crate::lines::row_line;
+use crate::storage::Storage;
+use provider_core::{Registry, RegistryFault};
+use provider_store::OpenFault;
+use scim_resource::Stored;
+use std::alloc::{AllocError, Global};
+use std::io;
+use std::io::{ErrorKind, Write};
+use thiserror::Error;
+
+/// How many rows are in memory at a time.
+const ROWS_AT_ONCE: u32 = 100;
+
+/// Why the lines of a store weren't written whole.
+#[derive(Clone, Copy, Debug, PartialEq, Eq, Error)]
+pub enum ShowFault {
+    /// The store wasn't opened, it failed, or memory ran out.
+    #[error("store {0}")]
+    Store(OpenFault),
+    /// A write or the flush failed.
+    #[error("output")]
+    Output,
+}
+
+impl From<OpenFault> for ShowFault {
+    ghost use Rattle.provider_file.specs.declared.showing.ShowFault.TheVariants.{Store};
+
+    ghost from_gives = { λ opening fault. fault ≡ Store opening };
+
+    fn from(fault: OpenFault) -> ShowFault {
+        ShowFault::Store(fault)
+    }
+}
+
+impl From<RegistryFault> for ShowFault {
+    ghost from_gives = { λ registry fault. fault ≡ registry_fault registry };
+
+    fn from(fault: RegistryFault) -> ShowFault {
+        match fault {
+            RegistryFault::Store => ShowFault::Store(OpenFault::Store),
+            RegistryFault::Memory => ShowFault::Store(OpenFault::Memory),
+        }
+    }
+}
+
+impl From<AllocError> for ShowFault {
+    ghost use Rattle.provider_file.specs.declared.showing.ShowFault.TheVariants.{Store};
+
+    ghost from_gives = { λ _ fault. fault ≡ Store Memory };
+
+    fn from(_: AllocError) -> ShowFault {
+        ShowFault::Store(OpenFault::Memory)
+    }
+}
+
+impl From<io::Error> for ShowFault {
+    fn from(error: io::Error) -> ShowFault {
+        output_fault(error.kind())
+    }
+}
+
+/// Why lines couldn't be written.
+fn output_fault(kind: ErrorKind) -> ShowFault
+    ensures memory { kind ≡ ErrorKind.OutOfMemory → result ≡ ShowFault.Store Memory }
+    ensures output { kind ≢ ErrorKind.OutOfMemory → result ≡ Output }
+{
+    match kind {
+        ErrorKind::OutOfMemory => ShowFault::Store(OpenFault::Memory),
+        _ => ShowFault::Output,
+    }
+}
+
+/// Opens the rows, writes a line of each in order of creation, and closes them.
+pub fn show_rows<K: Storage, W: Write>(
+    alloc: Global,
+    storage: &K,
+    out: &mut W,
+) -> Result<(), ShowFault>
+    ensures { OnOk result (ShowsFrom K.Rows.Registry (W.contents out.old) (W.contents out.new)) }
+{
+    let mut rows = storage.open()?;
+    let shown = write_rows(alloc, &mut rows, out);
+    storage.close(rows);
+    shown
+}
+
+/// Writes a line of each row in order of creation, and flushes. After a fault any part may be
+/// written.
+pub fn write_rows<R: Registry, W: Write>(
+    alloc: Global,
+    rows: &mut R,
+    out: &mut W,
+) -> Result<(), ShowFault>
+    ensures { R.is_faithful rows.new → OnOk result (Appends (W.contents out.old) (W.contents out.new) (lines_of (R.rows rows.old))) }
+{
+    write_pages(alloc, rows, out)?;
+    Ok(out.flush()?)
+}
+
+fn write_pages<R: Registry, W: Write>(
+    alloc: Global,
+    rows: &mut R,
+    out: &mut W,
+) -> Result<(), ShowFault>
+    ensures { R.is_faithful rows.new → OnOk result (Appends (W.contents out.old) (W.contents out.new) (lines_of (R.rows rows.old))) }
+{
+    let all = rows.count()?;
+    let mut after = 0;
+    while after < all {
+        write_page(alloc, rows, after, out)?;
+        after = after.saturating_add(ROWS_AT_ONCE);
+    }
+    Ok(())
+}
+
+/// Writes the lines of some rows after the first `after`.
+fn write_page<R: Registry, W: Write>(
+    alloc: Global,
+    rows: &mut R,
+    after: u32,
+    out: &mut W,
+) -> Result<(), ShowFault>
+    ensures page { R.is_faithful rows.new → OnOk result (Appends (W.contents out.old) (W.contents out.new)
+        (lines_of (take ROWS_AT_ONCE (drop after (R.rows rows.old))))) }
+    ensures reads { ReadsOn R.Registry rows.old rows.new }
+{
+    let page = rows.scan(after, ROWS_AT_ONCE as usize)?;
+    write_lines(alloc, page.as_slice(), out)
+}
+
+fn write_lines<W: Write>(alloc: Global, rows: &[Stored], out: &mut W) -> Result<(), ShowFault>
+    ensures { OnOk result (Appends (W.contents out.old) (W.contents out.new) (lines_of rows.now)) }
+{
+    for row in rows {
+        let line = row_line(alloc, row)?;
+        out.write_all(line.as_bytes())?;
+    }
+    Ok(())
+}
