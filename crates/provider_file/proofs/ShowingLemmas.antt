@@ -52,7 +52,7 @@ module _ {R : Type 0} (g : Ghosts R) where
         let earlier = reads.was faithful in
         let parts : take next rows ≡ take after rows ++ take more (drop after rows) = ap (λ n. take n rows) is ∙ past (after + more) most rows (omega arith) ∙ take-add after more rows in
         let lines : lines_of (take next rows) ≡ lines_of (take after rows) ++ lines_of (take more (drop after rows)) =
-            ap lines_of parts ∙ flat_map-append row_line (take after rows) (take more (drop after rows)) in
+        ap lines_of parts ∙ flat_map-append row_line (take after rows) (take more (drop after rows)) in
         let written = subst (λ (all_rows : List StoredRecord). Appends middle now (lines_of (take more (drop after all_rows)))) (so_far.reads.same earlier) (page faithful) in
         subst (Appends before now) (sym lines) (appends_more before middle now (lines_of (take after rows)) (lines_of (take more (drop after rows))) (so_far.shown earlier short) written);
   }

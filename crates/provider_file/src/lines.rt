@@ -14,7 +14,13 @@ pub fn row_line(alloc: Global, row: &Stored) -> Result<String, AllocError>
     let held = row.content().revision().unwrap_or(Revision::none());
     match row.content().active() {
         Some(active) => user_line(alloc, &name, held, row.version(), active),
-        None => group_line(alloc, &name, held, row.version(), row.content().members().len()),
+        None => group_line(
+            alloc,
+            &name,
+            held,
+            row.version(),
+            row.content().members().len(),
+        ),
     }
 }
 

@@ -46,7 +46,15 @@ fn serve_from_file<R: Runtime + Net + AllocGlobal, K: Storage>(
     let rows = storage.open()?;
     match sockets(rt, address) {
         Ok(mut sockets) => {
-            let outcome = serve_stored(rt, rt.alloc(), storage, rows, &mut sockets, requests, base)?;
+            let outcome = serve_stored(
+                rt,
+                rt.alloc(),
+                storage,
+                rows,
+                &mut sockets,
+                requests,
+                base,
+            )?;
             Ok(outcome_status(outcome))
         }
         Err(fault) => {
