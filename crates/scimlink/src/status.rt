@@ -222,7 +222,9 @@ impl From<journal_file::ShowFault> for RunFault {
 }
 
 impl From<PushFault> for RunFault {
-    ghost from_gives = { λ push fault. fault ≡ RunFault.Push push };
+    ghost use Rattle.scimlink.specs.declared.status.RunFault.TheVariants.{Push};
+
+    ghost from_gives = { λ push fault. fault ≡ Push push };
 
     fn from(fault: PushFault) -> RunFault {
         RunFault::Push(fault)
