@@ -3,7 +3,6 @@ PREFIX ?= /usr/local
 
 .PHONY: answer map simulate try test edits build install
 
-
 # the main job on the example: one POST of a user, answered on standard output
 answer: build
 	crates/scimlink/out/scimlink answer < examples/create-user.http
