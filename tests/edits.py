@@ -6,6 +6,8 @@ tests/edits.py                    tries those of every crate
 tests/edits.py NAME..             tries those of these crates
 tests/edits.py --further NAME..   tries those of edits/NAME/further too, which the gate leaves out
 tests/edits.py --apply            says only which of them don't apply to the sources
+tests/edits.py --join             writes those of a crate that can be tried together into the one
+                                  file that `rt ci` tries, crates/NAME/must-fail/together.edit
 
 It needs the libraries that `rt ci`, or `rt all check`, has built. The edits of a crate are tried
 together, as long as no two of them touch one function: each must be refused by a goal of its own
@@ -198,6 +200,32 @@ def tried(name, edits):
     return answers
 
 
+def joined(edits):
+    """A crate's edits as one, as far as no text of one meets another's."""
+    lines, texts = [], {}
+    for edit in checks_of(edits)[0]:
+        changed = dict(texts)
+        for file, old, new in edit.pairs:
+            text = changed.get(file) or edit.text(file)
+            if text.count(old) != 1:
+                break
+            changed[file] = text.replace(old, new)
+        else:
+            texts = changed
+            lines += [f"edit: {edit.path.stem}"]
+            for file, old, new in edit.pairs:
+                lines += [f"file: {file}", f"old: {old}", f"new: {new}"]
+    return "".join(f"{it}\n" for it in lines)
+
+
+def join(edits):
+    """Writes, for each crate whose tries were seen, its edits as one."""
+    for crate, own in edits.items():
+        folder = ROOT / "crates" / crate / "must-fail"
+        folder.mkdir(exist_ok=True)
+        (folder / "together.edit").write_text(joined(own), encoding="utf-8")
+
+
 def main(names):
     every = [Edit(it) for it in sorted(ROOT.glob("edits/**/*.edit"))]
     faults = [f"{it.name}: {it.fault()}" for it in every if it.fault()]
@@ -208,6 +236,8 @@ def main(names):
     for it in every:
         if has_further or not it.is_further:
             edits.setdefault(it.crate, []).append(it)
+    if "--join" in names:
+        return join({it: edits[it] for it in names if it in edits})
     names = [it for it in names if it != "--further"]
     chosen = [it for it in edits if it in names or not names]
     size = lambda it: sum(file.stat().st_size for file in (ROOT / "crates" / it).rglob("*.[ra]*t*") if "out" not in file.parts)
