@@ -1,22 +1,79 @@
 #!/usr/bin/env python3
-"""The wrong programs of edits/, which the gate doesn't try: it tries those of crates/NAME/must-fail.
+"""Wrong programs, each of which the prover must refuse: an edit of edits/NAME turns the meaning of a
+function of the crate NAME.
 
-tests/edits.py          says which of them no longer apply to the sources
-tests/edits.py NAME..   has the prover try those of these crates, in a copy of the repository
+tests/edits.py                    tries those of every crate
+tests/edits.py NAME..             tries those of these crates
+tests/edits.py --further NAME..   tries those of edits/NAME/further too, which the gate leaves out
+tests/edits.py --apply            says only which of them don't apply to the sources
+
+It needs the libraries that `rt ci`, or `rt all check`, has built. The edits of a crate are tried
+together, as long as no two of them touch one function: each must be refused by a goal of its own
+function, so none is refused by another's fault. An edit that touches no function (a constant, a
+definition) is tried alone, and anything of the crate may refuse it.
 """
+import concurrent.futures
+import os
 import pathlib
+import re
 import shutil
 import subprocess
 import sys
 import tempfile
 
 ROOT = pathlib.Path(__file__).resolve().parent.parent
+PARTS = ("src", "specs", "proofs")
+# what says that a goal of a function isn't proved: a place in its code, or in its own proofs
+IN_CODE = re.compile(r"^note: (?:\./)?(src/\S+\.rt):(\d+):\d+: it is not proved", re.M)
+IN_PROOF = re.compile(r"^(?:\./)?proofs/(\S+)/[A-Z]\w*\.antt:\d+:\d+: error(.*)", re.M)
+# a proof that names what the edit took away says little of the contract
+OF_NAMES = re.compile(r"has no field|is not in scope|has no `|was not admitted")
+FUNCTION = re.compile(r"^( *)(?:pub(?:\([a-z]+\))? )?(?:const )?fn (\w+)")
 
 
-def pairs(edit):
+class Edit:
+    """A wrong program: texts of a crate's files, each of which another takes the place of."""
+
+    def __init__(self, path):
+        self.path = path
+        inside = path.relative_to(ROOT / "edits")
+        self.crate, self.is_further = inside.parts[0], len(inside.parts) > 2
+        self.name = str(inside.with_suffix(""))
+        self.pairs = [*pairs(path)]
+
+    def fault(self):
+        """Why the edit doesn't apply, if it doesn't."""
+        texts = {}
+        for file, old, new in self.pairs:
+            text = texts.get(file) or self.text(file)
+            if text.count(old) != 1:
+                return f"an old text stands {text.count(old)} times in {file}, and not once"
+            texts[file] = text.replace(old, new)
+        return None if texts else "it has no pair of texts"
+
+    def text(self, file):
+        return (ROOT / "crates" / self.crate / file).read_text(encoding="utf-8")
+
+    def functions(self):
+        """The functions that it touches, each as its file, name, first and last line; none where
+        some text stands in no function."""
+        found = set()
+        for file, old, _ in self.pairs:
+            text = self.text(file)
+            if old not in text:
+                continue
+            line = text[: text.index(old)].count("\n") + 1
+            it = function_at(text.splitlines(), line)
+            if not file.startswith("src/") or not it:
+                return frozenset()
+            found.add((file, *it))
+        return frozenset(found)
+
+
+def pairs(path):
     """Each pair of an edit, as its file, the old text and the new one."""
     file, old = None, None
-    for line in edit.read_text(encoding="utf-8").splitlines():
+    for line in path.read_text(encoding="utf-8").splitlines():
         word, _, text = line.partition(": ")
         if word == "file":
             file = text.strip()
@@ -26,35 +83,137 @@ def pairs(edit):
             yield file, old, text
 
 
-def fault(edit):
-    """Why an edit doesn't apply, if it doesn't."""
-    texts = {}
-    for file, old, new in pairs(edit):
-        path = ROOT / "crates" / edit.parent.name / file
-        text = texts.get(path) or path.read_text(encoding="utf-8")
-        if text.count(old) != 1:
-            return f"an old text stands {text.count(old)} times in {file}, and not once"
-        texts[path] = text.replace(old, new)
-    return None if texts else "it has no pair of texts"
+def function_at(lines, number):
+    """The function that a line stands in: its name, its first line (of what stands before it) and its last."""
+    for first in range(number, 0, -1):
+        head = FUNCTION.match(lines[first - 1])
+        if head:
+            end = head[1] + "}"
+            last = next((at for at in range(first, len(lines) + 1) if lines[at - 1] == end), 0)
+            while first > 1 and lines[first - 2].strip() and lines[first - 2][-1] not in "{};":
+                first -= 1
+            return (head[2], first, last) if last >= number else None
+    return None
 
 
-def all_apply():
-    faults = {it: fault(it) for it in sorted(ROOT.glob("edits/*/*.edit"))}
-    for edit, why in faults.items():
-        if why:
-            print(f"{edit.relative_to(ROOT)}: {why}")
-    return not any(faults.values())
+def checks_of(edits):
+    """The edits in lists that can be tried together."""
+    checks = []
+    for edit in edits:
+        own = edit.functions()
+        fits = (it for it in checks if own and all(other.functions() and not own & other.functions() for other in it))
+        free = next(fits, None)
+        if free is None:
+            checks.append([edit])
+        else:
+            free.append(edit)
+    return checks
 
 
-def all_are_refused(names):
+def crates():
+    """What each crate stands on, as crates.txt has it."""
+    lines = (ROOT / "crates.txt").read_text(encoding="utf-8").splitlines()
+    named = (it.partition(":") for it in lines if it and not it.startswith("#"))
+    return {name.strip(): below.split() for name, _, below in named}
+
+
+def words(name, below):
+    """The prover's words for a crate of the repository."""
+    kit = pathlib.Path(subprocess.run(["rt", "doc"], capture_output=True, text=True, check=True).stdout.strip()).parent
+    made = lambda it: f"{ROOT}/crates/{it}/out/rlib"
+    all_below, left = [], [*below[name]]
+    while left:
+        it = left.pop(0)
+        if it in below and it not in all_below:
+            all_below.append(it)
+            left += below[it]
+    root = "src/main.rt" if (ROOT / "crates" / name / "src/main.rt").is_file() else "src/lib.rt"
+    told = [f"{kit}/bin/rattle", "check", "--crate-name", name, root]
+    for it in ["std", *below[name]]:
+        told += ["--extern", f"{it}={made(it)}/{it}.rlib" if it in below else f"{it}={kit}/rlibs/{it}.rlib"]
+    for it in [f"{kit}/rlibs", *map(made, all_below)]:
+        told += ["-L", f"dependency={it}"]
+    told += ["--antt-project", f"{kit}/rattle/logic/antt-project.json", "--logic-built", f"{kit}/logic_built"]
+    return [*told, "--links", f"{name}=", "--jobs", "1"]
+
+
+def checked(edits, told, kept):
+    """What the prover says of a crate with these edits."""
+    crate = edits[0].crate
     with tempfile.TemporaryDirectory(prefix="edits-") as room:
-        copy = pathlib.Path(room) / "copy"
-        shutil.copytree(ROOT, copy, ignore=shutil.ignore_patterns(".git", "incremental"))
-        for name in names:
-            shutil.rmtree(copy / "crates" / name / "must-fail", ignore_errors=True)
-            shutil.copytree(ROOT / "edits" / name, copy / "crates" / name / "must-fail")
-        return subprocess.run(["rt", "must-fail", *names], cwd=copy).returncode == 0
+        for part in PARTS:
+            if (ROOT / "crates" / crate / part).is_dir():
+                shutil.copytree(ROOT / "crates" / crate / part, f"{room}/{part}")
+        for edit in edits:
+            for file, old, new in edit.pairs:
+                path = pathlib.Path(room) / file
+                path.write_text(path.read_text(encoding="utf-8").replace(old, new), encoding="utf-8")
+        how = {"stdin": subprocess.DEVNULL, "stdout": subprocess.PIPE, "stderr": subprocess.STDOUT}
+        return subprocess.run([*told, "--incremental", kept], cwd=room, errors="replace", **how).stdout
+
+
+def refusal(edit, said):
+    """What refuses an edit: of each function that it touches a goal that isn't proved."""
+    if not edit.functions():
+        return "the crate" if re.search(r"^logic=not-proved", said, re.M) else None
+    by = [refusal_by(said, *it) for it in sorted(edit.functions())]
+    return ", ".join(by) if all(by) else None
+
+
+def refusal_by(said, file, name, first, last):
+    """The goal of a function that isn't proved, if there is one."""
+    module = file.removeprefix("src/").removesuffix(".rt")
+    for found in IN_CODE.finditer(said):
+        if found[1] == file and first <= int(found[2]) <= last:
+            return f"{name}, line {found[2]}"
+    of_proof = [it for it in IN_PROOF.finditer(said) if it[1].startswith(f"{module}/") and it[1].split("/")[-1] == name]
+    if any(not OF_NAMES.search(it[2]) for it in of_proof):
+        return f"{name}, in its proof"
+    return f"{name}, only by a name in its proof" if of_proof else None
+
+
+def tried(name, edits):
+    """What is to be said of each edit of a crate, and whether it is refused."""
+    told, answers = words(name, crates()), []
+    with tempfile.TemporaryDirectory(prefix="edits-kept-") as kept:
+        own = ROOT / "crates" / name / "out/incremental"
+        if own.is_dir():
+            subprocess.run(["cp", "-al", f"{own}/.", kept], check=True)
+        for check in checks_of(edits):
+            said = checked(check, told, kept)
+            if not re.search(r"^logic=", said, re.M):
+                said_last = said.strip().splitlines()[-1:] or ["nothing"]
+                answers += [(f"{it.name}: not tried: {said_last[0][:200]}", False) for it in check]
+                continue
+            for it in check:
+                by = refusal(it, said)
+                answers.append((f"{it.name}: refused by {by}" if by else f"{it.name}: NOT REFUSED", bool(by)))
+    return answers
+
+
+def main(names):
+    every = [Edit(it) for it in sorted(ROOT.glob("edits/**/*.edit"))]
+    faults = [f"{it.name}: {it.fault()}" for it in every if it.fault()]
+    print(*faults, sep="\n", end="\n" if faults else "")
+    if faults or names == ["--apply"]:
+        return bool(faults)
+    edits, has_further = {}, "--further" in names
+    for it in every:
+        if has_further or not it.is_further:
+            edits.setdefault(it.crate, []).append(it)
+    names = [it for it in names if it != "--further"]
+    chosen = [it for it in edits if it in names or not names]
+    size = lambda it: sum(file.stat().st_size for file in (ROOT / "crates" / it).rglob("*.[ra]*t*") if "out" not in file.parts)
+    failed = total = 0
+    with concurrent.futures.ThreadPoolExecutor(len(os.sched_getaffinity(0))) as pool:
+        runs = [pool.submit(tried, it, edits[it]) for it in sorted(chosen, key=size, reverse=True)]
+        for run in concurrent.futures.as_completed(runs):
+            for line, is_refused in run.result():
+                print(line, flush=True)
+                failed, total = failed + (not is_refused), total + 1
+    print(f"{total - failed} of {total} wrong programs refused, each by its own function")
+    return bool(failed)
 
 
 if __name__ == "__main__":
-    sys.exit(not (all_are_refused(sys.argv[1:]) if sys.argv[1:] else all_apply()))
+    sys.exit(main(sys.argv[1:]))

@@ -1,5 +1,5 @@
 //! A registry in SQLite.
-ghost use Rattle.std.specs.Prelude.{◌≡◌, ◌≤◌, ◌+◌, ◌-◌, min, Ok, IfErr, IfOk, slice_get};
+ghost use Rattle.std.specs.Prelude.{◌≡◌, ◌<◌, ◌≤◌, ◌+◌, ◌-◌, ◌↔◌, min, Ok, IfErr, IfOk, IsTrue, slice_get};
 ghost use Rattle.provider_core.specs.Rows.{row_named};
 ghost use Rattle.provider_core.specs.Stores.{CountsFault, CountsFaults, OnlyReads};
 ghost use Rattle.provider_store.specs.Kept.{IsFaithful, IsHonest, MayHold, kept_rows};
@@ -115,6 +115,13 @@ impl<S: Alter> SqlRegistry<S> {
             writes: _,
         } = self;
         conn
+    }
+
+    /// Whether a fault of the store was counted.
+    pub fn has_failed(&self) -> bool
+        ensures { IsTrue result ↔ (0 < self.now.faults) }
+    {
+        self.faults > 0
     }
 
     /// The row with this number, if there is one.

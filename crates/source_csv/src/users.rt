@@ -1,5 +1,5 @@
 //! Rows of users.
-ghost use Rattle.std.specs.Prelude.{◌≡◌, ◌==◌, ◌≤◌, ◌↔◌, IsTrue, length};
+ghost use Rattle.std.specs.Prelude.{◌≡◌, ◌==◌, ◌≤◌, ◌↔◌, IsTrue, MatchOption, length, string_bytes};
 ghost use Rattle.std.specs.Str.{bytes_eq};
 ghost use Rattle.csv.specs.Records.{fields_of};
 ghost use Rattle.scim_key.specs.Names.{IsUserName};
@@ -90,7 +90,42 @@ fn same_text(a: &str, b: &str) -> bool
     a == b
 }
 
+/// Whether a text has at most `VALUE_LIMIT` bytes.
+fn is_short(text: &str) -> bool
+    ensures { IsTrue result ↔ (length text.now ≤ VALUE_LIMIT) }
+{
+    text.len() <= VALUE_LIMIT
+}
+
 impl UserRow {
+    /// A row of these fields, or none where a text has more than `VALUE_LIMIT` bytes.
+    pub fn new(
+        login: UserName,
+        revision: Revision,
+        number: String,
+        given: String,
+        family: String,
+        mail: String,
+        active: bool,
+    ) -> Option<UserRow>
+        requires { IsRevision revision }
+        ensures { MatchOption result (IsUserRow (record { login = login; revision = revision; number = string_bytes number; given = string_bytes given; family = string_bytes family; mail = string_bytes mail; active = active }) → ⊥) (λ row. row ≡ record { login = login; revision = revision; number = string_bytes number; given = string_bytes given; family = string_bytes family; mail = string_bytes mail; active = active }) }
+    {
+        if is_short(&number) && is_short(&given) && is_short(&family) && is_short(&mail) {
+            Some(UserRow {
+                login,
+                revision,
+                number,
+                given,
+                family,
+                mail,
+                active,
+            })
+        } else {
+            None
+        }
+    }
+
     /// The user's name, as the source spells it.
     pub fn login(&self) -> &UserName
         ensures value { result.now ≡ self.now.login }

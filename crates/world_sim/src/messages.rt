@@ -9,14 +9,13 @@ ghost use Rattle.world_sim.specs.Messages.{IsMessage, messages_of, says, text_at
 use scim_client::ScimService;
 use scim_message::{Answer, Request};
 use std::alloc::{AllocError, Global};
-use std::rc::Rc;
 
 /// What a message says. Of a message that arrives only its bytes are read: what it says tells which
 /// side they go to, and which request a reply answers.
 #[derive(Drop)]
 pub(crate) enum Said {
-    Asked(Rc<Request>),
-    Answered(Rc<Request>, Answer),
+    Asked(Request),
+    Answered(Request, Answer),
 }
 
 /// A message that was sent, with its bytes.
@@ -37,7 +36,7 @@ pub(crate) fn asked(
 {
     let bytes = service.bytes_of(alloc, &request)?;
     Ok(Sent {
-        said: Said::Asked(Rc::new(alloc, request)?),
+        said: Said::Asked(request),
         bytes,
     })
 }

@@ -1,5 +1,5 @@
 //! The connector's side of a world.
-ghost use Rattle.std.specs.Prelude.{◌≡◌, IsOk, is_ok, OnOk};
+ghost use Rattle.std.specs.Prelude.{◌≡◌, is_ok};
 ghost use Rattle.world_sim.specs.Sides.{CountsWorldFault, IsKeptIn, IsOpenedIn};
 ghost use Rattle.world_sim.specs.Running.{is_open, journal_in};
 ghost use Rattle.journal_core.specs.Stores.{OnlyReads};

@@ -35,7 +35,6 @@ use scim_message::{Answer, Request};
 use scim_server::response_of;
 use source_csv::Row;
 use std::alloc::Global;
-use std::rc::Rc;
 
 /// A provider over a registry, a connector over a journal, and all messages that they ever sent.
 #[derive(Drop)]
@@ -281,7 +280,6 @@ impl<R: Registry + Drop, J: Journal + Drop> World<R, J> {
             &request,
         )?;
         let status = pending.answer().status();
-        let request = Rc::new(self.alloc, request)?;
         self.sent.reserve(1)?;
         let answer = self.provider.commit(pending)?;
         let said = Said::Answered(request, answer);

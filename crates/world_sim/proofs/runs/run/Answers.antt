@@ -3,7 +3,7 @@ use Rattle.std.proofs.lemmas.List.{take_all}
 use Rattle.world_model.specs.World.{Event}
 use Rattle.world_sim.specs.Events.{event_of, events_of}
 use Rattle.world_sim.specs.Running.{Runs}
-use Rattle.world_sim.proofs.Steps.{ran_from_empty, runs_on}
+use Rattle.world_sim.proofs.WholeRuns.{ran_from_empty, runs_on}
 use Rattle.world_sim.proofs.Walks.{events_next}
 use Rattle.world_sim.proofs.runs.run.Goals as goal
 

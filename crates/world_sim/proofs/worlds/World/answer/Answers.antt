@@ -13,8 +13,7 @@ pub returns-clause-done : goal.returns-clause-done
 returns-clause-done g c =
     let reads = c.in_ok-pending.ensures.reads in
     let writes = c.in_ok-answer.ensures.writes in
-    let message : Sent = record { said = said.Answered c.in_ok-request.request c.in_ok-answer.answer; bytes = c.in_ok-pending.bytes } in
-    let kept : c.in_ok-request.request.value ≡ c.args.request = search rules in
+    let message : Sent = record { said = said.Answered c.args.request c.in_ok-answer.answer; bytes = c.in_ok-pending.bytes } in
     let base : c.base.result.now ≡ c.args.self.now.service = search rules in
     let answer : c.in_ok-answer.answer ≡ c.in_ok-pending.pending.answer = search rules in
     let text : c.in_ok-pending.bytes.items ≡ message_text c.args.self.now.service (Answered c.args.request c.in_ok-pending.pending.answer) = search rules in
@@ -25,6 +24,6 @@ returns-clause-done g c =
     refl refl sent reads.honest writes.honest reads.was reads.opened c.in_ok-answer.ensures.open reads.same
     c.in_ok-pending.ensures.ok
     writes.done (g.met.R.Registry.settled c.commit.new.self)
-    (record { is = ap (λ r. Answered r c.in_ok-answer.answer) kept ∙ ap (Answered c.args.request) answer; text = text })
+    (record { is = ap (Answered c.args.request) answer; text = text })
     (subst (λ b. IsFormed b (Answered c.args.request c.in_ok-pending.pending.answer)) base c.in_ok-pending.ensures.formed)
     (ap (λ n. model.Answering n c.status-status.result) many ∙ ap (model.Answering (suc (length c.args.self.now.sent.items))) status)

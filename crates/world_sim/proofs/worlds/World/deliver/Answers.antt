@@ -8,9 +8,9 @@ use Rattle.world_sim.proofs.worlds.World.deliver.Goals as goal
 
 pub returns-in-Ok-clause-done : goal.returns-in-Ok-clause-done
 returns-in-Ok-clause-done g c =
-    let said : message_at (messages_of c.args.self.now.sent.items) c.args.number ≡ Some (Asked c.in-Asked-2.field-0.value) = search rules in
+    let said : message_at (messages_of c.args.self.now.sent.items) c.args.number ≡ Some (Asked c.in-Asked-2.field-0) = search rules in
     let text : text_at (texts_of c.args.self.now.sent.items) c.args.number ≡ Some c.deref-in-Asked-2.result.now = search rules in
-    request_told g.R.Registry g.J.Journal c.args.self.now c.answer.new.self c.args.number c.in-Asked-2.field-0.value c.in-Ok.request c.deref-in-Asked-2.result.now c.answer.result
+    request_told g.R.Registry g.J.Journal c.args.self.now c.answer.new.self c.args.number c.in-Asked-2.field-0 c.in-Ok.request c.deref-in-Asked-2.result.now c.answer.result
     said text c.in-Ok.ensures.only c.answer.ensures.done
 
 pub returns-in-Ok-clause-fails : goal.returns-in-Ok-clause-fails
@@ -18,16 +18,16 @@ returns-in-Ok-clause-fails g c = fails_numbered g.R.Registry g.J.Journal c.args.
 
 pub returns-in-Err-Unread-clause-done : goal.returns-in-Err-Unread-clause-done
 returns-in-Err-Unread-clause-done g c =
-    let said : message_at (messages_of c.args.self.now.sent.items) c.args.number ≡ Some (Asked c.in-Asked-2.field-0.value) = search rules in
+    let said : message_at (messages_of c.args.self.now.sent.items) c.args.number ≡ Some (Asked c.in-Asked-2.field-0) = search rules in
     let text : text_at (texts_of c.args.self.now.sent.items) c.args.number ≡ Some c.deref-in-Asked-2.result.now = search rules in
     let unread : c.in-Err-Unread.field-0 ≡ Unread = search rules in
-    delivers_unread g.R.Registry g.J.Journal c.args.self.now c.args.number c.in-Asked-2.field-0.value c.deref-in-Asked-2.result.now _
+    delivers_unread g.R.Registry g.J.Journal c.args.self.now c.args.number c.in-Asked-2.field-0 c.deref-in-Asked-2.result.now _
     said text (λ request spells. subst (λ f. IsOrMemory request (Err f)) unread (c.in-Err-Unread.ensures.only request spells))
 
 pub returns-in-Open-clause-done : goal.returns-in-Open-clause-done
 returns-in-Open-clause-done g c =
-    let sent : message_at (messages_of c.args.self.now.sent.items) c.args.number ≡ Some (Answered c.deref-in-Open.result.now c.in-Answered.field-1) = search rules in
-    let text : text_at (texts_of c.args.self.now.sent.items) c.args.number ≡ Some c.deref-in-Open-2.result.now = search rules in
+    let sent : message_at (messages_of c.args.self.now.sent.items) c.args.number ≡ Some (Answered c.in-Answered.request c.in-Answered.field-1) = search rules in
+    let text : text_at (texts_of c.args.self.now.sent.items) c.args.number ≡ Some c.deref-in-Open.result.now = search rules in
     let heard = c.hear.ensures in
-    learns_told g.R.Registry g.J.Journal c.args.self.now c.in-Open.connector c.hear.new.connector c.args.number c.deref-in-Open.result.now c.in-Answered.field-1 c.deref-in-Open-2.result.now c.hear.result
+    learns_told g.R.Registry g.J.Journal c.args.self.now c.in-Open.connector c.hear.new.connector c.args.number c.in-Answered.request c.in-Answered.field-1 c.deref-in-Open.result.now c.hear.result
     sent text c.in-Open.is heard.report heard.book heard.names heard.was

@@ -1,5 +1,5 @@
 use Rattle.std.proofs.Common.{refl, rules}
-use Rattle.world_sim.proofs.Steps.{starts_now}
+use Rattle.world_sim.proofs.WholeRuns.{starts_now}
 use Rattle.world_sim.proofs.worlds.World.new.Goals as goal
 
 pub returns-in-Ok-clause-starts : goal.returns-in-Ok-clause-starts

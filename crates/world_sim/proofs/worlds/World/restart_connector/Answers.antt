@@ -1,7 +1,7 @@
 use Rattle.std.proofs.Common.{◌≡◌, refl, rules}
 use Rattle.world_sim.specs.Running.{journal_in}
 use Rattle.world_sim.specs.Sides.{CountsWorldFault, IsKeptIn, IsOpenedIn}
-use Rattle.world_sim.proofs.Steps.{fails_to_reopen_connector, reopens_connector}
+use Rattle.world_sim.proofs.Restarts.{fails_to_reopen_connector, reopens_connector}
 use Rattle.world_sim.proofs.worlds.World.restart_connector.Goals as goal
 
 pub returns-in-Ok-clause-done : goal.returns-in-Ok-clause-done

@@ -1,0 +1,4 @@
+pub mod Opened
+pub mod Files
+pub mod Lines
+pub mod Showing

@@ -1,0 +1,30 @@
+-- What is shown of a journal.
+use Rattle.std.specs.Prelude.{ℕ, List, Option}
+use Rattle.std.specs.Io.KnownBytes.{Appends}
+use Rattle.journal_core.specs.Entries.{EntryMap, IsListOf}
+use Rattle.journal_core.specs.declared.entries.Entry.{Entry}
+use Rattle.journal_core.specs.declared.journals.Journal.{Ghosts}
+use Rattle.journal_core.specs.declared.journals.JournalFault.{JournalFault}
+use Rattle.journal_core.specs.declared.journals.JournalFault.TheVariants as journal
+use Rattle.journal_store.specs.declared.opening.OpenFault.TheVariants as opening
+use Rattle.journal_file.specs.declared.showing.ShowFault.{ShowFault}
+use Rattle.journal_file.specs.declared.showing.ShowFault.TheVariants.{Journal}
+use Rattle.journal_file.specs.Opened.{IsOpened}
+use Rattle.journal_file.specs.Lines.{lines_of}
+
+abbrev pub journal_fault : JournalFault → ShowFault
+journal_fault journal.Store = Journal opening.Store
+journal_fault journal.Memory = Journal opening.Memory
+
+-- a line of each entry, in order of their names, is written
+pub record WritesEntries (map_ : EntryMap) (before after : Option (List ℕ)) : Type 0 where
+  pub list : List Entry
+  pub whole : IsListOf map_ list
+  pub lines : Appends before after (lines_of list)
+
+-- so it is of the journal that was opened
+pub record ShowsFrom {J : Type 0} (g : Ghosts J) (before after : Option (List ℕ)) : Type 0 where
+  pub first : J
+  pub last : J
+  pub opened : IsOpened g first
+  pub lines : g.is_faithful last → WritesEntries (g.entries first) before after

@@ -1,0 +1,68 @@
+//! A file as the place of the entries.
+ghost use Rattle.std.specs.Prelude.{◌≡◌, IfOk};
+ghost use Rattle.journal_file.specs.Opened.{IsOpened};
+ghost use Rattle.journal_file.specs.Files.{file_fault};
+
+use crate::storage::Storage;
+use journal_core::Journal;
+use journal_store::{OpenFault, SqlJournal};
+use sqlite::{Alter, Connection, Error, ErrorCode, File, FileFrom, FileStore, Start, Unknown};
+use std::alloc::Global;
+use std::rt::HostRuntime;
+
+/// A file that keeps the journal of a connector. Where it isn't there, opening makes it.
+#[derive(Clone, Copy)]
+pub struct JournalFile<'a> {
+    pub rt: &'a HostRuntime,
+    pub path: &'a str,
+}
+
+impl<'a> Storage for JournalFile<'a> {
+    type Entries = SqlJournal<FileStore<File>>;
+
+    fn open(&self) -> Result<Self::Entries, OpenFault> {
+        open_file(self.rt, self.path, Unknown)
+    }
+
+    fn close(&self, entries: Self::Entries) {
+        let _ = entries.close().close();
+    }
+}
+
+/// Opens a file as a journal. One that is refused is closed as it stands, and what it holds is as
+/// it was.
+pub fn open_file<S: Start>(
+    rt: &HostRuntime,
+    path: &str,
+    start: S,
+) -> Result<SqlJournal<FileStore<FileFrom<S>>>, OpenFault>
+    ensures opened { IfOk result (IsOpened ⟦<SqlJournal<FileStore<FileFrom<S>>> as Journal>⟧) }
+{
+    match Connection::open_from(rt, path, false, start) {
+        Ok(conn) => entries_over(rt.alloc(), conn),
+        Err((error, _left)) => Err(file_fault(error)),
+    }
+}
+
+/// The journal of a connection. One that is refused is dropped with no write.
+fn entries_over<S: Alter + Drop>(
+    alloc: Global,
+    conn: Connection<S>,
+) -> Result<SqlJournal<S>, OpenFault>
+    ensures opened { IfOk result (IsOpened ⟦<SqlJournal<S> as Journal>⟧) }
+{
+    match SqlJournal::open(alloc, conn) {
+        Ok(entries) => Ok(entries),
+        Err((fault, _conn)) => Err(fault),
+    }
+}
+
+/// Why a file isn't opened.
+fn file_fault(error: Error) -> OpenFault
+    ensures { result ≡ file_fault error }
+{
+    match error {
+        Error::SqliteFailure(ErrorCode::OutOfMemory) => OpenFault::Memory,
+        _ => OpenFault::Store,
+    }
+}

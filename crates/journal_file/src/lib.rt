@@ -1,0 +1,12 @@
+//! The journal of a connector in a file: opened, closed and shown.
+#![tactic(auto)]
+
+mod file;
+mod lines;
+mod showing;
+mod storage;
+
+pub use file::{JournalFile, open_file};
+pub use lines::entry_line;
+pub use showing::{ShowFault, show_entries, write_entries};
+pub use storage::Storage;

@@ -1,0 +1,113 @@
+//! The entries of a journal as lines.
+ghost use Rattle.std.specs.Prelude.{◌≡◌, ◌≢◌, OnOk};
+ghost use Rattle.std.specs.Io.KnownBytes.{Appends};
+ghost use Rattle.journal_file.specs.Lines.{lines_of};
+ghost use Rattle.journal_file.specs.Showing.{ShowsFrom, WritesEntries, journal_fault};
+ghost use Rattle.journal_file.specs.declared.showing.ShowFault.TheVariants.{Output};
+ghost use Rattle.journal_store.specs.declared.opening.OpenFault.TheVariants.{Memory};
+
+use crate::lines::entry_line;
+use crate::storage::Storage;
+use journal_core::{Entry, Journal, JournalFault};
+use journal_store::OpenFault;
+use std::alloc::{AllocError, Global};
+use std::io;
+use std::io::{ErrorKind, Write};
+use thiserror::Error;
+
+/// Why the lines of a journal weren't written whole.
+#[derive(Clone, Copy, Debug, PartialEq, Eq, Error)]
+pub enum ShowFault {
+    /// The journal wasn't opened, it failed, or memory ran out.
+    #[error("journal {0}")]
+    Journal(OpenFault),
+    /// A write or the flush failed.
+    #[error("output")]
+    Output,
+}
+
+impl From<OpenFault> for ShowFault {
+    ghost use Rattle.journal_file.specs.declared.showing.ShowFault.TheVariants.{Journal};
+
+    ghost from_gives = { λ opening fault. fault ≡ Journal opening };
+
+    fn from(fault: OpenFault) -> ShowFault {
+        ShowFault::Journal(fault)
+    }
+}
+
+impl From<JournalFault> for ShowFault {
+    ghost from_gives = { λ journal fault. fault ≡ journal_fault journal };
+
+    fn from(fault: JournalFault) -> ShowFault {
+        match fault {
+            JournalFault::Store => ShowFault::Journal(OpenFault::Store),
+            JournalFault::Memory => ShowFault::Journal(OpenFault::Memory),
+        }
+    }
+}
+
+impl From<AllocError> for ShowFault {
+    ghost use Rattle.journal_file.specs.declared.showing.ShowFault.TheVariants.{Journal};
+
+    ghost from_gives = { λ _ fault. fault ≡ Journal Memory };
+
+    fn from(_: AllocError) -> ShowFault {
+        ShowFault::Journal(OpenFault::Memory)
+    }
+}
+
+impl From<io::Error> for ShowFault {
+    fn from(error: io::Error) -> ShowFault {
+        output_fault(error.kind())
+    }
+}
+
+/// Why lines couldn't be written.
+fn output_fault(kind: ErrorKind) -> ShowFault
+    ensures memory { kind ≡ ErrorKind.OutOfMemory → result ≡ ShowFault.Journal Memory }
+    ensures output { kind ≢ ErrorKind.OutOfMemory → result ≡ Output }
+{
+    match kind {
+        ErrorKind::OutOfMemory => ShowFault::Journal(OpenFault::Memory),
+        _ => ShowFault::Output,
+    }
+}
+
+/// Opens the entries, writes a line of each, users by key, then groups by key, and closes them.
+pub fn show_entries<K: Storage, W: Write>(
+    alloc: Global,
+    storage: &K,
+    out: &mut W,
+) -> Result<(), ShowFault>
+    ensures { OnOk result (ShowsFrom K.Entries.Journal (W.contents out.old) (W.contents out.new)) }
+{
+    let mut entries = storage.open()?;
+    let shown = write_entries(alloc, &mut entries, out);
+    storage.close(entries);
+    shown
+}
+
+/// Writes a line of each entry, users by key, then groups by key, and flushes. After a fault any
+/// part may be written.
+pub fn write_entries<J: Journal, W: Write>(
+    alloc: Global,
+    journal: &mut J,
+    out: &mut W,
+) -> Result<(), ShowFault>
+    ensures { J.is_faithful journal.new → OnOk result (WritesEntries (J.entries journal.old) (W.contents out.old) (W.contents out.new)) }
+{
+    let entries = journal.load()?;
+    write_lines(alloc, entries.as_slice(), out)?;
+    Ok(out.flush()?)
+}
+
+fn write_lines<W: Write>(alloc: Global, entries: &[Entry], out: &mut W) -> Result<(), ShowFault>
+    ensures { OnOk result (Appends (W.contents out.old) (W.contents out.new) (lines_of entries.now)) }
+{
+    for entry in entries {
+        let line = entry_line(alloc, entry)?;
+        out.write_all(line.as_bytes())?;
+    }
+    Ok(())
+}

@@ -1,0 +1,18 @@
+//! Where the entries of a connector are kept.
+ghost use Rattle.std.specs.Prelude.{IfOk};
+ghost use Rattle.journal_file.specs.Opened.{IsOpened};
+
+use journal_core::Journal;
+use journal_store::OpenFault;
+
+/// Where the entries of a connector are kept, open or not.
+pub trait Storage {
+    type Entries: Journal;
+
+    /// Opens the entries.
+    fn open(&self) -> Result<Self::Entries, OpenFault>
+        ensures { IfOk result (IsOpened Self.Entries.Journal) };
+
+    /// Closes the entries. What was committed stands, whether or not this succeeds.
+    fn close(&self, entries: Self::Entries);
+}

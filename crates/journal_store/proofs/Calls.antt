@@ -1,0 +1,74 @@
+-- Two calls one after the other.
+use Rattle.std.proofs.Common.{◌≡◌, ℕ, Result, Ok, Err, OnOk, OnErr, subst, ◌∙◌, inl, inr, arith}
+use Rattle.journal_core.specs.Entries.{EntryMap}
+use Rattle.journal_core.specs.Stores.{CountsFault, CountsFaults, OnlyReads, WritesOnce}
+use Rattle.journal_core.specs.declared.journals.JournalFault.{JournalFault}
+
+on_ok : {T F : Type 0} {P Q : Type 0} (r : Result T F) → (P → Q) → OnOk r P → OnOk r Q
+on_ok (Ok x) f p = f p
+on_ok (Err e) f p = tt
+
+on_err : {T F : Type 0} {P Q : Type 0} (r : Result T F) → (P → Q) → OnErr r P → OnErr r Q
+on_err (Ok x) f p = tt
+on_err (Err e) f p = f p
+
+-- a fault, as the result of a call that would have answered this
+abbrev pub fault_as : (T : Type 0) → JournalFault → Result T JournalFault
+fault_as T fault = Err fault
+
+module _ {S : Type 0} {entries : S → EntryMap} {is_faithful is_honest : S → Type 0} {may_hold : S → EntryMap → Type 0} {faults writes : S → ℕ} where
+  -- a call that only reads, after one that read and answered
+  pub reads_on : {T U : Type 0} {old mid new : S} {value : T} {result : Result U JournalFault}
+      → OnlyReads entries is_faithful is_honest may_hold faults writes CountsFault old mid (Ok value) → OnlyReads entries is_faithful is_honest may_hold faults writes CountsFault mid new result
+      → OnlyReads entries is_faithful is_honest may_hold faults writes CountsFault old new result
+  reads_on {new} {result} one two = record {
+    was = λ faithful. one.was (two.was faithful);
+    same = λ faithful. two.same faithful ∙ one.same (two.was faithful);
+    honest = λ honest. one.honest (two.honest honest);
+    opened = two.opened;
+    stop = λ honest found holds. one.stop (two.honest honest) found (two.stop honest found holds);
+    counted = subst (λ n. CountsFaults CountsFault n (faults new) result) one.counted two.counted;
+    unwritten = two.unwritten ∙ one.unwritten;
+  }
+
+  -- whatever a call answered
+  pub answered_so : {T U : Type 0} {old new : S} {x : T} (y : U) → OnlyReads entries is_faithful is_honest may_hold faults writes CountsFault old new (Ok x)
+      → OnlyReads entries is_faithful is_honest may_hold faults writes CountsFault old new (Ok y)
+  answered_so y r = record { was = r.was; same = r.same; honest = r.honest; opened = r.opened; stop = r.stop; counted = r.counted; unwritten = r.unwritten }
+
+  -- a call that writes, after one that read and answered
+  pub writes_on : {T : Type 0} {old mid new : S} {value : T} {later wanted : EntryMap} {result : Result (Unit {0}) JournalFault}
+      → OnlyReads entries is_faithful is_honest may_hold faults writes CountsFault old mid (Ok value) → (is_faithful mid → later ≡ wanted)
+      → WritesOnce entries is_faithful is_honest may_hold faults writes CountsFault mid new later result → WritesOnce entries is_faithful is_honest may_hold faults writes CountsFault old new wanted result
+  writes_on {new} {result} one means two = record {
+    was = λ faithful. one.was (two.was faithful);
+    done = λ faithful. on_ok result (λ is. is ∙ means (two.was faithful)) (two.done faithful);
+    same = λ faithful. on_err result (λ is. is ∙ one.same (two.was faithful)) (two.same faithful);
+    honest = λ honest. one.honest (two.honest honest);
+    stop = λ honest found holds. elim (two.stop honest found holds) [
+      | inl before ↦ inl (one.stop (two.honest honest) found before)
+      | inr put ↦ inr (one.was put.0, put.1 ∙ means put.0)
+    ];
+    counted = subst (λ n. CountsFaults CountsFault n (faults new) result) one.counted two.counted;
+    written = omega (arith, two.written, one.unwritten);
+    unwritten = on_err result (λ is. is ∙ one.unwritten) two.unwritten;
+  }
+
+  -- a call that fails, after one that read
+  pub fails_so : {T : Type 0} (U : Type 0) {old new : S} {x : T} (fault : JournalFault) → OnlyReads entries is_faithful is_honest may_hold faults writes CountsFault old new (Ok x)
+      → CountsFault (faults old) (faults new) fault → OnlyReads entries is_faithful is_honest may_hold faults writes CountsFault old new (fault_as U fault)
+  fails_so U fault r counts = record { was = r.was; same = r.same; honest = r.honest; opened = λ _. tt; stop = r.stop; counted = counts; unwritten = r.unwritten }
+
+  -- a call that would have made the entries these, and failed before
+  pub fails_first : {T : Type 0} {old new : S} {fault : JournalFault} (later : EntryMap) → OnlyReads entries is_faithful is_honest may_hold faults writes CountsFault old new (fault_as T fault)
+      → WritesOnce entries is_faithful is_honest may_hold faults writes CountsFault old new later (fault_as (Unit {0}) fault)
+  fails_first later r = record {
+    was = r.was;
+    done = λ _. tt;
+    same = r.same;
+    honest = r.honest;
+    stop = λ honest found holds. inl (r.stop honest found holds);
+    counted = r.counted;
+    written = omega (arith, r.unwritten);
+    unwritten = r.unwritten;
+  }

@@ -1,0 +1,143 @@
+-- What the checks of an opening show, and what they leave.
+use Rattle.std.proofs.Common.{◌≡◌, ℕ, pos, false, List, [], ◌∷◌, map, filter, codes, Result, Ok, Err, IsTrue, OnOk, IfErr, refl, sym, ap, ◌∙◌, subst, inl, arith, IsPermutation}
+use Rattle.sqlite_value.specs.declared.value.Value.TheVariants.{Int}
+use Rattle.sqlite_value.specs.Order.{Row, column}
+use Rattle.sqlite_trees.specs.Tree.{Trees, rowid}
+use Rattle.sqlite.specs.Effect.{Database}
+use Rattle.sqlite.specs.State.{State, HasCleanDisk, Survives}
+use Rattle.sqlite.proofs.StateLemmas.{survives_then}
+use Rattle.scim_key.specs.declared.records.Kind.{Kind}
+use Rattle.scim_key.specs.declared.records.Kind.TheVariants.{User, Group}
+use Rattle.journal_core.specs.Entries.{EntryMap}
+use Rattle.journal_core.specs.declared.entries.Entry.{Entry}
+use Rattle.journal_store.specs.Format.{format_number, format_tree, entry_tree, marked_text, numbers_text}
+use Rattle.journal_store.specs.Connections.{AreNumbered, Answers, HasNumbers, IsLaid, ListsAll}
+use Rattle.journal_store.specs.Rows.{entries_in}
+use Rattle.journal_store.specs.Opening.{AreLawful, AreRising, HoldsEntries, IsFormat, IsMarked, IsFor, IsJournal, IsStore, Looks, LeavesStore}
+use Rattle.journal_store.specs.declared.opening.OpenFault.{OpenFault}
+use Rattle.journal_store.specs.declared.opening.OpenFault.TheVariants.{Store, Damaged, Newer, Memory}
+use Rattle.journal_store.proofs.Texts.{marked_shown, marked_is, marked_query, number_shown, number_order, numbers_is, numbers_query}
+use Rattle.journal_store.proofs.Selecting.{passes, same_tree, shows}
+use Rattle.journal_store.proofs.Finding.{answered_by, every, single}
+use Rattle.journal_store.proofs.Keeping.{laid_still, keeps_then}
+use Rattle.journal_store.proofs.Leaving.{keeps_leaves}
+use Rattle.journal_store.proofs.Numbering.{numbered}
+
+-- ---- results
+
+pub on_ok : {T F P Q : Type 0} (r : Result T F) → (P → Q) → OnOk r P → OnOk r Q
+on_ok (Ok x) f p = f p
+on_ok (Err e) f p = tt
+
+pub on_both : {T F P Q R : Type 0} (r : Result T F) → (P → Q → R) → OnOk r P → OnOk r Q → OnOk r R
+on_both (Ok x) f p q = f p q
+on_both (Err e) f p q = tt
+
+pub if_err : {T F : Type 0} {P Q : F → Type 0} (r : Result T F) → ((e : F) → P e → Q e) → IfErr r P → IfErr r Q
+if_err (Ok x) f p = tt
+if_err (Err e) f p = f e p
+
+pub is_for : {P Q : Type 0} (f : P → Q) (fault : OpenFault) → IsFor P fault → IsFor Q fault
+is_for f Store h = tt
+is_for f Damaged h = tt
+is_for f Newer h = f h
+is_for f Memory h = tt
+
+-- ---- looking
+
+pub survives_same : (s : State) (P : Trees → Type 0) → Survives s s P
+survives_same s P = record { clean = omega arith; shield = λ h. h; counts = omega arith; limit = refl; closes = λ clean still. inl still; crash = λ clean db may. inl may }
+
+pub looks_same : (s : State) → Looks s s
+looks_same s = record { keeps = λ _. record { was_open = λ still. still; same = λ still laid. (refl, laid.committed, laid.autocommit) }; quiet = survives_same s (λ _. ⊥) }
+
+pub looks_then : (a b c : State) → Looks a b → Looks b c → Looks a c
+looks_then a b c first second = record {
+  keeps = λ clean. keeps_then a b c (first.keeps (omega (arith, clean, second.quiet.clean))) (second.keeps clean);
+  quiet = survives_then a b c _ _ (λ _. ⊥) (λ _ db none. none) (λ _ db none. none) first.quiet second.quiet;
+}
+
+abbrev pub LaidIfOpen : State → Type 0
+LaidIfOpen s = HasCleanDisk s → IsTrue s.is_open → IsLaid s
+
+module _ (old new : State) (looks : Looks old new) (laid : LaidIfOpen old) where
+  pub was_clean : HasCleanDisk new → HasCleanDisk old
+  was_clean clean = omega (arith, clean, looks.quiet.clean)
+
+  pub was_laid : HasCleanDisk new → IsTrue new.is_open → IsLaid old
+  was_laid clean still = laid (was_clean clean) ((looks.keeps clean).was_open still)
+
+  pub laid_on : LaidIfOpen new
+  laid_on clean still = laid_still old new (looks.keeps clean) still (was_laid clean still)
+
+  pub same_now : HasCleanDisk new → IsTrue new.is_open → new.now ≡ old.now
+  same_now clean still = ((looks.keeps clean).same still (was_laid clean still)).0
+
+  pub looks_leaves : HasCleanDisk new → LeavesStore old new
+  looks_leaves clean = keeps_leaves old new (looks.keeps clean) (laid (was_clean clean))
+
+-- ---- the tables
+
+pub laid_from : (s : State) → s.in_transaction ≡ false → (IsTrue s.is_open → s.now ≡ s.committed) → IsJournal s.now.schema → IsTrue s.is_open → IsLaid s
+laid_from s autocommit settled journal still = record {
+  format_checks = journal.format_checks;
+  users = journal.users;
+  groups = journal.groups;
+  schema = journal.is;
+  committed = sym (settled still);
+  autocommit = autocommit;
+}
+
+-- ---- the format
+
+pub marked_found : (s : State) (rows given : List Row) (number : ℕ) → given ≡ rows → IsLaid s → Answers marked_text [] s rows → IsMarked given number → IsFormat s number
+marked_found s rows given number same laid answers marked =
+    let all = answered_by s marked_text format_tree (λ _. refl) [] marked_shown [] (codes "number" ∷ []) [] rows marked_is marked_query laid answers in
+    let one = single (shows marked_shown []) (filter (passes [] []) (s.now.trees format_tree)) marked.0 (subst (IsPermutation (map (shows marked_shown []) (filter (passes [] []) (s.now.trees format_tree)))) (sym same ∙ marked.1) all) in
+    let table : s.now.trees format_tree ≡ one.0 ∷ [] = sym (every (s.now.trees format_tree) []) ∙ one.1 in
+    let number_is : column one.0 2 ≡ Int (pos number) = sym (ap (λ row. column row 0) one.2) ∙ marked.2 in
+    ap (map (λ (r : Row). column r 2)) table ∙ ap (λ v. v ∷ []) number_is
+
+-- ---- the numbers of the rows
+
+pub numbers_found : (s : State) (kind : Kind) (rows given : List Row) → given ≡ rows → IsLaid s → Answers (numbers_text kind) [] s rows → AreRising given → AreNumbered (s.now.trees (entry_tree kind))
+numbers_found s kind rows given same laid answers rising =
+    let table = s.now.trees (entry_tree kind) in
+    let all = answered_by s (numbers_text kind) (entry_tree kind) (same_tree kind) [] number_shown number_order (codes "rowid" ∷ []) [] rows (numbers_is kind) (numbers_query kind) laid answers in
+    numbered table given (subst (IsPermutation (map (λ (r : Row). rowid r ∷ []) table)) (sym same) (subst (λ l. IsPermutation (map (λ (r : Row). rowid r ∷ []) l) rows) (every table []) all)) rising
+
+-- ---- one check after the other
+
+module _ {T F : Type 0} (old mid new : State) (r : Result T F) (first : Looks old mid) (laid : LaidIfOpen old) (second : Looks mid new) (clean : HasCleanDisk new) where
+  abbrev mid_clean : HasCleanDisk mid
+  mid_clean = was_clean mid new second (laid_on old mid first laid) clean
+
+  mid_same : IsTrue new.is_open → mid.now ≡ old.now
+  mid_same still = same_now old mid first laid mid_clean ((second.keeps clean).was_open still)
+
+  pub numbers_both : (HasCleanDisk mid → AreNumbered (old.now.trees (entry_tree User))) → OnOk r (AreNumbered (mid.now.trees (entry_tree Group))) → OnOk r (IsTrue new.is_open) → OnOk r (HasNumbers old.now.trees)
+  numbers_both users = on_both r (λ groups still. record { users = users mid_clean; groups = subst (λ (d : Database). AreNumbered (d.trees (entry_tree Group))) (mid_same still) groups })
+
+  pub entries_both : (users groups : List Entry) → (HasCleanDisk mid → ListsAll User old.now.trees users) → ListsAll Group mid.now.trees groups → IsTrue new.is_open → OnOk r (AreLawful users groups) → OnOk r (HoldsEntries old.now.trees)
+  entries_both users groups all_users all_groups still =
+      on_ok r (λ lawful. record { users = users; groups = groups; all_users = all_users mid_clean; all_groups = subst (λ (d : Database). ListsAll Group d.trees groups) (mid_same still) all_groups; lawful = lawful })
+
+pub store_found : {T F : Type 0} (old marked numbered new : State) (r : Result T F) → Looks old marked → LaidIfOpen old → Looks marked numbered → Looks numbered new → HasCleanDisk new → (HasCleanDisk marked → IsFormat old format_number)
+    → (HasCleanDisk numbered → HasNumbers marked.now.trees) → OnOk r (HoldsEntries numbered.now.trees) → OnOk r (IsTrue new.is_open) → OnOk r ((entries : EntryMap) × IsStore old entries)
+store_found old marked numbered new r first laid second third clean format numbers = on_both r (λ holds still.
+    let laid_marked = laid_on old marked first laid in
+    let numbered_clean = was_clean numbered new third (laid_on marked numbered second laid_marked) clean in
+    let numbered_open = (third.keeps clean).was_open still in
+    let marked_clean = was_clean marked numbered second laid_marked numbered_clean in
+    let marked_open = (second.keeps numbered_clean).was_open numbered_open in
+    let to_old = same_now old marked first laid marked_clean marked_open in
+    let to_marked = same_now marked numbered second laid_marked numbered_clean numbered_open in (
+      entries_in old.now.trees,
+      record {
+        laid = was_laid old marked first laid marked_clean marked_open;
+        format = format marked_clean;
+        numbers = subst (λ (d : Database). HasNumbers d.trees) to_old (numbers numbered_clean);
+        holds = subst (λ (d : Database). HoldsEntries d.trees) (to_marked ∙ to_old) holds;
+        are = refl;
+      },
+    ))

@@ -1,0 +1,107 @@
+-- What the rows of an answer show.
+use Rattle.std.proofs.Common.{◌≡◌, ℕ, List, [], ◌∷◌, map, filter, Option, Some, None, Ok, Err, Result, IfOk, refl, ap, ◌∙◌, subst, arith, IsPermutation}
+use Rattle.std.proofs.lemmas.List.Sorted.{length_permutation}
+use Rattle.sqlite_value.specs.declared.keys.Key.{Key}
+use Rattle.sqlite_value.specs.declared.keys.Order.{Order}
+use Rattle.sqlite_value.specs.declared.value.Value.TheVariants.{Text}
+use Rattle.sqlite_value.specs.Order.{Row}
+use Rattle.sqlite_trees.proofs.ListLemmas.{all_of, filter_same}
+use Rattle.sqlite_sql.specs.Program.{overlay}
+use Rattle.sqlite_sql.specs.Term.{Term}
+use Rattle.sqlite_trees.specs.Tree.{Trees}
+use Rattle.sqlite_schema.specs.declared.command.Command.TheVariants.{Select}
+use Rattle.sqlite_resolve.specs.declared.compiled.Compiled.{Compiled}
+use Rattle.sqlite_resolve.specs.declared.error.CompileError.{CompileError}
+use Rattle.sqlite.specs.Effect.{Database, Reads}
+use Rattle.sqlite.specs.Given.{IsPlain}
+use Rattle.sqlite.specs.Listing.{understood}
+use Rattle.sqlite.specs.State.{State}
+use Rattle.sqlite.proofs.Callers.{command_of, one_permutation}
+use Rattle.scim_key.specs.declared.records.Kind.{Kind}
+use Rattle.scim_key.specs.declared.records.RecordName.{RecordName}
+use Rattle.journal_core.specs.declared.entries.Entry.{Entry}
+use Rattle.journal_store.specs.Format.{entry_tree, find_text, all_text, journal_schema}
+use Rattle.journal_store.specs.Rows.{shown_row}
+use Rattle.journal_store.specs.Connections.{Answers, AreShown, Finds, IsLaid, IsOnly, IsQuery, ListsAll, Shows, has_key}
+use Rattle.journal_store.proofs.Texts.{query, shown_terms, names, key_is, find_is, find_query, all_is, all_query, all_order}
+use Rattle.journal_store.proofs.Selecting.{passes, same_tree, selected_over, shows, shows_all, key_passes}
+
+read_by : (r : Result Compiled CompileError) (db : Database) (params : Row) (rows : List Row) → IsPlain r → ((c : Compiled) → r ≡ Ok c → Reads c.command db params rows) → Reads (command_of r) db params rows
+read_by (Ok c) db params rows plain reads = reads c refl
+read_by (Err e) db params rows plain reads = absurd plain
+
+pub answered_by : (s : State) (sql : List ℕ) (tree : ℕ) → ((db : Trees) → overlay db [] tree ≡ db tree) → (terms shown : List Term) (order : List (Term × Key)) (heads : List (List ℕ)) (params : Row) (rows : List Row)
+    → ((a : List Term) (o p : Order) → command_of (understood (journal_schema a o p) sql) ≡ Select (record { lets = []; body = query tree terms shown order }) heads)
+    → IsQuery sql → IsLaid s → Answers sql params s rows → IsPermutation (map (shows shown params) (filter (passes terms params) (s.now.trees tree))) rows
+answered_by s sql tree own terms shown order heads params rows means query_text laid answers =
+    let schema = journal_schema laid.format_checks laid.users laid.groups in
+    let plain = (query_text laid.format_checks laid.users laid.groups).0 in
+    let reads = read_by (understood schema sql) s.now params rows plain (λ c is. answers c (ap (λ x. understood x sql) laid.schema ∙ is)) in
+    selected_over tree terms shown order params own s.now rows (subst (λ command. Reads command s.now params rows) (means laid.format_checks laid.users laid.groups) reads)
+
+picked : (s : State) (sql : List ℕ) (kind : Kind) (terms : List Term) (order : List (Term × Key)) (params : Row) (rows : List Row)
+    → ((a : List Term) (o p : Order) → command_of (understood (journal_schema a o p) sql) ≡ Select (record { lets = []; body = query (entry_tree kind) terms (shown_terms kind) order }) (names kind))
+    → IsQuery sql → IsLaid s → Answers sql params s rows → IsPermutation (map (shows (shown_terms kind) params) (filter (passes terms params) (s.now.trees (entry_tree kind)))) rows
+picked s sql kind terms order = answered_by s sql (entry_tree kind) (same_tree kind) terms (shown_terms kind) order (names kind)
+
+map_same : {A B : Type 0} (f g : A → B) → ((x : A) → f x ≡ g x) → (xs : List A) → map f xs ≡ map g xs
+map_same f g same [] = refl
+map_same f g same (x ∷ xs) = λ i. same x i ∷ map_same f g same xs i
+
+empty : {A B : Type 0} (f : A → B) (xs : List A) → IsPermutation (map f xs) [] → xs ≡ []
+empty f [] same = refl
+empty f (x ∷ xs) same = absurd (omega (arith, length_permutation (map f (x ∷ xs)) [] same))
+
+pub single : {A B : Type 0} (f : A → B) (xs : List A) (y : B) → IsPermutation (map f xs) (y ∷ []) → (x : A) × (xs ≡ x ∷ []) × (y ≡ f x)
+single f [] y same = absurd (omega (arith, length_permutation (map f []) (y ∷ []) same))
+single f (x ∷ []) y same = (x, refl, let one : y ∷ [] ≡ f x ∷ [] = one_permutation (f x) (y ∷ []) same in cc)
+single f (x ∷ z ∷ xs) y same = absurd (omega (arith, length_permutation (map f (x ∷ z ∷ xs)) (y ∷ []) same))
+
+-- ---- one name
+
+pub rows_of_key : (s : State) (kind : Kind) (key : List ℕ) (rows : List Row) → IsLaid s → Answers (find_text kind) (Text key ∷ []) s rows
+    → IsPermutation (map (shown_row kind) (filter (has_key key) (s.now.trees (entry_tree kind)))) rows
+rows_of_key s kind key rows laid answers =
+    let table = s.now.trees (entry_tree kind) in
+    let params : Row = Text key ∷ [] in
+    let all = picked s (find_text kind) kind (key_is ∷ []) [] params rows (find_is kind) (find_query kind) laid answers in
+    let tests : filter (passes (key_is ∷ []) params) table ≡ filter (has_key key) table =
+    filter_same (passes (key_is ∷ []) params) (has_key key) table (all_of (λ x. passes (key_is ∷ []) params x ≡ has_key key x) (λ x. key_passes key [] x) table) in
+    subst (λ l. IsPermutation l rows) (ap (map (shows (shown_terms kind) params)) tests ∙ map_same (shows (shown_terms kind) params) (shown_row kind) (shows_all kind params) (filter (has_key key) table)) all
+
+pub finds : (s : State) (name : RecordName) (rows : List Row) (held : Option Entry) → IsLaid s → Answers (find_text name.kind) (Text name.key ∷ []) s rows → IsOnly name.kind rows held → Finds s.now.trees name held
+finds s name rows None laid answers only = empty (shown_row name.kind) _ (subst (IsPermutation (map (shown_row name.kind) (filter (has_key name.key) (s.now.trees (entry_tree name.kind))))) only (rows_of_key s name.kind name.key rows laid answers))
+finds s name rows (Some e) laid answers only =
+    let one = single (shown_row name.kind) _ only.0 (subst (IsPermutation (map (shown_row name.kind) (filter (has_key name.key) (s.now.trees (entry_tree name.kind))))) only.1 (rows_of_key s name.kind name.key rows laid answers)) in
+    (one.0, one.1, subst (λ r. Shows name.kind r e) one.2 only.2)
+
+-- ---- all rows
+
+pub every : (table : List Row) (params : Row) → filter (passes [] params) table ≡ table
+every [] params = refl
+every (r ∷ table) params = ap (λ l. r ∷ l) (every table params)
+
+pub rows_of_all : (s : State) (kind : Kind) (rows : List Row) → IsLaid s → Answers (all_text kind) [] s rows → IsPermutation (map (shown_row kind) (s.now.trees (entry_tree kind))) rows
+rows_of_all s kind rows laid answers =
+    let table = s.now.trees (entry_tree kind) in
+    subst (λ l. IsPermutation l rows) (ap (map (shows (shown_terms kind) [])) (every table []) ∙ map_same (shows (shown_terms kind) []) (shown_row kind) (shows_all kind []) table)
+    (picked s (all_text kind) kind [] all_order [] rows (all_is kind) (all_query kind) laid answers)
+
+-- ---- what the calls answer
+
+if_ok : {X F : Type 0} {P Q : X → Type 0} (r : Result X F) → ((x : X) → P x → Q x) → IfOk r P → IfOk r Q
+if_ok (Ok x) f p = f x p
+if_ok (Err e) f p = tt
+
+pub found_by : {F : Type 0} (s : State) (name : RecordName) (sql : List ℕ) (params : Row) (rows given : List Row) (r : Result (Option Entry) F) → sql ≡ find_text name.kind → params ≡ Text name.key ∷ [] → given ≡ rows
+    → IsLaid s → Answers sql params s rows → IfOk r (IsOnly name.kind given) → IfOk r (Finds s.now.trees name)
+found_by s name sql params rows given r text key same laid answers only =
+    let asked : Answers (find_text name.kind) (Text name.key ∷ []) s rows =
+    subst (λ p. Answers (find_text name.kind) p s rows) key (subst (λ t. Answers t params s rows) text answers) in
+    if_ok r (λ held is. finds s name rows held laid asked (subst (λ l. IsOnly name.kind l held) same is)) only
+
+pub listed_by : {X F : Type 0} (items : X → List Entry) (s : State) (kind : Kind) (sql : List ℕ) (rows given : List Row) (r : Result X F) → sql ≡ all_text kind → given ≡ rows → IsLaid s → Answers sql [] s rows
+    → IfOk r (λ x. AreShown kind given (items x)) → IfOk r (λ x. ListsAll kind s.now.trees (items x))
+listed_by items s kind sql rows given r text same laid answers shown =
+    let asked : Answers (all_text kind) [] s rows = subst (λ t. Answers t [] s rows) text answers in
+    if_ok r (λ x are. record { rows = rows; all = rows_of_all s kind rows laid asked; shown = subst (λ l. AreShown kind l (items x)) same are }) shown

@@ -1,0 +1,71 @@
+-- What a call leaves of a connection: it is as it was where the call only reads or fails.
+use Rattle.std.proofs.Common.{ℕ, false, List, Option, Some, None, Err, IsTrue, sym, ap, ◌∙◌, inl, inr}
+use Rattle.std.proofs.lemmas.Bool.{cases_Bool}
+use Rattle.sqlite_value.specs.Order.{Row}
+use Rattle.sqlite_resolve.specs.declared.compiled.Compiled.{Compiled}
+use Rattle.sqlite_schema.specs.declared.command.Returning.{Returning}
+use Rattle.sqlite.specs.declared.error.Error.{Error}
+use Rattle.sqlite.specs.Effect.{Database}
+use Rattle.sqlite.specs.Clock.{timed}
+use Rattle.sqlite.specs.State.{State, IsUnchanged, IsRolledBack, IsNotRun, RunsCommand, FailsToShow, FailsToQuery, Executes, ExecutesIn, shows_rows}
+use Rattle.journal_store.specs.Connections.{IsLaid, Keeps}
+
+pub unchanged_keeps : (old new : State) → IsUnchanged old new → Keeps old new
+unchanged_keeps old new it = record {
+  was_open = λ _. it.0.was_open;
+  same = λ _ laid. (it.0.now_is, it.0.committed_is ∙ laid.committed ∙ sym it.0.now_is, it.0.mode ∙ laid.autocommit);
+}
+
+pub rolled_keeps : (old new : State) → IsRolledBack old new → Keeps old new
+rolled_keeps old new it = record {
+  was_open = it.was_open;
+  same = λ still laid. let back = it.undone still in (back.0 ∙ laid.committed, back.1 ∙ sym back.0, it.autocommit);
+}
+
+pub laid_still : (old new : State) → Keeps old new → IsTrue new.is_open → IsLaid old → IsLaid new
+laid_still old new keeps still laid =
+    let same = keeps.same still laid in
+    record {
+      format_checks = laid.format_checks;
+      users = laid.users;
+      groups = laid.groups;
+      schema = ap (λ (d : Database). d.schema) same.0 ∙ laid.schema;
+      committed = same.1;
+      autocommit = same.2;
+    }
+
+pub keeps_then : (a b c : State) → Keeps a b → Keeps b c → Keeps a c
+keeps_then a b c first second = record {
+  was_open = λ still. first.was_open (second.was_open still);
+  same = λ still laid.
+      let mid = second.was_open still in
+      let one = first.same mid laid in
+      let two = second.same still (laid_still a b first mid laid) in
+      (two.0 ∙ one.0, two.1, two.2);
+}
+
+pub not_run_keeps : (old new : State) (sql : List ℕ) (params : Row) (e : Error) → IsNotRun old new sql params e → Keeps old new
+unfolding IsNotRun
+not_run_keeps old new sql params e (inl refused) = unchanged_keeps old new refused.1
+not_run_keeps old new sql params e (inr failed) = rolled_keeps old new failed.3
+
+command_keeps : (old new : State) (sql : List ℕ) (c : Compiled) (params : Row) (e : Error) → RunsCommand old new sql c params (Err e) → Keeps old new
+command_keeps old new sql c params e (inl refused) = unchanged_keeps old new refused.1
+command_keeps old new sql c params e (inr failed) = rolled_keeps old new failed.3
+
+show_keeps : (old new : State) (sql : List ℕ) (c : Compiled) (params : Row) (e : Error) (o : Option Returning) → FailsToShow old new sql c params e o → Keeps old new
+show_keeps old new sql c params e None it = unchanged_keeps old new it.3
+show_keeps old new sql c params e (Some what) it = command_keeps old new sql c params e it
+
+pub query_keeps : (old new : State) (sql : List ℕ) (params : Row) (e : Error) → FailsToQuery sql params old new e → Keeps old new
+unfolding FailsToQuery
+query_keeps old new sql params e (inl refused) = not_run_keeps old new sql params e refused
+query_keeps old new sql params e (inr failed) = show_keeps old new sql failed.0 (timed params failed.0.formats failed.1.now) e failed.0.returning failed.2
+
+pub execute_keeps : (old new : State) (sql : List ℕ) (params : Row) (e : Error) → Executes sql params old new (Err e) → Keeps old new
+unfolding ExecutesIn
+execute_keeps old new sql params e (inl refused) = not_run_keeps old new sql params e refused
+execute_keeps old new sql params e (inr failed) = elim (cases_Bool (shows_rows false failed.0)) [
+  | inl shows ↦ unchanged_keeps old new (rw shows at failed.2).1
+  | inr runs ↦ command_keeps old new sql failed.0 (timed params failed.0.formats failed.1.now) e (rw runs at failed.2)
+]

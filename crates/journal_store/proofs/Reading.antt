@@ -1,0 +1,149 @@
+-- What a call that only reads leaves of a journal.
+use Rattle.std.proofs.Common.{◌≡◌, ◌≤◌, ◌+◌, Bool, true, Some, None, false, Result, Ok, Err, IsTrue, OnOk, sym, ap, ◌∙◌, subst, inl, inr, arith, ◌⊎◌}
+use Rattle.std.specs.FinMap.{insert}
+use Rattle.sqlite_trees.specs.declared.store.Store.{Ghosts}
+use Rattle.sqlite_trees.specs.Tree.{Trees}
+use Rattle.sqlite.specs.Effect.{Database}
+use Rattle.sqlite.specs.Held.{state}
+use Rattle.sqlite.specs.State.{State, HasCleanDisk, Survives}
+use Rattle.scim_key.specs.declared.records.RecordName.{RecordName}
+use Rattle.source_csv.specs.Records.{IsRow, row_name}
+use Rattle.journal_core.specs.Entries.{EntryMap}
+use Rattle.journal_core.specs.Stores.{CountsFault, CountsFaults, OnlyReads, WritesOnce}
+use Rattle.journal_core.specs.declared.entries.Entry.{Entry}
+use Rattle.journal_core.specs.declared.journals.JournalFault.{JournalFault}
+use Rattle.journal_store.specs.Rows.{entries_in, entry_in, row_of}
+use Rattle.journal_store.specs.Connections.{FindsIf, HasNumbers, IsLaid, IsThere, Keeps, Makes, PutsIn}
+use Rattle.journal_store.specs.Kept.{Kept, IsFaithful, IsHonest, IsSound, IsWhole, MayHold, kept_entries}
+use Rattle.journal_store.proofs.Keeping.{laid_still}
+use Rattle.journal_store.proofs.Putting.{entry_put, numbers_still, there_of}
+
+abbrev pub answered : Result (Unit {0}) JournalFault
+answered = Ok tt
+
+abbrev pub failing : JournalFault → Result (Unit {0}) JournalFault
+failing fault = Err fault
+
+module _ {S : Type 0} (g : Ghosts S) where
+  abbrev at : Kept S → State
+  at k = state g k.conn
+
+  -- a connection that is kept keeps the entries
+  module _ (old new : Kept S) (usable : new.is_usable ≡ old.is_usable) (keeps : Keeps (at old) (at new)) where
+    pub entries_same : IsLaid (at old) → IsTrue (at new).is_open → kept_entries g new ≡ kept_entries g old
+    entries_same laid still = let same = keeps.same still laid in ap (λ (d : Database). entries_in d.trees) (same.1 ∙ same.0 ∙ sym laid.committed)
+
+    pub whole_still : IsWhole g old → IsTrue (at new).is_open → IsWhole g new
+    whole_still whole still =
+        let same = keeps.same still whole.laid in
+        record { laid = laid_still (at old) (at new) keeps still whole.laid; numbers = subst (λ (d : Database). HasNumbers d.trees) (sym same.0) whole.numbers }
+
+  pub sound_still : (old new : Kept S) → new.is_usable ≡ old.is_usable → Survives (at old) (at new) (λ _. ⊥) → (HasCleanDisk (at new) → Keeps (at old) (at new)) → IsSound g old → IsSound g new
+  sound_still old new usable quiet keeps sound clean still use_it =
+      let was = keeps clean in
+      whole_still old new usable was (sound (omega (arith, clean, quiet.clean)) (was.was_open still) (subst IsTrue usable use_it)) still
+
+  pub faithful_was : (old new : Kept S) → new.is_usable ≡ old.is_usable → Survives (at old) (at new) (λ _. ⊥) → (HasCleanDisk (at new) → Keeps (at old) (at new)) → IsSound g old → IsFaithful g new → IsFaithful g old
+  faithful_was old new usable quiet keeps sound it =
+      let clean : HasCleanDisk (at old) = omega (arith, it.clean, quiet.clean) in
+      let was_open = (keeps it.clean).was_open it.is_open in
+      let was_usable = subst IsTrue usable it.usable in
+      record { clean = clean; is_open = was_open; usable = was_usable; whole = sound clean was_open was_usable }
+
+  if_ok : {T F : Type 0} {P Q : Type 0} (r : Result T F) → (P → Q) → OnOk r P → OnOk r Q
+  if_ok (Ok x) f p = f p
+  if_ok (Err e) f p = tt
+
+  pub read_only : {T : Type 0} (old new : Kept S) (result : Result T JournalFault) → IsTrue old.is_usable → new.is_usable ≡ old.is_usable → new.writes ≡ old.writes
+      → Survives (at old) (at new) (λ _. ⊥) → (HasCleanDisk (at new) → Keeps (at old) (at new)) → (HasCleanDisk (at new) → OnOk result (IsTrue (at new).is_open)) → IsSound g old
+      → CountsFaults CountsFault old.faults new.faults result
+      → OnlyReads (kept_entries g) (IsFaithful g) (IsHonest g) (MayHold g) (λ k. k.faults) (λ k. k.writes) CountsFault old new result
+  read_only old new result was_usable usable writes quiet keeps opens sound counts = record {
+    was = faithful_was old new usable quiet keeps sound;
+    same = λ it. entries_same old new usable (keeps it.clean) (faithful_was old new usable quiet keeps sound it).whole.laid it.is_open;
+    honest = λ clean. omega (arith, clean, quiet.clean);
+    opened = λ clean. if_ok result (λ still.
+        let use_it = subst IsTrue (sym usable) was_usable in
+        record { clean = clean; is_open = still; usable = use_it; whole = sound_still old new usable quiet keeps sound clean still use_it }) (opens clean);
+    stop = λ clean found may. elim (quiet.crash clean may.0 may.1) [ inl was ↦ (may.0, was, may.2) | inr none ↦ absurd none ];
+    counted = counts;
+    unwritten = writes;
+  }
+
+  -- ---- a call that writes
+
+  module _ (old new : Kept S) (is_there : Bool) (entry : Entry) (sound : IsSound g old) (was_usable : IsTrue old.is_usable) (usable : new.is_usable ≡ old.is_usable)
+      (finds : IsFaithful g old → FindsIf (at old).now.trees (row_name entry.row) is_there) (back : IsFaithful g old → IsRow entry.row → entry_in (row_name entry.row).kind (row_of entry) ≡ Some entry)
+      (survives : Survives (at old) (at new) (λ db. IsTrue (at old).is_open × PutsIn is_there entry (at old).now.trees db)) where
+    abbrev later : EntryMap
+    later = insert (kept_entries g old) (row_name entry.row) entry
+
+    faithful_before : HasCleanDisk (at new) → IsTrue (at old).is_open → IsFaithful g old
+    faithful_before clean still =
+        let early : HasCleanDisk (at old) = omega (arith, clean, survives.clean) in
+        record { clean = early; is_open = still; usable = was_usable; whole = sound early still was_usable }
+
+    put_is : (db : Trees) → IsFaithful g old → PutsIn is_there entry (at old).now.trees db → entries_in db ≡ later
+    put_is db it puts =
+        let found = finds it in
+        entry_put found.0 entry (at old).now.trees db it.whole.numbers found.2 (subst (λ b. PutsIn b entry (at old).now.trees db) found.1 puts) (back it puts.lawful) ∙ ap (λ (d : Database). insert (entries_in d.trees) (row_name entry.row) entry) (sym it.whole.laid.committed)
+
+    stops : (found : EntryMap) → HasCleanDisk (at new) → MayHold g new found → MayHold g old found ⊎ (IsFaithful g old × (found ≡ later))
+    stops found clean may = elim (survives.crash clean may.0 may.1) [
+      | inl was ↦ inl (may.0, was, may.2)
+      | inr left ↦ let before = faithful_before clean left.0 in inr (before, may.2 ∙ put_is may.0 before left.1)
+    ]
+
+    module _ (makes : HasCleanDisk (at new) → Makes is_there entry (at old) (at new)) where
+      pub wrote_faithful : HasCleanDisk (at new) → IsFaithful g new
+      wrote_faithful clean =
+          let made = makes clean in
+          let before = faithful_before clean made.was_open in
+          let found = finds before in
+          record {
+            clean = clean;
+            is_open = made.is_open;
+            usable = subst IsTrue (sym usable) was_usable;
+            whole = record { laid = made.laid; numbers = numbers_still found.0 entry (at old).now.trees (at new).now.trees before.whole.numbers found.2 (subst (λ b. PutsIn b entry (at old).now.trees (at new).now.trees) found.1 made.puts) (back before made.puts.lawful) };
+          }
+
+      pub wrote_sound : IsSound g new
+      wrote_sound clean still use_it = (wrote_faithful clean).whole
+
+      pub wrote : new.faults ≡ old.faults → new.writes ≤ old.writes + 1
+          → WritesOnce (kept_entries g) (IsFaithful g) (IsHonest g) (MayHold g) (λ k. k.faults) (λ k. k.writes) CountsFault old new later answered
+      wrote faults writes = record {
+        was = λ it. faithful_before it.clean (makes it.clean).was_open;
+        done = λ it. let made = makes it.clean in
+            ap (λ (d : Database). entries_in d.trees) made.laid.committed ∙ put_is (at new).now.trees (faithful_before it.clean made.was_open) made.puts;
+        same = λ _. tt;
+        honest = λ clean. omega (arith, clean, survives.clean);
+        stop = λ clean found may. stops found clean may;
+        counted = faults;
+        written = writes;
+        unwritten = tt;
+      }
+
+    module _ (fault : JournalFault) (keeps : HasCleanDisk (at new) → Keeps (at old) (at new)) where
+      pub failed_sound : IsSound g new
+      failed_sound clean still use_it =
+          let kept = keeps clean in
+          whole_still old new usable kept (faithful_before clean (kept.was_open still)).whole still
+
+      pub failed : CountsFault old.faults new.faults fault → new.writes ≡ old.writes
+          → WritesOnce (kept_entries g) (IsFaithful g) (IsHonest g) (MayHold g) (λ k. k.faults) (λ k. k.writes) CountsFault old new later (failing fault)
+      failed faults writes = record {
+        was = λ it. faithful_before it.clean ((keeps it.clean).was_open it.is_open);
+        done = λ _. tt;
+        same = λ it. let kept = keeps it.clean in entries_same old new usable kept (faithful_before it.clean (kept.was_open it.is_open)).whole.laid it.is_open;
+        honest = λ clean. omega (arith, clean, survives.clean);
+        stop = λ clean found may. stops found clean may;
+        counted = faults;
+        written = omega (arith, writes);
+        unwritten = writes;
+      }
+
+-- the row of a name that is known to be there
+pub there_if : (db : Trees) (name : RecordName) (is_there : Bool) → HasNumbers db → FindsIf db name is_there → is_there ≡ true → IsThere db name
+there_if db name is_there numbers (None, is, finds) there = absurd (let clash : true ≡ false = sym there ∙ is in cc)
+there_if db name is_there numbers (Some e, is, finds) there = there_of db name e numbers finds

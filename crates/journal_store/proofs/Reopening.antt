@@ -1,0 +1,76 @@
+-- What an opening makes of a journal, and a reopening.
+use Rattle.std.proofs.Common.{◌≡◌, [], ◌∷◌, pos, IsTrue, sym, ap, ◌∙◌, subst, inl, inr, arith, map}
+use Rattle.sqlite_value.specs.Order.{Row, column}
+use Rattle.sqlite_value.specs.declared.value.Value.TheVariants.{Int}
+use Rattle.sqlite_trees.specs.declared.store.Store.{Ghosts}
+use Rattle.sqlite.specs.Effect.{Database}
+use Rattle.sqlite.specs.Held.{state}
+use Rattle.sqlite.specs.State.{State, HasCleanDisk}
+use Rattle.journal_core.specs.Entries.{EntryMap}
+use Rattle.journal_core.specs.Stores.{CountsFault, Reopens}
+use Rattle.journal_core.specs.declared.journals.JournalFault.{JournalFault}
+use Rattle.journal_store.specs.Format.{format_tree, format_number}
+use Rattle.journal_store.specs.Rows.{entries_in}
+use Rattle.journal_store.specs.Connections.{HasNumbers}
+use Rattle.journal_store.specs.Kept.{Kept, IsFaithful, IsHonest, IsWhole, MayHold, kept_entries}
+use Rattle.journal_store.specs.Opening.{HoldsEntries, IsStore, Looks}
+use Rattle.journal_store.proofs.Keeping.{laid_still}
+use Rattle.journal_store.proofs.Reading.{answered, failing}
+
+-- the entries that were committed are those that the tables hold
+pub committed_entries : (s : State) (entries : EntryMap) → IsStore s entries → entries_in s.committed.trees ≡ entries
+committed_entries s entries store = ap (λ (d : Database). entries_in d.trees) store.laid.committed ∙ store.are
+
+-- a store that is looked at stays
+pub store_on : (old new : State) (entries : EntryMap) → Looks old new → IsStore old entries → HasCleanDisk new → IsTrue new.is_open → IsStore new entries
+store_on old new entries looks store clean still =
+    let keeps = looks.keeps clean in
+    let same = (keeps.same still store.laid).0 in
+    record {
+      laid = laid_still old new keeps still store.laid;
+      format = subst (λ (d : Database). map (λ (r : Row). column r 2) (d.trees format_tree) ≡ Int (pos format_number) ∷ []) (sym same) store.format;
+      numbers = subst (λ (d : Database). HasNumbers d.trees) (sym same) store.numbers;
+      holds = subst (λ (d : Database). HoldsEntries d.trees) (sym same) store.holds;
+      are = ap (λ (d : Database). entries_in d.trees) same ∙ store.are;
+    }
+
+module _ {S : Type 0} (g : Ghosts S) where
+  abbrev at : Kept S → State
+  at k = state g k.conn
+
+  pub whole_of : (k : Kept S) (entries : EntryMap) → IsStore (at k) entries → IsWhole g k
+  whole_of k entries store = record { laid = store.laid; numbers = store.numbers }
+
+  module _ (old new : Kept S) (looks : Looks (at old) (at new)) where
+    stop_same : (found : EntryMap) → IsHonest g new → MayHold g new found → MayHold g old found
+    stop_same found clean may = elim (looks.quiet.crash clean may.0 may.1) [ inl was ↦ (may.0, was, may.2) | inr none ↦ absurd none ]
+
+    pub reopened : ((s : S) → IsTrue (g.view s).is_open → g.recovers s (g.view s).committed) → IsTrue new.is_usable
+        → (HasCleanDisk (at new) → (entries : EntryMap) × IsStore (at old) entries) → (HasCleanDisk (at new) → IsTrue (at new).is_open) → new.faults ≡ old.faults → new.writes ≡ old.writes
+        → Reopens (kept_entries g) (IsFaithful g) (IsHonest g) (MayHold g) (λ k. k.faults) (λ k. k.writes) CountsFault old new answered
+    reopened stays usable stores opens faults writes = record {
+      found = λ clean.
+          let it = stores clean in
+          let still = opens clean in
+          let store = store_on (at old) (at new) it.0 looks it.1 clean still in
+          ((at old).committed.trees, stays old.conn.store ((looks.keeps clean).was_open still), committed_entries (at new) it.0 store ∙ sym (committed_entries (at old) it.0 it.1));
+      honest = λ clean. omega (arith, clean, looks.quiet.clean);
+      opened = λ clean.
+          let it = stores clean in
+          let still = opens clean in
+          record { clean = clean; is_open = still; usable = usable; whole = whole_of new it.0 (store_on (at old) (at new) it.0 looks it.1 clean still) };
+      stop = λ clean found may. stop_same found clean may;
+      counted = faults;
+      unwritten = writes;
+    }
+
+    pub not_reopened : (fault : JournalFault) → CountsFault old.faults new.faults fault → new.writes ≡ old.writes
+        → Reopens (kept_entries g) (IsFaithful g) (IsHonest g) (MayHold g) (λ k. k.faults) (λ k. k.writes) CountsFault old new (failing fault)
+    not_reopened fault counts writes = record {
+      found = λ _. tt;
+      honest = λ clean. omega (arith, clean, looks.quiet.clean);
+      opened = λ _. tt;
+      stop = λ clean found may. stop_same found clean may;
+      counted = counts;
+      unwritten = writes;
+    }

@@ -1,0 +1,140 @@
+-- What the two writes make of the table of a type.
+use Rattle.std.proofs.Common.{◌≡◌, ◌⊎◌, ℕ, ℤ, Bool, true, false, not, ◌&&◌, List, [], ◌∷◌, map, filter, None, Ok, Err, Result, Option, refl, ap, ◌∙◌, subst, inl, inr, IsPermutation, arith}
+use Rattle.sqlite_value.specs.declared.value.Value.TheVariants.{Int, Text}
+use Rattle.sqlite_value.specs.declared.keys.Order.{Order}
+use Rattle.sqlite_value.specs.Order.{Row, column}
+use Rattle.sqlite_trees.specs.Tree.{Trees, rowid, put_row, without_rowid}
+use Rattle.sqlite_trees.proofs.ListLemmas.{filter_same, all_of}
+use Rattle.sqlite_sql.specs.Term.{Term}
+use Rattle.sqlite_schema.specs.declared.schema.Schema.{Schema}
+use Rattle.sqlite_schema.specs.declared.schema.Keys.TheVariants.{Enforced}
+use Rattle.sqlite_schema.specs.declared.command.Source.TheVariants.{Values}
+use Rattle.sqlite_schema.specs.declared.command.Command.TheVariants.{Insert, Update}
+use Rattle.sqlite_rules.specs.Edit.{are_fresh, edit_of, edited, is_taken, next_rowid, put_all}
+use Rattle.sqlite_rules.specs.declared.error.Rowids.TheVariants.{Chosen, Given}
+use Rattle.sqlite_rules.specs.Calls.{ids_of}
+use Rattle.sqlite.specs.Effect.{Database}
+use Rattle.sqlite.specs.Does.{Tally, Does}
+use Rattle.sqlite.specs.Rows.{Written}
+use Rattle.sqlite.proofs.Callers.{one_step, one_permutation}
+use Rattle.scim_key.specs.declared.records.Kind.TheVariants.{User, Group}
+use Rattle.journal_store.specs.Format.{journal_schema, entry_table}
+use Rattle.journal_store.specs.Rows.{id_value}
+use Rattle.journal_store.specs.Connections.{has_key, plain_mode}
+use Rattle.journal_store.proofs.Texts.{query, key_is, insert_terms, insert_width, update_terms}
+use Rattle.journal_store.proofs.Values.{cast_int, cast_null, cast_id}
+use Rattle.journal_store.proofs.Selecting.{passes, shows, selected, key_passes}
+
+-- a part that gave a value did not stop on the way
+pub went : {B E R : Type 0} {b : B} {Stops : E → Type 0} → ((stop : E) × Stops stop × (Ok b ≡ Err stop)) ⊎ R → R
+went (inl stopped) = absurd (let e = stopped.2 in cc)
+went (inr on) = on
+
+pub same_value : {B E : Type 0} {a b : B} → ◌≡◌ {A = Result B E} (Ok a) (Ok b) → a ≡ b
+same_value e = cc
+
+fresh_one : (b : Bool) → (not b && true) ≡ true → b ≡ false
+fresh_one true e = absurd (cc)
+fresh_one false e = refl
+
+found_one : (key : List ℕ) (rest : Row) (table : List Row) (r : Row) → filter (has_key key) table ≡ r ∷ [] → filter (passes (key_is ∷ []) (Text key ∷ rest)) table ≡ r ∷ []
+found_one key rest table r only =
+    filter_same (passes (key_is ∷ []) (Text key ∷ rest)) (has_key key) table (all_of (λ x. passes (key_is ∷ []) (Text key ∷ rest) x ≡ has_key key x) (λ x. key_passes key rest x) table) ∙ only
+
+module _ (limit : Option ℕ) (a : List Term) (o p : Order) (db after : Database) (tally : Tally) (sql : List ℕ) (has : db.schema ≡ journal_schema a o p) where
+  abbrev schema : Schema
+  schema = journal_schema a o p
+
+  module _ (key login number given family mail : List ℕ) (revision active confirmed : ℤ) (id : Option (List ℕ)) where
+    abbrev user_rest : Row
+    user_rest = Text login ∷ Int revision ∷ Text number ∷ Text given ∷ Text family ∷ Text mail ∷ Int active ∷ Int confirmed ∷ id_value id ∷ []
+
+    abbrev user_row : Row
+    user_row = Text key ∷ user_rest
+
+    pub inserts_user : Does limit plain_mode user_row db sql None (Insert 1 (Values (insert_terms User) (insert_width User))) (Ok (tally, after))
+        → (n : ℤ) × (after.schema ≡ schema) × (is_taken (db.trees 1) (Int n ∷ user_row) ≡ false) × (after.trees 1 ≡ put_row (Int n ∷ user_row) (db.trees 1)) × (after.trees 3 ≡ db.trees 3)
+    inserts_user does =
+        let done = went (subst (λ s. Does limit plain_mode user_row (record db { schema = s }) sql None (Insert 1 (Values (insert_terms User) (insert_width User))) (Ok (tally, after))) has does) in
+        let now = ap (λ (t : Tally × Database). t.1) (same_value (went (went done.2).2).2) in
+        let rows_given = went done.1 in
+        let written = went (went rows_given.2).2 in
+        let counted = went written.2 in
+        let trees : done.0.trees ≡ written.0 = ap (λ (it : Written). it.trees) (same_value counted.2) ∙ same_value counted.1 in
+        let applied = one_step schema Enforced db.trees written.0 (edit_of db.trees (entry_table User o) [] Chosen 0 rows_given.0) refl written.1 in
+        let news : (edit_of db.trees (entry_table User o) [] Chosen 0 rows_given.0).news ≡ (Int (next_rowid (db.trees 1)) ∷ user_row) ∷ [] =
+        ap (λ all. (edit_of db.trees (entry_table User o) [] Chosen 0 all).news) rows_given.1.1 ∙ rw (cast_null, cast_int revision, cast_int active, cast_int confirmed, cast_id id) refl in (
+          next_rowid (db.trees 1),
+          ap (λ (d : Database). d.schema) now,
+          fresh_one (is_taken (db.trees 1) (Int (next_rowid (db.trees 1)) ∷ user_row)) (subst (λ (l : List Row). are_fresh (db.trees 1) l ≡ true) news applied.fresh),
+          ap (λ (d : Database). d.trees 1) now ∙ ap (λ (t : Trees). t 1) trees ∙ applied.rows ∙ ap (put_all (db.trees 1)) news,
+          ap (λ (d : Database). d.trees 3) now ∙ ap (λ (t : Trees). t 3) trees ∙ applied.tables.1.1.0 (λ (e : 3 ≡ 1). omega (arith, e)),
+        )
+
+    pub updates_user : (r : Row) (n : ℤ) → filter (has_key key) (db.trees 1) ≡ r ∷ [] → rowid r ≡ Int n → column r 1 ≡ Text key
+        → Does limit plain_mode user_row db sql None (Update 1 (record { lets = []; body = query 1 (key_is ∷ []) (update_terms User) [] })) (Ok (tally, after))
+        → (after.schema ≡ schema) × (after.trees 1 ≡ put_row (Int n ∷ user_row) (without_rowid n (db.trees 1))) × (after.trees 3 ≡ db.trees 3)
+    updates_user r n only number_is key_at does =
+        let command = Update 1 (record { lets = []; body = query 1 (key_is ∷ []) (update_terms User) [] }) in
+        let done = went (subst (λ s. Does limit plain_mode user_row (record db { schema = s }) sql None command (Ok (tally, after))) has does) in
+        let now = ap (λ (t : Tally × Database). t.1) (same_value (went (went done.2).2).2) in
+        let rows_given = went done.1 in
+        let all = selected User (key_is ∷ []) (update_terms User) [] user_row (record { schema = schema; trees = db.trees }) rows_given.0 rows_given.1 in
+        let one : rows_given.0 ≡ (Int n ∷ Int n ∷ user_row) ∷ [] =
+        one_permutation _ rows_given.0 (subst (λ l. IsPermutation l rows_given.0) (ap (map (shows (update_terms User) user_row)) (found_one key user_rest (db.trees 1) r only) ∙ rw (number_is, key_at) refl) all) in
+        let written = went rows_given.2 in
+        let trees : done.0.trees ≡ written.0 = ap (λ (it : Written). it.trees) (same_value written.2) in
+        let applied = one_step schema Enforced db.trees written.0 (edit_of db.trees (entry_table User o) (ids_of rows_given.0) Given 1 rows_given.0) refl written.1 in
+        let edit : edited db.trees (edit_of db.trees (entry_table User o) (ids_of rows_given.0) Given 1 rows_given.0) ≡ put_row (Int n ∷ user_row) (without_rowid n (db.trees 1)) =
+        ap (λ all. edited db.trees (edit_of db.trees (entry_table User o) (ids_of all) Given 1 all)) one ∙ rw (cast_int n, cast_int revision, cast_int active, cast_int confirmed, cast_id id) refl in (
+          ap (λ (d : Database). d.schema) now,
+          ap (λ (d : Database). d.trees 1) now ∙ ap (λ (t : Trees). t 1) trees ∙ applied.rows ∙ edit,
+          ap (λ (d : Database). d.trees 3) now ∙ ap (λ (t : Trees). t 3) trees ∙ applied.tables.1.1.0 (λ (e : 3 ≡ 1). omega (arith, e)),
+        )
+
+  module _ (key name members : List ℕ) (revision confirmed : ℤ) (id : Option (List ℕ)) where
+    abbrev group_rest : Row
+    group_rest = Text name ∷ Int revision ∷ Text members ∷ Int confirmed ∷ id_value id ∷ []
+
+    abbrev group_row : Row
+    group_row = Text key ∷ group_rest
+
+    pub inserts_group : Does limit plain_mode group_row db sql None (Insert 2 (Values (insert_terms Group) (insert_width Group))) (Ok (tally, after))
+        → (n : ℤ) × (after.schema ≡ schema) × (is_taken (db.trees 3) (Int n ∷ group_row) ≡ false) × (after.trees 3 ≡ put_row (Int n ∷ group_row) (db.trees 3)) × (after.trees 1 ≡ db.trees 1)
+    inserts_group does =
+        let done = went (subst (λ s. Does limit plain_mode group_row (record db { schema = s }) sql None (Insert 2 (Values (insert_terms Group) (insert_width Group))) (Ok (tally, after))) has does) in
+        let now = ap (λ (t : Tally × Database). t.1) (same_value (went (went done.2).2).2) in
+        let rows_given = went done.1 in
+        let written = went (went rows_given.2).2 in
+        let counted = went written.2 in
+        let trees : done.0.trees ≡ written.0 = ap (λ (it : Written). it.trees) (same_value counted.2) ∙ same_value counted.1 in
+        let applied = one_step schema Enforced db.trees written.0 (edit_of db.trees (entry_table Group p) [] Chosen 0 rows_given.0) refl written.1 in
+        let news : (edit_of db.trees (entry_table Group p) [] Chosen 0 rows_given.0).news ≡ (Int (next_rowid (db.trees 3)) ∷ group_row) ∷ [] =
+        ap (λ all. (edit_of db.trees (entry_table Group p) [] Chosen 0 all).news) rows_given.1.1 ∙ rw (cast_null, cast_int revision, cast_int confirmed, cast_id id) refl in (
+          next_rowid (db.trees 3),
+          ap (λ (d : Database). d.schema) now,
+          fresh_one (is_taken (db.trees 3) (Int (next_rowid (db.trees 3)) ∷ group_row)) (subst (λ (l : List Row). are_fresh (db.trees 3) l ≡ true) news applied.fresh),
+          ap (λ (d : Database). d.trees 3) now ∙ ap (λ (t : Trees). t 3) trees ∙ applied.rows ∙ ap (put_all (db.trees 3)) news,
+          ap (λ (d : Database). d.trees 1) now ∙ ap (λ (t : Trees). t 1) trees ∙ applied.tables.1.0 (λ (e : 1 ≡ 3). omega (arith, e)),
+        )
+
+    pub updates_group : (r : Row) (n : ℤ) → filter (has_key key) (db.trees 3) ≡ r ∷ [] → rowid r ≡ Int n → column r 1 ≡ Text key
+        → Does limit plain_mode group_row db sql None (Update 2 (record { lets = []; body = query 3 (key_is ∷ []) (update_terms Group) [] })) (Ok (tally, after))
+        → (after.schema ≡ schema) × (after.trees 3 ≡ put_row (Int n ∷ group_row) (without_rowid n (db.trees 3))) × (after.trees 1 ≡ db.trees 1)
+    updates_group r n only number_is key_at does =
+        let command = Update 2 (record { lets = []; body = query 3 (key_is ∷ []) (update_terms Group) [] }) in
+        let done = went (subst (λ s. Does limit plain_mode group_row (record db { schema = s }) sql None command (Ok (tally, after))) has does) in
+        let now = ap (λ (t : Tally × Database). t.1) (same_value (went (went done.2).2).2) in
+        let rows_given = went done.1 in
+        let all = selected Group (key_is ∷ []) (update_terms Group) [] group_row (record { schema = schema; trees = db.trees }) rows_given.0 rows_given.1 in
+        let one : rows_given.0 ≡ (Int n ∷ Int n ∷ group_row) ∷ [] =
+        one_permutation _ rows_given.0 (subst (λ l. IsPermutation l rows_given.0) (ap (map (shows (update_terms Group) group_row)) (found_one key group_rest (db.trees 3) r only) ∙ rw (number_is, key_at) refl) all) in
+        let written = went rows_given.2 in
+        let trees : done.0.trees ≡ written.0 = ap (λ (it : Written). it.trees) (same_value written.2) in
+        let applied = one_step schema Enforced db.trees written.0 (edit_of db.trees (entry_table Group p) (ids_of rows_given.0) Given 1 rows_given.0) refl written.1 in
+        let edit : edited db.trees (edit_of db.trees (entry_table Group p) (ids_of rows_given.0) Given 1 rows_given.0) ≡ put_row (Int n ∷ group_row) (without_rowid n (db.trees 3)) =
+        ap (λ all. edited db.trees (edit_of db.trees (entry_table Group p) (ids_of all) Given 1 all)) one ∙ rw (cast_int n, cast_int revision, cast_int confirmed, cast_id id) refl in (
+          ap (λ (d : Database). d.schema) now,
+          ap (λ (d : Database). d.trees 3) now ∙ ap (λ (t : Trees). t 3) trees ∙ applied.rows ∙ edit,
+          ap (λ (d : Database). d.trees 1) now ∙ ap (λ (t : Trees). t 1) trees ∙ applied.tables.1.0 (λ (e : 1 ≡ 3). omega (arith, e)),
+        )

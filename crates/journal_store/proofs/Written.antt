@@ -1,0 +1,166 @@
+-- What the two writes leave, as rows of entries.
+use Rattle.std.proofs.Common.{◌≡◌, ℕ, pos, Bool, true, false, List, [], ◌∷◌, None, Option, Ok, Err, Result, OnOk, IsTrue, refl, sym, ap, ◌∙◌, subst, arith}
+use Rattle.sqlite_value.specs.declared.keys.Order.{Order}
+use Rattle.sqlite_value.specs.declared.value.Value.{Value}
+use Rattle.sqlite_value.specs.declared.value.Value.TheVariants.{Int, Text}
+use Rattle.sqlite_value.specs.Order.{Row}
+use Rattle.sqlite_trees.specs.Tree.{Trees}
+use Rattle.sqlite_schema.specs.declared.schema.Schema.{Schema}
+use Rattle.sqlite_schema.specs.declared.command.Command.{Command}
+use Rattle.sqlite_schema.specs.declared.command.Command.TheVariants.{Insert, Update}
+use Rattle.sqlite_schema.specs.declared.command.Source.TheVariants.{Values}
+use Rattle.sqlite_sql.specs.Term.{Term}
+use Rattle.sqlite_resolve.specs.declared.compiled.Compiled.{Compiled}
+use Rattle.sqlite_resolve.specs.declared.error.CompileError.{CompileError}
+use Rattle.sqlite.specs.Does.{Tally, Does}
+use Rattle.sqlite.specs.Effect.{Database}
+use Rattle.sqlite.specs.Given.{IsPlain}
+use Rattle.sqlite.specs.Listing.{understood}
+use Rattle.sqlite.specs.State.{State, HasCleanDisk, Survives}
+use Rattle.sqlite.proofs.Callers.{command_of}
+use Rattle.sqlite.proofs.StateLemmas.{survives_weaker}
+use Rattle.scim_key.specs.Revisions.{RevisionValue, revision_number}
+use Rattle.scim_key.specs.declared.records.Kind.{Kind}
+use Rattle.source_csv.specs.Records.{IsRow, row_name}
+use Rattle.source_csv.specs.Rows.{GroupFields, UserFields}
+use Rattle.source_csv.specs.declared.rows.Row as source
+use Rattle.source_csv.specs.declared.rows.Row.TheVariants.{User, Group}
+use Rattle.journal_core.specs.declared.entries.Entry.{Entry}
+use Rattle.journal_store.specs.Format.{journal_schema, entry_place, entry_tree}
+use Rattle.journal_store.specs.Rows.{active_number, id_value, members_text, revision_value, row_by, row_of}
+use Rattle.journal_store.specs.Connections.{IsEdit, IsEditText, IsLaid, IsThere, Makes, MayLeave, PutsIn, Ran, plain_mode, put_text}
+use Rattle.journal_store.proofs.Texts.{query, key_is, insert_terms, insert_width, insert_is, insert_plain, update_terms, update_is, update_plain}
+use Rattle.journal_store.proofs.Writing.{inserts_user, inserts_group, updates_user, updates_group}
+
+-- ---- the texts
+
+edit_of_plain : (r : Result Compiled CompileError) (c : Compiled) (command : Command) → IsPlain r → command_of r ≡ command → IsEdit command → r ≡ Ok c → (c.returning ≡ None) × (c.formats ≡ []) × IsEdit c.command
+edit_of_plain (Ok d) c command plain means edit is =
+    let same : d ≡ c = cc in
+    subst (λ (x : Compiled). (x.returning ≡ None) × (x.formats ≡ []) × IsEdit x.command) same (plain.0, plain.1, subst IsEdit (sym means) edit)
+edit_of_plain (Err e) c command plain means edit is = absurd plain
+
+-- what the text of a write means
+abbrev put_command : Bool → Kind → Command
+put_command false kind = Insert (entry_place kind) (Values (insert_terms kind) (insert_width kind))
+put_command true kind = Update (entry_place kind) (record { lets = []; body = query (entry_tree kind) (key_is ∷ []) (update_terms kind) [] })
+
+put_is : (is_there : Bool) (kind : Kind) (a : List Term) (o p : Order) → command_of (understood (journal_schema a o p) (put_text is_there kind)) ≡ put_command is_there kind
+put_is false kind a o p = insert_is kind a o p
+put_is true kind a o p = update_is kind a o p
+
+put_plain : (is_there : Bool) (kind : Kind) (a : List Term) (o p : Order) → IsPlain (understood (journal_schema a o p) (put_text is_there kind))
+put_plain false kind a o p = insert_plain kind a o p
+put_plain true kind a o p = update_plain kind a o p
+
+is_edit : (is_there : Bool) (kind : Kind) → IsEdit (put_command is_there kind)
+is_edit false kind = tt
+is_edit true kind = tt
+
+pub put_edits : (is_there : Bool) (kind : Kind) → IsEditText (put_text is_there kind)
+put_edits is_there kind a o p c is = edit_of_plain (understood (journal_schema a o p) (put_text is_there kind)) c (put_command is_there kind) (put_plain is_there kind a o p) (put_is is_there kind a o p) (is_edit is_there kind) is
+
+command_is : (s : State) (sql : List ℕ) (c : Compiled) (command : Command) (laid : IsLaid s) → command_of (understood (journal_schema laid.format_checks laid.users laid.groups) sql) ≡ command
+    → understood s.now.schema sql ≡ Ok c → c.command ≡ command
+command_is s sql c command laid means is = ap command_of (sym is ∙ ap (λ (schema : Schema). understood schema sql) laid.schema) ∙ means
+
+-- ---- an entry is put
+
+module _ (limit : Option ℕ) (old : State) (after : Database) (tally : Tally) (sql : List ℕ) (laid : IsLaid old) where
+  abbrev same_schema : Type 0
+  same_schema = after.schema ≡ journal_schema laid.format_checks laid.users laid.groups
+
+  adds : (row : source.Row) (confirmed : RevisionValue) (id : Option (List ℕ)) → IsRow row → Does limit plain_mode (row_by row confirmed id) old.now sql None (put_command false (row_name row).kind) (Ok (tally, after))
+      → same_schema × PutsIn false (record { row = row; confirmed = confirmed; id = id }) old.now.trees after.trees
+  adds (User u) confirmed id lawful does =
+      let made = inserts_user limit laid.format_checks laid.users laid.groups old.now after tally sql laid.schema (row_name (User u)).key u.login u.number u.given u.family u.mail
+      (pos (revision_number u.revision)) (pos (active_number u.active)) (pos (revision_number confirmed)) id does in
+      (made.1, record { lawful = lawful; puts = (made.0, made.2, made.3); users = λ e. absurd (cc); groups = λ _. made.4 })
+  adds (Group g) confirmed id lawful does =
+      let made = inserts_group limit laid.format_checks laid.users laid.groups old.now after tally sql laid.schema (row_name (Group g)).key g.name (members_text g.members)
+      (pos (revision_number g.revision)) (pos (revision_number confirmed)) id does in
+      (made.1, record { lawful = lawful; puts = (made.0, made.2, made.3); users = λ _. made.4; groups = λ e. absurd (cc) })
+
+  renews : (row : source.Row) (confirmed : RevisionValue) (id : Option (List ℕ)) → IsRow row → IsThere old.now.trees (row_name row)
+      → Does limit plain_mode (row_by row confirmed id) old.now sql None (put_command true (row_name row).kind) (Ok (tally, after))
+      → same_schema × PutsIn true (record { row = row; confirmed = confirmed; id = id }) old.now.trees after.trees
+  renews (User u) confirmed id lawful there does =
+      let made = updates_user limit laid.format_checks laid.users laid.groups old.now after tally sql laid.schema (row_name (User u)).key u.login u.number u.given u.family u.mail
+      (pos (revision_number u.revision)) (pos (active_number u.active)) (pos (revision_number confirmed)) id there.row there.number there.only there.numbered there.keyed does in
+      (made.0, record { lawful = lawful; puts = (there.row, there.number, there.numbered, there.only, made.1); users = λ e. absurd (cc); groups = λ _. made.2 })
+  renews (Group g) confirmed id lawful there does =
+      let made = updates_group limit laid.format_checks laid.users laid.groups old.now after tally sql laid.schema (row_name (Group g)).key g.name (members_text g.members)
+      (pos (revision_number g.revision)) (pos (revision_number confirmed)) id there.row there.number there.only there.numbered there.keyed does in
+      (made.0, record { lawful = lawful; puts = (there.row, there.number, there.numbered, there.only, made.1); users = λ _. made.2; groups = λ e. absurd (cc) })
+
+  puts_it : (is_there : Bool) (entry : Entry) → IsRow entry.row → (is_there ≡ true → IsThere old.now.trees (row_name entry.row))
+      → Does limit plain_mode (row_of entry) old.now sql None (put_command is_there (row_name entry.row).kind) (Ok (tally, after))
+      → same_schema × PutsIn is_there entry old.now.trees after.trees
+  puts_it false entry lawful there does = adds entry.row entry.confirmed entry.id lawful does
+  puts_it true entry lawful there does = renews entry.row entry.confirmed entry.id lawful (there refl) does
+
+pub put_made : (old new : State) (is_there : Bool) (entry : Entry) → IsRow entry.row → IsLaid old → (is_there ≡ true → IsThere old.now.trees (row_name entry.row))
+    → Ran (put_text is_there (row_name entry.row).kind) (row_of entry) old new → Makes is_there entry old new
+put_made old new is_there entry lawful laid there ran =
+    let type = (row_name entry.row).kind in
+    let command = command_is old (put_text is_there type) ran.compiled (put_command is_there type) laid (put_is is_there type laid.format_checks laid.users laid.groups) ran.is in
+    let does = subst (λ k. Does ran.limit plain_mode (row_of entry) old.now ran.text None k (Ok (ran.tally, new.now))) command ran.does in
+    let made = puts_it ran.limit old new.now ran.tally ran.text laid is_there entry lawful there does in
+    record {
+      was_open = ran.was_open;
+      is_open = ran.is_open;
+      laid = record { format_checks = laid.format_checks; users = laid.users; groups = laid.groups; schema = made.0; committed = (ran.settled laid).0; autocommit = (ran.settled laid).1 };
+      puts = made.1;
+    }
+
+pub put_leaves : (old : State) (is_there : Bool) (entry : Entry) (db : Trees) → IsRow entry.row → IsLaid old → (is_there ≡ true → IsThere old.now.trees (row_name entry.row))
+    → MayLeave (put_text is_there (row_name entry.row).kind) (row_of entry) old db → PutsIn is_there entry old.now.trees db
+put_leaves old is_there entry db lawful laid there may =
+    let type = (row_name entry.row).kind in
+    let command = command_is old (put_text is_there type) may.compiled (put_command is_there type) laid (put_is is_there type laid.format_checks laid.users laid.groups) may.is in
+    let does = subst (λ k. Does may.limit plain_mode (row_of entry) old.now may.text None k (Ok (may.tally, may.after))) command may.does in
+    subst (PutsIn is_there entry old.now.trees) (sym may.trees) (puts_it may.limit old may.after may.tally may.text laid is_there entry lawful there does).1
+
+pub put_stops : (old new : State) (is_there : Bool) (entry : Entry) → IsRow entry.row → (HasCleanDisk old → IsTrue old.is_open → IsLaid old)
+    → (HasCleanDisk old → IsTrue old.is_open → is_there ≡ true → IsThere old.now.trees (row_name entry.row))
+    → Survives old new (MayLeave (put_text is_there (row_name entry.row).kind) (row_of entry) old) → Survives old new (λ db. IsTrue old.is_open × PutsIn is_there entry old.now.trees db)
+put_stops old new is_there entry lawful laid there it =
+    survives_weaker old new _ _ (λ clean db may.
+    let early : HasCleanDisk old = omega (arith, clean, it.clean) in
+    (may.was_open, put_leaves old is_there entry db lawful (laid early may.was_open) (there early may.was_open) may)) it
+
+-- ---- what is bound is the row
+
+pub user_bound : (u : UserFields) (confirmed : RevisionValue) (id : Option (List ℕ)) {k l r n g f m a c i : Value} → k ≡ Text (row_name (User u)).key → l ≡ Text u.login → r ≡ revision_value u.revision → n ≡ Text u.number
+    → g ≡ Text u.given → f ≡ Text u.family → m ≡ Text u.mail → a ≡ Int (pos (active_number u.active)) → c ≡ revision_value confirmed → i ≡ id_value id
+    → ◌≡◌ {A = Row} (k ∷ l ∷ r ∷ n ∷ g ∷ f ∷ m ∷ a ∷ c ∷ i ∷ []) (row_by (User u) confirmed id)
+user_bound u confirmed id k l r n g f m a c i = λ j. k j ∷ l j ∷ r j ∷ n j ∷ g j ∷ f j ∷ m j ∷ a j ∷ c j ∷ i j ∷ []
+
+pub group_bound : (g : GroupFields) (confirmed : RevisionValue) (id : Option (List ℕ)) {k l r m c i : Value} → k ≡ Text (row_name (Group g)).key → l ≡ Text g.name → r ≡ revision_value g.revision → m ≡ Text (members_text g.members)
+    → c ≡ revision_value confirmed → i ≡ id_value id → ◌≡◌ {A = Row} (k ∷ l ∷ r ∷ m ∷ c ∷ i ∷ []) (row_by (Group g) confirmed id)
+group_bound g confirmed id k l r m c i = λ j. k j ∷ l j ∷ r j ∷ m j ∷ c j ∷ i j ∷ []
+
+-- ---- the same, of a row of one type
+
+module _ (old new : State) (is_there : Bool) (entry : Entry) (row : source.Row) (type : Kind) (sql : List ℕ) (is : entry.row ≡ row) (lawful : IsRow row) (type_is : type ≡ (row_name entry.row).kind)
+    (text : sql ≡ put_text is_there type) where
+  its_text : sql ≡ put_text is_there (row_name entry.row).kind
+  its_text = text ∙ ap (put_text is_there) type_is
+
+  its_row : row_by row entry.confirmed entry.id ≡ row_of entry
+  its_row = ap (λ r. row_by r entry.confirmed entry.id) (sym is)
+
+  its_lawful : IsRow entry.row
+  its_lawful = subst IsRow (sym is) lawful
+
+  pub ran_makes : {T F : Type 0} (r : Result T F) → (IsTrue old.is_open → IsLaid old) → (IsTrue old.is_open → is_there ≡ true → IsThere old.now.trees (row_name entry.row))
+      → OnOk r (Ran sql (row_by row entry.confirmed entry.id) old new) → OnOk r (Makes is_there entry old new)
+  ran_makes (Ok x) laid there ran =
+      put_made old new is_there entry its_lawful (laid ran.was_open) (there ran.was_open) (subst (λ p. Ran p (row_of entry) old new) its_text (subst (λ p. Ran sql p old new) its_row ran))
+  ran_makes (Err e) laid there ran = tt
+
+  pub may_puts : (HasCleanDisk old → IsTrue old.is_open → IsLaid old) → (HasCleanDisk old → IsTrue old.is_open → is_there ≡ true → IsThere old.now.trees (row_name entry.row))
+      → Survives old new (MayLeave sql (row_by row entry.confirmed entry.id) old) → Survives old new (λ db. IsTrue old.is_open × PutsIn is_there entry old.now.trees db)
+  may_puts laid there it =
+      put_stops old new is_there entry its_lawful laid there
+      (subst (λ p. Survives old new (MayLeave p (row_of entry) old)) its_text (subst (λ p. Survives old new (MayLeave sql p old)) its_row it))

@@ -1,0 +1,10 @@
+use Rattle.std.proofs.Common.{rules}
+use Rattle.std.specs.Prelude.{IsTrue}
+use Rattle.std.specs.Result.{is_ok}
+use Rattle.journal_store.proofs.Members.{found_among}
+use Rattle.journal_store.proofs.lawful.is_among.Goals as goal
+
+pub returns : goal.returns
+returns c is =
+    let found : IsTrue (is_ok c.binary_search.result) = search rules in
+    found_among c.args.keys.now c.args.key.now c.binary_search.result c.binary_search.ensures.bound c.binary_search.ensures.ok found

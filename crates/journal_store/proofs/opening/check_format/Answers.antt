@@ -1,0 +1,24 @@
+use Rattle.std.proofs.Common.{arith}
+use Rattle.sqlite.specs.Held.{state}
+use Rattle.sqlite.specs.State.{HasCleanDisk}
+use Rattle.journal_store.specs.Format.{format_number}
+use Rattle.journal_store.proofs.Texts.{marked_query}
+use Rattle.journal_store.proofs.Checking.{on_ok, if_err, is_for, marked_found}
+use Rattle.journal_store.proofs.opening.check_format.Goals as goal
+
+pub ask-requires-clause-query : goal.ask-requires-clause-query
+ask-requires-clause-query g c = marked_query
+
+pub returns-in-Ok-clause-known : goal.returns-in-Ok-clause-known
+returns-in-Ok-clause-known g c clean =
+    let early : HasCleanDisk (state g.S.Store c.args.conn.now) = omega (arith, clean, c.in-Ok.ensures.quiet.clean) in
+    let laid = c.requires.laid early ((c.in-Ok.ensures.keeps clean).was_open (c.in-Ok.ensures.open clean)) in
+    on_ok c.format_in.result (marked_found (state g.S.Store c.args.conn.now) c.in-Ok.rows.items c.as_slice.result.now format_number c.as_slice.ensures.value laid (c.in-Ok.ensures.rows clean)) c.format_in.ensures.known
+
+pub returns-in-Ok-clause-cause : goal.returns-in-Ok-clause-cause
+returns-in-Ok-clause-cause g c clean =
+    let early : HasCleanDisk (state g.S.Store c.args.conn.now) = omega (arith, clean, c.in-Ok.ensures.quiet.clean) in
+    let laid = c.requires.laid early ((c.in-Ok.ensures.keeps clean).was_open (c.in-Ok.ensures.open clean)) in
+    if_err c.format_in.result
+    (λ fault newer. is_for (λ h. (h.0, h.1, marked_found (state g.S.Store c.args.conn.now) c.in-Ok.rows.items c.as_slice.result.now h.0 c.as_slice.ensures.value laid (c.in-Ok.ensures.rows clean) h.2)) fault newer)
+    c.format_in.ensures.cause

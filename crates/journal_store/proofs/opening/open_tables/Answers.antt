@@ -1,0 +1,19 @@
+use Rattle.std.proofs.Common.{refl, inl, inr, IsTrue}
+use Rattle.std.specs.FinMap.{empty}
+use Rattle.sqlite.specs.Held.{state}
+use Rattle.journal_core.specs.Entries.{EntryMap}
+use Rattle.journal_store.specs.Opening.{IsStore}
+use Rattle.journal_store.proofs.Checking.{on_both}
+use Rattle.journal_store.proofs.Reopening.{store_on}
+use Rattle.journal_store.proofs.opening.open_tables.Goals as goal
+
+pub returns-then-not-is_blank-clause-stands : goal.returns-then-not-is_blank-clause-stands
+returns-then-not-is_blank-clause-stands g c clean =
+    let old = state g.S.Store c.args.conn.now in
+    let new = state g.S.Store c.check_tables.new.conn in
+    on_both c.check_tables.result
+    (λ (found : (entries : EntryMap) × IsStore old entries) (still : IsTrue new.is_open). (found.0, inl found.1, store_on old new found.0 c.check_tables.ensures.looks found.1 clean still))
+    (c.check_tables.ensures.store clean) (c.check_tables.ensures.open clean)
+
+pub returns-in-Ok-clause-stands : goal.returns-in-Ok-clause-stands
+returns-in-Ok-clause-stands g c clean = let it = c.in-Ok.ensures.made clean in (empty, inr (it.1, refl), it.2)

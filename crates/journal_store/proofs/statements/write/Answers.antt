@@ -1,0 +1,32 @@
+use Rattle.std.proofs.Common.{[], arith, subst, Ok}
+use Rattle.sqlite.specs.Held.{state}
+use Rattle.sqlite.specs.Values.{bound}
+use Rattle.sqlite.specs.State.{HasCleanDisk, Executes}
+use Rattle.journal_store.proofs.Keeping.{not_run_keeps, keeps_then, unchanged_keeps, execute_keeps}
+use Rattle.journal_store.proofs.Asking.{on_err, ran, write_stops}
+use Rattle.journal_store.proofs.statements.write.Goals as goal
+
+pub returns-in_err-statement-clause-keeps : goal.returns-in_err-statement-clause-keeps
+returns-in_err-statement-clause-keeps g c clean = on_err c.from_residual.result (not_run_keeps _ _ _ _ _ (c.in_err-statement.ensures.err clean []))
+
+pub returns-in_err-execute-clause-keeps : goal.returns-in_err-execute-clause-keeps
+returns-in_err-execute-clause-keeps g c clean =
+    let mid_clean : HasCleanDisk (state g.S.Store c.prepare.new.self) = omega (arith, clean, c.execute.ensures.survives.clean) in
+    on_err c.from_residual-in_err-execute.result
+    (keeps_then _ (state g.S.Store c.prepare.new.self) _ (unchanged_keeps _ _ (c.in_ok-statement.ensures.ok mid_clean).1) (execute_keeps _ _ _ _ _ (c.in_err-execute.ensures.runs clean)))
+
+pub returns-in_err-execute-clause-stop : goal.returns-in_err-execute-clause-stop
+returns-in_err-execute-clause-stop g c =
+    write_stops _ (state g.S.Store c.prepare.new.self) _ c.args.sql.now _ _ c.requires.edit c.requires.laid c.in_ok-statement.ensures.ok c.prepare.ensures.survives c.execute.ensures.survives
+
+pub returns-clause-ran : goal.returns-clause-ran
+returns-clause-ran g c clean =
+    let mid_clean : HasCleanDisk (state g.S.Store c.prepare.new.self) = omega (arith, clean, c.execute.ensures.survives.clean) in
+    let first_clean : HasCleanDisk (state g.S.Store c.args.conn.now) = omega (arith, mid_clean, c.prepare.ensures.survives.clean) in
+    let prepared = c.in_ok-statement.ensures.ok mid_clean in
+    ran (state g.S.Store c.args.conn.now) (state g.S.Store c.prepare.new.self) (state g.S.Store c.execute.new.conn) c.args.sql.now (bound c.args.params.now) c.in_ok-execute.field-0 c.requires.edit (c.requires.laid first_clean prepared.1.0.was_open) prepared.1
+    (subst (λ t. Executes t (bound c.args.params.now) (state g.S.Store c.prepare.new.self) (state g.S.Store c.execute.new.conn) (Ok c.in_ok-execute.field-0)) prepared.0 (c.in_ok-execute.ensures.runs clean))
+
+pub returns-clause-stop : goal.returns-clause-stop
+returns-clause-stop g c =
+    write_stops _ (state g.S.Store c.prepare.new.self) _ c.args.sql.now _ _ c.requires.edit c.requires.laid c.in_ok-statement.ensures.ok c.prepare.ensures.survives c.execute.ensures.survives

@@ -1,0 +1,191 @@
+-- What the calls of the statements ask of a connection, and what they leave of it.
+use Rattle.std.specs.Prelude.{◌≡◌, ℕ, ℤ, Bool, true, false, List, [], ◌∷◌, Option, Some, None, Ok, IsTrue, IsPermutation, filter, is_some, map}
+use Rattle.std.specs.List.{AllZip}
+use Rattle.std.specs.List.Sorted.{IsStrictlySortedBy}
+use Rattle.scim_key.specs.Records.{name_cmp}
+use Rattle.std.specs.Ordering.{is_eq}
+use Rattle.sqlite_value.specs.declared.keys.Order.{Order}
+use Rattle.sqlite_value.specs.declared.value.Value.TheVariants.{Int, Text}
+use Rattle.sqlite_value.specs.Order.{Row, column, value_cmp}
+use Rattle.sqlite_trees.specs.Tree.{Trees, rowid, has_rowid, put_row, without_rowid}
+use Rattle.sqlite_sql.specs.Term.{Term}
+use Rattle.sqlite_rules.specs.Edit.{is_taken}
+use Rattle.sqlite_rules.specs.Lists.{Has}
+use Rattle.sqlite_resolve.specs.declared.compiled.Compiled.{Compiled}
+use Rattle.sqlite.specs.Effect.{Database, Reads}
+use Rattle.sqlite.specs.Given.{IsPlain}
+use Rattle.sqlite.specs.Listing.{understood, reads_listing}
+use Rattle.sqlite.specs.State.{State}
+use Rattle.sqlite.specs.Does.{Tally, Does}
+use Rattle.sqlite.specs.declared.run.Mode.{Mode}
+use Rattle.sqlite_schema.specs.declared.schema.Keys.TheVariants.{Enforced}
+use Rattle.sqlite_schema.specs.declared.command.Command.{Command}
+use Rattle.sqlite_schema.specs.declared.command.Command.TheVariants.{Insert, Update}
+use Rattle.scim_key.specs.Revisions.{◌≼◌}
+use Rattle.scim_key.specs.declared.records.Kind.{Kind}
+use Rattle.scim_key.specs.declared.records.Kind.TheVariants.{User, Group}
+use Rattle.scim_key.specs.declared.records.RecordName.{RecordName}
+use Rattle.source_csv.specs.Records.{IsRow, row_name, row_revision}
+use Rattle.journal_core.specs.declared.entries.Entry.{Entry}
+use Rattle.journal_store.specs.Format.{journal_schema, entry_tree, insert_text, update_text}
+use Rattle.journal_store.specs.Rows.{entry_in, row_of, shown_row}
+
+-- ---- the tables of a connection
+
+-- the tables are laid out, and no transaction is under way
+pub record IsLaid (s : State) : Type 0 where
+  pub format_checks : List Term
+  pub users : Order
+  pub groups : Order
+  pub schema : s.now.schema ≡ journal_schema format_checks users groups
+  pub committed : s.committed ≡ s.now
+  pub autocommit : s.in_transaction ≡ false
+
+-- the rows of the entries of one type
+abbrev pub table_in : Kind → State → List Row
+table_in kind s = s.now.trees (entry_tree kind)
+
+-- the connection is as it was, if it is still open
+pub record Keeps (old new : State) : Type 0 where
+  pub was_open : IsTrue new.is_open → IsTrue old.is_open
+  pub same : IsTrue new.is_open → IsLaid old → (new.now ≡ old.now) × (new.committed ≡ new.now) × (new.in_transaction ≡ false)
+
+-- ---- a query
+
+-- the text is a query over the tables alone
+abbrev pub IsQuery : List ℕ → Type 0
+IsQuery sql = (format_checks : List Term) (users groups : Order)
+    → IsPlain (understood (journal_schema format_checks users groups) sql) × (reads_listing (journal_schema format_checks users groups) sql ≡ false)
+
+-- the rows are what the text asks for
+abbrev pub Answers : List ℕ → Row → State → List Row → Type 0
+Answers sql params s rows = (c : Compiled) → understood s.now.schema sql ≡ Ok c → Reads c.command s.now params rows
+
+-- ---- entries
+
+-- the row of a query shows this entry, and its row is a lawful one of the source, at a revision that isn't below the confirmed one
+pub record Shows (kind : Kind) (shown : Row) (entry : Entry) : Type 0 where
+  pub entry_is : entry_in kind shown ≡ Some entry
+  pub lawful : IsRow entry.row
+  pub within : entry.confirmed ≼ row_revision entry.row
+
+-- the key in a row of a table
+abbrev pub has_key : List ℕ → Row → Bool
+has_key key r = is_eq (value_cmp (column r 1) (Text key))
+
+-- the one row of this name
+abbrev pub Finds : Trees → RecordName → Option Entry → Type 0
+Finds db name None = filter (has_key name.key) (db (entry_tree name.kind)) ≡ []
+Finds db name (Some entry) =
+    (r : Row) × (filter (has_key name.key) (db (entry_tree name.kind)) ≡ r ∷ []) × Shows name.kind (shown_row name.kind r) entry
+
+-- what the rows of a name show: one row at most
+abbrev pub IsOnly : Kind → List Row → Option Entry → Type 0
+IsOnly kind rows None = rows ≡ []
+IsOnly kind rows (Some entry) = (r : Row) × (rows ≡ r ∷ []) × Shows kind r entry
+
+-- the same, where it is known whether there is one
+abbrev pub FindsIf : Trees → RecordName → Bool → Type 0
+FindsIf db name is_there = (held : Option Entry) × (is_there ≡ is_some held) × Finds db name held
+
+-- the last of some names
+abbrev pub last_name : List RecordName → Option RecordName
+last_name [] = None
+last_name (name ∷ []) = Some name
+last_name (name ∷ next ∷ names) = last_name (next ∷ names)
+
+-- the rows show these entries, one after the other, in order of their names
+pub record AreShown (kind : Kind) (rows : List Row) (list : List Entry) : Type 0 where
+  pub each : AllZip (Shows kind) rows list
+  pub rising : IsStrictlySortedBy name_cmp (map (λ (entry : Entry). row_name entry.row) list)
+
+-- they are those of all rows of the table
+pub record ListsAll (kind : Kind) (db : Trees) (list : List Entry) : Type 0 where
+  pub rows : List Row
+  pub all : IsPermutation (map (shown_row kind) (db (entry_tree kind))) rows
+  pub shown : AreShown kind rows list
+
+-- each row has a number that no other has
+abbrev pub AreNumbered : List Row → Type 0
+AreNumbered table = (r : Row) → Has table r → (n : ℤ) × (rowid r ≡ Int n) × (filter (has_rowid n) table ≡ r ∷ [])
+
+pub record HasNumbers (db : Trees) : Type 0 where
+  pub users : AreNumbered (db (entry_tree User))
+  pub groups : AreNumbered (db (entry_tree Group))
+
+-- ---- a write
+
+-- no key waits for a commit
+abbrev pub plain_mode : Mode
+plain_mode = record { keys = Enforced; in_doubt = false; may_wait = false }
+
+abbrev pub IsEdit : Command → Type 0
+IsEdit (Insert at from) = Unit {0}
+IsEdit (Update at q) = Unit {0}
+IsEdit command = ⊥
+
+-- the text is one INSERT or one UPDATE, without RETURNING and without the time
+abbrev pub IsEditText : List ℕ → Type 0
+IsEditText sql = (format_checks : List Term) (users groups : Order) (c : Compiled)
+    → understood (journal_schema format_checks users groups) sql ≡ Ok c → (c.returning ≡ None) × (c.formats ≡ []) × IsEdit c.command
+
+-- the statement did this to the database, and committed it
+pub record Ran (sql : List ℕ) (params : Row) (old new : State) : Type 0 where
+  pub was_open : IsTrue old.is_open
+  pub is_open : IsTrue new.is_open
+  pub compiled : Compiled
+  pub is : understood old.now.schema sql ≡ Ok compiled
+  pub limit : Option ℕ
+  pub tally : Tally
+  pub text : List ℕ
+  pub does : Does limit plain_mode params old.now text None compiled.command (Ok (tally, new.now))
+  pub settled : IsLaid old → (new.committed ≡ new.now) × (new.in_transaction ≡ false)
+
+-- what a stop within the statement may leave beside what was there
+pub record MayLeave (sql : List ℕ) (params : Row) (s : State) (db : Trees) : Type 0 where
+  pub was_open : IsTrue s.is_open
+  pub compiled : Compiled
+  pub is : understood s.now.schema sql ≡ Ok compiled
+  pub limit : Option ℕ
+  pub tally : Tally
+  pub text : List ℕ
+  pub after : Database
+  pub does : Does limit plain_mode params s.now text None compiled.command (Ok (tally, after))
+  pub trees : db ≡ after.trees
+
+-- the one INSERT or UPDATE that puts an entry
+abbrev pub put_text : Bool → Kind → List ℕ
+put_text false kind = insert_text kind
+put_text true kind = update_text kind
+
+-- an entry as it is stored, under a number
+abbrev pub stored_row : ℤ → Entry → Row
+stored_row n entry = Int n ∷ row_of entry
+
+-- a row of this entry is added, under a number that is free; or it takes the place of the one row with its key
+abbrev pub Puts : Bool → Entry → (old new : List Row) → Type 0
+Puts false entry old new = (n : ℤ) × (is_taken old (stored_row n entry) ≡ false) × (new ≡ put_row (stored_row n entry) old)
+Puts true entry old new =
+    (r : Row) × (n : ℤ) × (rowid r ≡ Int n) × (filter (has_key (row_name entry.row).key) old ≡ r ∷ []) × (new ≡ put_row (stored_row n entry) (without_rowid n old))
+
+-- and the other table stays
+pub record PutsIn (is_there : Bool) (entry : Entry) (old new : Trees) : Type 0 where
+  pub lawful : IsRow entry.row
+  pub puts : Puts is_there entry (old (entry_tree (row_name entry.row).kind)) (new (entry_tree (row_name entry.row).kind))
+  pub users : (row_name entry.row).kind ≡ Group → new (entry_tree User) ≡ old (entry_tree User)
+  pub groups : (row_name entry.row).kind ≡ User → new (entry_tree Group) ≡ old (entry_tree Group)
+
+-- the entry is put, and this is committed
+pub record Makes (is_there : Bool) (entry : Entry) (old new : State) : Type 0 where
+  pub was_open : IsTrue old.is_open
+  pub is_open : IsTrue new.is_open
+  pub laid : IsLaid new
+  pub puts : PutsIn is_there entry old.now.trees new.now.trees
+
+-- the one row with this key is there, under a number of its own
+pub record IsThere (db : Trees) (name : RecordName) : Type 0 where
+  pub row : Row
+  pub number : ℤ
+  pub numbered : rowid row ≡ Int number
+  pub keyed : column row 1 ≡ Text name.key
+  pub only : filter (has_key name.key) (db (entry_tree name.kind)) ≡ row ∷ []

@@ -1,0 +1,149 @@
+-- The tables of format 1, as SQLite keeps them.
+use Rattle.std.specs.Prelude.{ℕ, true, false, List, [], ◌∷◌, Some, None, codes}
+use Rattle.sqlite_value.specs.declared.keys.Collation.TheVariants.{Binary}
+use Rattle.sqlite_value.specs.declared.value.Value.TheVariants.{Null}
+use Rattle.sqlite_value.specs.declared.keys.Order.{Order}
+use Rattle.sqlite_sql.specs.Term.{Term}
+use Rattle.sqlite_schema.specs.declared.schema.Column.{Column}
+use Rattle.sqlite_schema.specs.declared.schema.Table.{Table}
+use Rattle.sqlite_schema.specs.declared.schema.Index.{Index}
+use Rattle.sqlite_schema.specs.declared.schema.Schema.{Schema}
+use Rattle.sqlite_schema.specs.declared.schema.Kind as column
+use Rattle.sqlite_schema.specs.declared.schema.Kind.TheVariants.{Integer, Text}
+use Rattle.scim_key.specs.declared.records.Kind.{Kind}
+use Rattle.scim_key.specs.declared.records.Kind.TheVariants.{User, Group}
+
+-- the number of the format
+abbrev pub format_number : ℕ
+format_number = 1
+
+-- ---- columns
+
+abbrev pub required : List ℕ → column.Kind → Column
+required name kind = record { name = name; kind = kind; is_strict = false; not_null = true; default = Null; collation = Binary }
+
+abbrev pub optional : List ℕ → column.Kind → Column
+optional name kind = record { name = name; kind = kind; is_strict = false; not_null = false; default = Null; collation = Binary }
+
+-- ---- tables
+
+abbrev pub format_tree : ℕ
+format_tree = 0
+
+-- the entries of a type of record
+abbrev pub entry_tree : Kind → ℕ
+entry_tree User = 1
+entry_tree Group = 3
+
+-- the place of their table among the tables
+abbrev pub entry_place : Kind → ℕ
+entry_place User = 1
+entry_place Group = 2
+
+-- the index of their keys
+abbrev pub key_tree : Kind → ℕ
+key_tree User = 2
+key_tree Group = 4
+
+abbrev pub format_table : List Term → Table
+format_table checks = record {
+  name = codes "journal_format";
+  tree = format_tree;
+  columns = optional (codes "one") Integer ∷ required (codes "number") Integer ∷ [];
+  key = Some 0;
+  primary = 0 ∷ [];
+  uniques = [];
+  orders = [];
+  checks = checks;
+  references = [];
+  computed = [];
+  stamps = record { places = []; terms = []; formats = [] };
+  is_counted = false;
+}
+
+abbrev pub entry_name : Kind → List ℕ
+entry_name User = codes "user_entry"
+entry_name Group = codes "group_entry"
+
+abbrev pub entry_columns : Kind → List Column
+entry_columns User =
+    required (codes "name_key") Text ∷ required (codes "login") Text ∷ required (codes "revision") Integer ∷ required (codes "number") Text
+    ∷ required (codes "given") Text ∷ required (codes "family") Text ∷ required (codes "mail") Text ∷ required (codes "active") Integer
+    ∷ required (codes "confirmed") Integer ∷ optional (codes "id") Text ∷ []
+entry_columns Group =
+    required (codes "name_key") Text ∷ required (codes "name") Text ∷ required (codes "revision") Integer ∷ required (codes "members") Text
+    ∷ required (codes "confirmed") Integer ∷ optional (codes "id") Text ∷ []
+
+-- rows are found by their key
+abbrev pub key_places : List ℕ
+key_places = 1 ∷ []
+
+abbrev pub entry_table : Kind → Order → Table
+entry_table kind order = record {
+  name = entry_name kind;
+  tree = entry_tree kind;
+  columns = entry_columns kind;
+  key = None;
+  primary = key_places;
+  uniques = key_places ∷ [];
+  orders = order ∷ [];
+  checks = [];
+  references = [];
+  computed = [];
+  stamps = record { places = []; terms = []; formats = [] };
+  is_counted = false;
+}
+
+abbrev pub index_name : Kind → List ℕ
+index_name User = codes "sqlite_autoindex_user_entry_1"
+index_name Group = codes "sqlite_autoindex_group_entry_1"
+
+abbrev pub key_index : Kind → Order → Index
+key_index kind order = record { name = index_name kind; tree = key_tree kind; table = entry_tree kind; columns = key_places; order = order; is_unique = true }
+
+abbrev pub journal_schema : (format_checks : List Term) → (users groups : Order) → Schema
+journal_schema format_checks users groups =
+    record {
+      tables = format_table format_checks ∷ entry_table User users ∷ entry_table Group groups ∷ [];
+      indexes = key_index User users ∷ key_index Group groups ∷ [];
+      views = [];
+    }
+
+abbrev pub no_schema : Schema
+no_schema = record { tables = []; indexes = []; views = [] }
+
+-- ---- statements
+
+abbrev pub format_text : List ℕ
+format_text = codes "CREATE TABLE IF NOT EXISTS journal_format (one INTEGER PRIMARY KEY CHECK (one = 1), number INTEGER NOT NULL)"
+
+abbrev pub mark_text : List ℕ
+mark_text = codes "INSERT INTO journal_format (one, number) VALUES (1, ?1)"
+
+abbrev pub create_text : Kind → List ℕ
+create_text User = codes "CREATE TABLE user_entry (name_key TEXT PRIMARY KEY NOT NULL, login TEXT NOT NULL, revision INTEGER NOT NULL, number TEXT NOT NULL, given TEXT NOT NULL, family TEXT NOT NULL, mail TEXT NOT NULL, active INTEGER NOT NULL, confirmed INTEGER NOT NULL, id TEXT)"
+create_text Group = codes "CREATE TABLE group_entry (name_key TEXT PRIMARY KEY NOT NULL, name TEXT NOT NULL, revision INTEGER NOT NULL, members TEXT NOT NULL, confirmed INTEGER NOT NULL, id TEXT)"
+
+abbrev pub marked_text : List ℕ
+marked_text = codes "SELECT number FROM journal_format"
+
+-- the numbers of the rows
+abbrev pub numbers_text : Kind → List ℕ
+numbers_text User = codes "SELECT rowid FROM user_entry ORDER BY rowid"
+numbers_text Group = codes "SELECT rowid FROM group_entry ORDER BY rowid"
+
+abbrev pub find_text : Kind → List ℕ
+find_text User = codes "SELECT name_key, login, revision, number, given, family, mail, active, confirmed, id FROM user_entry WHERE name_key = ?1"
+find_text Group = codes "SELECT name_key, name, revision, members, confirmed, id FROM group_entry WHERE name_key = ?1"
+
+abbrev pub all_text : Kind → List ℕ
+all_text User = codes "SELECT name_key, login, revision, number, given, family, mail, active, confirmed, id FROM user_entry ORDER BY name_key"
+all_text Group = codes "SELECT name_key, name, revision, members, confirmed, id FROM group_entry ORDER BY name_key"
+
+abbrev pub insert_text : Kind → List ℕ
+insert_text User = codes "INSERT INTO user_entry (name_key, login, revision, number, given, family, mail, active, confirmed, id) VALUES (?1, ?2, ?3, ?4, ?5, ?6, ?7, ?8, ?9, ?10)"
+insert_text Group = codes "INSERT INTO group_entry (name_key, name, revision, members, confirmed, id) VALUES (?1, ?2, ?3, ?4, ?5, ?6)"
+
+abbrev pub update_text : Kind → List ℕ
+update_text User = codes "UPDATE user_entry SET login = ?2, revision = ?3, number = ?4, given = ?5, family = ?6, mail = ?7, active = ?8, confirmed = ?9, id = ?10 WHERE name_key = ?1"
+update_text Group = codes "UPDATE group_entry SET name = ?2, revision = ?3, members = ?4, confirmed = ?5, id = ?6 WHERE name_key = ?1"

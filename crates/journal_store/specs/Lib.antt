@@ -1,0 +1,6 @@
+pub mod Format
+pub mod Rows
+pub mod Connections
+pub mod Opening
+pub mod Kept
+pub mod KeptLaws

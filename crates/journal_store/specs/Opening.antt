@@ -1,0 +1,165 @@
+-- What an opening looks for, what it finds, and what it leaves where it refuses.
+use Rattle.std.specs.Prelude.{◌≡◌, ◌⊎◌, ◌≤◌, ℕ, ◌<◌, ℤ, pos, Bool, true, false, ◌||◌, List, [], ◌∷◌, None, IsTrue, length, map}
+use Rattle.std.specs.Prelude.{is_some}
+use Rattle.std.specs.FinMap.{empty}
+use Rattle.std.specs.List.{AllByRecursion, list_all}
+use Rattle.std.specs.List.Sorted.{IsStrictlySortedBy}
+use Rattle.std.specs.Ordering.{int_cmp}
+use Rattle.sqlite_value.specs.declared.keys.Order.{Order}
+use Rattle.sqlite_value.specs.declared.value.Value.TheVariants.{Int}
+use Rattle.sqlite_value.specs.Order.{Row, column}
+use Rattle.sqlite_trees.specs.Tree.{Trees}
+use Rattle.sqlite_sql.specs.Term.{Term}
+use Rattle.sqlite_rules.specs.Lists.{Has}
+use Rattle.sqlite_schema.specs.declared.schema.Stamps.{Stamps}
+use Rattle.sqlite_schema.specs.declared.schema.Table.{Table}
+use Rattle.sqlite_schema.specs.declared.schema.Schema.{Schema}
+use Rattle.sqlite.specs.State.{State, HasCleanDisk, Survives}
+use Rattle.scim_key.specs.Revisions.{no_revision, same_revision}
+use Rattle.scim_key.specs.declared.records.Kind.{Kind}
+use Rattle.scim_key.specs.declared.records.Kind.TheVariants.{User, Group}
+use Rattle.source_csv.specs.Records.{row_name, members_of}
+use Rattle.journal_core.specs.Entries.{EntryMap, most_records}
+use Rattle.journal_core.specs.declared.entries.Entry.{Entry}
+use Rattle.journal_core.specs.declared.journals.JournalFault.{JournalFault}
+use Rattle.journal_core.specs.declared.journals.JournalFault.TheVariants as journal
+use Rattle.journal_store.specs.Format.{journal_schema, no_schema, format_tree, format_number, entry_columns, entry_name, entry_tree, key_places}
+use Rattle.journal_store.specs.Rows.{entries_in}
+use Rattle.journal_store.specs.Connections.{HasNumbers, IsLaid, Keeps, ListsAll}
+use Rattle.journal_store.specs.declared.statements.TableFault.{TableFault}
+use Rattle.journal_store.specs.declared.statements.TableFault.TheVariants as table
+use Rattle.journal_store.specs.declared.opening.OpenFault.{OpenFault}
+use Rattle.journal_store.specs.declared.opening.OpenFault.TheVariants.{Store, Damaged, Memory, Newer}
+
+-- ---- the tables
+
+abbrev pub no_stamps : Stamps
+no_stamps = record { places = []; terms = []; formats = [] }
+
+-- nothing is said of the table but its columns, its keys and its CHECKs
+pub record IsPlainTable (table : Table) : Type 0 where
+  pub references : table.references ≡ []
+  pub computed : table.computed ≡ []
+  pub stamps : table.stamps ≡ no_stamps
+  pub uncounted : table.is_counted ≡ false
+
+-- the table is that of the entries of a type, but for the order of its index
+pub record IsEntryTable (kind : Kind) (it : Table) : Type 0 where
+  pub name : it.name ≡ entry_name kind
+  pub tree : it.tree ≡ entry_tree kind
+  pub columns : it.columns ≡ entry_columns kind
+  pub key : it.key ≡ None
+  pub primary : it.primary ≡ key_places
+  pub uniques : it.uniques ≡ key_places ∷ []
+  pub checks : it.checks ≡ []
+  pub plain : IsPlainTable it
+
+-- the schema is that of the tables
+pub record IsJournal (schema : Schema) : Type 0 where
+  pub format_checks : List Term
+  pub users : Order
+  pub groups : Order
+  pub is : schema ≡ journal_schema format_checks users groups
+
+-- no table stands, and no transaction is under way
+pub record IsBlank (s : State) : Type 0 where
+  pub schema : s.now.schema ≡ no_schema
+  pub committed : s.committed ≡ s.now
+  pub autocommit : s.in_transaction ≡ false
+
+-- ---- the format
+
+-- the table of the format has one row, with this number
+abbrev pub IsFormat : State → ℕ → Type 0
+IsFormat s number = map (λ (r : Row). column r 2) (s.now.trees format_tree) ≡ Int (pos number) ∷ []
+
+-- an answer shows this number alone
+abbrev pub IsMarked : List Row → ℕ → Type 0
+IsMarked rows number = (r : Row) × (rows ≡ r ∷ []) × (column r 0 ≡ Int (pos number))
+
+-- ---- faults
+
+abbrev pub open_fault : TableFault → OpenFault
+open_fault table.Store = Store
+open_fault table.Damaged = Damaged
+open_fault table.Memory = Memory
+
+-- the fault of a journal at one of an opening
+abbrev pub journal_fault : OpenFault → JournalFault
+journal_fault Memory = journal.Memory
+journal_fault fault = journal.Store
+
+-- a fault that tells of a newer format has its cause
+abbrev pub IsFor : Type 0 → OpenFault → Type 0
+IsFor newer Newer = newer
+IsFor newer fault = Unit {0}
+
+-- ---- the numbers of the rows
+
+-- the rows of an answer show numbers that rise
+pub record AreRising (rows : List Row) : Type 0 where
+  pub numbers : List ℤ
+  pub shown : map (λ (r : Row). column r 0) rows ≡ map Int numbers
+  pub rising : IsStrictlySortedBy int_cmp numbers
+
+-- ---- the entries
+
+-- nothing is confirmed of a record that has no id
+abbrev pub is_identified : Entry → Bool
+is_identified entry = same_revision entry.confirmed no_revision || is_some entry.id
+
+-- the keys of the entries' records
+abbrev pub keys_of : List Entry → List (List ℕ)
+keys_of entries = map (λ (entry : Entry). (row_name entry.row).key) entries
+
+-- each member of a group is a user that is there
+abbrev pub HasMembersOf : List (List ℕ) → Entry → Type 0
+HasMembersOf keys group = AllByRecursion (Has keys) (members_of group.row)
+
+-- the entries that a journal may have: as many as are allowed, with an id wherever something is confirmed, and members that are users
+pub record AreLawful (users groups : List Entry) : Type 0 where
+  pub few_users : length users ≤ most_records User
+  pub few_groups : length groups ≤ most_records Group
+  pub identified_users : list_all is_identified users ≡ true
+  pub identified_groups : list_all is_identified groups ≡ true
+  pub members : AllByRecursion (HasMembersOf (keys_of users)) groups
+
+-- the tables show these entries, each row one, and they are lawful
+pub record HoldsEntries (db : Trees) : Type 0 where
+  pub users : List Entry
+  pub groups : List Entry
+  pub all_users : ListsAll User db users
+  pub all_groups : ListsAll Group db groups
+  pub lawful : AreLawful users groups
+
+-- ---- the store
+
+-- the tables are of the format, and hold these entries
+pub record IsStore (s : State) (entries : EntryMap) : Type 0 where
+  pub laid : IsLaid s
+  pub format : IsFormat s format_number
+  pub numbers : HasNumbers s.now.trees
+  pub holds : HoldsEntries s.now.trees
+  pub are : entries_in s.now.trees ≡ entries
+
+-- what stands in a store: the entries of its tables, and none where no tables stand
+abbrev pub Stands : State → EntryMap → Type 0
+Stands s entries = IsStore s entries ⊎ (IsBlank s × (entries ≡ empty))
+
+-- a call that only looks: the connection is as it was, and nothing is committed
+pub record Looks (old new : State) : Type 0 where
+  pub keeps : HasCleanDisk new → Keeps old new
+  pub quiet : Survives old new (λ _. ⊥)
+
+-- what was committed stands
+pub record LeavesStore (old new : State) : Type 0 where
+  pub was_open : IsTrue new.is_open → IsTrue old.is_open
+  pub committed : IsTrue new.is_open → new.committed ≡ old.committed
+
+-- a newer format stands in the table
+abbrev pub IsCause : State → OpenFault → Type 0
+IsCause s = IsFor ((number : ℕ) × (format_number < number) × IsFormat s number)
+
+-- a stop leaves no entry
+abbrev pub LeavesNone : Trees → Type 0
+LeavesNone db = entries_in db ≡ empty

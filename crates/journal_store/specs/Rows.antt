@@ -1,0 +1,164 @@
+-- The rows of the tables of entries, and the entries that they show.
+use Rattle.std.specs.Prelude.{ℕ, zero, suc, ℤ, pos, Bool, true, false, if◌then◌else◌, List, [], ◌∷◌, ◌++◌, flat_map, Option, Some, None}
+use Rattle.std.specs.FinMap.{from_entries}
+use Rattle.std.specs.List.{join_with_byte}
+use Rattle.std.specs.Option.{option_and_then, option_map}
+use Rattle.sqlite_value.specs.declared.value.Value.{Value}
+use Rattle.sqlite_value.specs.declared.value.Value.TheVariants.{Null, Int, Real, Text, Blob}
+use Rattle.sqlite_value.specs.Order.{Row, column}
+use Rattle.sqlite_trees.specs.Tree.{Trees}
+use Rattle.scim_key.specs.Revisions.{RevisionValue, no_revision, revision_number, revision_of_number}
+use Rattle.scim_key.specs.Records.{same_name}
+use Rattle.scim_key.specs.declared.records.Kind.{Kind}
+use Rattle.scim_key.specs.declared.records.Kind.TheVariants as kind
+use Rattle.scim_key.specs.declared.records.RecordName.{RecordName}
+use Rattle.source_csv.specs.Fields.{pieces}
+use Rattle.source_csv.specs.Records.{row_name}
+use Rattle.source_csv.specs.declared.rows.Row as source
+use Rattle.source_csv.specs.declared.rows.Row.TheVariants.{User, Group}
+use Rattle.journal_core.specs.Entries.{EntryMap, named}
+use Rattle.journal_core.specs.declared.entries.Entry.{Entry}
+use Rattle.journal_store.specs.Format.{entry_tree}
+
+-- ---- how an entry is written
+
+-- an id, or NULL for none
+abbrev pub id_value : Option (List ℕ) → Value
+id_value None = Null
+id_value (Some id) = Text id
+
+-- a number, 0 for no revision
+abbrev pub revision_value : RevisionValue → Value
+revision_value r = Int (pos (revision_number r))
+
+abbrev pub active_number : Bool → ℕ
+active_number true = 1
+active_number false = 0
+
+-- the keys of the members, with a space between each two
+abbrev pub members_text : List (List ℕ) → List ℕ
+members_text keys = join_with_byte 32 keys
+
+-- the key, the fields of the row, what is confirmed, and the id
+abbrev pub row_by : source.Row → RevisionValue → Option (List ℕ) → Row
+row_by (User u) confirmed id =
+    Text (row_name (User u)).key ∷ Text u.login ∷ revision_value u.revision ∷ Text u.number ∷ Text u.given ∷ Text u.family ∷ Text u.mail
+    ∷ Int (pos (active_number u.active)) ∷ revision_value confirmed ∷ id_value id ∷ []
+row_by (Group g) confirmed id =
+    Text (row_name (Group g)).key ∷ Text g.name ∷ revision_value g.revision ∷ Text (members_text g.members) ∷ revision_value confirmed ∷ id_value id ∷ []
+
+abbrev pub row_of : Entry → Row
+row_of e = row_by e.row e.confirmed e.id
+
+-- ---- which entry a row shows
+
+abbrev pub text_in : Value → Option (List ℕ)
+text_in Null = None
+text_in (Int n) = None
+text_in (Real x) = None
+text_in (Text t) = Some t
+text_in (Blob b) = None
+
+abbrev pub natural : ℤ → Option ℕ
+natural (pos n) = Some n
+natural n = None
+
+abbrev pub number_in : Value → Option ℕ
+number_in Null = None
+number_in (Int n) = natural n
+number_in (Real x) = None
+number_in (Text t) = None
+number_in (Blob b) = None
+
+abbrev pub revision_in : Value → Option RevisionValue
+revision_in v = option_and_then revision_of_number (number_in v)
+
+-- 0 is no revision
+abbrev pub confirmed_of : ℕ → Option RevisionValue
+confirmed_of zero = Some no_revision
+confirmed_of (suc n) = revision_of_number (suc n)
+
+abbrev pub confirmed_in : Value → Option RevisionValue
+confirmed_in v = option_and_then confirmed_of (number_in v)
+
+abbrev pub active_of : ℕ → Option Bool
+active_of zero = Some false
+active_of (suc zero) = Some true
+active_of (suc (suc n)) = None
+
+abbrev pub active_in : Value → Option Bool
+active_in v = option_and_then active_of (number_in v)
+
+abbrev pub id_in : Value → Option (Option (List ℕ))
+id_in Null = Some None
+id_in (Int n) = None
+id_in (Real x) = None
+id_in (Text t) = Some (Some t)
+id_in (Blob b) = None
+
+-- what stands between the spaces; an empty text has no members
+abbrev pub members_in : Value → Option (List (List ℕ))
+members_in v = option_map pieces (text_in v)
+
+-- one column after the other, up to the first that isn't of its form
+infixl 10 ◌>>=◌
+abbrev ◌>>=◌ : {A B : Type 0} → Option A → (A → Option B) → Option B
+o >>= f = option_and_then f o
+
+abbrev pub user_in : Row → Option source.Row
+user_in r = do
+  login ← text_in (column r 1)
+  revision ← revision_in (column r 2)
+  number ← text_in (column r 3)
+  given ← text_in (column r 4)
+  family ← text_in (column r 5)
+  mail ← text_in (column r 6)
+  active ← active_in (column r 7)
+  Some (User (record { login = login; revision = revision; number = number; given = given; family = family; mail = mail; active = active }))
+
+abbrev pub group_in : Row → Option source.Row
+group_in r = do
+  name ← text_in (column r 1)
+  revision ← revision_in (column r 2)
+  members ← members_in (column r 3)
+  Some (Group (record { name = name; revision = revision; members = members }))
+
+abbrev pub entry_by : Option source.Row → Option RevisionValue → Option (Option (List ℕ)) → Option Entry
+entry_by row confirmed id = do
+  source ← row
+  revision ← confirmed
+  given ← id
+  Some (record { row = source; confirmed = revision; id = given })
+
+abbrev pub fields_in : Kind → Row → Option Entry
+fields_in kind.User r = entry_by (user_in r) (confirmed_in (column r 8)) (id_in (column r 9))
+fields_in kind.Group r = entry_by (group_in r) (confirmed_in (column r 4)) (id_in (column r 5))
+
+-- the entry, where it is that of the record with this key
+abbrev pub keyed : Kind → List ℕ → Option Entry → Option Entry
+keyed type key None = None
+keyed type key (Some e) = if same_name (row_name e.row) (record { kind = type; key = key }) then Some e else None
+
+-- The entry that a row of a query shows, if each column is of its form and the key is that of the name
+abbrev pub entry_in : Kind → Row → Option Entry
+entry_in type r = option_and_then (λ key. keyed type key (fields_in type r)) (text_in (column r 0))
+
+-- ---- the entries of the tables
+
+-- a row as the queries show it, without its number
+abbrev pub shown_row : Kind → Row → Row
+shown_row kind.User r =
+    column r 1 ∷ column r 2 ∷ column r 3 ∷ column r 4 ∷ column r 5 ∷ column r 6 ∷ column r 7 ∷ column r 8 ∷ column r 9 ∷ column r 10 ∷ []
+shown_row kind.Group r = column r 1 ∷ column r 2 ∷ column r 3 ∷ column r 4 ∷ column r 5 ∷ column r 6 ∷ []
+
+abbrev pub named_if : Option Entry → List (RecordName × Entry)
+named_if None = []
+named_if (Some e) = named e ∷ []
+
+-- the entries of one table, each under its name
+abbrev pub named_in : Kind → List Row → List (RecordName × Entry)
+named_in type table = flat_map (λ r. named_if (entry_in type (shown_row type r))) table
+
+-- the entries of both tables
+unfoldable pub entries_in : Trees → EntryMap
+entries_in db = from_entries (named_in kind.User (db (entry_tree kind.User)) ++ named_in kind.Group (db (entry_tree kind.Group)))

@@ -1,0 +1,213 @@
+//! The columns of a row of an answer, and the entry that they show.
+ghost use Rattle.std.specs.Prelude.{◌≡◌, ◌≤◌, ◌+◌, pos, Some, IfOk, IsTrue, string_bytes};
+ghost use Rattle.scim_key.specs.Revisions.{IsRevision, ◌≼◌};
+ghost use Rattle.sqlite_value.specs.Order.{column};
+ghost use Rattle.sqlite_value.specs.declared.value.Value.TheVariants.{Int, Text};
+ghost use Rattle.source_csv.specs.Fields.{pieces};
+ghost use Rattle.source_csv.specs.Records.{IsRow, row_name, row_revision};
+ghost use Rattle.source_csv.specs.Rows.{AreUserKeys, IsUserKey};
+ghost use Rattle.journal_store.specs.Connections.{Shows};
+ghost use Rattle.journal_store.specs.Rows.{active_in, confirmed_in, group_in, id_in, revision_in, user_in};
+
+use crate::statements::TableFault;
+use journal_core::Entry;
+use scim_key::{GroupName, Key, Kind, ResourceId, Revision, UserName};
+use source_csv::{GroupRow, Row as SourceRow, UserRow};
+use sqlite::Row;
+use sqlite_value::value::ValueRef;
+use std::alloc::Global;
+use std::str;
+
+/// The integer in a column.
+pub(crate) fn integer_at(row: &Row, at: usize) -> Result<i64, TableFault>
+    ensures { IfOk result (λ n. column row.now at ≡ Int n) }
+{
+    match row.get_ref(at) {
+        Ok(ValueRef::Int(number)) => Ok(number),
+        _ => Err(TableFault::Damaged),
+    }
+}
+
+pub(crate) fn number_at(row: &Row, at: usize) -> Result<u64, TableFault>
+    ensures { IfOk result (λ n. column row.now at ≡ Int (pos n)) }
+{
+    match row.get_ref(at) {
+        Ok(ValueRef::Int(number)) => match u64::try_from(number) {
+            Ok(number) => Ok(number),
+            Err(_) => Err(TableFault::Damaged),
+        },
+        _ => Err(TableFault::Damaged),
+    }
+}
+
+fn bytes_at(row: &Row, at: usize) -> Result<&[u8], TableFault>
+    ensures { IfOk result (λ text. column row.now at ≡ Text text.now) }
+{
+    match row.get_ref(at) {
+        Ok(ValueRef::Text(text)) => Ok(text),
+        _ => Err(TableFault::Damaged),
+    }
+}
+
+fn text_at(row: &Row, at: usize) -> Result<&str, TableFault>
+    ensures { IfOk result (λ text. column row.now at ≡ Text text.now) }
+{
+    match str::from_utf8(bytes_at(row, at)?) {
+        Ok(text) => Ok(text),
+        Err(_) => Err(TableFault::Damaged),
+    }
+}
+
+fn value_at(alloc: Global, row: &Row, at: usize) -> Result<String, TableFault>
+    ensures { IfOk result (λ value. column row.now at ≡ Text (string_bytes value)) }
+{
+    Ok(String::from_str(alloc, text_at(row, at)?)?)
+}
+
+fn revision_at(row: &Row, at: usize) -> Result<Revision, TableFault>
+    ensures value { IfOk result (λ revision. revision_in (column row.now at) ≡ Some revision) }
+    ensures lawful { IfOk result (λ revision. IsRevision revision) }
+{
+    match Revision::of_number(number_at(row, at)?) {
+        Some(revision) => Ok(revision),
+        None => Err(TableFault::Damaged),
+    }
+}
+
+/// The confirmed revision, 0 for none.
+fn confirmed_at(row: &Row, at: usize) -> Result<Revision, TableFault>
+    ensures { IfOk result (λ revision. confirmed_in (column row.now at) ≡ Some revision) }
+{
+    let number = number_at(row, at)?;
+    if number == 0 {
+        return Ok(Revision::none());
+    }
+    match Revision::of_number(number) {
+        Some(revision) => Ok(revision),
+        None => Err(TableFault::Damaged),
+    }
+}
+
+fn active_at(row: &Row, at: usize) -> Result<bool, TableFault>
+    ensures { IfOk result (λ active. active_in (column row.now at) ≡ Some active) }
+{
+    match number_at(row, at)? {
+        0 => Ok(false),
+        1 => Ok(true),
+        _ => Err(TableFault::Damaged),
+    }
+}
+
+/// The id, or none where the column is NULL.
+fn id_at(alloc: Global, row: &Row, at: usize) -> Result<Option<ResourceId>, TableFault>
+    ensures { IfOk result (λ id. id_in (column row.now at) ≡ Some id) }
+{
+    if let Ok(ValueRef::Null) = row.get_ref(at) {
+        return Ok(None);
+    }
+    Ok(Some(ResourceId::read(alloc, text_at(row, at)?)?))
+}
+
+/// The key of a member, which is written as it stands.
+fn member_of(alloc: Global, text: &str) -> Result<Key, TableFault>
+    ensures value { IfOk result (λ key. key ≡ text.now) }
+    ensures lawful { IfOk result IsUserKey }
+{
+    let name = UserName::read(alloc, text)?;
+    let key = name.key(alloc)?;
+    if key.as_str() != text {
+        return Err(TableFault::Damaged);
+    }
+    Ok(key)
+}
+
+/// The keys that stand between single spaces.
+fn members_of(alloc: Global, text: &str) -> Result<Vec<Key>, TableFault>
+    ensures value { IfOk result (λ keys. keys.items ≡ pieces text.now) }
+    ensures lawful { IfOk result (λ keys. AreUserKeys keys.items) }
+{
+    let mut keys = Vec::new(alloc);
+    if text.is_empty() {
+        return Ok(keys);
+    }
+    for name in text.split(' ') {
+        keys.push(member_of(alloc, name)?)?;
+    }
+    Ok(keys)
+}
+
+fn user_at(alloc: Global, row: &Row) -> Result<SourceRow, TableFault>
+    ensures { IfOk result (λ user. user_in row.now ≡ Some user) }
+{
+    let login = UserName::read(alloc, text_at(row, 1)?)?;
+    let revision = revision_at(row, 2)?;
+    let number = value_at(alloc, row, 3)?;
+    let given = value_at(alloc, row, 4)?;
+    let family = value_at(alloc, row, 5)?;
+    let mail = value_at(alloc, row, 6)?;
+    let active = active_at(row, 7)?;
+    match UserRow::new(login, revision, number, given, family, mail, active) {
+        Some(user) => Ok(SourceRow::User(user)),
+        None => Err(TableFault::Damaged),
+    }
+}
+
+fn group_at(alloc: Global, row: &Row) -> Result<SourceRow, TableFault>
+    ensures { IfOk result (λ group. group_in row.now ≡ Some group) }
+{
+    let name = GroupName::read(alloc, text_at(row, 1)?)?;
+    let revision = revision_at(row, 2)?;
+    let members = members_of(alloc, text_at(row, 3)?)?;
+    match GroupRow::new(name, revision, members) {
+        Some(group) => Ok(SourceRow::Group(group)),
+        None => Err(TableFault::Damaged),
+    }
+}
+
+/// Whether the first column has the key of the entry's record, which is of this type.
+fn has_its_key(alloc: Global, kind: Kind, row: &Row, source: &SourceRow) -> Result<bool, TableFault>
+    ensures key { IfOk result (λ is. IsTrue is → column row.now 0 ≡ Text (row_name source.now).key) }
+    ensures kind { IfOk result (λ is. IsTrue is → (row_name source.now).kind ≡ kind) }
+{
+    let name = source.record_name(alloc)?;
+    Ok(name.kind == kind && name.key.as_str().as_bytes() == bytes_at(row, 0)?)
+}
+
+/// The entry of a row whose source row is this.
+fn entry_of(
+    alloc: Global,
+    kind: Kind,
+    row: &Row,
+    source: SourceRow,
+    after: usize,
+) -> Result<Entry, TableFault>
+    requires { after ≤ 8 }
+    ensures key { IfOk result (λ entry. column row.now 0 ≡ Text (row_name source).key) }
+    ensures kind { IfOk result (λ entry. (row_name source).kind ≡ kind) }
+    ensures row { IfOk result (λ entry. entry.row ≡ source) }
+    ensures confirmed { IfOk result (λ entry. confirmed_in (column row.now after) ≡ Some entry.confirmed) }
+    ensures id { IfOk result (λ entry. id_in (column row.now (after + 1)) ≡ Some entry.id) }
+    ensures lawful { IfOk result (λ entry. IsRow entry.row) }
+    ensures within { IfOk result (λ entry. entry.confirmed ≼ row_revision entry.row) }
+{
+    let confirmed = confirmed_at(row, after)?;
+    let id = id_at(alloc, row, after + 1)?;
+    if !has_its_key(alloc, kind, row, &source)? || source.revision().is_before(confirmed) {
+        return Err(TableFault::Damaged);
+    }
+    Ok(Entry {
+        row: source,
+        confirmed,
+        id,
+    })
+}
+
+/// The entry that a row of an answer shows.
+pub(crate) fn read_entry(alloc: Global, kind: Kind, row: &Row) -> Result<Entry, TableFault>
+    ensures { IfOk result (Shows kind row.now) }
+{
+    match kind {
+        Kind::User => entry_of(alloc, Kind::User, row, user_at(alloc, row)?, 8),
+        Kind::Group => entry_of(alloc, Kind::Group, row, group_at(alloc, row)?, 4),
+    }
+}

@@ -1,0 +1,224 @@
+//! The format of a store: its number, and the test of a schema at run time.
+ghost use Rattle.std.specs.Prelude.{◌≡◌, false, [], ◌∷◌, None, Some, IsTrue};
+ghost use Rattle.sqlite_value.specs.declared.value.Value.TheVariants.{Null};
+ghost use Rattle.sqlite_value.specs.declared.keys.Collation.TheVariants.{Binary};
+ghost use Rattle.scim_key.specs.declared.records.Kind.TheVariants.{User, Group};
+ghost use Rattle.journal_store.specs.Format.{entry_columns, entry_name, entry_tree, format_table, index_name, key_index, key_places, key_tree, no_schema};
+ghost use Rattle.journal_store.specs.Opening.{IsEntryTable, IsJournal, IsPlainTable, no_stamps};
+
+use scim_key::Kind as RecordKind;
+use sqlite_schema::schema::{Column, Index, Kind, Schema, Table};
+use sqlite_value::keys::Collation;
+use sqlite_value::value::Value;
+
+/// The number of the format that is written, and the only one that is read.
+pub(crate) const FORMAT: u64 = 1;
+
+/// Whether no table stands.
+pub(crate) fn is_blank(schema: &Schema) -> bool
+    ensures { IsTrue result → schema.now ≡ no_schema }
+{
+    schema.tables.is_empty() && schema.indexes.is_empty() && schema.views.is_empty()
+}
+
+/// Whether the tables are those of the format. The terms of the format's CHECK may be any, since its
+/// row is tested.
+pub(crate) fn is_journal(schema: &Schema) -> bool
+    ensures { IsTrue result → IsJournal schema.now }
+{
+    let [format, users, groups] = schema.tables.as_slice() else {
+        return false;
+    };
+    let [user_keys, group_keys] = schema.indexes.as_slice() else {
+        return false;
+    };
+    is_format(format)
+        && is_entries(RecordKind::User, users)
+        && is_entries(RecordKind::Group, groups)
+        && is_key_index(RecordKind::User, user_keys)
+        && is_key_index(RecordKind::Group, group_keys)
+        && schema.views.is_empty()
+        && has_order(users, user_keys)
+        && has_order(groups, group_keys)
+}
+
+/// Whether the one UNIQUE of the table is in the order of the index.
+fn has_order(table: &Table, index: &Index) -> bool
+    ensures { IsTrue result → table.now.orders ≡ index.now.order ∷ [] }
+{
+    match table.orders.as_slice() {
+        [order] => order.digits == index.order.digits,
+        _ => false,
+    }
+}
+
+fn is_format(table: &Table) -> bool
+    ensures { IsTrue result → table.now ≡ format_table table.now.checks }
+{
+    match table.columns.as_slice() {
+        [one, number] => table.name.as_slice() == b"journal_format".as_slice()
+            && table.tree == 0
+            && is_column(one, b"one", Kind::Integer, false)
+            && is_column(number, b"number", Kind::Integer, true)
+            && table.key == Some(0)
+            && table.primary.as_slice() == [0].as_slice()
+            && table.uniques.is_empty()
+            && table.orders.is_empty()
+            && is_plain(table),
+        _ => false,
+    }
+}
+
+fn is_entries(kind: RecordKind, table: &Table) -> bool
+    ensures { IsTrue result → IsEntryTable kind table.now }
+{
+    table.name.as_slice() == entry_name(kind)
+        && table.tree == entry_tree(kind)
+        && has_columns(kind, table.columns.as_slice())
+        && table.key.is_none()
+        && table.primary.as_slice() == [1].as_slice()
+        && has_unique(table)
+        && table.checks.roots.is_empty()
+        && is_plain(table)
+}
+
+fn entry_name(kind: RecordKind) -> &'static [u8]
+    ensures { result.now ≡ entry_name kind }
+{
+    match kind {
+        RecordKind::User => b"user_entry",
+        RecordKind::Group => b"group_entry",
+    }
+}
+
+fn entry_tree(kind: RecordKind) -> u32
+    ensures { result ≡ entry_tree kind }
+{
+    match kind {
+        RecordKind::User => 1,
+        RecordKind::Group => 3,
+    }
+}
+
+fn has_columns(kind: RecordKind, columns: &[Column]) -> bool
+    ensures { IsTrue result → columns.now ≡ entry_columns kind }
+{
+    match kind {
+        RecordKind::User => has_user_columns(columns),
+        RecordKind::Group => has_group_columns(columns),
+    }
+}
+
+fn has_user_columns(columns: &[Column]) -> bool
+    ensures { IsTrue result → columns.now ≡ entry_columns User }
+{
+    match columns {
+        [
+            name_key,
+            login,
+            revision,
+            number,
+            given,
+            family,
+            mail,
+            active,
+            confirmed,
+            id,
+        ] => is_column(name_key, b"name_key", Kind::Text, true)
+            && is_column(login, b"login", Kind::Text, true)
+            && is_column(revision, b"revision", Kind::Integer, true)
+            && is_column(number, b"number", Kind::Text, true)
+            && is_column(given, b"given", Kind::Text, true)
+            && is_column(family, b"family", Kind::Text, true)
+            && is_column(mail, b"mail", Kind::Text, true)
+            && is_column(active, b"active", Kind::Integer, true)
+            && is_column(confirmed, b"confirmed", Kind::Integer, true)
+            && is_column(id, b"id", Kind::Text, false),
+        _ => false,
+    }
+}
+
+fn has_group_columns(columns: &[Column]) -> bool
+    ensures { IsTrue result → columns.now ≡ entry_columns Group }
+{
+    match columns {
+        [name_key, name, revision, members, confirmed, id] => is_column(
+            name_key,
+            b"name_key",
+            Kind::Text,
+            true,
+        ) && is_column(name, b"name", Kind::Text, true)
+            && is_column(revision, b"revision", Kind::Integer, true)
+            && is_column(members, b"members", Kind::Text, true)
+            && is_column(confirmed, b"confirmed", Kind::Integer, true)
+            && is_column(id, b"id", Kind::Text, false),
+        _ => false,
+    }
+}
+
+/// Whether the one UNIQUE is over the key.
+fn has_unique(table: &Table) -> bool
+    ensures { IsTrue result → table.now.uniques ≡ key_places ∷ [] }
+{
+    match table.uniques.as_slice() {
+        [places] => places.as_slice() == [1].as_slice(),
+        _ => false,
+    }
+}
+
+fn index_name(kind: RecordKind) -> &'static [u8]
+    ensures { result.now ≡ index_name kind }
+{
+    match kind {
+        RecordKind::User => b"sqlite_autoindex_user_entry_1",
+        RecordKind::Group => b"sqlite_autoindex_group_entry_1",
+    }
+}
+
+fn key_tree(kind: RecordKind) -> u32
+    ensures { result ≡ key_tree kind }
+{
+    match kind {
+        RecordKind::User => 2,
+        RecordKind::Group => 4,
+    }
+}
+
+fn is_key_index(kind: RecordKind, index: &Index) -> bool
+    ensures { IsTrue result → index.now ≡ key_index kind index.now.order }
+{
+    index.name.as_slice() == index_name(kind)
+        && index.tree == key_tree(kind)
+        && index.table == entry_tree(kind)
+        && index.columns.as_slice() == [1].as_slice()
+        && index.is_unique
+}
+
+/// Whether nothing is said of the table but its columns, its keys and its CHECKs.
+fn is_plain(table: &Table) -> bool
+    ensures { IsTrue result → IsPlainTable table.now }
+{
+    table.references.is_empty()
+        && table.computed.is_empty()
+        && has_no_stamps(table)
+        && !table.is_counted
+}
+
+fn has_no_stamps(table: &Table) -> bool
+    ensures { IsTrue result → table.now.stamps ≡ no_stamps }
+{
+    table.stamps.places.is_empty()
+        && table.stamps.terms.roots.is_empty()
+        && table.stamps.formats.is_empty()
+}
+
+fn is_column(column: &Column, name: &[u8], kind: Kind, not_null: bool) -> bool
+    ensures { IsTrue result → column.now ≡ record { name = name.now; kind = kind; is_strict = false; not_null = not_null; default = Null; collation = Binary } }
+{
+    column.name.as_slice() == name
+        && column.kind == kind
+        && !column.is_strict
+        && column.not_null == not_null
+        && matches!(column.default, Value::Null)
+        && column.collation == Collation::Binary
+}

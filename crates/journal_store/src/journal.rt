@@ -1,0 +1,264 @@
+//! A journal in SQLite.
+ghost use Rattle.std.specs.Prelude.{◌≡◌, Some, IfErr, IfOk, OnOk};
+ghost use Rattle.std.specs.Result.{is_ok};
+ghost use Rattle.std.specs.FinMap.{insert};
+ghost use Rattle.sqlite.specs.Held.{state};
+ghost use Rattle.sqlite.specs.State.{HasCleanDisk, Survives};
+ghost use Rattle.source_csv.specs.Records.{IsRow, row_name};
+ghost use Rattle.journal_core.specs.Entries.{entry_with};
+ghost use Rattle.journal_core.specs.Stores.{CountsFault, HasRisen, OnlyReads, Reopens, WritesOnce};
+ghost use Rattle.journal_store.specs.Connections.{Finds, FindsIf, ListsAll};
+ghost use Rattle.journal_store.specs.Kept.{IsFaithful, IsHonest, MayHold, kept_entries};
+ghost use Rattle.journal_store.specs.Opening.{IsCause, LeavesNone, LeavesStore, Stands, journal_fault};
+ghost use Rattle.journal_store.specs.Rows.{entry_in, row_of};
+
+use crate::opening::{OpenFault, check_tables, open_tables};
+use crate::statements::TableFault;
+use crate::tables::{find_entry, list_entries, put_entry};
+use journal_core::{Entry, Journal, JournalFault};
+use scim_key::{Kind, RecordName, ResourceId, Revision};
+use source_csv::Row;
+use sqlite::{Alter, Connection};
+use std::alloc::Global;
+use std::marker::Model;
+
+/// A journal whose entries stand in the tables of a connection.
+pub struct SqlJournal<S: Alter> {
+    conn: Connection<S>,
+    alloc: Global,
+    is_usable: bool,
+    faults: u64,
+    writes: u64,
+}
+
+impl<S: Alter> Model for SqlJournal<S> {
+    ghost use Rattle.journal_store.specs.Kept.{Kept, kept_code, IsSound};
+
+    ghost Value = { Kept S };
+
+    ghost coded = { kept_code S.code };
+
+    ghost view = { λ r. record { conn = r.conn; is_usable = r.is_usable; faults = r.faults; writes = r.writes } };
+
+    ghost invariant = { λ r. IsSound S.Store (record { conn = r.conn; is_usable = r.is_usable; faults = r.faults; writes = r.writes }) };
+}
+
+/// The fault, which is counted where it is one of the store.
+fn counted(faults: &mut u64, fault: JournalFault) -> JournalFault
+    ensures same { result ≡ fault }
+    ensures counts { CountsFault faults.old faults.new result }
+{
+    if let JournalFault::Store = fault {
+        *faults = faults.saturating_add(1);
+    }
+    fault
+}
+
+/// A row that isn't lawful is a fault of the store.
+fn fault_of(fault: TableFault) -> JournalFault {
+    match fault {
+        TableFault::Memory => JournalFault::Memory,
+        TableFault::Store => JournalFault::Store,
+        TableFault::Damaged => JournalFault::Store,
+    }
+}
+
+/// The entry with this row: a new one has nothing else.
+fn with_row(held: Option<Entry>, row: Row) -> Entry
+    ensures { result ≡ entry_with row held }
+{
+    match held {
+        Some(entry) => {
+            let (_row, confirmed, id) = entry.into_parts();
+            Entry { row, confirmed, id }
+        }
+        None => Entry {
+            row,
+            confirmed: Revision::none(),
+            id: None,
+        },
+    }
+}
+
+impl<S: Alter> SqlJournal<S> {
+    /// The entry of this name, if there is one.
+    fn look_up(&mut self, name: &RecordName) -> Result<Option<Entry>, JournalFault>
+        ensures found { IsFaithful S.Store self.new → IfOk result (Finds (state S.Store self.new.conn).now.trees name.now) }
+        ensures reads { OnlyReads (kept_entries S.Store) (IsFaithful S.Store) (IsHonest S.Store) (MayHold S.Store) (λ k. k.faults) (λ k. k.writes) CountsFault self.old self.new result }
+    {
+        if !self.is_usable {
+            return Err(counted(&mut self.faults, JournalFault::Store));
+        }
+        match find_entry(self.alloc, &mut self.conn, name) {
+            Ok(held) => Ok(held),
+            Err(fault) => Err(counted(&mut self.faults, fault_of(fault))),
+        }
+    }
+
+    /// The entries of one type, in order of their names.
+    fn list(&mut self, kind: Kind) -> Result<Vec<Entry>, JournalFault>
+        ensures tables { IsFaithful S.Store self.new → (state S.Store self.new.conn).now.trees ≡ (state S.Store self.old.conn).now.trees }
+        ensures all { IsFaithful S.Store self.new → IfOk result (λ list. ListsAll kind (state S.Store self.new.conn).now.trees list.items) }
+        ensures reads { OnlyReads (kept_entries S.Store) (IsFaithful S.Store) (IsHonest S.Store) (MayHold S.Store) (λ k. k.faults) (λ k. k.writes) CountsFault self.old self.new result }
+    {
+        if !self.is_usable {
+            return Err(counted(&mut self.faults, JournalFault::Store));
+        }
+        match list_entries(self.alloc, &mut self.conn, kind) {
+            Ok(list) => Ok(list),
+            Err(fault) => Err(counted(&mut self.faults, fault_of(fault))),
+        }
+    }
+
+    /// Puts an entry in the place of the one of its name, or as a new one.
+    fn put(&mut self, is_there: bool, entry: &Entry) -> Result<(), JournalFault>
+        requires found { IsFaithful S.Store self.old → FindsIf (state S.Store self.old.conn).now.trees (row_name entry.now.row) is_there }
+        requires spelled { IsFaithful S.Store self.old → IsRow entry.now.row → entry_in (row_name entry.now.row).kind (row_of entry.now) ≡ Some entry.now }
+        ensures puts { WritesOnce (kept_entries S.Store) (IsFaithful S.Store) (IsHonest S.Store) (MayHold S.Store) (λ k. k.faults) (λ k. k.writes) CountsFault self.old self.new (insert (kept_entries S.Store self.old) (row_name entry.now.row) entry.now) result }
+        ensures open { IsHonest S.Store self.new → OnOk result (IsFaithful S.Store self.new) }
+        ensures counted { OnOk result (HasRisen self.old.writes self.new.writes) }
+    {
+        if !self.is_usable {
+            return Err(counted(&mut self.faults, JournalFault::Store));
+        }
+        match put_entry(self.alloc, &mut self.conn, is_there, entry) {
+            Ok(()) => {
+                self.writes = self.writes.saturating_add(1);
+                Ok(())
+            }
+            Err(fault) => Err(counted(&mut self.faults, fault_of(fault))),
+        }
+    }
+}
+
+impl<S: Alter> Journal for SqlJournal<S> {
+    ghost use Rattle.journal_store.specs.KeptLaws.{kept_settled, kept_stays};
+
+    ghost entries = { kept_entries S.Store };
+
+    ghost is_faithful = { IsFaithful S.Store };
+
+    ghost is_honest = { IsHonest S.Store };
+
+    ghost may_hold = { MayHold S.Store };
+
+    ghost faults = { λ k. k.faults };
+
+    ghost writes = { λ k. k.writes };
+
+    fn load(&mut self) -> Result<Vec<Entry>, JournalFault> {
+        let mut all = self.list(Kind::User)?;
+        let mut groups = self.list(Kind::Group)?;
+        all.append(&mut groups)?;
+        Ok(all)
+    }
+
+    fn put_row(&mut self, row: &Row) -> Result<(), JournalFault> {
+        let name = row.record_name(self.alloc)?;
+        let row = row.clone()?;
+        let held = self.look_up(&name)?;
+        let is_there = held.is_some();
+        self.put(is_there, &with_row(held, row))
+    }
+
+    fn put_learnt(
+        &mut self,
+        name: &RecordName,
+        confirmed: Revision,
+        id: &ResourceId,
+    ) -> Result<(), JournalFault> {
+        let id = id.clone()?;
+        match self.look_up(name)? {
+            Some(entry) => {
+                let (row, _confirmed, _id) = entry.into_parts();
+                self.put(
+                    true,
+                    &Entry {
+                        row,
+                        confirmed,
+                        id: Some(id),
+                    },
+                )
+            }
+            None => Err(counted(&mut self.faults, JournalFault::Store)),
+        }
+    }
+
+    ghost is_so = { λ _ faithful. faithful.clean };
+
+    ghost settled = { kept_settled _ S.Store.settled };
+
+    ghost stays = { kept_stays _ S.Store.stays };
+}
+
+// ---- opening and closing
+
+/// The fault of a journal at one of an opening.
+fn journal_fault(fault: OpenFault) -> JournalFault
+    ensures { result ≡ journal_fault fault }
+{
+    match fault {
+        OpenFault::Memory => JournalFault::Memory,
+        OpenFault::Store | OpenFault::Damaged | OpenFault::Newer => JournalFault::Store,
+    }
+}
+
+impl<S: Alter> SqlJournal<S> {
+    /// Opens the journal of a connection. Where no table stands the tables are made; else they are
+    /// tested, with their format and each row. A refused opening hands the connection back.
+    pub fn open(
+        alloc: Global,
+        mut conn: Connection<S>,
+    ) -> Result<SqlJournal<S>, (OpenFault, Connection<S>)>
+        ensures faithful { IfOk result (λ j. IsHonest S.Store j → IsFaithful S.Store j) }
+        ensures entries { IfOk result (λ j. IsHonest S.Store j → Stands (state S.Store conn) (kept_entries S.Store j)) }
+        ensures counts { IfOk result (λ j. (j.faults ≡ 0) × (j.writes ≡ 0)) }
+        ensures stop { IfOk result (λ j. Survives (state S.Store conn) (state S.Store j.conn) LeavesNone) }
+        ensures cause { IfErr result (λ e. HasCleanDisk (state S.Store e.1) → IsCause (state S.Store conn) e.0) }
+        ensures left { IfErr result (λ e. HasCleanDisk (state S.Store e.1) → LeavesStore (state S.Store conn) (state S.Store e.1)) }
+        ensures refused { IfErr result (λ e. Survives (state S.Store conn) (state S.Store e.1) LeavesNone) }
+    {
+        match open_tables(alloc, &mut conn) {
+            Ok(()) => Ok(SqlJournal {
+                conn,
+                alloc,
+                is_usable: true,
+                faults: 0,
+                writes: 0,
+            }),
+            Err(fault) => Err((fault, conn)),
+        }
+    }
+
+    /// Gives the connection back.
+    pub fn close(self) -> Connection<S>
+        ensures { result ≡ self.conn }
+    {
+        let SqlJournal {
+            conn,
+            alloc: _,
+            is_usable: _,
+            faults: _,
+            writes: _,
+        } = self;
+        conn
+    }
+
+    /// Tests the tables, their format and each row again, on the same connection. After a fault of
+    /// its own each call but this one and `close` answers a store fault.
+    pub fn reopen(&mut self) -> Result<(), JournalFault>
+        ensures reopens { Reopens (kept_entries S.Store) (IsFaithful S.Store) (IsHonest S.Store) (MayHold S.Store) (λ k. k.faults) (λ k. k.writes) CountsFault self.old self.new result }
+        ensures usable { self.new.is_usable ≡ is_ok result }
+    {
+        match check_tables(self.alloc, &mut self.conn) {
+            Ok(()) => {
+                self.is_usable = true;
+                Ok(())
+            }
+            Err(fault) => {
+                self.is_usable = false;
+                Err(counted(&mut self.faults, journal_fault(fault)))
+            }
+        }
+    }
+}

@@ -1,0 +1,93 @@
+//! What the entries of a journal must be where it is opened.
+ghost use Rattle.std.specs.Prelude.{◌≡◌, IfErr, IfOk, OnOk, IsTrue};
+ghost use Rattle.std.specs.List.{AllByRecursion, list_all};
+ghost use Rattle.sqlite_rules.specs.Lists.{Has};
+ghost use Rattle.journal_store.specs.Opening.{AreLawful, HasMembersOf, IsFor, is_identified, keys_of};
+
+use crate::opening::OpenFault;
+use journal_core::{Entry, GROUP_LIMIT, USER_LIMIT};
+use scim_key::{Key, RecordName, Revision};
+use source_csv::Row as SourceRow;
+use std::alloc::{AllocError, Global};
+
+/// Whether the record has an id, or nothing is confirmed of it.
+fn is_identified(entry: &Entry) -> bool
+    ensures { result ≡ is_identified entry.now }
+{
+    entry.confirmed == Revision::none() || entry.id.is_some()
+}
+
+fn are_identified(entries: &[Entry]) -> bool
+    ensures { result ≡ list_all is_identified entries.now }
+{
+    entries.iter().all(|entry| is_identified(entry))
+}
+
+/// The keys of the entries' records, in their order.
+fn keys_of(alloc: Global, entries: &[Entry]) -> Result<Vec<Key>, AllocError>
+    ensures { IfOk result (λ keys. keys.items ≡ keys_of entries.now) }
+{
+    let mut keys = Vec::new(alloc);
+    for entry in entries {
+        let RecordName { kind: _, key } = entry.row.record_name(alloc)?;
+        keys.push(key)?;
+    }
+    Ok(keys)
+}
+
+/// Whether the key is among these, which are in order.
+fn is_among(keys: &[Key], key: &Key) -> bool
+    ensures { IsTrue result → Has keys.now key.now }
+{
+    keys.binary_search(key).is_ok()
+}
+
+fn are_among(keys: &[Key], members: &[Key]) -> bool
+    ensures { IsTrue result → AllByRecursion (Has keys.now) members.now }
+{
+    for member in members {
+        if !is_among(keys, member) {
+            return false;
+        }
+    }
+    true
+}
+
+/// Whether each member of a group is a user with one of these keys.
+fn has_members(keys: &[Key], group: &Entry) -> bool
+    ensures { IsTrue result → HasMembersOf keys.now group.now }
+{
+    match &group.row {
+        SourceRow::User(_) => true,
+        SourceRow::Group(row) => are_among(keys, row.members()),
+    }
+}
+
+fn have_members(keys: &[Key], groups: &[Entry]) -> bool
+    ensures { IsTrue result → AllByRecursion (HasMembersOf keys.now) groups.now }
+{
+    for group in groups {
+        if !has_members(keys, group) {
+            return false;
+        }
+    }
+    true
+}
+
+/// Tests the entries of both types, which are in order of their keys.
+pub(crate) fn check_lists(alloc: Global, users: &[Entry], groups: &[Entry]) -> Result<(), OpenFault>
+    ensures lawful { OnOk result (AreLawful users.now groups.now) }
+    ensures cause { IfErr result (IsFor ⊥) }
+{
+    if users.len() > USER_LIMIT || groups.len() > GROUP_LIMIT {
+        return Err(OpenFault::Damaged);
+    }
+    if !are_identified(users) || !are_identified(groups) {
+        return Err(OpenFault::Damaged);
+    }
+    let keys = keys_of(alloc, users)?;
+    if !have_members(keys.as_slice(), groups) {
+        return Err(OpenFault::Damaged);
+    }
+    Ok(())
+}

@@ -1,0 +1,13 @@
+//! The journal of a connector in SQLite.
+#![tactic(auto)]
+
+mod columns;
+mod format;
+mod journal;
+mod lawful;
+mod opening;
+mod statements;
+mod tables;
+
+pub use journal::SqlJournal;
+pub use opening::OpenFault;

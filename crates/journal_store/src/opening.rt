@@ -1,0 +1,260 @@
+//! The opening of a store: its tables are made, or tested with each of their rows.
+ghost use Rattle.std.specs.Prelude.{◌≡◌, ◌<◌, ℕ, false, IfErr, MatchOption, OnErr, OnOk, IsTrue};
+ghost use Rattle.std.specs.Ordering.{int_cmp};
+ghost use Rattle.std.specs.declared.cmp.Ordering.TheVariants.{Less};
+ghost use Rattle.std.specs.FinMap.{empty};
+ghost use Rattle.journal_core.specs.Entries.{EntryMap};
+ghost use Rattle.sqlite.specs.Held.{state};
+ghost use Rattle.sqlite.specs.State.{HasCleanDisk, Survives};
+ghost use Rattle.journal_store.specs.Connections.{AreNumbered, HasNumbers, IsLaid};
+ghost use Rattle.journal_store.specs.Format.{entry_tree, format_number, numbers_text};
+ghost use Rattle.journal_store.specs.Opening.{AreRising, HoldsEntries, IsBlank, IsCause, IsFormat, IsFor, IsMarked, IsStore, LeavesNone, LeavesStore, Looks, Stands};
+
+use crate::columns::{integer_at, number_at};
+use crate::format::{FORMAT, is_blank, is_journal};
+use crate::lawful::check_lists;
+use crate::statements::{TableFault, ask};
+use crate::tables::list_entries;
+use scim_key::Kind;
+use sqlite::{Alter, Connection, Error, Row};
+use sqlite_value::value::ValueRef;
+use std::alloc::{AllocError, Global};
+use thiserror::Error as Fault;
+
+/// Why a journal wasn't opened. What it holds is then as it was.
+#[derive(Clone, Copy, Debug, PartialEq, Eq, Fault)]
+pub enum OpenFault {
+    /// The database failed, or a transaction is under way.
+    #[error("J1")]
+    Store,
+    /// The tables aren't those of the format, or an entry isn't lawful.
+    #[error("J2")]
+    Damaged,
+    #[error("J3")]
+    Memory,
+    /// The tables are of a newer format.
+    #[error("J4")]
+    Newer,
+}
+
+impl From<AllocError> for OpenFault {
+    ghost use Rattle.journal_store.specs.declared.opening.OpenFault.TheVariants.{Memory};
+
+    ghost from_gives = { λ _ fault. fault ≡ Memory };
+
+    fn from(_: AllocError) -> OpenFault {
+        OpenFault::Memory
+    }
+}
+
+impl From<TableFault> for OpenFault {
+    ghost use Rattle.journal_store.specs.Opening.{open_fault};
+
+    ghost from_gives = { λ fault given. given ≡ open_fault fault };
+
+    fn from(fault: TableFault) -> OpenFault {
+        match fault {
+            TableFault::Store => OpenFault::Store,
+            TableFault::Damaged => OpenFault::Damaged,
+            TableFault::Memory => OpenFault::Memory,
+        }
+    }
+}
+
+// ---- the tables
+
+/// Makes the tables with the row of the format, all or none.
+fn make_tables<S: Alter>(conn: &mut Connection<S>) -> Result<(), Error>
+    requires outside { (state S.Store conn.old).in_transaction ≡ false }
+    requires blank { HasCleanDisk (state S.Store conn.old) → IsTrue (state S.Store conn.old).is_open → IsBlank (state S.Store conn.old) }
+    ensures made { HasCleanDisk (state S.Store conn.new) → OnOk result (IsTrue (state S.Store conn.new).is_open × IsBlank (state S.Store conn.old) × IsStore (state S.Store conn.new) empty) }
+    ensures left { HasCleanDisk (state S.Store conn.new) → OnErr result (LeavesStore (state S.Store conn.old) (state S.Store conn.new)) }
+    ensures stop { Survives (state S.Store conn.old) (state S.Store conn.new) LeavesNone }
+{
+    let mut tables = conn.transaction();
+    tables.execute(
+        "CREATE TABLE IF NOT EXISTS journal_format (one INTEGER PRIMARY KEY CHECK (one = 1), number INTEGER NOT NULL)",
+        &[],
+    )?;
+    tables.execute(
+        "INSERT INTO journal_format (one, number) VALUES (1, ?1)",
+        &[ValueRef::Int(FORMAT as i64)],
+    )?;
+    tables.execute(
+        "CREATE TABLE user_entry (name_key TEXT PRIMARY KEY NOT NULL, login TEXT NOT NULL, revision INTEGER NOT NULL, number TEXT NOT NULL, given TEXT NOT NULL, family TEXT NOT NULL, mail TEXT NOT NULL, active INTEGER NOT NULL, confirmed INTEGER NOT NULL, id TEXT)",
+        &[],
+    )?;
+    tables.execute(
+        "CREATE TABLE group_entry (name_key TEXT PRIMARY KEY NOT NULL, name TEXT NOT NULL, revision INTEGER NOT NULL, members TEXT NOT NULL, confirmed INTEGER NOT NULL, id TEXT)",
+        &[],
+    )?;
+    tables.commit()
+}
+
+/// Tests the number of the format.
+fn check_format<S: Alter>(conn: &mut Connection<S>) -> Result<(), OpenFault>
+    requires laid { HasCleanDisk (state S.Store conn.old) → IsTrue (state S.Store conn.old).is_open → IsLaid (state S.Store conn.old) }
+    ensures known { HasCleanDisk (state S.Store conn.new) → OnOk result (IsFormat (state S.Store conn.old) format_number) }
+    ensures cause { HasCleanDisk (state S.Store conn.new) → IfErr result (IsCause (state S.Store conn.old)) }
+    ensures open { HasCleanDisk (state S.Store conn.new) → OnOk result (IsTrue (state S.Store conn.new).is_open) }
+    ensures looks { Looks (state S.Store conn.old) (state S.Store conn.new) }
+{
+    match ask(conn, "SELECT number FROM journal_format", &[]) {
+        Ok(rows) => format_in(rows.as_slice()),
+        Err(error) => Err(OpenFault::from(TableFault::from(error))),
+    }
+}
+
+/// Tests that the rows show the number of the format, and no other.
+fn format_in(rows: &[Row]) -> Result<(), OpenFault>
+    ensures known { OnOk result (IsMarked rows.now format_number) }
+    ensures cause { IfErr result (IsFor ((number : ℕ) × (format_number < number) × IsMarked rows.now number)) }
+{
+    let [row] = rows else {
+        return Err(OpenFault::Damaged);
+    };
+    match number_at(row, 0) {
+        Ok(FORMAT) => Ok(()),
+        Ok(number) if number > FORMAT => Err(OpenFault::Newer),
+        _ => Err(OpenFault::Damaged),
+    }
+}
+
+// ---- the rows
+
+fn numbers_statement(kind: Kind) -> &'static str
+    ensures { result.now ≡ numbers_text kind }
+{
+    match kind {
+        Kind::User => "SELECT rowid FROM user_entry ORDER BY rowid",
+        Kind::Group => "SELECT rowid FROM group_entry ORDER BY rowid",
+    }
+}
+
+/// Whether the number is above the last one, if there is one.
+fn rises(last: Option<i64>, number: i64) -> bool
+    ensures { IsTrue result → MatchOption last (Unit {0}) (λ n. int_cmp n number ≡ Less) }
+{
+    match last {
+        Some(last) => last < number,
+        None => true,
+    }
+}
+
+/// Tests that the rows show numbers that rise.
+fn check_rising(rows: &[Row]) -> Result<(), OpenFault>
+    ensures rising { OnOk result (AreRising rows.now) }
+    ensures cause { IfErr result (IsFor ⊥) }
+{
+    let mut last = None;
+    for row in rows {
+        let number = integer_at(row, 0)?;
+        if !rises(last, number) {
+            return Err(OpenFault::Damaged);
+        }
+        last = Some(number);
+    }
+    Ok(())
+}
+
+/// Tests that each row of a table has a number that no other has.
+fn check_table<S: Alter>(conn: &mut Connection<S>, kind: Kind) -> Result<(), OpenFault>
+    requires laid { HasCleanDisk (state S.Store conn.old) → IsTrue (state S.Store conn.old).is_open → IsLaid (state S.Store conn.old) }
+    ensures numbered { HasCleanDisk (state S.Store conn.new) → OnOk result (AreNumbered ((state S.Store conn.old).now.trees (entry_tree kind))) }
+    ensures cause { IfErr result (IsFor ⊥) }
+    ensures open { HasCleanDisk (state S.Store conn.new) → OnOk result (IsTrue (state S.Store conn.new).is_open) }
+    ensures looks { Looks (state S.Store conn.old) (state S.Store conn.new) }
+{
+    match ask(conn, numbers_statement(kind), &[]) {
+        Ok(rows) => check_rising(rows.as_slice()),
+        Err(error) => Err(OpenFault::from(TableFault::from(error))),
+    }
+}
+
+/// Tests the numbers of the rows of both tables.
+fn check_numbers<S: Alter>(conn: &mut Connection<S>) -> Result<(), OpenFault>
+    requires laid { HasCleanDisk (state S.Store conn.old) → IsTrue (state S.Store conn.old).is_open → IsLaid (state S.Store conn.old) }
+    ensures numbered { HasCleanDisk (state S.Store conn.new) → OnOk result (HasNumbers (state S.Store conn.old).now.trees) }
+    ensures cause { IfErr result (IsFor ⊥) }
+    ensures open { HasCleanDisk (state S.Store conn.new) → OnOk result (IsTrue (state S.Store conn.new).is_open) }
+    ensures looks { Looks (state S.Store conn.old) (state S.Store conn.new) }
+{
+    check_table(conn, Kind::User)?;
+    check_table(conn, Kind::Group)
+}
+
+/// Tests the entries of both tables.
+fn check_entries<S: Alter>(alloc: Global, conn: &mut Connection<S>) -> Result<(), OpenFault>
+    requires laid { HasCleanDisk (state S.Store conn.old) → IsTrue (state S.Store conn.old).is_open → IsLaid (state S.Store conn.old) }
+    ensures holds { HasCleanDisk (state S.Store conn.new) → OnOk result (HoldsEntries (state S.Store conn.old).now.trees) }
+    ensures cause { IfErr result (IsFor ⊥) }
+    ensures open { HasCleanDisk (state S.Store conn.new) → OnOk result (IsTrue (state S.Store conn.new).is_open) }
+    ensures looks { Looks (state S.Store conn.old) (state S.Store conn.new) }
+{
+    let users = list_entries(alloc, conn, Kind::User)?;
+    let groups = list_entries(alloc, conn, Kind::Group)?;
+    check_lists(alloc, users.as_slice(), groups.as_slice())
+}
+
+// ---- the store
+
+/// Tests the format, and each row.
+fn check_laid<S: Alter>(alloc: Global, conn: &mut Connection<S>) -> Result<(), OpenFault>
+    requires laid { HasCleanDisk (state S.Store conn.old) → IsTrue (state S.Store conn.old).is_open → IsLaid (state S.Store conn.old) }
+    ensures store { HasCleanDisk (state S.Store conn.new) → OnOk result ((entries : EntryMap) × IsStore (state S.Store conn.old) entries) }
+    ensures cause { HasCleanDisk (state S.Store conn.new) → IfErr result (IsCause (state S.Store conn.old)) }
+    ensures open { HasCleanDisk (state S.Store conn.new) → OnOk result (IsTrue (state S.Store conn.new).is_open) }
+    ensures looks { Looks (state S.Store conn.old) (state S.Store conn.new) }
+{
+    check_format(conn)?;
+    check_numbers(conn)?;
+    check_entries(alloc, conn)
+}
+
+/// Whether the tables are laid out, and no transaction is under way.
+fn is_laid<S: Alter>(conn: &Connection<S>) -> bool
+    ensures { IsTrue result → IsTrue (state S.Store conn.now).is_open → IsLaid (state S.Store conn.now) }
+{
+    conn.is_autocommit() && is_journal(conn.schema())
+}
+
+/// Tests the tables, their format and each row.
+pub(crate) fn check_tables<S: Alter>(
+    alloc: Global,
+    conn: &mut Connection<S>,
+) -> Result<(), OpenFault>
+    ensures store { HasCleanDisk (state S.Store conn.new) → OnOk result ((entries : EntryMap) × IsStore (state S.Store conn.old) entries) }
+    ensures cause { HasCleanDisk (state S.Store conn.new) → IfErr result (IsCause (state S.Store conn.old)) }
+    ensures open { HasCleanDisk (state S.Store conn.new) → OnOk result (IsTrue (state S.Store conn.new).is_open) }
+    ensures looks { Looks (state S.Store conn.old) (state S.Store conn.new) }
+    ensures left { HasCleanDisk (state S.Store conn.new) → LeavesStore (state S.Store conn.old) (state S.Store conn.new) }
+{
+    if is_laid(conn) {
+        check_laid(alloc, conn)
+    } else {
+        Err(OpenFault::Damaged)
+    }
+}
+
+/// Makes the tables where none stand, else tests them.
+pub(crate) fn open_tables<S: Alter>(
+    alloc: Global,
+    conn: &mut Connection<S>,
+) -> Result<(), OpenFault>
+    ensures stands { HasCleanDisk (state S.Store conn.new) → OnOk result ((entries : EntryMap) × Stands (state S.Store conn.old) entries × IsStore (state S.Store conn.new) entries) }
+    ensures cause { HasCleanDisk (state S.Store conn.new) → IfErr result (IsCause (state S.Store conn.old)) }
+    ensures open { HasCleanDisk (state S.Store conn.new) → OnOk result (IsTrue (state S.Store conn.new).is_open) }
+    ensures left { HasCleanDisk (state S.Store conn.new) → OnErr result (LeavesStore (state S.Store conn.old) (state S.Store conn.new)) }
+    ensures stop { Survives (state S.Store conn.old) (state S.Store conn.new) LeavesNone }
+{
+    if !conn.is_autocommit() {
+        return Err(OpenFault::Store);
+    }
+    if !is_blank(conn.schema()) {
+        return check_tables(alloc, conn);
+    }
+    match make_tables(conn) {
+        Ok(()) => Ok(()),
+        Err(error) => Err(OpenFault::from(TableFault::from(error))),
+    }
+}

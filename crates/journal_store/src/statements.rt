@@ -1,0 +1,85 @@
+//! Queries and writes on the tables.
+ghost use Rattle.std.specs.Prelude.{◌≡◌, IfOk, OnOk, OnErr, IsTrue};
+ghost use Rattle.sqlite.specs.Held.{state};
+ghost use Rattle.sqlite.specs.State.{HasCleanDisk, Survives};
+ghost use Rattle.sqlite.specs.Values.{bound};
+ghost use Rattle.journal_store.specs.Connections.{Answers, IsEditText, IsLaid, IsQuery, Keeps, MayLeave, Ran};
+
+use scim_key::NameFault;
+use sqlite::{Alter, Connection, Error, ErrorCode, Row};
+use sqlite_value::value::ValueRef;
+use std::alloc::{AllocError, AllocFailed};
+
+/// Why a statement told nothing.
+#[derive(Clone, Copy, Debug, PartialEq, Eq)]
+pub enum TableFault {
+    Store,
+    /// A row isn't lawful.
+    Damaged,
+    Memory,
+}
+
+impl From<AllocError> for TableFault {
+    fn from(_: AllocError) -> TableFault {
+        TableFault::Memory
+    }
+}
+
+impl<T: Drop> From<AllocFailed<T>> for TableFault {
+    fn from(_: AllocFailed<T>) -> TableFault {
+        TableFault::Memory
+    }
+}
+
+/// A text that is no lawful name, or no id, is damage.
+impl From<NameFault> for TableFault {
+    fn from(fault: NameFault) -> TableFault {
+        match fault {
+            NameFault::Memory => TableFault::Memory,
+            _ => TableFault::Damaged,
+        }
+    }
+}
+
+impl From<Error> for TableFault {
+    fn from(error: Error) -> TableFault {
+        match error {
+            Error::SqliteFailure(ErrorCode::OutOfMemory) => TableFault::Memory,
+            _ => TableFault::Store,
+        }
+    }
+}
+
+/// The rows that a query answers.
+pub(crate) fn ask<S: Alter>(
+    conn: &mut Connection<S>,
+    sql: &str,
+    params: &[ValueRef<'_>],
+) -> Result<Vec<Row>, Error>
+    requires query { IsQuery sql.now }
+    requires laid { HasCleanDisk (state S.Store conn.old) → IsTrue (state S.Store conn.old).is_open → IsLaid (state S.Store conn.old) }
+    ensures rows { HasCleanDisk (state S.Store conn.new) → IfOk result (λ rows. Answers sql.now (bound params.now) (state S.Store conn.old) rows.items) }
+    ensures keeps { HasCleanDisk (state S.Store conn.new) → Keeps (state S.Store conn.old) (state S.Store conn.new) }
+    ensures open { HasCleanDisk (state S.Store conn.new) → OnOk result (IsTrue (state S.Store conn.new).is_open) }
+    ensures quiet { Survives (state S.Store conn.old) (state S.Store conn.new) (λ _. ⊥) }
+{
+    let statement = conn.prepare(sql)?;
+    statement.query_all(conn, params)
+}
+
+/// Runs one write, which commits by itself.
+pub(crate) fn write<S: Alter>(
+    conn: &mut Connection<S>,
+    sql: &str,
+    params: &[ValueRef<'_>],
+) -> Result<(), Error>
+    requires edit { IsEditText sql.now }
+    requires laid { HasCleanDisk (state S.Store conn.old) → IsTrue (state S.Store conn.old).is_open → IsLaid (state S.Store conn.old) }
+    ensures ran { HasCleanDisk (state S.Store conn.new) → OnOk result (Ran sql.now (bound params.now) (state S.Store conn.old) (state S.Store conn.new)) }
+    ensures keeps { HasCleanDisk (state S.Store conn.new) → OnErr result (Keeps (state S.Store conn.old) (state S.Store conn.new)) }
+    ensures stop { Survives (state S.Store conn.old) (state S.Store conn.new) (MayLeave sql.now (bound params.now) (state S.Store conn.old)) }
+{
+    let statement = conn.prepare(sql)?;
+    statement.execute(conn, params)?;
+    Ok(())
+}

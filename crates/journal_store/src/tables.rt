@@ -1,0 +1,301 @@
+//! The statements on the tables of entries.
+ghost use Rattle.std.specs.Prelude.{◌≡◌, pos, true, MatchOption, IfOk, IsTrue, OnOk, OnErr, string_bytes};
+ghost use Rattle.sqlite.specs.Held.{state};
+ghost use Rattle.sqlite.specs.State.{HasCleanDisk, Survives};
+ghost use Rattle.sqlite.specs.Values.{bound_value};
+ghost use Rattle.sqlite_value.specs.Value.{owned};
+ghost use Rattle.sqlite_value.specs.declared.value.Value.TheVariants.{Int, Text};
+ghost use Rattle.std.specs.declared.cmp.Ordering.TheVariants.{Less};
+ghost use Rattle.scim_key.specs.Records.{name_cmp};
+ghost use Rattle.source_csv.specs.Records.{row_name};
+ghost use Rattle.source_csv.specs.Rows.{IsGroupRow, IsUserRow};
+ghost use Rattle.source_csv.specs.declared.rows.Row.TheVariants.{User, Group};
+ghost use Rattle.journal_store.specs.Connections.{AreShown, Finds, IsLaid, IsOnly, ListsAll, IsThere, Keeps, Makes, MayLeave, PutsIn, Ran, IsEditText, put_text};
+ghost use Rattle.journal_store.specs.Format.{all_text, find_text};
+ghost use Rattle.journal_store.specs.Rows.{active_number, id_value, members_text, row_by};
+
+use crate::columns::read_entry;
+use crate::statements::{TableFault, ask, write};
+use journal_core::Entry;
+use scim_key::{Key, Kind, RecordName, ResourceId, Revision};
+use source_csv::{GroupRow, Row as SourceRow, UserRow};
+use sqlite::{Alter, Connection, Row};
+use sqlite_value::value::ValueRef;
+use std::alloc::{AllocError, Global};
+
+// ---- parameters
+
+fn number_param(number: u32) -> ValueRef<'static>
+    ensures { bound_value (owned result) ≡ Int (pos number) }
+{
+    ValueRef::Int(i64::from(number))
+}
+
+fn text_param(text: &str) -> ValueRef<'_>
+    ensures { bound_value (owned result) ≡ Text text.now }
+{
+    ValueRef::Text(text.as_bytes())
+}
+
+/// An id, or NULL for none.
+fn id_param(id: &Option<ResourceId>) -> ValueRef<'_>
+    ensures { bound_value (owned result) ≡ id_value id.now }
+{
+    match id {
+        Some(id) => text_param(id.as_str()),
+        None => ValueRef::Null,
+    }
+}
+
+fn active_param(active: bool) -> ValueRef<'static>
+    ensures { bound_value (owned result) ≡ Int (pos (active_number active)) }
+{
+    if active {
+        number_param(1)
+    } else {
+        number_param(0)
+    }
+}
+
+/// The keys, with a space between each two.
+fn members_text(alloc: Global, keys: &[Key]) -> Result<String, AllocError>
+    ensures { IfOk result (λ text. string_bytes text ≡ members_text keys.now) }
+{
+    let mut text = String::new(alloc);
+    for at in 0..keys.len() {
+        if at > 0 {
+            text.push_str(" ")?;
+        }
+        text.push_str(keys[at].as_str())?;
+    }
+    Ok(text)
+}
+
+// ---- one entry
+
+/// The entry that the rows of a name show.
+fn only(alloc: Global, kind: Kind, rows: &[Row]) -> Result<Option<Entry>, TableFault>
+    ensures { IfOk result (IsOnly kind rows.now) }
+{
+    match rows {
+        [] => Ok(None),
+        [row] => Ok(Some(read_entry(alloc, kind, row)?)),
+        _ => Err(TableFault::Damaged),
+    }
+}
+
+fn find_statement(kind: Kind) -> &'static str
+    ensures { result.now ≡ find_text kind }
+{
+    match kind {
+        Kind::User => {
+            "SELECT name_key, login, revision, number, given, family, mail, active, confirmed, id FROM user_entry WHERE name_key = ?1"
+        }
+        Kind::Group => {
+            "SELECT name_key, name, revision, members, confirmed, id FROM group_entry WHERE name_key = ?1"
+        }
+    }
+}
+
+/// The entry of this name.
+pub(crate) fn find_entry<S: Alter>(
+    alloc: Global,
+    conn: &mut Connection<S>,
+    name: &RecordName,
+) -> Result<Option<Entry>, TableFault>
+    requires laid { HasCleanDisk (state S.Store conn.old) → IsTrue (state S.Store conn.old).is_open → IsLaid (state S.Store conn.old) }
+    ensures found { HasCleanDisk (state S.Store conn.new) → IfOk result (Finds (state S.Store conn.old).now.trees name.now) }
+    ensures keeps { HasCleanDisk (state S.Store conn.new) → Keeps (state S.Store conn.old) (state S.Store conn.new) }
+    ensures open { HasCleanDisk (state S.Store conn.new) → OnOk result (IsTrue (state S.Store conn.new).is_open) }
+    ensures quiet { Survives (state S.Store conn.old) (state S.Store conn.new) (λ _. ⊥) }
+{
+    match ask(
+        conn,
+        find_statement(name.kind),
+        &[text_param(name.key.as_str())],
+    ) {
+        Ok(rows) => only(alloc, name.kind, rows.as_slice()),
+        Err(error) => Err(TableFault::from(error)),
+    }
+}
+
+// ---- one write
+
+fn put_statement(kind: Kind, is_there: bool) -> &'static str
+    ensures { result.now ≡ put_text is_there kind }
+{
+    match (kind, is_there) {
+        (Kind::User, false) => {
+            "INSERT INTO user_entry (name_key, login, revision, number, given, family, mail, active, confirmed, id) VALUES (?1, ?2, ?3, ?4, ?5, ?6, ?7, ?8, ?9, ?10)"
+        }
+        (Kind::Group, false) => {
+            "INSERT INTO group_entry (name_key, name, revision, members, confirmed, id) VALUES (?1, ?2, ?3, ?4, ?5, ?6)"
+        }
+        (Kind::User, true) => {
+            "UPDATE user_entry SET login = ?2, revision = ?3, number = ?4, given = ?5, family = ?6, mail = ?7, active = ?8, confirmed = ?9, id = ?10 WHERE name_key = ?1"
+        }
+        (Kind::Group, true) => {
+            "UPDATE group_entry SET name = ?2, revision = ?3, members = ?4, confirmed = ?5, id = ?6 WHERE name_key = ?1"
+        }
+    }
+}
+
+fn kind_of(row: &SourceRow) -> Kind
+    ensures { result ≡ (row_name row.now).kind }
+{
+    match row {
+        SourceRow::User(_) => Kind::User,
+        SourceRow::Group(_) => Kind::Group,
+    }
+}
+
+/// Runs a write with the columns of a user's entry.
+fn write_user<S: Alter>(
+    alloc: Global,
+    conn: &mut Connection<S>,
+    sql: &str,
+    user: &UserRow,
+    confirmed: Revision,
+    id: &Option<ResourceId>,
+) -> Result<(), TableFault>
+    requires edit { IsEditText sql.now }
+    requires laid { HasCleanDisk (state S.Store conn.old) → IsTrue (state S.Store conn.old).is_open → IsLaid (state S.Store conn.old) }
+    ensures lawful { IsUserRow user.now }
+    ensures ran { HasCleanDisk (state S.Store conn.new) → OnOk result (Ran sql.now (row_by (User user.now) confirmed id.now) (state S.Store conn.old) (state S.Store conn.new)) }
+    ensures keeps { HasCleanDisk (state S.Store conn.new) → OnErr result (Keeps (state S.Store conn.old) (state S.Store conn.new)) }
+    ensures stop { Survives (state S.Store conn.old) (state S.Store conn.new) (MayLeave sql.now (row_by (User user.now) confirmed id.now) (state S.Store conn.old)) }
+{
+    let revision = user.revision();
+    let key = user.login().key(alloc)?;
+    let params = [
+        text_param(key.as_str()),
+        text_param(user.login().as_str()),
+        number_param(revision.number()),
+        text_param(user.number()),
+        text_param(user.given()),
+        text_param(user.family()),
+        text_param(user.mail()),
+        active_param(user.is_active()),
+        number_param(confirmed.number()),
+        id_param(id),
+    ];
+    match write(conn, sql, &params) {
+        Ok(()) => Ok(()),
+        Err(error) => Err(TableFault::from(error)),
+    }
+}
+
+/// The same with those of a group's.
+fn write_group<S: Alter>(
+    alloc: Global,
+    conn: &mut Connection<S>,
+    sql: &str,
+    group: &GroupRow,
+    confirmed: Revision,
+    id: &Option<ResourceId>,
+) -> Result<(), TableFault>
+    requires edit { IsEditText sql.now }
+    requires laid { HasCleanDisk (state S.Store conn.old) → IsTrue (state S.Store conn.old).is_open → IsLaid (state S.Store conn.old) }
+    ensures lawful { IsGroupRow group.now }
+    ensures ran { HasCleanDisk (state S.Store conn.new) → OnOk result (Ran sql.now (row_by (Group group.now) confirmed id.now) (state S.Store conn.old) (state S.Store conn.new)) }
+    ensures keeps { HasCleanDisk (state S.Store conn.new) → OnErr result (Keeps (state S.Store conn.old) (state S.Store conn.new)) }
+    ensures stop { Survives (state S.Store conn.old) (state S.Store conn.new) (MayLeave sql.now (row_by (Group group.now) confirmed id.now) (state S.Store conn.old)) }
+{
+    let revision = group.revision();
+    let key = group.name().key(alloc)?;
+    let members = members_text(alloc, group.members())?;
+    let params = [
+        text_param(key.as_str()),
+        text_param(group.name().as_str()),
+        number_param(revision.number()),
+        text_param(members.as_str()),
+        number_param(confirmed.number()),
+        id_param(id),
+    ];
+    match write(conn, sql, &params) {
+        Ok(()) => Ok(()),
+        Err(error) => Err(TableFault::from(error)),
+    }
+}
+
+/// Puts an entry, by one statement: in the place of the row with its key where one is there, else as a
+/// new row.
+pub(crate) fn put_entry<S: Alter>(
+    alloc: Global,
+    conn: &mut Connection<S>,
+    is_there: bool,
+    entry: &Entry,
+) -> Result<(), TableFault>
+    requires laid { HasCleanDisk (state S.Store conn.old) → IsTrue (state S.Store conn.old).is_open → IsLaid (state S.Store conn.old) }
+    requires there { HasCleanDisk (state S.Store conn.old) → IsTrue (state S.Store conn.old).is_open → is_there ≡ true → IsThere (state S.Store conn.old).now.trees (row_name entry.now.row) }
+    ensures made { HasCleanDisk (state S.Store conn.new) → OnOk result (Makes is_there entry.now (state S.Store conn.old) (state S.Store conn.new)) }
+    ensures keeps { HasCleanDisk (state S.Store conn.new) → OnErr result (Keeps (state S.Store conn.old) (state S.Store conn.new)) }
+    ensures stop { Survives (state S.Store conn.old) (state S.Store conn.new) (λ db. IsTrue (state S.Store conn.old).is_open × PutsIn is_there entry.now (state S.Store conn.old).now.trees db) }
+{
+    let sql = put_statement(kind_of(&entry.row), is_there);
+    match &entry.row {
+        SourceRow::User(user) => write_user(alloc, conn, sql, user, entry.confirmed, &entry.id),
+        SourceRow::Group(group) => write_group(alloc, conn, sql, group, entry.confirmed, &entry.id),
+    }
+}
+
+// ---- all entries
+
+fn all_statement(kind: Kind) -> &'static str
+    ensures { result.now ≡ all_text kind }
+{
+    match kind {
+        Kind::User => {
+            "SELECT name_key, login, revision, number, given, family, mail, active, confirmed, id FROM user_entry ORDER BY name_key"
+        }
+        Kind::Group => {
+            "SELECT name_key, name, revision, members, confirmed, id FROM group_entry ORDER BY name_key"
+        }
+    }
+}
+
+/// Whether the name comes after the previous one, if there is one.
+fn comes_after(previous: &Option<RecordName>, name: &RecordName) -> bool
+    ensures { IsTrue result → MatchOption previous.now (Unit {0}) (λ p. name_cmp p name.now ≡ Less) }
+{
+    match previous {
+        Some(previous) => previous < name,
+        None => true,
+    }
+}
+
+/// The entries that the rows show, which are in order of their names.
+fn read_all(alloc: Global, kind: Kind, rows: &[Row]) -> Result<Vec<Entry>, TableFault>
+    ensures { IfOk result (λ list. AreShown kind rows.now list.items) }
+{
+    let mut list = Vec::new(alloc);
+    let mut previous = None;
+    for row in rows {
+        let entry = read_entry(alloc, kind, row)?;
+        let name = entry.row.record_name(alloc)?;
+        if !comes_after(&previous, &name) {
+            return Err(TableFault::Damaged);
+        }
+        list.push(entry)?;
+        previous = Some(name);
+    }
+    Ok(list)
+}
+
+/// The entries of one type, in order of their keys.
+pub(crate) fn list_entries<S: Alter>(
+    alloc: Global,
+    conn: &mut Connection<S>,
+    kind: Kind,
+) -> Result<Vec<Entry>, TableFault>
+    requires laid { HasCleanDisk (state S.Store conn.old) → IsTrue (state S.Store conn.old).is_open → IsLaid (state S.Store conn.old) }
+    ensures all { HasCleanDisk (state S.Store conn.new) → IfOk result (λ list. ListsAll kind (state S.Store conn.old).now.trees list.items) }
+    ensures keeps { HasCleanDisk (state S.Store conn.new) → Keeps (state S.Store conn.old) (state S.Store conn.new) }
+    ensures open { HasCleanDisk (state S.Store conn.new) → OnOk result (IsTrue (state S.Store conn.new).is_open) }
+    ensures quiet { Survives (state S.Store conn.old) (state S.Store conn.new) (λ _. ⊥) }
+{
+    match ask(conn, all_statement(kind), &[]) {
+        Ok(rows) => read_all(alloc, kind, rows.as_slice()),
+        Err(error) => Err(TableFault::from(error)),
+    }
+}
