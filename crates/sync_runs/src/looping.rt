@@ -69,9 +69,9 @@ fn carry_over<'a, N: Net + Clock, R: Registry + 'a, J: Journal, W: Write>(
     sources: &Sources,
     out: &mut W,
 ) -> Result<Outcome, PushFault>
-    ensures { CarriesSilently ⟦<OwnReader<'a, 'a, N, R> as Read>⟧.remaining
+    ensures { IfOk result (λ outcome. CarriesSilently ⟦<OwnReader<'a, 'a, N, R> as Read>⟧.remaining
         ⟦<TimedStream<'a, N::Stream, N> as Write>⟧.contents J.Journal service.now sources.now
-        connector.old connector.new result }
+        connector.old connector.new (Ok outcome)) }
 {
     let (listener, taken) = listen(rt).map_err(|_| PushFault::Connection)?;
     let address = format!(in alloc; "{taken}")?;
