@@ -25,7 +25,6 @@ test:
 	tests/answer.sh
 	tests/serve.sh
 	tests/stores.sh
-	tests/push.sh
 	tests/simulate.sh
 	tests/edits.py --apply
 
