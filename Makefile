@@ -25,6 +25,7 @@ test:
 	tests/answer.sh
 	tests/serve.sh
 	tests/stores.sh
+	tests/push.sh
 	tests/simulate.sh
 	tests/edits.py --apply
 
