@@ -53,6 +53,8 @@ class Site:
         self.store, self.journal = folder / "store", folder / "journal"
         self.users, self.groups = folder / "users.csv", folder / "groups.csv"
         self.port, self.provider = free_port(), None
+        # further words of each push
+        self.more = []
 
     def writes_users(self, records):
         self.users.write_text("\n".join([USERS_HEADER, *records, ""]))
@@ -74,7 +76,7 @@ class Site:
         words = [self.program, "push", "--users", self.users, "--journal", self.journal]
         if self.groups.exists():
             words += ["--groups", self.groups]
-        return [*words, "--to", f"127.0.0.1:{port or self.port}"]
+        return [*words, "--to", f"127.0.0.1:{port or self.port}", *self.more]
 
     def begins_push(self):
         """A push that runs on while its lines are read."""

@@ -5,6 +5,7 @@ import contextlib
 import json
 import pathlib
 import socket
+import sqlite3
 import struct
 import sys
 import threading
@@ -76,6 +77,12 @@ def trickles(stream):
             time.sleep(1)
 
 
+def takes_no_request(stream):
+    """A reset, when only the first of a request was taken."""
+    stream.recv(1)
+    resets(stream)
+
+
 def resets(stream):
     stream.setsockopt(socket.SOL_SOCKET, socket.SO_LINGER, struct.pack("ii", 1, 0))
 
@@ -94,7 +101,7 @@ class Peer:
 
     def __init__(self, steps):
         self.steps, self.requests, self.fault = steps, [], None
-        self.listener = socket.create_server(("127.0.0.1", 0))
+        self.listener = narrow() if takes_no_request in steps else socket.create_server(("127.0.0.1", 0))
         self.port = self.listener.getsockname()[1]
         self.thread = threading.Thread(target=self.runs, daemon=True)
         self.thread.start()
@@ -104,7 +111,7 @@ class Peer:
             for step in self.steps:
                 stream, _ = self.listener.accept()
                 with stream:
-                    self.requests.append(request(stream))
+                    self.requests.append(None if step is takes_no_request else request(stream))
                     stream.sendall(step) if isinstance(step, bytes) else step(stream)
         except (OSError, AssertionError) as fault:
             self.fault = fault
@@ -115,6 +122,16 @@ class Peer:
         self.thread.join(SLACK)
         equal((self.thread.is_alive(), self.fault, len(self.requests)), (False, None, len(self.steps)))
         return self.requests
+
+
+def narrow():
+    """A listener whose connections take few bytes ahead, so that a long request isn't sent at once."""
+    listener = socket.socket()
+    listener.setsockopt(socket.SOL_SOCKET, socket.SO_RCVBUF, 1)
+    listener.setsockopt(socket.IPPROTO_TCP, socket.TCP_MAXSEG, 88)
+    listener.bind(("127.0.0.1", 0))
+    listener.listen()
+    return listener
 
 
 def request(stream):
@@ -276,6 +293,27 @@ def test_a_group_that_waits():
     steps = [listed(user("ann", 1, number="6")), *[answer(502, HTML)] * 3]
     lines = ["user ann confirmed 1", "user bob unconfirmed C4", "group crew unconfirmed waits bob"]
     case.meets(steps, 1, *lines)
+
+
+def test_a_request_that_is_not_taken():
+    case = Case("narrow")
+    # a group whose members have the longest ids, so that its request is too long for a narrow connection
+    members = [f"u{place:03}" for place in range(400)]
+    case.writes_users([])
+    case.writes_groups([f"crew,1,{' '.join(members)}"])
+    case.entries()
+    with contextlib.closing(sqlite3.connect(case.journal)) as journal, journal:
+        entries = ((name, name, name.ljust(256, "-")) for name in members)
+        journal.executemany("INSERT INTO user_entry VALUES (?, ?, 1, '', '', '', '', 1, 1, ?)", entries)
+    lines = [f"user {name} confirmed 1" for name in members]
+    case.meets([NONE, takes_no_request, takes_no_request], 1, *lines, "group crew unconfirmed H12")
+
+
+def test_another_base():
+    case = Case("base")
+    case.more = ["--base", "http://scim.example/v2"]
+    for lines, _ in case.meets([NONE, answer(201, user("bob", 1))], 0, "user bob confirmed 1"):
+        equal(lines[1], "Host: scim.example")
 
 
 def test_a_provider_that_goes_away():

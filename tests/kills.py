@@ -143,6 +143,10 @@ def test_a_connector_that_is_killed():
             story.starts()
             run = story.begins_push()
             story.reads(run, count)
+            if count:
+                # while it has the journal, no other push does anything
+                freeze(run)
+                equal(story.push(), (3, [], "journal fault J1\n"))
             story.notes(kill(run))
             story.kills_provider()
             story.checks_both()
