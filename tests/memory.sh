@@ -7,7 +7,7 @@ suite=memory
 . tests/lib.sh
 
 # kilobytes that are enough to start, and too few for what is asked for here
-starved=(bash -c 'ulimit -v "$0"; exec "$@"' 20000)
+starved=(bash -c 'ulimit -v "$0"; exec "$@"' 12000)
 expect 'enough to start' 0 '' "${starved[@]}" "$program" map examples/monday.csv
 
 # starves NAME FILE COMMAND..: it is out of memory, prints nothing, and leaves the file as it was

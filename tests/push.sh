@@ -42,6 +42,11 @@ shows() {
     prints "$name" "$room/wanted"
 }
 
+# answers of every kind, some of them late, beside all that follows
+mkdir "$room/foreign" "$room/kills"
+python3 -B tests/foreign.py "$program" "$room/foreign" &
+foreign=$!
+
 groups=
 users bob,1,,,,,active ann,1,,,,,active
 starts 4
@@ -204,8 +209,6 @@ NEWER
 expect 'a newer journal' 3 'journal fault J4' "$program" show --journal "$room/newer"
 expect 'both' 2 'error: show takes one of --store FILE and --journal FILE' "$program" show --store "$room/store" --journal "$room/journal"
 
-# answers of every kind, and kills
-mkdir "$room/foreign" "$room/kills"
-python3 -B tests/foreign.py "$program" "$room/foreign" || failed=1
 python3 -B tests/kills.py "$program" "$room/kills" || failed=1
+wait "$foreign" || failed=1
 ends
