@@ -40,8 +40,11 @@ def freeze(run):
 
 
 def state(pid):
-    """The state of a process: T for one that is stopped."""
-    return pathlib.Path(f"/proc/{pid}/stat").read_text().rpartition(")")[2].split()[0]
+    """The state of a process: T for one that is stopped, Z for one that has ended."""
+    try:
+        return pathlib.Path(f"/proc/{pid}/stat").read_text().rpartition(")")[2].split()[0]
+    except (FileNotFoundError, ProcessLookupError):
+        return "Z"
 
 
 class Site:
