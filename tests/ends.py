@@ -82,8 +82,8 @@ class Site:
         return [*words, "--to", f"127.0.0.1:{port or self.port}", *self.more]
 
     def begins_push(self):
-        """A push that runs on while its lines are read."""
-        return subprocess.Popen(self.push_words(), stdout=subprocess.PIPE, stderr=subprocess.PIPE, text=True)
+        """A push that runs on while its lines are read, and waits where too many aren't."""
+        return subprocess.Popen(self.push_words(), stdout=subprocess.PIPE, stderr=subprocess.PIPE, text=True, pipesize=4096)
 
     def push(self, port=None):
         """A whole push: its status, its lines and what it told."""

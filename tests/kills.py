@@ -20,7 +20,8 @@ GONE = {"-", "H10", "H11", "H12"}
 
 
 def name_of(place):
-    return f"u{place:03}"
+    """A long name: a push can't be many lines ahead of who reads them."""
+    return f"u{place:03}".ljust(120, "-")
 
 
 class Story(Site):
@@ -39,7 +40,7 @@ class Story(Site):
             f"{name_of(place)},{revision},,,,,{'left' if has_left(place) else 'active'}" for place in range(USERS)
         )
         everybody = " ".join(name_of(place) for place in range(USERS))
-        self.writes_groups([f"all,{revision},{everybody}", f"pair,{revision},u000 u{USERS - 1:03}"])
+        self.writes_groups([f"all,{revision},{everybody}", f"pair,{revision},{name_of(0)} {name_of(USERS - 1)}"])
 
     def reads(self, run, count):
         """Reads so many lines of a push, as they come."""
@@ -139,7 +140,7 @@ def test_a_connector_that_is_killed():
     story = Story("connector")
     for revision in (1, 2):
         story.wants(revision, lambda place: revision == 2 and place % 2 == 0)
-        for count in (0, 1, 40, 90):
+        for count in (0, 1, 35, 70):
             story.starts()
             run = story.begins_push()
             story.reads(run, count)
