@@ -1,26 +1,44 @@
 #define _GNU_SOURCE
 /* Both ends of a measurement, for bench/serve.py:
- *   serve load PORT COUNT REQUEST   asks so many times, a connection each, and prints the seconds.
- *                                   Eight `@` in the request stand for the number of the asking.
- *   serve limit COUNT ANSWER        prints a port, and answers so many connections by the same bytes:
- *                                   what accepting, reading, writing and closing alone take.
+ *   serve load PORT CLIENTS COUNT STEP AMONG STATUS REQUEST
+ *       asks so many times from so many clients at once, a connection each, wants this status each
+ *       time, and prints the seconds. The n-th asking has the number (n * STEP) % AMONG; eight `@` in
+ *       the request stand for it, and twelve `$` for the one after it in hexadecimal.
+ *   serve limit COUNT ANSWER [STORE insert|update AMONG]
+ *       prints a port, and answers so many connections by the same bytes: what accepting, reading,
+ *       writing and closing alone take. With a store, the row of a user is put or changed by SQLite
+ *       before each answer, with a log and every commit on the disk. It needs -DSTORE -lsqlite3.
  */
 #include <arpa/inet.h>
+#include <pthread.h>
 #include <stdio.h>
 #include <stdlib.h>
 #include <string.h>
 #include <sys/socket.h>
 #include <time.h>
 #include <unistd.h>
+#ifdef STORE
+#include <sqlite3.h>
+#endif
 
-static char text[65536], taken[65536];
+enum { ROOM = 65536, MOST_CLIENTS = 64 };
 
-static size_t file_text(const char *name) {
+static char text[ROOM];
+static size_t length;
+static const char *status;
+static int port, clients, count;
+static long step, among;
+
+static void fail(int code) {
+    perror("bench/serve.c");
+    exit(code);
+}
+
+static void take_text(const char *name) {
     FILE *file = fopen(name, "rb");
-    if (!file) exit(2);
-    size_t length = fread(text, 1, sizeof text, file);
+    if (!file) fail(2);
+    length = fread(text, 1, sizeof text, file);
     fclose(file);
-    return length;
 }
 
 static double seconds(void) {
@@ -29,45 +47,117 @@ static double seconds(void) {
     return now.tv_sec + now.tv_nsec / 1e9;
 }
 
-static int load(int port, int count, size_t length) {
+/* Puts a number wherever so many marks stand. */
+static void put(char *request, const char *marks, const char *form, long number) {
+    size_t wide = strlen(marks);
+    char *mark = text, digits[32];
+    snprintf(digits, sizeof digits, form, number);
+    for (; (mark = memmem(mark, text + length - mark, marks, wide)); mark += wide) memcpy(request + (mark - text), digits, wide);
+}
+
+static void *client(void *place) {
     struct sockaddr_in to = {.sin_family = AF_INET, .sin_port = htons(port), .sin_addr.s_addr = htonl(INADDR_LOOPBACK)};
-    char *mark = memmem(text, length, "@@@@@@@@", 8), digits[16];
-    double start = seconds();
-    for (int n = 0; n < count; n++) {
-        if (mark) {
-            snprintf(digits, sizeof digits, "%08d", n);
-            memcpy(mark, digits, 8);
-        }
+    char *request = malloc(ROOM), *taken = malloc(ROOM);
+    if (!request || !taken) fail(2);
+    memcpy(request, text, length);
+    for (int n = (int)(long)place; n < count; n += clients) {
+        long number = n * step % among;
+        put(request, "@@@@@@@@", "%08ld", number);
+        put(request, "$$$$$$$$$$$$", "%012lx", number + 1);
         int peer = socket(AF_INET, SOCK_STREAM, 0);
-        if (connect(peer, (struct sockaddr *)&to, sizeof to) || write(peer, text, length) != (ssize_t)length) return 3;
+        if (connect(peer, (struct sockaddr *)&to, sizeof to) || write(peer, request, length) != (ssize_t)length) fail(3);
         size_t got = 0;
-        for (ssize_t more; (more = read(peer, taken, sizeof taken)) > 0;) got += more;
+        for (ssize_t more; (more = read(peer, taken + got, ROOM - got)) > 0;) got += more;
         close(peer);
-        if (got < 100) return 4;
+        if (got < 12 || memcmp(taken + 9, status, 3)) {
+            fprintf(stderr, "asking %d: %.*s\n", n, (int)got, taken);
+            exit(4);
+        }
     }
+    return 0;
+}
+
+static int load(void) {
+    pthread_t threads[MOST_CLIENTS];
+    if (clients < 1 || clients > MOST_CLIENTS) return 2;
+    double start = seconds();
+    for (long n = 0; n < clients; n++)
+        if (pthread_create(&threads[n], 0, client, (void *)n)) fail(3);
+    for (int n = 0; n < clients; n++) pthread_join(threads[n], 0);
     printf("%.6f\n", seconds() - start);
     return 0;
 }
 
-static int limit(int count, size_t length) {
+#ifdef STORE
+static sqlite3_stmt *change;
+
+static void open_store(const char *path, const char *kind) {
+    sqlite3 *store;
+    const char *modes = "PRAGMA journal_mode = WAL; PRAGMA synchronous = FULL;";
+    const char *insert = "INSERT INTO resource (number, kind, name_key, version, content) VALUES (?1, 1, ?2, 1, ?3)";
+    const char *update = "UPDATE resource SET version = version + 1, content = ?3 WHERE number = ?1";
+    if (sqlite3_open(path, &store) || sqlite3_exec(store, modes, 0, 0, 0)) fail(5);
+    if (sqlite3_prepare_v2(store, strcmp(kind, "insert") ? update : insert, -1, &change, 0)) fail(5);
+}
+
+static void commit(int n, const char *content, size_t size) {
+    char name[32];
+    snprintf(name, sizeof name, "%08d", n);
+    sqlite3_bind_int64(change, 1, n % among + 1);
+    sqlite3_bind_text(change, 2, name, -1, SQLITE_TRANSIENT);
+    sqlite3_bind_text(change, 3, content, size, SQLITE_STATIC);
+    if (sqlite3_step(change) != SQLITE_DONE) fail(6);
+    sqlite3_reset(change);
+}
+#endif
+
+/* The body of a request is the row's content. */
+static void answer(int peer, int n, int stores) {
+    char taken[ROOM];
+    ssize_t got = read(peer, taken, sizeof taken);
+    if (got < 0) fail(4);
+#ifdef STORE
+    char *body = memmem(taken, got, "\r\n\r\n", 4);
+    if (stores && body) commit(n, body + 4, taken + got - body - 4);
+#else
+    if (stores) exit(2);
+#endif
+    (void)n;
+    if (write(peer, text, length) < 0) fail(4);
+}
+
+static int limit(int stores) {
     struct sockaddr_in at = {.sin_family = AF_INET, .sin_addr.s_addr = htonl(INADDR_LOOPBACK)};
     socklen_t size = sizeof at;
     int one = 1, listener = socket(AF_INET, SOCK_STREAM, 0);
     setsockopt(listener, SOL_SOCKET, SO_REUSEADDR, &one, sizeof one);
-    if (bind(listener, (struct sockaddr *)&at, size) || listen(listener, 128)) return 3;
+    if (bind(listener, (struct sockaddr *)&at, size) || listen(listener, 128)) fail(3);
     getsockname(listener, (struct sockaddr *)&at, &size);
     printf("listening 127.0.0.1:%d\n", ntohs(at.sin_port));
     fflush(stdout);
     for (int n = 0; n < count; n++) {
         int peer = accept(listener, 0, 0);
-        if (read(peer, taken, sizeof taken) < 0 || write(peer, text, length) < 0) return 4;
+        answer(peer, n, stores);
         close(peer);
     }
     return 0;
 }
 
-int main(int count, char **words) {
-    if (count == 5 && !strcmp(words[1], "load")) return load(atoi(words[2]), atoi(words[3]), file_text(words[4]));
-    if (count == 4 && !strcmp(words[1], "limit")) return limit(atoi(words[2]), file_text(words[3]));
-    return 2;
+int main(int words, char **word) {
+    if (words == 9 && !strcmp(word[1], "load")) {
+        port = atoi(word[2]), clients = atoi(word[3]), count = atoi(word[4]);
+        step = atol(word[5]), among = atol(word[6]), status = word[7];
+        take_text(word[8]);
+        return load();
+    }
+    if (words < 4 || strcmp(word[1], "limit")) return 2;
+    count = atoi(word[2]);
+    take_text(word[3]);
+#ifdef STORE
+    if (words == 7) {
+        among = atol(word[6]);
+        open_store(word[4], word[5]);
+    }
+#endif
+    return limit(words == 7);
 }

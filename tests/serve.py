@@ -329,6 +329,18 @@ def test_a_client_that_stays():
         assert taken < 2 + SLACK, taken
 
 
+def test_who_waits_is_served_first():
+    # a peer that has its answer and stays holds up nobody who waits already
+    with Server(2) as server, server.connect() as first, server.connect() as second:
+        first.sendall(FIND)
+        assert rest(first).startswith(b"HTTP/1.1 404 Not Found\r\n")
+        began = time.monotonic()
+        second.sendall(FIND)
+        assert rest(second).startswith(b"HTTP/1.1 404 Not Found\r\n")
+        taken = time.monotonic() - began
+        assert taken < 1, taken
+
+
 def held_for(server, stream):
     """How long a stream holds the next client."""
     began = time.monotonic()

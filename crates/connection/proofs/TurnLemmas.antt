@@ -10,6 +10,10 @@ pub none_taken : {C : Type 0} (known : Option (List C)) → Takes known known []
 none_taken None = tt
 none_taken (Some all) = refl
 
+pub taken_still : {C : Type 0} (old between new : Option (List C)) (taken : List C)
+    → Takes old between taken → new ≡ between → Takes old new taken
+taken_still old between new taken takes same = subst (λ left. Takes old left taken) (sym same) takes
+
 takes_more : {C : Type 0} (old between new : Option (List C)) (first then : List C)
     → Takes old between first → Takes between new then → Takes old new (first ++ then)
 takes_more None between new first then a b = tt

@@ -2,6 +2,7 @@
 #![tactic(auto)]
 
 mod deadline;
+mod lingering;
 mod listening;
 mod serving;
 mod sockets;

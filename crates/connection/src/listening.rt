@@ -1,5 +1,5 @@
 //! What connections come from.
-ghost use Rattle.std.specs.Prelude.{List, Option, None};
+ghost use Rattle.std.specs.Prelude.{◌≡◌, List, Option, None};
 ghost use Rattle.connection.specs.Listening.{Accepts};
 
 use std::io;
@@ -19,6 +19,7 @@ pub trait Listen {
     fn accept(&mut self) -> io::Result<(Self::Reader, Self::Writer)>
         ensures { Accepts (waiting self.old) (waiting self.new) result };
 
-    /// Ends a connection that was served.
-    fn end(&self, reader: Self::Reader, writer: Self::Writer);
+    /// Ends a connection that was served. Its peer gets the answer whole, and may send on for a while.
+    fn end(&mut self, reader: Self::Reader, writer: Self::Writer)
+        ensures { waiting self.new ≡ waiting self.old };
 }

@@ -1,33 +1,69 @@
 //! The connections of a listening socket.
 use crate::deadline::Deadline;
+use crate::lingering::Lingering;
 use crate::listening::Listen;
 use crate::timed::TimedStream;
+use std::alloc::Global;
 use std::io;
 use std::io::{Read, Write};
 use std::net::{OpenListener, OpenStream};
 use std::time::{Clock, Duration};
 
-/// For how many seconds a peer may send on once it has its answer.
-const DRAIN_SECONDS: u64 = 2;
-
-/// The connections of a listening socket. Each has this time in all, from when it is taken.
+/// The connections of a listening socket. Each has this time in all, from when it is taken. Those
+/// that were served are drained as soon as no other one waits.
 #[derive(Drop)]
-pub struct Sockets<'a, L: OpenListener + Drop, C> {
-    pub listener: L,
-    pub clock: &'a C,
-    pub limit: Duration,
+pub struct Sockets<'a, L: OpenListener + Drop, C: Clock>
+where
+    L::Stream: Read + OpenStream,
+{
+    listener: L,
+    clock: &'a C,
+    limit: Duration,
+    /// Whether the listener gives up at once where no connection waits.
+    gives_up: bool,
+    served: Lingering<'a, L::Stream, C>,
+}
+
+impl<'a, L: OpenListener + Drop, C: Clock> Sockets<'a, L, C>
+where
+    L::Stream: Read + OpenStream,
+{
+    pub fn new(alloc: Global, listener: L, clock: &'a C, limit: Duration) -> Self {
+        Sockets {
+            listener,
+            clock,
+            limit,
+            gives_up: false,
+            served: Lingering::new(alloc),
+        }
+    }
+
+    /// The stream of the next connection. Where none can be taken at once, those that were served are
+    /// drained first.
+    fn next_stream(&mut self) -> io::Result<L::Stream> {
+        if self.gives_up {
+            if let Ok((stream, _)) = self.listener.accept() {
+                return Ok(stream);
+            }
+            self.served.drain_all();
+            self.listener.set_nonblocking(false)?;
+            self.gives_up = false;
+        }
+        let (stream, _) = self.listener.accept()?;
+        Ok(stream)
+    }
 }
 
 impl<'a, L: OpenListener + Drop, C: Clock> Listen for Sockets<'a, L, C>
 where
-    L::Stream: Read + Write + OpenStream + Drop,
+    L::Stream: Read + Write + OpenStream,
 {
     type Reader = TimedStream<'a, L::Stream, C>;
 
     type Writer = TimedStream<'a, L::Stream, C>;
 
     fn accept(&mut self) -> io::Result<(Self::Reader, Self::Writer)> {
-        let (stream, _) = self.listener.accept()?;
+        let stream = self.next_stream()?;
         let deadline = Deadline::after(self.clock, self.limit)?;
         let reader = TimedStream {
             stream: stream.try_clone()?,
@@ -42,8 +78,14 @@ where
         Ok((reader, writer))
     }
 
-    fn end(&self, reader: Self::Reader, writer: Self::Writer) {
+    fn end(&mut self, reader: Self::Reader, writer: Self::Writer) {
         writer.shut_down();
-        reader.drain(Duration::from_secs(DRAIN_SECONDS));
+        self.served.keep(reader);
+        if !self.gives_up {
+            match self.listener.set_nonblocking(true) {
+                Ok(()) => self.gives_up = true,
+                Err(_) => self.served.drain_all(),
+            }
+        }
     }
 }

@@ -1,11 +1,11 @@
 //! The engine without a socket, and streams by a clock that a test winds.
-use crate::{ConnectionFault, Deadline, Listen, TimedStream, serve_from_memory};
+use crate::{ConnectionFault, Deadline, Listen, Sockets, TimedStream, serve_from_memory};
 use scim_key::Base;
 use std::alloc::Global;
 use std::cell::Cell;
 use std::io;
-use std::io::{ErrorKind, Read};
-use std::net::OpenStream;
+use std::io::{ErrorKind, Read, Write};
+use std::net::{Ipv4Addr, OpenListener, OpenStream, SocketAddr};
 use std::test::Fail;
 use std::time::{Clock, Duration};
 
@@ -38,7 +38,7 @@ impl<'a> Listen for Queue<'a> {
         }
     }
 
-    fn end(&self, _: &'static [u8], writer: Vec<u8>) {
+    fn end(&mut self, _: &'static [u8], writer: Vec<u8>) {
         let mut statuses = self.statuses.get().wrapping_mul(1_000);
         if let Some(line) = writer.as_slice().get(..12)
             && let Ok(text) = str::from_utf8(&line[9..])
@@ -187,5 +187,113 @@ fn a_drain_is_bounded(rt: HostRuntime) -> Result<(), Fail> {
         stream.drain(Duration::from_secs(drain));
         assert_eq!(rt; timeouts.get(), wanted);
     }
+    Ok(())
+}
+
+/// What a listener and its streams did last, a digit each: 1 it gives up from now on, 2 it blocks
+/// again, 3 a connection was taken, 4 none waited, 5 a stream came to its end.
+type Notes<'a> = &'a Cell<u64>;
+
+fn note(notes: Notes<'_>, what: u64) {
+    notes.set(notes.get() % 10_000_000_000 * 10 + what % 10);
+}
+
+/// A stream of a peer that sends nothing more.
+#[derive(Drop)]
+struct Ended<'a> {
+    notes: Notes<'a>,
+}
+
+impl<'a> Read for Ended<'a> {
+    fn read(&mut self, _: &mut [u8]) -> io::Result<usize> {
+        note(self.notes, 5);
+        Ok(0)
+    }
+}
+
+impl<'a> Write for Ended<'a> {
+    fn write(&mut self, bytes: &[u8]) -> io::Result<usize> {
+        Ok(bytes.len())
+    }
+
+    fn flush(&mut self) -> io::Result<()> {
+        Ok(())
+    }
+}
+
+impl<'a> OpenStream for Ended<'a> {
+    fn set_read_timeout(&self, _: Option<Duration>) -> io::Result<()> {
+        Ok(())
+    }
+
+    fn try_clone(&self) -> io::Result<Self> {
+        Ok(Ended { notes: self.notes })
+    }
+}
+
+/// A listener for which so many connections wait. One more comes whenever it blocks.
+#[derive(Drop)]
+struct Waiting<'a> {
+    left: Cell<u32>,
+    gives_up: Cell<bool>,
+    notes: Notes<'a>,
+}
+
+impl<'a> OpenListener for Waiting<'a> {
+    type Stream = Ended<'a>;
+
+    fn accept(&self) -> io::Result<(Ended<'a>, SocketAddr)> {
+        if self.left.get() == 0 && self.gives_up.get() {
+            note(self.notes, 4);
+            return Err(io::Error::from(ErrorKind::WouldBlock));
+        }
+        self.left.set(self.left.get().saturating_sub(1));
+        note(self.notes, 3);
+        let peer = SocketAddr::from((Ipv4Addr::LOCALHOST, 1));
+        Ok((Ended { notes: self.notes }, peer))
+    }
+
+    fn set_nonblocking(&self, nonblocking: bool) -> io::Result<()> {
+        note(self.notes, if nonblocking { 1 } else { 2 });
+        self.gives_up.set(nonblocking);
+        Ok(())
+    }
+}
+
+/// Takes and ends so many connections of which so many wait. It tells what was done by then, and once
+/// the listener is dropped.
+fn taken(alloc: Global, waiting: u32, count: u32) -> Result<(u64, u64), Fail> {
+    let notes = Cell::new(0);
+    let clock = Ticks {
+        seconds: Cell::new(0),
+    };
+    let listener = Waiting {
+        left: Cell::new(waiting),
+        gives_up: Cell::new(false),
+        notes: &notes,
+    };
+    let mut sockets = Sockets::new(alloc, listener, &clock, Duration::from_secs(1_000));
+    for _ in 0..count {
+        let (reader, writer) = sockets.accept()?;
+        sockets.end(reader, writer);
+    }
+    let before = notes.get();
+    drop(sockets);
+    Ok((before, notes.get()))
+}
+
+#[test]
+fn streams_are_drained_where_none_waits(rt: HostRuntime) -> Result<(), Fail> {
+    // two wait, and the third comes later
+    assert_eq!(rt; taken(rt.alloc(), 2, 3)?, (313_455_231, 3_134_552_315));
+    assert_eq!(rt; taken(rt.alloc(), 0, 2)?, (3_145_231, 31_452_315));
+    Ok(())
+}
+
+#[test]
+fn only_so_many_are_kept(rt: HostRuntime) -> Result<(), Fail> {
+    let (before, after) = taken(rt.alloc(), 100, 34)?;
+    assert_eq!(rt; before, 33_333_333_535);
+    assert_eq!(rt; after, 55_555_555_555);
     Ok(())
 }

@@ -65,15 +65,12 @@ fn serve_from_file<R: Runtime + Net + AllocGlobal, K: Storage>(
 }
 
 /// The connections of an address, each with its time.
-fn sockets<'a, R: Runtime + Net>(
+fn sockets<'a, R: Runtime + Net + AllocGlobal>(
     rt: &'a R,
     address: &str,
 ) -> Result<Sockets<'a, R::Listener, R>, RunFault> {
-    Ok(Sockets {
-        listener: listen(rt, address)?,
-        clock: rt,
-        limit: Duration::from_secs(CONNECTION_SECONDS),
-    })
+    let limit = Duration::from_secs(CONNECTION_SECONDS);
+    Ok(Sockets::new(rt.alloc(), listen(rt, address)?, rt, limit))
 }
 
 /// Listens on an address, and prints the one that was taken.
