@@ -1,0 +1,131 @@
+//! Both ends in turn: the connector against a provider in the same program, over TCP.
+ghost use Rattle.std.specs.Prelude.{Ok};
+ghost use Rattle.sync_runs.specs.Carrying.{CarriesHere, IsOutcome, Loops};
+
+use crate::carrying::{Outcome, carry};
+use crate::faults::{RunFault, unopened, unwritten};
+use crate::own::{OwnProvider, OwnReader, OwnStreams, is_shut};
+use crate::pushing::{EXCHANGE_SECONDS, remote};
+use crate::telling::Reports;
+use crate::views::print_views;
+use connection::{Sockets, TimedStream};
+use connector_core::Connector;
+use journal_core::Journal;
+use provider_core::{Provider, Registry};
+use provisioning::PushFault;
+use scim_client::ScimService;
+use source_offers::Sources;
+use std::alloc::Global;
+use std::cell::RefCell;
+use std::io::{Read, Write};
+use std::net::{Net, OpenListener, TcpListener};
+use std::time::{Clock, Duration};
+
+/// Where the provider listens: at a free port that this machine alone reaches.
+const OWN_ADDRESS: &str = "127.0.0.1:0";
+
+/// Runs the connector against a provider that listens at a free port of its own. Each row's report is
+/// printed, then how many exchanges there were where all is settled, then a line for each record. A
+/// fault that shuts the provider's store ends the run.
+pub fn run_loop<'a, N: Net + Clock, R: Registry + 'a, J: Journal, W: Write>(
+    rt: &'a N,
+    alloc: Global,
+    service: &ScimService,
+    connector: &mut Connector<J>,
+    provider: &mut Provider<R>,
+    sources: &Sources,
+    out: &mut W,
+) -> Result<Outcome, RunFault>
+    ensures { Loops ⟦<OwnReader<'a, 'a, N, R> as Read>⟧.remaining
+        ⟦<TimedStream<'a, N::Stream, N> as Write>⟧.contents J.Journal service.now sources.now
+        connector.old connector.new result }
+{
+    match carry_here(rt, alloc, service, connector, provider, sources, out) {
+        Ok(outcome) => print_end(outcome, connector, provider, out),
+        Err(fault) => Err(ended(fault, provider)),
+    }
+}
+
+/// What ended a run: the provider's store, where it is shut.
+fn ended<R: Registry>(fault: PushFault, provider: &mut Provider<R>) -> RunFault {
+    if is_shut(provider) {
+        RunFault::Store
+    } else {
+        RunFault::Ended(fault)
+    }
+}
+
+/// Prints how a run went that no fault ended, and how its records stand.
+fn print_end<R: Registry, J: Journal, W: Write>(
+    outcome: Outcome,
+    connector: &Connector<J>,
+    provider: &mut Provider<R>,
+    out: &mut W,
+) -> Result<Outcome, RunFault>
+    ensures { IsOutcome (Ok outcome) result }
+{
+    if is_shut(provider) {
+        return Err(RunFault::Store);
+    }
+    if outcome.tally.is_settled {
+        writeln!(out, "settled in {} exchanges", outcome.tally.exchanges).map_err(unwritten)?;
+    }
+    print_views(connector, provider, out)?;
+    Ok(outcome)
+}
+
+/// Runs the connector against a provider over TCP.
+fn carry_here<'a, N: Net + Clock, R: Registry + 'a, J: Journal, W: Write>(
+    rt: &'a N,
+    alloc: Global,
+    service: &ScimService,
+    connector: &mut Connector<J>,
+    provider: &mut Provider<R>,
+    sources: &Sources,
+    out: &mut W,
+) -> Result<Outcome, PushFault>
+    ensures { CarriesHere ⟦<OwnReader<'a, 'a, N, R> as Read>⟧.remaining
+        ⟦<TimedStream<'a, N::Stream, N> as Write>⟧.contents J.Journal service.now sources.now
+        connector.old connector.new result }
+{
+    match listen(rt, alloc) {
+        Ok((sockets, address)) => {
+            let own = RefCell::new(OwnProvider {
+                alloc,
+                base: service.base(),
+                sockets,
+                provider,
+            });
+            let mut streams = OwnStreams {
+                remote: remote(rt, address.as_str()),
+                own: &own,
+            };
+            let mut reports = Reports { out, rows: 0 };
+            carry(
+                alloc,
+                service,
+                connector,
+                sources,
+                &mut streams,
+                &mut reports,
+            )
+        }
+        Err(fault) => Err(fault),
+    }
+}
+
+/// The connections of a free port, each with its time, and the port's address.
+fn listen<'a, N: Net + Clock>(
+    rt: &'a N,
+    alloc: Global,
+) -> Result<(Sockets<'a, N::Listener, N>, String), PushFault> {
+    let listener = TcpListener::bind(rt, OWN_ADDRESS).map_err(unopened)?;
+    let taken = listener.local_addr().map_err(unopened)?;
+    let address = format!(in alloc; "{taken}")?;
+    let sockets = Sockets {
+        listener,
+        clock: rt,
+        limit: Duration::from_secs(EXCHANGE_SECONDS),
+    };
+    Ok((sockets, address))
+}
