@@ -24,4 +24,4 @@ push_fault offer.Memory = push.Memory
 -- a call of the system that failed
 abbrev pub failed : ErrorKind → (otherwise : PushFault) → PushFault
 failed kinds.OutOfMemory otherwise = push.Memory
-failed other otherwise = otherwise
+failed _ otherwise = otherwise

@@ -78,9 +78,9 @@ fn print_end<R: Registry, J: Journal, W: Write>(
 fn carry_here<'a, N: Net + Clock, R: Registry + 'a, J: Journal, W: Write>(
     rt: &'a N,
     alloc: Global,
-    service: &ScimService,
+    service: &'a ScimService,
     connector: &mut Connector<J>,
-    provider: &mut Provider<R>,
+    provider: &'a mut Provider<R>,
     sources: &Sources,
     out: &mut W,
 ) -> Result<Outcome, PushFault>
@@ -94,13 +94,13 @@ fn carry_here<'a, N: Net + Clock, R: Registry + 'a, J: Journal, W: Write>(
                 alloc,
                 base: service.base(),
                 sockets,
-                provider,
+                provider: &mut *provider,
             });
             let mut streams = OwnStreams {
                 remote: remote(rt, address.as_str()),
                 own: &own,
             };
-            let mut reports = Reports { out, rows: 0 };
+            let mut reports = Reports::new(&mut *out);
             carry(
                 alloc,
                 service,

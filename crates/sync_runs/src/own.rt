@@ -77,6 +77,11 @@ impl<'a, 'p, N: Net + Clock, R: Registry> Read for OwnReader<'a, 'p, N, R> {
         self.be_served()?;
         self.stream.read(buffer)
     }
+
+    fn read_exact(&mut self, buffer: &mut [u8]) -> io::Result<()> {
+        self.be_served()?;
+        self.stream.read_exact(buffer)
+    }
 }
 
 impl<'a, 'p, N: Net + Clock, R: Registry> Dial for OwnStreams<'a, 'p, N, R> {

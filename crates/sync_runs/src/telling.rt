@@ -44,8 +44,14 @@ impl<'a, W: Write + Drop, E: Eprint> Tell for Lines<'a, W, E> {
 /// Nothing is told of the records.
 #[derive(Drop)]
 pub(crate) struct Reports<W: Drop> {
-    pub out: W,
-    pub rows: usize,
+    out: W,
+    rows: usize,
+}
+
+impl<W: Drop> Reports<W> {
+    pub(crate) fn new(out: W) -> Reports<W> {
+        Reports { out, rows: 0 }
+    }
 }
 
 impl<W: Write + Drop> Hear for Reports<W> {
