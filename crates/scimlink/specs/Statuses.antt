@@ -169,3 +169,7 @@ loop_fault looping.Store = fault.StoreFile opening.Store
 -- a run of the connector is done where nothing was refused and every record is confirmed
 abbrev pub carried_status : Outcome → Status
 carried_status outcome = if is_done outcome then Done else Refused
+
+abbrev pub run_status : Result Outcome LoopFault → Result Status RunFault
+run_status (Ok outcome) = Ok (carried_status outcome)
+run_status (Err why) = Err (loop_fault why)

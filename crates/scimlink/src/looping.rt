@@ -1,4 +1,7 @@
 //! `loop`: the connector against a provider in the same program, over TCP.
+ghost use Rattle.std.specs.Prelude.{◌≡◌};
+ghost use Rattle.scimlink.specs.Statuses.{run_status};
+
 use crate::pushing::{carried_status, open_connector};
 use crate::status::{RunFault, Status};
 use connector_core::Connector;
@@ -11,10 +14,9 @@ use scim_client::ScimService;
 use scim_key::Base;
 use source_offers::read_sources;
 use std::io;
-use std::io::{BufWriter, Write};
 use std::net::Net;
 use std::rt::{HostRuntime, Runtime};
-use sync_runs::run_loop;
+use sync_runs::{Outcome, run_loop};
 
 /// The files of a run.
 #[derive(Debug, Drop)]
@@ -33,8 +35,9 @@ pub fn run(rt: &HostRuntime, files: &LoopFiles, base: Base) -> Result<Status, Ru
     match files.store.as_deref() {
         Some(path) => run_stored(rt, &StoreFile { rt, path }, files, base),
         None => {
-            let mut provider = Provider::new(MemoryRegistry::new(rt.alloc()));
-            run_from(rt, &mut provider, files, base)
+            let provider = Provider::new(MemoryRegistry::new(rt.alloc()));
+            let (_provider, ended) = run_from(rt, provider, files, base);
+            ended
         }
     }
 }
@@ -46,8 +49,8 @@ fn run_stored<K: Storage>(
     files: &LoopFiles,
     base: Base,
 ) -> Result<Status, RunFault> {
-    let mut provider = Provider::new(storage.open()?);
-    let ended = run_from(rt, &mut provider, files, base);
+    let provider = Provider::new(storage.open()?);
+    let (provider, ended) = run_from(rt, provider, files, base);
     storage.close(provider.close());
     ended
 }
@@ -55,59 +58,70 @@ fn run_stored<K: Storage>(
 /// A run to a provider, from the journal that the files name, or one in memory.
 fn run_from<S: Registry>(
     rt: &HostRuntime,
-    provider: &mut Provider<S>,
+    provider: Provider<S>,
     files: &LoopFiles,
     base: Base,
-) -> Result<Status, RunFault> {
+) -> (Provider<S>, Result<Status, RunFault>) {
     match files.journal.as_deref() {
         Some(path) => run_journaled(rt, provider, &JournalFile { rt, path }, files, base),
-        None => {
-            let journal = MemoryJournal::new(rt.alloc());
-            let mut connector = Connector::open(rt.alloc(), journal).map_err(
-                |refused| PushFault::from(refused.0),
-            )?;
-            run_over(rt, provider, &mut connector, files, base)
-        }
+        None => match Connector::open(rt.alloc(), MemoryJournal::new(rt.alloc())) {
+            Ok(mut connector) => run_over(rt, provider, &mut connector, files, base),
+            Err((fault, _journal)) => (provider, Err(RunFault::from(PushFault::from(fault)))),
+        },
     }
 }
 
 /// A run from a journal that is opened first.
 fn run_journaled<R: Runtime + Net + AllocGlobal, S: Registry, K: journal_file::Storage>(
     rt: &R,
-    provider: &mut Provider<S>,
+    provider: Provider<S>,
     storage: &K,
     files: &LoopFiles,
     base: Base,
-) -> Result<Status, RunFault> {
-    let mut connector = open_connector(rt, storage)?;
-    let ended = run_over(rt, provider, &mut connector, files, base);
-    storage.close(connector.close());
-    ended
+) -> (Provider<S>, Result<Status, RunFault>) {
+    match open_connector(rt, storage) {
+        Ok(mut connector) => {
+            let (provider, ended) = run_over(rt, provider, &mut connector, files, base);
+            storage.close(connector.close());
+            (provider, ended)
+        }
+        Err(fault) => (provider, Err(fault)),
+    }
 }
 
-/// Reads the files, and carries their records to the provider. What was printed is written however it
-/// ends.
+/// Reads the files, and carries their records to the provider.
 fn run_over<R: Runtime + Net + AllocGlobal, S: Registry, J: Journal>(
     rt: &R,
-    provider: &mut Provider<S>,
+    provider: Provider<S>,
     connector: &mut Connector<J>,
     files: &LoopFiles,
     base: Base,
-) -> Result<Status, RunFault> {
-    let sources = read_sources(rt, files.users.as_str(), files.groups.as_deref())?;
-    let service = ScimService::new(base);
-    let mut out = BufWriter::new(rt.alloc(), io::writer(rt))?;
-    let outcome = run_loop(
-        rt,
-        rt.alloc(),
-        &service,
-        connector,
-        provider,
-        &sources,
-        &mut out,
-    );
-    let written = out.flush();
-    let outcome = outcome?;
-    written?;
-    Ok(carried_status(outcome))
+) -> (Provider<S>, Result<Status, RunFault>) {
+    match read_sources(rt, files.users.as_str(), files.groups.as_deref()) {
+        Ok(sources) => {
+            let service = ScimService::new(base);
+            let mut out = io::writer(rt);
+            let (provider, ended) = run_loop(
+                rt,
+                rt.alloc(),
+                &service,
+                connector,
+                provider,
+                &sources,
+                &mut out,
+            );
+            (provider, run_status(ended))
+        }
+        Err(fault) => (provider, Err(RunFault::from(fault))),
+    }
+}
+
+/// How a run ends that came to this.
+fn run_status(ended: Result<Outcome, sync_runs::RunFault>) -> Result<Status, RunFault>
+    ensures { result ≡ run_status ended }
+{
+    match ended {
+        Ok(outcome) => Ok(carried_status(outcome)),
+        Err(fault) => Err(RunFault::from(fault)),
+    }
 }

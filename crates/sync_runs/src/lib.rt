@@ -13,6 +13,6 @@ mod views;
 pub use carrying::{Outcome, carry};
 pub use faults::RunFault;
 pub use looping::run_loop;
-pub use own::OwnReader;
+pub use own::{OwnProvider, OwnReader};
 pub use pushing::push;
 pub use telling::Lines;

@@ -1,6 +1,6 @@
 //! Both ends in turn: the connector against a provider in the same program, over TCP.
 ghost use Rattle.std.specs.Prelude.{Ok};
-ghost use Rattle.sync_runs.specs.Carrying.{CarriesHere, IsOutcome, Loops};
+ghost use Rattle.sync_runs.specs.Carrying.{CarriesHere, CarriesSilently, IsOutcome, Loops};
 
 use crate::carrying::{Outcome, carry};
 use crate::faults::{RunFault, unopened, unwritten};
@@ -8,7 +8,7 @@ use crate::own::{OwnProvider, OwnReader, OwnStreams, is_shut};
 use crate::pushing::{EXCHANGE_SECONDS, remote};
 use crate::telling::Reports;
 use crate::views::print_views;
-use connection::{Sockets, TimedStream};
+use connection::{Listen, Sockets, TimedStream};
 use connector_core::Connector;
 use journal_core::Journal;
 use provider_core::{Provider, Registry};
@@ -24,26 +24,41 @@ use std::time::{Clock, Duration};
 /// Where the provider listens: at a free port that this machine alone reaches.
 const OWN_ADDRESS: &str = "127.0.0.1:0";
 
-/// Runs the connector against a provider that listens at a free port of its own. Each row's report is
-/// printed, then how many exchanges there were where all is settled, then a line for each record. A
-/// fault that shuts the provider's store ends the run.
+/// Runs the connector against a provider that listens at a free port of its own, and gives it back.
+/// Each row's report is printed, then how many exchanges there were where all is settled, then a line
+/// for each record. A fault that shuts the provider's store ends the run.
 pub fn run_loop<'a, N: Net + Clock, R: Registry + 'a, J: Journal, W: Write>(
     rt: &'a N,
     alloc: Global,
     service: &ScimService,
     connector: &mut Connector<J>,
-    provider: &mut Provider<R>,
+    provider: Provider<R>,
     sources: &Sources,
     out: &mut W,
-) -> Result<Outcome, RunFault>
-    ensures { Loops ⟦<OwnReader<'a, 'a, N, R> as Read>⟧.remaining
+) -> (Provider<R>, Result<Outcome, RunFault>)
+    ensures { Loops ⟦<OwnReader<'a, 'a, 'a, N, Sockets<'a, N::Listener, N>, R> as Read>⟧.remaining
         ⟦<TimedStream<'a, N::Stream, N> as Write>⟧.contents J.Journal service.now sources.now
-        connector.old connector.new result }
+        connector.old connector.new result.1 }
 {
-    match carry_here(rt, alloc, service, connector, provider, sources, out) {
-        Ok(outcome) => print_end(outcome, connector, provider, out),
-        Err(fault) => Err(ended(fault, provider)),
-    }
+    let (provider, carried) = carry_here(rt, alloc, service, connector, provider, sources, out);
+    finish(carried, connector, provider, out)
+}
+
+/// Tells what became of a run, and gives the provider back.
+fn finish<R: Registry, J: Journal, W: Write>(
+    carried: Result<Outcome, PushFault>,
+    connector: &Connector<J>,
+    provider: Provider<R>,
+    out: &mut W,
+) -> (Provider<R>, Result<Outcome, RunFault>)
+    ensures { IsOutcome carried result.1 }
+{
+    let mut provider = provider;
+    let told = match carried {
+        Ok(outcome) => print_end(outcome, connector, &mut provider, out),
+        Err(fault) => Err(ended(fault, &mut provider)),
+    };
+    (provider, told)
 }
 
 /// What ended a run: the provider's store, where it is shut.
@@ -74,44 +89,72 @@ fn print_end<R: Registry, J: Journal, W: Write>(
     Ok(outcome)
 }
 
-/// Runs the connector against a provider over TCP.
+/// Runs the connector against a provider over TCP, and gives the provider back.
 fn carry_here<'a, N: Net + Clock, R: Registry + 'a, J: Journal, W: Write>(
     rt: &'a N,
     alloc: Global,
-    service: &'a ScimService,
+    service: &ScimService,
     connector: &mut Connector<J>,
-    provider: &'a mut Provider<R>,
+    provider: Provider<R>,
     sources: &Sources,
     out: &mut W,
-) -> Result<Outcome, PushFault>
-    ensures { CarriesHere ⟦<OwnReader<'a, 'a, N, R> as Read>⟧.remaining
+) -> (Provider<R>, Result<Outcome, PushFault>)
+    ensures { CarriesHere ⟦<OwnReader<'a, 'a, 'a, N, Sockets<'a, N::Listener, N>, R> as Read>⟧.remaining
         ⟦<TimedStream<'a, N::Stream, N> as Write>⟧.contents J.Journal service.now sources.now
-        connector.old connector.new result }
+        connector.old connector.new result.1 }
 {
     match listen(rt, alloc) {
-        Ok((sockets, address)) => {
+        Ok((listener, address)) => {
             let own = RefCell::new(OwnProvider {
                 alloc,
                 base: service.base(),
-                sockets,
-                provider: &mut *provider,
+                listener,
+                provider,
             });
-            let mut streams = OwnStreams {
-                remote: remote(rt, address.as_str()),
-                own: &own,
-            };
-            let mut reports = Reports::new(&mut *out);
-            carry(
+            let carried = carry_to(
+                rt,
                 alloc,
                 service,
                 connector,
                 sources,
-                &mut streams,
-                &mut reports,
-            )
+                address.as_str(),
+                &own,
+                out,
+            );
+            (own.into_inner().provider, carried)
         }
-        Err(fault) => Err(fault),
+        Err(fault) => (provider, Err(fault)),
     }
+}
+
+/// Runs the connector against a provider of this program.
+fn carry_to<'r, 'p, 'b, N: Net + Clock, L: Listen + Drop, R: Registry, J: Journal, W: Write>(
+    rt: &'r N,
+    alloc: Global,
+    service: &ScimService,
+    connector: &mut Connector<J>,
+    sources: &Sources,
+    address: &str,
+    own: &'p RefCell<OwnProvider<'b, L, R>>,
+    out: &mut W,
+) -> Result<Outcome, PushFault>
+    ensures { CarriesSilently ⟦<OwnReader<'r, 'p, 'b, N, L, R> as Read>⟧.remaining
+        ⟦<TimedStream<'r, N::Stream, N> as Write>⟧.contents J.Journal service.now sources.now
+        connector.old connector.new result }
+{
+    let mut streams = OwnStreams {
+        remote: remote(rt, address),
+        own,
+    };
+    let mut reports = Reports::new(&mut *out);
+    carry(
+        alloc,
+        service,
+        connector,
+        sources,
+        &mut streams,
+        &mut reports,
+    )
 }
 
 /// The connections of a free port, each with its time, and the port's address.

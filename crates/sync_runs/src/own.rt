@@ -1,5 +1,5 @@
 //! Streams to a provider in the same program: one thread asks and answers.
-use connection::{Sockets, TimedStream, serve_next};
+use connection::{Listen, TimedStream, serve_next};
 use core::mem::replace_with;
 use provider_core::{Provider, Registry, RegistryFault};
 use provisioning::{Dial, Remote};
@@ -8,16 +8,16 @@ use std::alloc::Global;
 use std::cell::RefCell;
 use std::io;
 use std::io::{ErrorKind, Read};
-use std::net::{Net, OpenListener};
+use std::net::Net;
 use std::time::Clock;
 
-/// A provider, and the sockets on which it is asked.
+/// A provider, and the connections on which it is asked.
 #[derive(Drop)]
-pub(crate) struct OwnProvider<'a, N: Net + Clock, R: Registry> {
-    pub alloc: Global,
-    pub base: &'a Base,
-    pub sockets: Sockets<'a, N::Listener, N>,
-    pub provider: &'a mut Provider<R>,
+pub struct OwnProvider<'b, L: Listen + Drop, R: Registry> {
+    pub(crate) alloc: Global,
+    pub(crate) base: &'b Base,
+    pub(crate) listener: L,
+    pub(crate) provider: Provider<R>,
 }
 
 /// Whether a fault has shut the store of a provider.
@@ -40,16 +40,16 @@ fn count_rows<R: Registry>(
 
 /// Streams to a provider in the same program, each answered once it is read from.
 #[derive(Drop)]
-pub(crate) struct OwnStreams<'a, 'p, N: Net + Clock, R: Registry> {
-    pub remote: Remote<'a, N>,
-    pub own: &'p RefCell<OwnProvider<'a, N, R>>,
+pub(crate) struct OwnStreams<'r, 'p, 'b, N: Net + Clock, L: Listen + Drop, R: Registry> {
+    pub remote: Remote<'r, N>,
+    pub own: &'p RefCell<OwnProvider<'b, L, R>>,
 }
 
 /// What a provider in the same program answers.
 #[derive(Drop)]
-pub struct OwnReader<'a, 'p, N: Net + Clock, R: Registry> {
-    stream: TimedStream<'a, N::Stream, N>,
-    own: &'p RefCell<OwnProvider<'a, N, R>>,
+pub struct OwnReader<'r, 'p, 'b, N: Net + Clock, L: Listen + Drop, R: Registry> {
+    stream: TimedStream<'r, N::Stream, N>,
+    own: &'p RefCell<OwnProvider<'b, L, R>>,
     is_served: bool,
 }
 
@@ -57,7 +57,7 @@ fn busy() -> io::Error {
     io::Error::from(ErrorKind::ResourceBusy)
 }
 
-impl<'a, 'p, N: Net + Clock, R: Registry> OwnReader<'a, 'p, N, R> {
+impl<'r, 'p, 'b, N: Net + Clock, L: Listen + Drop, R: Registry> OwnReader<'r, 'p, 'b, N, L, R> {
     /// Ends what is asked, and has it answered.
     fn be_served(&mut self) -> io::Result<()> {
         if self.is_served {
@@ -67,12 +67,13 @@ impl<'a, 'p, N: Net + Clock, R: Registry> OwnReader<'a, 'p, N, R> {
         self.stream.shut_down();
         let mut guard = self.own.try_borrow_mut().map_err(|_| busy())?;
         let own = &mut *guard;
-        let _ = serve_next(own.alloc, &mut own.sockets, own.base, own.provider);
+        let _ = serve_next(own.alloc, &mut own.listener, own.base, &mut own.provider);
         Ok(())
     }
 }
 
-impl<'a, 'p, N: Net + Clock, R: Registry> Read for OwnReader<'a, 'p, N, R> {
+impl<'r, 'p, 'b, N: Net + Clock, L: Listen + Drop, R: Registry> Read
+    for OwnReader<'r, 'p, 'b, N, L, R> {
     fn read(&mut self, buffer: &mut [u8]) -> io::Result<usize> {
         self.be_served()?;
         self.stream.read(buffer)
@@ -84,16 +85,17 @@ impl<'a, 'p, N: Net + Clock, R: Registry> Read for OwnReader<'a, 'p, N, R> {
     }
 }
 
-impl<'a, 'p, N: Net + Clock, R: Registry> Dial for OwnStreams<'a, 'p, N, R> {
-    type Reader = OwnReader<'a, 'p, N, R>;
+impl<'r, 'p, 'b, N: Net + Clock, L: Listen + Drop, R: Registry> Dial
+    for OwnStreams<'r, 'p, 'b, N, L, R> {
+    type Reader = OwnReader<'r, 'p, 'b, N, L, R>;
 
-    type Writer = TimedStream<'a, N::Stream, N>;
+    type Writer = TimedStream<'r, N::Stream, N>;
 
     /// Opens a stream. A provider whose store a fault has shut isn't asked any more.
     fn dial(&mut self) -> io::Result<(Self::Reader, Self::Writer)> {
         let mut guard = self.own.try_borrow_mut().map_err(|_| busy())?;
         let own = &mut *guard;
-        if is_shut(own.provider) {
+        if is_shut(&mut own.provider) {
             return Err(io::Error::from(ErrorKind::NotConnected));
         }
         let (stream, writer) = self.remote.dial()?;
