@@ -26,6 +26,7 @@ test:
 	tests/serve.sh
 	tests/stores.sh
 	tests/push.sh
+	tests/loop.sh
 	tests/simulate.sh
 	tests/memory.sh
 	tests/guide.sh

@@ -69,8 +69,8 @@ fn tell(rt: &impl Eprint, served: Result<(), ConnectionFault>) {
     }
 }
 
-/// Takes the next connection, serves it and ends it.
-fn serve_next<R: Registry, L: Listen>(
+/// Takes the next connection, serves it by one request to the provider, and ends it.
+pub fn serve_next<R: Registry, L: Listen>(
     alloc: Global,
     listener: &mut L,
     base: &Base,

@@ -35,6 +35,8 @@ use Rattle.source_offers.specs.declared.faults.OfferFault.{OfferFault}
 use Rattle.source_offers.specs.declared.faults.OfferFault.TheVariants as offer
 use Rattle.sync_runs.specs.Carrying.{is_done}
 use Rattle.sync_runs.specs.declared.carrying.Outcome.{Outcome}
+use Rattle.sync_runs.specs.declared.faults.RunFault.{RunFault as LoopFault}
+use Rattle.sync_runs.specs.declared.faults.RunFault.TheVariants as looping
 use Rattle.scimlink.specs.declared.status.RunFault.{RunFault}
 use Rattle.scimlink.specs.declared.status.RunFault.TheVariants as fault
 use Rattle.scimlink.specs.declared.status.Status.{Status}
@@ -159,6 +161,15 @@ offer_fault offer.Journal = fault.Push push.Journal
 offer_fault offer.File = fault.File
 offer_fault offer.Memory = fault.Memory
 
+-- what ended a run with a provider of its own
+abbrev pub loop_fault : LoopFault → RunFault
+loop_fault (looping.Ended why) = fault.Push why
+loop_fault looping.Store = fault.StoreFile opening.Store
+
 -- a run of the connector is done where nothing was refused and every record is confirmed
 abbrev pub carried_status : Outcome → Status
 carried_status outcome = if is_done outcome then Done else Refused
+
+abbrev pub run_status : Result Outcome LoopFault → Result Status RunFault
+run_status (Ok outcome) = Ok (carried_status outcome)
+run_status (Err why) = Err (loop_fault why)

@@ -4,6 +4,7 @@ ghost use Rattle.std.specs.Option.{option_map};
 ghost use Rattle.clap.specs.Matches.{first_value, found_of};
 ghost use Rattle.scimlink.specs.Statuses.{base_fault, words_status};
 
+use crate::looping::LoopFiles;
 use crate::status::{RunFault, Status};
 use clap::error::ErrorKind;
 use clap::{Arg, ArgMatches, Command, Error, value_parser};
@@ -25,6 +26,11 @@ pub enum Choice {
     Answer {
         base: Base,
         store: Option<String>,
+    },
+    /// The records of files are carried to a provider in the same program.
+    Loop {
+        files: LoopFiles,
+        base: Base,
     },
     /// The image of each row of a users file is printed.
     Map {
@@ -124,6 +130,18 @@ fn answer_command<'a>(alloc: Global) -> Result<Command<'a>, AllocError> {
         .arg(store_option(alloc))
 }
 
+fn loop_command<'a>(alloc: Global) -> Result<Command<'a>, AllocError> {
+    Command::new(alloc, "loop")
+        .about(
+            "carries the records of files to a provider in the same program, over TCP, and prints how each stands",
+        )
+        .arg(users_option(alloc))?
+        .arg(groups_option(alloc))?
+        .arg(base_option(alloc))?
+        .arg(store_option(alloc))?
+        .arg(journal_option(alloc))
+}
+
 fn map_command<'a>(alloc: Global) -> Result<Command<'a>, AllocError> {
     let file = Arg::new(alloc, "FILE")
         .help("a users file: login,revision,number,given,family,mail,status")
@@ -199,7 +217,8 @@ fn program<'a>(alloc: Global) -> Command<'a> {
 
 fn command<'a>(alloc: Global) -> Result<Command<'a>, AllocError> {
     let answering = with_subcommand(program(alloc), answer_command(alloc))?;
-    let mapping = with_subcommand(answering, map_command(alloc))?;
+    let looping = with_subcommand(answering, loop_command(alloc))?;
+    let mapping = with_subcommand(looping, map_command(alloc))?;
     let pushing = with_subcommand(mapping, push_command(alloc))?;
     let serving = with_subcommand(pushing, serve_command(alloc))?;
     let showing = with_subcommand(serving, show_command(alloc))?;
@@ -224,6 +243,10 @@ fn chosen(alloc: Global, matches: &ArgMatches<'_>) -> Result<Choice, RunFault> {
         Some(("answer", answer)) => Ok(Choice::Answer {
             base: base(alloc, answer)?,
             store: store(alloc, answer)?,
+        }),
+        Some(("loop", run)) => Ok(Choice::Loop {
+            files: loop_files(alloc, run)?,
+            base: base(alloc, run)?,
         }),
         Some(("map", map)) => Ok(Choice::Map {
             file: file(alloc, map)?,
@@ -357,6 +380,16 @@ fn to(alloc: Global, matches: &ArgMatches<'_>) -> Result<String, RunFault>
         Some(text) => Ok(String::from_str(alloc, text)?),
         None => Err(RunFault::Address),
     }
+}
+
+/// The files of a run with both ends.
+fn loop_files(alloc: Global, matches: &ArgMatches<'_>) -> Result<LoopFiles, RunFault> {
+    Ok(LoopFiles {
+        users: users(alloc, matches)?,
+        groups: groups(alloc, matches)?,
+        store: store(alloc, matches)?,
+        journal: journal(alloc, matches)?,
+    })
 }
 
 /// What is shown: one of both, and no more.

@@ -3,6 +3,7 @@
 
 mod answering;
 mod command;
+mod looping;
 mod map_users;
 mod pushing;
 mod serving;
@@ -32,6 +33,7 @@ fn done(rt: &HostRuntime) -> Result<Status, RunFault> {
     let words = command::words(rt)?;
     match choose(rt, words.as_slice())? {
         Choice::Answer { base, store } => answering::answer(rt, &base, store.as_deref()),
+        Choice::Loop { files, base } => looping::run(rt, &files, base),
         Choice::Map { file } => map_users::map(rt, file.as_str()),
         Choice::Serve {
             address,

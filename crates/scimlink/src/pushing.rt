@@ -25,13 +25,19 @@ pub fn push<R: Runtime + Net + AllocGlobal, K: Storage>(
     to: &str,
     base: Base,
 ) -> Result<Status, RunFault> {
-    let entries = storage.open()?;
-    match Connector::open(rt.alloc(), entries) {
-        Ok(mut connector) => {
-            let ended = push_from(rt, &mut connector, users, groups, to, base);
-            storage.close(connector.close());
-            ended
-        }
+    let mut connector = open_connector(rt, storage)?;
+    let ended = push_from(rt, &mut connector, users, groups, to, base);
+    storage.close(connector.close());
+    ended
+}
+
+/// The connector over a journal. One that it refuses is closed.
+pub fn open_connector<R: Runtime + AllocGlobal, K: Storage>(
+    rt: &R,
+    storage: &K,
+) -> Result<Connector<K::Entries>, RunFault> {
+    match Connector::open(rt.alloc(), storage.open()?) {
+        Ok(connector) => Ok(connector),
         Err((fault, entries)) => {
             storage.close(entries);
             Err(RunFault::from(PushFault::from(fault)))
@@ -56,7 +62,7 @@ fn push_from<R: Runtime + Net + AllocGlobal, J: Journal>(
 }
 
 /// How a run of the connector ends.
-fn carried_status(outcome: Outcome) -> Status
+pub fn carried_status(outcome: Outcome) -> Status
     ensures { result ≡ carried_status outcome }
 {
     if outcome.is_done() {

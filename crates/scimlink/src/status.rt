@@ -1,6 +1,6 @@
 //! How a run ends.
 ghost use Rattle.std.specs.Prelude.{◌≡◌, ◌≢◌};
-ghost use Rattle.scimlink.specs.Statuses.{fault_status, journal_fault, lines_fault, offer_fault, schedule_fault, show_fault, show_journal_fault, status_code, store_fault, users_fault, world_fault};
+ghost use Rattle.scimlink.specs.Statuses.{fault_status, journal_fault, lines_fault, loop_fault, offer_fault, schedule_fault, show_fault, show_journal_fault, status_code, store_fault, users_fault, world_fault};
 ghost use Rattle.scimlink.specs.declared.status.RunFault.TheVariants.{Memory};
 
 use connection::ConnectionFault;
@@ -239,6 +239,17 @@ impl From<OfferFault> for RunFault {
             OfferFault::Journal => RunFault::Push(PushFault::Journal),
             OfferFault::File => RunFault::File,
             OfferFault::Memory => RunFault::Memory,
+        }
+    }
+}
+
+impl From<sync_runs::RunFault> for RunFault {
+    ghost from_gives = { λ ended fault. fault ≡ loop_fault ended };
+
+    fn from(fault: sync_runs::RunFault) -> RunFault {
+        match fault {
+            sync_runs::RunFault::Ended(fault) => RunFault::Push(fault),
+            sync_runs::RunFault::Store => RunFault::StoreFile(OpenFault::Store),
         }
     }
 }

@@ -1,5 +1,5 @@
 -- A whole run of the connector: the rows of its files, then its records.
-use Rattle.std.specs.Prelude.{◌≡◌, ◌⊎◌, ◌&&◌, ℕ, Bool, List, Option, None, Result, Ok, Err}
+use Rattle.std.specs.Prelude.{◌≡◌, ◌⊎◌, ◌&&◌, ℕ, Bool, List, Option, None, Result, Ok, Err, IfOk}
 use Rattle.journal_core.specs.declared.journals.Journal.{Ghosts}
 use Rattle.connector_core.specs.State.{State}
 use Rattle.provisioning.specs.Runs.{Done, PushesAll}
@@ -10,6 +10,7 @@ use Rattle.source_offers.specs.Sources.{are_whole}
 use Rattle.source_offers.specs.declared.faults.OfferFault.{OfferFault}
 use Rattle.sync_runs.specs.Faults.{push_fault}
 use Rattle.sync_runs.specs.declared.carrying.Outcome.{Outcome}
+use Rattle.sync_runs.specs.declared.faults.RunFault.{RunFault}
 use Rattle.source_offers.specs.declared.offering.Judged.{Judged}
 use Rattle.source_offers.specs.declared.sources.Sources.{Sources}
 
@@ -31,3 +32,20 @@ Carries {I} {O} {J} {T} remaining contents g heard told base sources old new bef
 -- the same, where it isn't known what a teller was told
 abbrev pub CarriesSilently : {I O J : Type 0} → (I → Option (List ℕ)) → (O → Option (List ℕ)) → Ghosts J → List ℕ → Sources → (old new : State J) → Result Outcome PushFault → Type 0
 CarriesSilently remaining contents g base sources old new result = Carries {T = Unit {0}} remaining contents g (λ told. None) (λ told. None) base sources old new tt tt result
+
+-- ---- with a provider in the same program
+
+-- such a run, or nothing could be listened to, and nothing was offered
+abbrev pub CarriesHere : {I O J : Type 0} → (I → Option (List ℕ)) → (O → Option (List ℕ)) → Ghosts J → List ℕ → Sources → (old new : State J) → Result Outcome PushFault → Type 0
+CarriesHere remaining contents g base sources old new result =
+    CarriesSilently remaining contents g base sources old new result
+    ⊎ ((fault : PushFault) × (result ≡ Err fault) × (new ≡ old))
+
+-- what a run tells is what became of it, where no fault came after it
+abbrev pub IsOutcome : Result Outcome PushFault → Result Outcome RunFault → Type 0
+IsOutcome carried result = IfOk result (λ outcome. carried ≡ Ok outcome)
+
+-- However it ends, nothing but such a run changed the connector
+abbrev pub Loops : {I O J : Type 0} → (I → Option (List ℕ)) → (O → Option (List ℕ)) → Ghosts J → List ℕ → Sources → (old new : State J) → Result Outcome RunFault → Type 0
+Loops remaining contents g base sources old new result =
+    (carried : Result Outcome PushFault) × CarriesHere remaining contents g base sources old new carried × IsOutcome carried result

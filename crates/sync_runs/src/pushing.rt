@@ -15,7 +15,16 @@ use std::net::Net;
 use std::time::{Clock, Duration};
 
 /// For how many seconds an exchange may take its time, in all.
-const EXCHANGE_SECONDS: u64 = 30;
+pub(crate) const EXCHANGE_SECONDS: u64 = 30;
+
+/// The provider at an address. Each exchange has its time.
+pub(crate) fn remote<'a, N>(runtime: &'a N, address: &'a str) -> Remote<'a, N> {
+    Remote {
+        runtime,
+        address,
+        limit: Duration::from_secs(EXCHANGE_SECONDS),
+    }
+}
 
 /// Runs the connector against the provider at an address, HOST:PORT. A line is printed for each record
 /// as soon as it is done, and rows that the connector refuses are told on standard error.
@@ -32,11 +41,7 @@ pub fn push<'a, N: Net + Clock + Eprint, J: Journal, W: Write>(
         ⟦<TimedStream<'a, N::Stream, N> as Write>⟧.contents J.Journal service.now sources.now
         connector.old connector.new result }
 {
-    let mut remote = Remote {
-        runtime: rt,
-        address,
-        limit: Duration::from_secs(EXCHANGE_SECONDS),
-    };
+    let mut remote = remote(rt, address);
     let mut lines = Lines { out, stderr: rt };
     carry(alloc, service, connector, sources, &mut remote, &mut lines)
 }

@@ -4,6 +4,7 @@ use scim_key::{Kind, RecordName};
 use source_offers::{Hear, Judged, label};
 use std::io;
 use std::io::{Eprint, Write};
+use world_sim::Report;
 
 /// A line for each record as soon as it is done: `user bob confirmed 1`. Rows that the connector
 /// refuses are told on standard error.
@@ -36,5 +37,34 @@ impl<'a, W: Write + Drop, E: Eprint> Tell for Lines<'a, W, E> {
         };
         writeln!(self.out, "{kind} {} {}", name.key.as_str(), pushed.standing)?;
         self.out.flush()
+    }
+}
+
+/// A line for each row as soon as it is judged: its number from 1, and what the connector says of it.
+/// Nothing is told of the records.
+#[derive(Drop)]
+pub(crate) struct Reports<W: Drop> {
+    out: W,
+    rows: usize,
+}
+
+impl<W: Drop> Reports<W> {
+    pub(crate) fn new(out: W) -> Reports<W> {
+        Reports { out, rows: 0 }
+    }
+}
+
+impl<W: Write + Drop> Hear for Reports<W> {
+    fn hear(&mut self, judged: Judged) -> io::Result<()> {
+        let Judged { verdict, .. } = judged;
+        let report = Report::Judged(verdict);
+        self.rows = self.rows.saturating_add(1);
+        writeln!(self.out, "{} {report}", self.rows)
+    }
+}
+
+impl<W: Write + Drop> Tell for Reports<W> {
+    fn tell(&mut self, _: &RecordName, _: &Pushed) -> io::Result<()> {
+        Ok(())
     }
 }

@@ -121,6 +121,19 @@ fn held_nowhere(name: RecordName, wanted: Revision, confirmed: Revision) -> View
     }
 }
 
+impl View {
+    /// What is wanted and confirmed of a record, and what is held of it by the provider's row, if it
+    /// has one.
+    pub fn of(name: RecordName, wanted: Revision, confirmed: Revision, row: Option<&Stored>) -> View
+        ensures { result ≡ viewed name wanted confirmed (option_copied row.entry) }
+    {
+        match row {
+            Some(row) => held_in(name, wanted, confirmed, row),
+            None => held_nowhere(name, wanted, confirmed),
+        }
+    }
+}
+
 /// The provider's row of a record, if it has one.
 fn row_of<R: Registry>(
     provider: Provider<R>,

@@ -1,0 +1,171 @@
+//! Both ends in turn: the connector against a provider in the same program, over TCP.
+ghost use Rattle.std.specs.Prelude.{Ok};
+ghost use Rattle.sync_runs.specs.Carrying.{CarriesHere, CarriesSilently, IsOutcome, Loops};
+
+use crate::carrying::{Outcome, carry};
+use crate::faults::{RunFault, unopened, unwritten};
+use crate::own::{OwnProvider, OwnReader, OwnStreams, is_shut};
+use crate::pushing::{EXCHANGE_SECONDS, remote};
+use crate::telling::Reports;
+use crate::views::print_views;
+use connection::{Listen, Sockets, TimedStream};
+use connector_core::Connector;
+use journal_core::Journal;
+use provider_core::{Provider, Registry};
+use provisioning::PushFault;
+use scim_client::ScimService;
+use source_offers::Sources;
+use std::alloc::Global;
+use std::cell::RefCell;
+use std::io::{Read, Write};
+use std::net::{Net, OpenListener, TcpListener};
+use std::time::{Clock, Duration};
+
+/// Where the provider listens: at a free port that this machine alone reaches.
+const OWN_ADDRESS: &str = "127.0.0.1:0";
+
+/// Runs the connector against a provider that listens at a free port of its own, and gives it back.
+/// Each row's report is printed, then how many exchanges there were where all is settled, then a line
+/// for each record. A fault that shuts the provider's store ends the run.
+pub fn run_loop<'a, N: Net + Clock, R: Registry + 'a, J: Journal, W: Write>(
+    rt: &'a N,
+    alloc: Global,
+    service: &ScimService,
+    connector: &mut Connector<J>,
+    provider: Provider<R>,
+    sources: &Sources,
+    out: &mut W,
+) -> (Provider<R>, Result<Outcome, RunFault>)
+    ensures { Loops ⟦<OwnReader<'a, 'a, 'a, N, Sockets<'a, N::Listener, N>, R> as Read>⟧.remaining
+        ⟦<TimedStream<'a, N::Stream, N> as Write>⟧.contents J.Journal service.now sources.now
+        connector.old connector.new result.1 }
+{
+    let (provider, carried) = carry_here(rt, alloc, service, connector, provider, sources, out);
+    finish(carried, connector, provider, out)
+}
+
+/// Tells what became of a run, and gives the provider back.
+fn finish<R: Registry, J: Journal, W: Write>(
+    carried: Result<Outcome, PushFault>,
+    connector: &Connector<J>,
+    provider: Provider<R>,
+    out: &mut W,
+) -> (Provider<R>, Result<Outcome, RunFault>)
+    ensures { IsOutcome carried result.1 }
+{
+    let mut provider = provider;
+    let told = match carried {
+        Ok(outcome) => print_end(outcome, connector, &mut provider, out),
+        Err(fault) => Err(ended(fault, &mut provider)),
+    };
+    (provider, told)
+}
+
+/// What ended a run: the provider's store, where it is shut.
+fn ended<R: Registry>(fault: PushFault, provider: &mut Provider<R>) -> RunFault {
+    if is_shut(provider) {
+        RunFault::Store
+    } else {
+        RunFault::Ended(fault)
+    }
+}
+
+/// Prints how a run went that no fault ended, and how its records stand.
+fn print_end<R: Registry, J: Journal, W: Write>(
+    outcome: Outcome,
+    connector: &Connector<J>,
+    provider: &mut Provider<R>,
+    out: &mut W,
+) -> Result<Outcome, RunFault>
+    ensures { IsOutcome (Ok outcome) result }
+{
+    if is_shut(provider) {
+        return Err(RunFault::Store);
+    }
+    if outcome.tally.is_settled {
+        writeln!(out, "settled in {} exchanges", outcome.tally.exchanges).map_err(unwritten)?;
+    }
+    print_views(connector, provider, out)?;
+    Ok(outcome)
+}
+
+/// Runs the connector against a provider over TCP, and gives the provider back.
+fn carry_here<'a, N: Net + Clock, R: Registry + 'a, J: Journal, W: Write>(
+    rt: &'a N,
+    alloc: Global,
+    service: &ScimService,
+    connector: &mut Connector<J>,
+    provider: Provider<R>,
+    sources: &Sources,
+    out: &mut W,
+) -> (Provider<R>, Result<Outcome, PushFault>)
+    ensures { CarriesHere ⟦<OwnReader<'a, 'a, 'a, N, Sockets<'a, N::Listener, N>, R> as Read>⟧.remaining
+        ⟦<TimedStream<'a, N::Stream, N> as Write>⟧.contents J.Journal service.now sources.now
+        connector.old connector.new result.1 }
+{
+    match listen(rt, alloc) {
+        Ok((listener, address)) => {
+            let own = RefCell::new(OwnProvider {
+                alloc,
+                base: service.base(),
+                listener,
+                provider,
+            });
+            let carried = carry_to(
+                rt,
+                alloc,
+                service,
+                connector,
+                sources,
+                address.as_str(),
+                &own,
+                out,
+            );
+            (own.into_inner().provider, carried)
+        }
+        Err(fault) => (provider, Err(fault)),
+    }
+}
+
+/// Runs the connector against a provider of this program.
+fn carry_to<'r, 'p, 'b, N: Net + Clock, L: Listen + Drop, R: Registry, J: Journal, W: Write>(
+    rt: &'r N,
+    alloc: Global,
+    service: &ScimService,
+    connector: &mut Connector<J>,
+    sources: &Sources,
+    address: &str,
+    own: &'p RefCell<OwnProvider<'b, L, R>>,
+    out: &mut W,
+) -> Result<Outcome, PushFault>
+    ensures { CarriesSilently ⟦<OwnReader<'r, 'p, 'b, N, L, R> as Read>⟧.remaining
+        ⟦<TimedStream<'r, N::Stream, N> as Write>⟧.contents J.Journal service.now sources.now
+        connector.old connector.new result }
+{
+    let mut streams = OwnStreams {
+        remote: remote(rt, address),
+        own,
+    };
+    let mut reports = Reports::new(&mut *out);
+    carry(
+        alloc,
+        service,
+        connector,
+        sources,
+        &mut streams,
+        &mut reports,
+    )
+}
+
+/// The connections of a free port, each with its time, and the port's address.
+fn listen<'a, N: Net + Clock>(
+    rt: &'a N,
+    alloc: Global,
+) -> Result<(Sockets<'a, N::Listener, N>, String), PushFault> {
+    let listener = TcpListener::bind(rt, OWN_ADDRESS).map_err(unopened)?;
+    let taken = listener.local_addr().map_err(unopened)?;
+    let address = format!(in alloc; "{taken}")?;
+    let limit = Duration::from_secs(EXCHANGE_SECONDS);
+    let sockets = Sockets::new(alloc, listener, rt, limit);
+    Ok((sockets, address))
+}

@@ -1,0 +1,115 @@
+//! Streams to a provider in the same program: one thread asks and answers.
+use connection::{Listen, TimedStream, serve_next};
+use core::mem::replace_with;
+use provider_core::{Provider, Registry, RegistryFault};
+use provisioning::{Dial, Remote};
+use scim_key::Base;
+use std::alloc::Global;
+use std::cell::RefCell;
+use std::io;
+use std::io::{ErrorKind, Read};
+use std::net::Net;
+use std::time::Clock;
+
+/// A provider, and the connections on which it is asked.
+#[derive(Drop)]
+pub struct OwnProvider<'b, L: Listen + Drop, R: Registry> {
+    pub(crate) alloc: Global,
+    pub(crate) base: &'b Base,
+    pub(crate) listener: L,
+    pub(crate) provider: Provider<R>,
+}
+
+/// Whether a fault has shut the store of a provider.
+pub(crate) fn is_shut<R: Registry>(provider: &mut Provider<R>) -> bool {
+    matches!(
+        replace_with(provider, (), count_rows),
+        Err(RegistryFault::Store)
+    )
+}
+
+/// How many rows a provider has.
+fn count_rows<R: Registry>(
+    provider: Provider<R>,
+    _: (),
+) -> (Provider<R>, Result<u32, RegistryFault>) {
+    let mut registry = provider.close();
+    let count = registry.count();
+    (Provider::new(registry), count)
+}
+
+/// Streams to a provider in the same program, each answered once it is read from.
+#[derive(Drop)]
+pub(crate) struct OwnStreams<'r, 'p, 'b, N: Net + Clock, L: Listen + Drop, R: Registry> {
+    pub remote: Remote<'r, N>,
+    pub own: &'p RefCell<OwnProvider<'b, L, R>>,
+}
+
+/// What a provider in the same program answers.
+#[derive(Drop)]
+pub struct OwnReader<'r, 'p, 'b, N: Net + Clock, L: Listen + Drop, R: Registry> {
+    stream: TimedStream<'r, N::Stream, N>,
+    own: &'p RefCell<OwnProvider<'b, L, R>>,
+    is_served: bool,
+}
+
+fn busy() -> io::Error {
+    io::Error::from(ErrorKind::ResourceBusy)
+}
+
+impl<'r, 'p, 'b, N: Net + Clock, L: Listen + Drop, R: Registry> OwnReader<'r, 'p, 'b, N, L, R> {
+    /// Ends what is asked, and has it answered.
+    fn be_served(&mut self) -> io::Result<()> {
+        if self.is_served {
+            return Ok(());
+        }
+        self.is_served = true;
+        self.stream.shut_down();
+        let mut guard = self.own.try_borrow_mut().map_err(|_| busy())?;
+        let own = &mut *guard;
+        let _ = serve_next(own.alloc, &mut own.listener, own.base, &mut own.provider);
+        Ok(())
+    }
+}
+
+impl<'r, 'p, 'b, N: Net + Clock, L: Listen + Drop, R: Registry> Read
+    for OwnReader<'r, 'p, 'b, N, L, R> {
+    fn read(&mut self, buffer: &mut [u8]) -> io::Result<usize> {
+        self.be_served()?;
+        self.stream.read(buffer)
+    }
+
+    fn read_exact(&mut self, buffer: &mut [u8]) -> io::Result<()> {
+        self.be_served()?;
+        self.stream.read_exact(buffer)
+    }
+}
+
+impl<'r, 'p, 'b, N: Net + Clock, L: Listen + Drop, R: Registry> Dial
+    for OwnStreams<'r, 'p, 'b, N, L, R> {
+    type Reader = OwnReader<'r, 'p, 'b, N, L, R>;
+
+    type Writer = TimedStream<'r, N::Stream, N>;
+
+    /// Opens a stream. A provider whose store a fault has shut isn't asked any more.
+    fn dial(&mut self) -> io::Result<(Self::Reader, Self::Writer)> {
+        let mut guard = self.own.try_borrow_mut().map_err(|_| busy())?;
+        let own = &mut *guard;
+        if is_shut(&mut own.provider) {
+            return Err(io::Error::from(ErrorKind::NotConnected));
+        }
+        let (stream, writer) = self.remote.dial()?;
+        let reader = OwnReader {
+            stream,
+            own: self.own,
+            is_served: false,
+        };
+        Ok((reader, writer))
+    }
+
+    /// Ends a stream. A connection that was never read from is served too, so that none waits before
+    /// the next.
+    fn end(&self, mut reader: Self::Reader, _: Self::Writer) {
+        let _ = reader.be_served();
+    }
+}
