@@ -1,5 +1,5 @@
 -- What the checks of an opening show, and what they leave.
-use Rattle.std.proofs.Common.{◌≡◌, ◌<◌, ℕ, zero, suc, ◌+◌, ◌-◌, ℤ, pos, true, false, List, [], ◌∷◌, ◌++◌, map, filter, length, codes, Some, None, Result, Ok, Err, IsTrue, OnOk, IfErr, refl, sym, ap, ◌∙◌, subst, inl, inr, arith, IsPermutation}
+use Rattle.std.proofs.Common.{◌≡◌, ◌≢◌, ◌⊎◌, ◌<◌, ℕ, zero, suc, ◌+◌, ◌-◌, ℤ, pos, true, false, List, [], ◌∷◌, ◌++◌, map, filter, length, codes, Some, None, Result, Ok, Err, IsTrue, OnOk, IfErr, IsErrAnd, refl, sym, ap, ◌∙◌, subst, inl, inr, arith, IsPermutation}
 use Rattle.std.specs.Prelude.{slice_get}
 use Rattle.std.proofs.lemmas.Option.{slice_get_within}
 use Rattle.sqlite_value.specs.declared.value.Value.TheVariants.{Int}
@@ -10,6 +10,8 @@ use Rattle.sqlite_rules.proofs.ListLemmas.{has_filtered}
 use Rattle.sqlite.specs.Effect.{Database}
 use Rattle.sqlite.specs.State.{State, HasCleanDisk, Survives}
 use Rattle.sqlite.proofs.StateLemmas.{survives_then}
+use Rattle.sqlite.proofs.Callers.{one_permutation}
+use Rattle.sqlite_trees.proofs.ListLemmas.{filter_same, all_of}
 use Rattle.scim_resource.specs.Contents.{content_name}
 use Rattle.scim_resource.specs.Rows.{StoredRecord}
 use Rattle.provider_core.specs.Rows.{is_named, row_named}
@@ -19,17 +21,18 @@ use Rattle.provider_core.proofs.RowLaws.{same_name-eq, find-passes}
 use Rattle.provider_core.proofs.MemoryLaws.{found-at, apart-none}
 use Rattle.provider_core.proofs.TableLaws.{at_push}
 use Rattle.scim_key.specs.declared.records.RecordName.{RecordName}
-use Rattle.provider_store.specs.Format.{marked_text, outside_text}
-use Rattle.provider_store.specs.Rows.{shown_row, IsRowOf, Holds}
+use Rattle.provider_store.specs.Format.{marked_text, outside_text, no_schema}
+use Rattle.provider_store.specs.Rows.{shown_row, IsRowOf, number_at, Holds}
 use Rattle.provider_store.specs.Connections.{IsLaid, Answers, FindsName, resources}
-use Rattle.provider_store.specs.Opening.{IsFormat, IsMarked, IsFor, IsAlone, HasLawful, HoldsFirst, IsProvider, Looks, LeavesStore, open_fault}
+use Rattle.provider_store.specs.Lawful.{IsLawfulAt, is_outside, IsOutside, AreWithin}
+use Rattle.provider_store.specs.Opening.{IsFormat, IsMarked, IsFor, IsAlone, HoldsFirst, IsProvider, Looks, LeavesStore, IsNewer, IsNotLaid, IsSpoilt, IsDamaged, IsCause, open_fault}
 use Rattle.provider_store.specs.declared.opening.OpenFault.{OpenFault}
 use Rattle.provider_store.specs.declared.opening.OpenFault.TheVariants.{Store, Damaged, Newer, Memory}
 use Rattle.provider_store.specs.declared.tables.Found.TheVariants.{There}
 use Rattle.provider_store.proofs.Texts.{marked_shown, marked_is, marked_query, outside_term, outside_shown, outside_is, outside_query}
-use Rattle.provider_store.proofs.Selecting.{passes, shows}
-use Rattle.provider_store.proofs.Outside.{outside_passes, none_passes}
-use Rattle.provider_store.proofs.Finding.{answered_by, empty, single}
+use Rattle.provider_store.proofs.Selecting.{passes, shows, from_answer}
+use Rattle.provider_store.proofs.Outside.{outside_passes, none_passes, outside_tests}
+use Rattle.provider_store.proofs.Finding.{answered_by, empty, single, only_one, has_named, found_alone}
 use Rattle.provider_store.proofs.Holding.{numbered_append, apart_append, number_of}
 use Rattle.provider_store.proofs.Keeping.{laid_still, keeps_then}
 use Rattle.provider_store.proofs.Leaving.{keeps_leaves}
@@ -44,15 +47,43 @@ pub if_err : {T F : Type 0} {P Q : F → Type 0} (r : Result T F) → ((e : F) �
 if_err (Ok x) f p = tt
 if_err (Err e) f p = f e p
 
-pub is_for : {P Q : Type 0} (f : P → Q) (fault : OpenFault) → IsFor P fault → IsFor Q fault
-is_for f Store h = tt
-is_for f (Damaged n) h = tt
-is_for f Newer h = f h
-is_for f Memory h = tt
+pub is_for : {P Q : Type 0} {D E : ℕ → Type 0} (f : P → Q) (h : (n : ℕ) → D n → E n) (fault : OpenFault) → IsFor P D fault → IsFor Q E fault
+is_for f h Store it = tt
+is_for f h (Damaged n) it = h n it
+is_for f h Newer it = f it
+is_for f h Memory it = tt
 
-pub no_cause : (P : Type 0) (fault : RegistryFault) → IsFor P (open_fault fault)
-no_cause P registry.Store = tt
-no_cause P registry.Memory = tt
+is_for_both : (P Q : Type 0) (D E F : ℕ → Type 0) (h : (n : ℕ) → D n → E n → F n) (fault : OpenFault) → IsFor P D fault → IsFor Q E fault → IsFor P F fault
+is_for_both P Q D E F h Store it other = tt
+is_for_both P Q D E F h (Damaged n) it other = h n it other
+is_for_both P Q D E F h Newer it other = it
+is_for_both P Q D E F h Memory it other = tt
+
+is_damage : (P : Type 0) (D E : ℕ → Type 0) (h : (n : ℕ) → D n → E n) (fault : OpenFault) → IsFor ⊥ D fault → IsFor P E fault
+is_damage P D E h Store it = tt
+is_damage P D E h (Damaged n) it = h n it
+is_damage P D E h Newer it = absurd it
+is_damage P D E h Memory it = tt
+
+-- a fault that is handed on tells of both, where both hold
+pub both_of : {T : Type 0} (P Q : Type 0) (D E F : ℕ → Type 0) (h : (n : ℕ) → D n → E n → F n) (r : Result T OpenFault) (fault : OpenFault) → IsErrAnd r (λ given. given ≡ fault) → IsFor P D fault → IsFor Q E fault → IfErr r (IsFor P F)
+both_of P Q D E F h (Ok x) fault is it other = tt
+both_of P Q D E F h (Err given) fault is it other = subst (IsFor P F) (sym is) (is_for_both P Q D E F h fault it other)
+
+-- and one that tells of no newer format tells of this damage
+pub damage_of : {T : Type 0} (P : Type 0) (D E : ℕ → Type 0) (h : (n : ℕ) → D n → E n) (r : Result T OpenFault) (fault : OpenFault) → IsErrAnd r (λ given. given ≡ fault) → IsFor ⊥ D fault → IfErr r (IsFor P E)
+damage_of P D E h (Ok x) fault is it = tt
+damage_of P D E h (Err given) fault is it = subst (IsFor P E) (sym is) (is_damage P D E h fault it)
+
+pub told_any : {P : Type 0} (p : P) (fault : OpenFault) → IsFor P (λ _. P) fault
+told_any p Store = tt
+told_any p (Damaged n) = p
+told_any p Newer = p
+told_any p Memory = tt
+
+pub no_cause : (P : Type 0) (D : ℕ → Type 0) (fault : RegistryFault) → IsFor P D (open_fault fault)
+no_cause P D registry.Store = tt
+no_cause P D registry.Memory = tt
 
 -- ---- looking
 
@@ -116,6 +147,20 @@ marked_found s rows given number same laid answers marked =
     let number_is : column one.0 2 ≡ Int (pos number) = sym (ap (λ row. column row 0) one.2) ∙ marked.2 in
     ap (map (λ (r : Row). column r 2)) table ∙ ap (λ v. v ∷ []) number_is
 
+one_mapped : {A B : Type 0} (f : A → B) (xs : List A) (y : B) → map f xs ≡ y ∷ [] → (x : A) × (xs ≡ x ∷ []) × (f x ≡ y)
+one_mapped f [] y is = absurd (cc)
+one_mapped f (x ∷ []) y is = (x, refl, cc)
+one_mapped f (x ∷ z ∷ xs) y is = absurd (cc)
+
+-- and what stands in the table is what its rows show
+pub found_marked : (s : State) (rows given : List Row) (number : ℕ) → given ≡ rows → IsLaid s → Answers marked_text [] s rows → IsFormat s number → IsMarked given number
+found_marked s rows given number same laid answers format =
+    let all = answered_by s marked_text 0 (λ _. refl) [] marked_shown (codes "number" ∷ []) [] rows marked_is marked_query laid answers in
+    let one = one_mapped (λ (r : Row). column r 2) (s.now.trees 0) (Int (pos number)) format in
+    let table : filter (passes [] []) (s.now.trees 0) ≡ one.0 ∷ [] = all_pass (s.now.trees 0) ∙ one.1 in
+    let shown : rows ≡ shows marked_shown [] one.0 ∷ [] = one_permutation (shows marked_shown [] one.0) rows (subst (λ l. IsPermutation (map (shows marked_shown []) l) rows) table all) in
+    (shows marked_shown [] one.0, same ∙ shown, one.2)
+
 -- ---- the rows outside
 
 pub outside_found : (s : State) (number : ℤ) (count : ℕ) (rows given : List Row) → number ≡ pos count → given ≡ rows → IsLaid s → Answers outside_text (Int number ∷ []) s rows → given ≡ [] → (k : ℕ) → count < k → filter (has_rowid (pos k)) (resources s) ≡ []
@@ -125,17 +170,39 @@ outside_found s number count rows given is same laid answers none k far =
     let nothing = empty (shows outside_shown params) (filter (passes (outside_term ∷ []) params) (resources s)) (subst (IsPermutation (map (shows outside_shown params) (filter (passes (outside_term ∷ []) params) (resources s)))) (sym same ∙ none) all) in
     none_passes (passes (outside_term ∷ []) params) (has_rowid (pos k)) (resources s) (λ r has. outside_passes count k r far has) nothing
 
+module _ (s : State) (number : ℤ) (count : ℕ) (rows given : List Row) (is : number ≡ pos count) (same : given ≡ rows) (laid : IsLaid s) (answers : Answers outside_text (Int number ∷ []) s rows) where
+  outside_all : IsPermutation (map (shows outside_shown (Int (pos count) ∷ [])) (filter (passes (outside_term ∷ []) (Int (pos count) ∷ [])) (resources s))) rows
+  outside_all =
+      let params : Row = Int (pos count) ∷ [] in
+      answered_by s outside_text 1 (λ _. refl) (outside_term ∷ []) outside_shown (codes "number" ∷ []) params rows outside_is outside_query laid (subst (λ n. Answers outside_text (Int n ∷ []) s rows) is answers)
+
+  by_outside : filter (passes (outside_term ∷ []) (Int (pos count) ∷ [])) (resources s) ≡ filter (λ r. is_outside count (rowid r)) (resources s)
+  by_outside = filter_same (passes (outside_term ∷ []) (Int (pos count) ∷ [])) (λ r. is_outside count (rowid r)) (resources s) (all_of (λ r. passes (outside_term ∷ []) (Int (pos count) ∷ []) r ≡ is_outside count (rowid r)) (λ r. outside_tests count r) (resources s))
+
+  pub within_found : given ≡ [] → AreWithin (resources s) count
+  within_found none = sym by_outside ∙ empty (shows outside_shown (Int (pos count) ∷ [])) _ (subst (IsPermutation (map (shows outside_shown (Int (pos count) ∷ [])) (filter (passes (outside_term ∷ []) (Int (pos count) ∷ [])) (resources s)))) (sym same ∙ none) outside_all)
+
+  pub beside_found : (r : Row) (told : ℕ) → Has given r → told ≡ number_at (column r 0) → IsOutside (resources s) count told
+  beside_found r told there is_told =
+      let it = from_answer (passes (outside_term ∷ []) (Int (pos count) ∷ [])) (shows outside_shown (Int (pos count) ∷ [])) (resources s) rows outside_all r (subst (λ l. Has l r) same there) in
+      record { row = it.0; there = it.1; outside = sym (outside_tests count it.0) ∙ it.2; told = is_told ∙ ap (λ (x : Row). number_at (column x 0)) it.3 }
+
 -- ---- one row
 
 pub alone_from : (table : List Row) (name : RecordName) (s : StoredRecord) → FindsName table name (There s) → IsAlone table name
-alone_from table name s found q r t u first second = found.2 q t first ∙ sym (found.2 r u second)
+alone_from table name s found q r t u first second = found_alone table name s found q t first ∙ sym (found_alone table name s found r u second)
+
+alone_lawful : (table : List Row) (number : ℕ) (it : IsLawfulAt table number) → IsAlone table (content_name it.held.content)
+alone_lawful table number it q r s t first second =
+    let name = content_name it.held.content in
+    ap shown_row (only_one _ it.row q it.named (has_named table name q s first) ∙ sym (only_one _ it.row r it.named (has_named table name r t second)))
 
 -- ---- the rows in turn
 
 pub first_none : (table : List Row) → HoldsFirst table []
 first_none table = record { numbered = tt; apart = apart-none; each = λ n s at. absurd (cc) }
 
-module _ (table : List Row) (rows : List StoredRecord) (first : HoldsFirst table rows) (lawful : HasLawful table (length rows + 1)) where
+module _ (table : List Row) (rows : List StoredRecord) (first : HoldsFirst table rows) (lawful : IsLawfulAt table (length rows + 1)) where
   abbrev new : StoredRecord
   new = lawful.held
 
@@ -157,7 +224,7 @@ module _ (table : List Row) (rows : List StoredRecord) (first : HoldsFirst table
         let at = found-at (is_named name) 1 rows s first.numbered is in
         let same : name ≡ content_name s.content = same_name-eq name (content_name s.content) (find-passes (is_named name) rows s is) in
         let it = first.each (s.number - 1) s at.1 in
-        let both = lawful.alone it.0 lawful.row s new
+        let both = alone_lawful table (length rows + 1) lawful it.0 lawful.row s new
         (record { there = here (suc (s.number - 1)) s it.0 it.1; shows = it.2; named = sym same })
         (record { there = here (length rows + 1) new lawful.row lawful.only; shows = lawful.shows; named = refl }) in
         let numbers : Int (pos s.number) ≡ Int (pos new.number) = sym (ap (λ row. column row 0) it.2.shows) ∙ ap (λ row. column row 0) both ∙ ap (λ row. column row 0) lawful.shows.shows in
@@ -192,3 +259,13 @@ first_all table rows first none = record {
     past [] n none = omega arith
     past (x ∷ xs) zero none = absurd (cc)
     past (x ∷ xs) (suc n) none = omega (arith, past xs n none)
+
+-- ---- the store
+
+-- where tables stand and no transaction is under way, what isn't laid out is foreign
+pub opening_cause : {T : Type 0} (s : State) (r : Result T OpenFault) → s.now.schema ≢ no_schema → s.in_transaction ≡ false → IfErr r (IsFor (IsNewer s) (λ told. ((told ≡ 0) × IsNotLaid s) ⊎ IsSpoilt s told)) → IfErr r (IsCause s)
+opening_cause s r stand outside = if_err r (λ fault it. is_for {P = IsNewer s} {Q = IsNewer s} (λ newer. newer) step fault it)
+  where
+    step : (told : ℕ) → ((told ≡ 0) × IsNotLaid s) ⊎ IsSpoilt s told → IsDamaged s told
+    step told (inl other) = inl (other.0, record { stand = stand; other = λ provider. absurd (let clash = sym outside ∙ other.1 provider in cc) })
+    step told (inr spoilt) = inr spoilt

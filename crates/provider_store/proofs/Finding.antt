@@ -36,11 +36,12 @@ use Rattle.provider_core.proofs.RowLaws.{same_name-eq, same_name-self, same_name
 use Rattle.provider_core.proofs.MemoryLaws.{found-at}
 use Rattle.provider_store.specs.Format.{provider_schema, named_text, numbered_text}
 use Rattle.provider_store.specs.Rows.{kind_code, shown_row, IsRowOf, record_in, Holds}
-use Rattle.provider_store.specs.Connections.{IsLaid, IsQuery, Answers, IsOnly, IsNamed, FindsName, FindsNumber, resources}
+use Rattle.provider_store.specs.Lawful.{has_name}
+use Rattle.provider_store.specs.Connections.{IsLaid, IsQuery, Answers, AreDamaged, IsOnly, IsNamed, FindsName, FindsNumber, resources}
 use Rattle.provider_store.specs.declared.tables.Found.{Found}
 use Rattle.provider_store.specs.declared.tables.Found.TheVariants.{Nothing, Damaged, There}
 use Rattle.provider_store.proofs.Texts.{query, query_over, shown_terms, names, number_is, name_terms, named_is, named_query, numbered_is, numbered_query}
-use Rattle.provider_store.proofs.Selecting.{passes, shows, selected_over, number_passes, name_passes}
+use Rattle.provider_store.proofs.Selecting.{passes, shows, selected_over, number_passes, name_passes, name_tests}
 use Rattle.provider_store.proofs.Holding.{has_own, shown_record}
 
 -- ---- the rows of an answer
@@ -72,6 +73,17 @@ single f [] y same = absurd (omega (arith, length_permutation (map f []) (y ∷ 
 single f (x ∷ []) y same = (x, refl, let one : y ∷ [] ≡ f x ∷ [] = one_permutation (f x) (y ∷ []) same in cc)
 single f (x ∷ z ∷ xs) y same = absurd (omega (arith, length_permutation (map f (x ∷ z ∷ xs)) (y ∷ []) same))
 
+nothing : {A : Type 0} (xs : List A) → IsPermutation [] xs → xs ≡ []
+nothing [] same = refl
+nothing (x ∷ xs) same = absurd (omega (arith, length_permutation [] (x ∷ xs) same))
+
+-- rows whose answer is damaged are
+damaged : (xs rows : List Row) → IsPermutation (map shown_row xs) rows → IsOnly rows Damaged → AreDamaged xs
+damaged xs rows same only = record {
+  some = λ none. only.0 (nothing rows (subst (λ l. IsPermutation (map shown_row l) rows) none same));
+  unread = λ r s one shows. only.1 (shown_row r) s (one_permutation (shown_row r) rows (subst (λ l. IsPermutation (map shown_row l) rows) one same)) shows;
+}
+
 -- ---- by number
 
 pub finds_number : (table : List Row) (number : ℕ) (rows : List Row) (found : Found) → IsPermutation (map shown_row (filter (passes (number_is ∷ []) (Int (pos number) ∷ [])) table)) rows → IsOnly rows found
@@ -79,7 +91,9 @@ pub finds_number : (table : List Row) (number : ℕ) (rows : List Row) (found : 
 finds_number table number rows Nothing all none =
     let same = filter_same (passes (number_is ∷ []) (Int (pos number) ∷ [])) (has_rowid (pos number)) table (all_of (λ x. passes (number_is ∷ []) (Int (pos number) ∷ []) x ≡ has_rowid (pos number) x) (λ x. number_passes (pos number) [] x) table) in
     sym same ∙ empty shown_row _ (subst (IsPermutation (map shown_row (filter (passes (number_is ∷ []) (Int (pos number) ∷ [])) table))) none all)
-finds_number table number rows Damaged all only = tt
+finds_number table number rows Damaged all only =
+    let same = filter_same (passes (number_is ∷ []) (Int (pos number) ∷ [])) (has_rowid (pos number)) table (all_of (λ x. passes (number_is ∷ []) (Int (pos number) ∷ []) x ≡ has_rowid (pos number) x) (λ x. number_passes (pos number) [] x) table) in
+    subst AreDamaged same (damaged _ rows all only)
 finds_number table number rows (There s) all only =
     let same = filter_same (passes (number_is ∷ []) (Int (pos number) ∷ [])) (has_rowid (pos number)) table (all_of (λ x. passes (number_is ∷ []) (Int (pos number) ∷ []) x ≡ has_rowid (pos number) x) (λ x. number_passes (pos number) [] x) table) in
     let one = single shown_row _ only.0 (subst (IsPermutation (map shown_row (filter (passes (number_is ∷ []) (Int (pos number) ∷ [])) table))) only.1 all) in
@@ -118,29 +132,38 @@ passes_named name r s it is =
     let parts = and_parts (int_eq (pos (kind_code (content_kind s.content))) (pos (kind_code name.kind))) (bytes_eq (content_name s.content).key name.key) (sym (tested name r s it) ∙ is) in
     name_eq (content_name s.content) name (codes_apart (content_kind s.content) name.kind parts.0) ((bytes_eq-Decides (content_name s.content).key name.key).0 parts.1)
 
-only_one : {X : Type 0} (xs : List X) (x y : X) → xs ≡ x ∷ [] → Has xs y → y ≡ x
+pub only_one : {X : Type 0} (xs : List X) (x y : X) → xs ≡ x ∷ [] → Has xs y → y ≡ x
 only_one xs x y is there = elim (subst (λ l. Has l y) is there) [ inl same ↦ same | inr none ↦ absurd none ]
+
+by_name : (table : List Row) (name : RecordName) → filter (passes name_terms (name_params name)) table ≡ filter (has_name name) table
+by_name table name = filter_same (passes name_terms (name_params name)) (has_name name) table (all_of (λ x. passes name_terms (name_params name) x ≡ has_name name x) (λ x. name_tests name x) table)
+
+-- a row of this name is among those that have its kind and its key
+pub has_named : (table : List Row) (name : RecordName) (r : Row) (s : StoredRecord) → IsNamed table name r s → Has (filter (has_name name) table) r
+has_named table name r s it = has_kept (has_name name) table r it.there (sym (name_tests name r) ∙ named_passes table name r s it)
 
 pub finds_name : (table : List Row) (name : RecordName) (rows : List Row) (found : Found) → IsPermutation (map shown_row (filter (passes name_terms (Int (pos (kind_code name.kind)) ∷ Text name.key ∷ [])) table)) rows → IsOnly rows found
     → FindsName table name found
-finds_name table name rows Nothing all none = λ r s it.
-    let nothing = empty shown_row _ (subst (IsPermutation (map shown_row (filter (passes name_terms (name_params name)) table))) none all) in
-    subst (λ l. Has l r) nothing (has_kept (passes name_terms (name_params name)) table r it.there (named_passes table name r s it))
-finds_name table name rows Damaged all only = tt
+finds_name table name rows Nothing all none = sym (by_name table name) ∙ empty shown_row _ (subst (IsPermutation (map shown_row (filter (passes name_terms (name_params name)) table))) none all)
+finds_name table name rows Damaged all only = subst AreDamaged (by_name table name) (damaged _ rows all only)
 finds_name table name rows (There s) all only =
     let P = passes name_terms (name_params name) in
     let one = single shown_row _ only.0 (subst (IsPermutation (map shown_row (filter P table))) only.1 all) in
     let r = one.0 in
     let was = has_filtered P table r (subst (λ l. Has l r) (sym one.1) (inl refl)) in
-    let shows_it : IsRowOf (shown_row r) s = subst (λ x. IsRowOf x s) one.2 only.2 in (
-      r,
-      record { there = was.0; shows = shows_it; named = passes_named name r s shows_it was.1 },
-      λ q t it. ap shown_row (only_one (filter P table) r q one.1 (has_kept P table q it.there (named_passes table name q t it))),
-    )
+    let shows_it : IsRowOf (shown_row r) s = subst (λ x. IsRowOf x s) one.2 only.2 in (r, sym (by_name table name) ∙ one.1, shows_it, passes_named name r s shows_it was.1)
+
+-- what a look-up found is the one row of its name
+module _ (table : List Row) (name : RecordName) (s : StoredRecord) (found : FindsName table name (There s)) where
+  pub found_there : Has table found.0
+  found_there = (has_filtered (has_name name) table found.0 (subst (λ l. Has l found.0) (sym found.1) (inl refl))).0
+
+  pub found_alone : (q : Row) (t : StoredRecord) → IsNamed table name q t → shown_row q ≡ shown_row found.0
+  found_alone q t it = ap shown_row (only_one (filter (has_name name) table) found.0 q found.1 (has_named table name q t it))
 
 -- ---- the record that is found
 
-same_some : {X : Type 0} (x y : X) → Some x ≡ Some y → x ≡ y
+pub same_some : {X : Type 0} (x y : X) → Some x ≡ Some y → x ≡ y
 same_some x y e = cc
 
 module _ (table : List Row) (rows : List StoredRecord) (holds : Holds table rows) where
@@ -188,11 +211,11 @@ module _ (table : List Row) (rows : List StoredRecord) (holds : Holds table rows
         let at = found-at (is_named name) 1 rows s holds.numbered is in
         let same : name ≡ content_name s.content = same_name-eq name (content_name s.content) (find-passes (is_named name) rows s is) in
         let it = named_at (s.number - 1) s name at.1 (sym same) in
-        absurd (nothing it.0 s it.1)
+        absurd (subst (λ l. Has l it.0) nothing (has_named table name it.0 s it.1))
   ] refl
 
   pub some_named : (name : RecordName) (s : StoredRecord) → FindsName table name (There s) → row_named name rows ≡ Some s
-  some_named name s found = first rows (s.number - 1) holds.apart (row_held found.0 s found.1.there found.1.shows)
+  some_named name s found = first rows (s.number - 1) holds.apart (row_held found.0 s (found_there table name s found) found.2)
     where
       within : (rs : List StoredRecord) (n : ℕ) (first : RecordName) → AllByRecursion (λ other. same_name first other ≡ false) (names_of rs) → slice_get rs n ≡ Some s → same_name first (content_name s.content) ≡ false
       within [] n first apart at = absurd (cc)
@@ -207,11 +230,11 @@ module _ (table : List Row) (rows : List StoredRecord) (holds : Holds table rows
       first [] n apart at = absurd (cc)
       first (r ∷ rs) zero apart at =
           let e : r ≡ s = cc in
-          let passes_it : is_named name r ≡ true = ap (λ (x : StoredRecord). same_name name (content_name x.content)) e ∙ ap (same_name name) found.1.named ∙ same_name-self name in
+          let passes_it : is_named name r ≡ true = ap (λ (x : StoredRecord). same_name name (content_name x.content)) e ∙ ap (same_name name) found.3 ∙ same_name-self name in
           rw passes_it (ap Some e)
       first (r ∷ rs) (suc n) apart at =
           let other = within rs n (content_name r.content) (IsDistinct-head same_name (content_name r.content) (names_of rs) apart) at in
-          let not_it : is_named name r ≡ false = same_name-sym name (content_name r.content) ∙ ap (same_name (content_name r.content)) (sym found.1.named) ∙ other in
+          let not_it : is_named name r ≡ false = same_name-sym name (content_name r.content) ∙ ap (same_name (content_name r.content)) (sym found.3) ∙ other in
           here r rs (is_named name r) not_it (first rs n (IsDistinct-tail same_name (content_name r.content) (names_of rs) apart) at)
 
 -- ---- of the values that a call gave

@@ -17,6 +17,7 @@ pub mod RowReading
 pub mod Spelling
 pub mod Storing
 pub mod Scanning
+pub mod Refusing
 pub mod Checking
 pub mod Made
 pub mod Reopening

@@ -9,6 +9,8 @@ use Rattle.sqlite.specs.State.{State, Executes, Shows}
 use Rattle.provider_store.specs.Format.{provider_schema, format_table, resource_table, no_schema, format_number, format_text, mark_text, resource_text}
 use Rattle.provider_store.specs.Rows.{Holds}
 use Rattle.provider_store.specs.Opening.{IsBlank, IsStore}
+use Rattle.provider_store.specs.Lawful.{AreAllLawful}
+use Rattle.provider_store.proofs.Refusing.{none_lawful}
 use Rattle.provider_store.proofs.Holding.{holds_nothing}
 use Rattle.provider_store.proofs.Making.{format_schema, format_made, resource_made, resource_schema, creates, marks}
 
@@ -53,5 +55,6 @@ tables_kept old m3 end blank made shows = (
     };
     format = ap (λ (d : Database). map (λ (r : Row). column r 2) (d.trees 0)) shows.now_is ∙ made.format;
     holds = subst (λ (table : List Row). Holds table []) (sym (ap (λ (d : Database). d.trees 1) shows.now_is ∙ made.none)) holds_nothing;
+    lawful = subst (λ (table : List Row). AreAllLawful table 0) (sym (ap (λ (d : Database). d.trees 1) shows.now_is ∙ made.none)) (record { each = none_lawful []; within = refl });
   },
 )

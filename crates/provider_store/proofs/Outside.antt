@@ -1,6 +1,6 @@
 -- A row with a higher number passes the test for what stands outside the first numbers.
-use Rattle.std.proofs.Common.{◌≡◌, ◌<◌, ℕ, nat_lt, pos, Bool, true, false, cond, List, [], ◌∷◌, filter, Ordering, Less, Equal, Greater, int_cmp, Option, None, Some, refl, sym, ap, ◌∙◌, arith}
-use Rattle.std.specs.Ordering.{is_eq}
+use Rattle.std.proofs.Common.{◌≡◌, ◌<◌, ℕ, nat_lt, pos, Bool, true, false, ◌||◌, cond, List, [], ◌∷◌, filter, Ordering, Less, Equal, Greater, int_cmp, Option, None, Some, refl, sym, ap, ◌∙◌, arith}
+use Rattle.std.specs.Ordering.{is_eq, is_lt, is_gt}
 use Rattle.std.proofs.lemmas.Bool.{false_from_ne_true}
 use Rattle.std.proofs.lemmas.Bool.Decides.{Decides-ltb}
 use Rattle.sqlite_value.specs.declared.value.Value.{Value}
@@ -11,9 +11,10 @@ use Rattle.sqlite_value.proofs.OrderLemmas.{value_cmp_total, value_cmp-Int, valu
 use Rattle.sqlite_sql.specs.Ops.{binary, is_true, truth, from_truth, or3}
 use Rattle.sqlite_sql.specs.declared.ops.BinaryOp.TheVariants.{Compare, Or}
 use Rattle.sqlite_sql.specs.declared.ops.CompareOp.TheVariants.{Lt, Gt}
-use Rattle.sqlite_trees.specs.Tree.{has_rowid}
+use Rattle.sqlite_trees.specs.Tree.{rowid, has_rowid}
+use Rattle.provider_store.specs.Lawful.{is_outside}
 use Rattle.provider_store.proofs.Texts.{outside_term}
-use Rattle.provider_store.proofs.Selecting.{passes}
+use Rattle.provider_store.proofs.Selecting.{passes, and_true}
 
 greater : (k n : ℕ) → n < k → int_cmp (pos k) (pos n) ≡ Greater
 greater k n low =
@@ -44,6 +45,24 @@ either v = of (truth v)
     of None = refl
     of (Some true) = refl
     of (Some false) = refl
+
+or_is : (a b : Bool) → is_true (from_truth (or3 (truth (from_truth (Some a))) (truth (from_truth (Some b))))) ≡ (a || b)
+or_is true true = refl
+or_is true false = refl
+or_is false true = refl
+or_is false false = refl
+
+either_is : (count : ℕ) (v : Value) → is_true (binary Or (binary (Compare Lt Binary) v (Int (pos 1))) (binary (Compare Gt Binary) v (Int (pos count)))) ≡ is_outside count v
+unfolding binary
+either_is count Null = refl
+either_is count (Int m) = or_is (is_lt (value_cmp (Int m) (Int (pos 1)))) (is_gt (value_cmp (Int m) (Int (pos count))))
+either_is count (Real x) = or_is (is_lt (value_cmp (Real x) (Int (pos 1)))) (is_gt (value_cmp (Real x) (Int (pos count))))
+either_is count (Text t) = or_is (is_lt (value_cmp (Text t) (Int (pos 1)))) (is_gt (value_cmp (Text t) (Int (pos count))))
+either_is count (Blob b) = or_is (is_lt (value_cmp (Blob b) (Int (pos 1)))) (is_gt (value_cmp (Blob b) (Int (pos count))))
+
+-- the test of what stands outside is that of the definition
+pub outside_tests : (count : ℕ) (r : Row) → passes (outside_term ∷ []) (Int (pos count) ∷ []) r ≡ is_outside count (rowid r)
+outside_tests count r = and_true _ ∙ either_is count (column r 0)
 
 pub outside_passes : (count k : ℕ) (r : Row) → count < k → has_rowid (pos k) r ≡ true → passes (outside_term ∷ []) (Int (pos count) ∷ []) r ≡ true
 outside_passes count k r low has =

@@ -11,6 +11,7 @@ use Rattle.provider_core.specs.Stores.{CountsFault, Reopens}
 use Rattle.provider_core.specs.declared.registry.RegistryFault.{RegistryFault}
 use Rattle.provider_store.specs.Format.{resource_tree, format_number}
 use Rattle.provider_store.specs.Rows.{Holds, rows_of}
+use Rattle.provider_store.specs.Lawful.{AreAllLawful}
 use Rattle.provider_store.specs.Connections.{resources}
 use Rattle.provider_store.specs.Kept.{Kept, IsFaithful, IsHonest, IsWhole, MayHold, kept_rows}
 use Rattle.provider_store.specs.Lookups.{answered, failing}
@@ -31,6 +32,7 @@ store_on old new rows looks store clean still =
       laid = laid_still old new keeps still store.laid;
       format = subst (λ (d : Database). map (λ (r : Row). column r 2) (d.trees 0) ≡ Int (pos format_number) ∷ []) (sym same) store.format;
       holds = subst (λ (d : Database). Holds (d.trees resource_tree) rows) (sym same) store.holds;
+      lawful = subst (λ (d : Database). AreAllLawful (d.trees resource_tree) (length rows)) (sym same) store.lawful;
     }
 
 module _ {S : Type 0} (g : Ghosts S) where

@@ -1,9 +1,10 @@
 -- What a query over the table of resources answers.
-use Rattle.std.proofs.Common.{◌≡◌, ℕ, ℤ, Bool, true, false, ◌&&◌, cond, List, [], ◌∷◌, ◌++◌, map, filter, flat_map, refl, sym, ap, ◌∙◌, subst, inl, inr, IsPermutation}
+use Rattle.std.proofs.Common.{◌≡◌, ℕ, ℤ, pos, Bool, true, false, ◌&&◌, cond, List, [], ◌∷◌, ◌++◌, map, filter, flat_map, refl, sym, ap, ◌∙◌, subst, inl, inr, IsPermutation}
 use Rattle.std.specs.List.{list_all}
 use Rattle.std.proofs.lemmas.List.Sorted.{IsPermutation-sym}
 use Rattle.sqlite_value.specs.declared.value.Value.TheVariants.{Null, Int, Text}
-use Rattle.sqlite_value.specs.Order.{Row, column}
+use Rattle.sqlite_value.specs.Order.{Row, column, value_cmp}
+use Rattle.scim_key.specs.declared.records.RecordName.{RecordName}
 use Rattle.sqlite_sql.specs.Term.{Term, eval_all, holds}
 use Rattle.sqlite_sql.specs.Query.{Query, Output, IsAnswer, output}
 use Rattle.sqlite_sql.specs.Program.{overlay}
@@ -11,11 +12,13 @@ use Rattle.sqlite_rules.specs.Lists.{Has}
 use Rattle.sqlite_rules.proofs.ListLemmas.{all_has, all_from, has_kept, has_filtered}
 use Rattle.sqlite_trees.proofs.ListLemmas.{all-permutation, IsPermutation-flat_map}
 use Rattle.sqlite.specs.Effect.{Database, Answers}
-use Rattle.std.specs.Ordering.{int_eq}
+use Rattle.std.specs.Ordering.{int_eq, is_eq}
 use Rattle.std.specs.Str.{bytes_eq}
 use Rattle.sqlite_trees.specs.Tree.{Trees, has_rowid}
 use Rattle.provider_store.proofs.Texts.{query, query_over, number_is, name_terms}
-use Rattle.provider_store.proofs.Values.{equal_rowid, equal_numbers, equal_texts}
+use Rattle.provider_store.specs.Lawful.{has_name}
+use Rattle.provider_store.specs.Rows.{kind_code}
+use Rattle.provider_store.proofs.Values.{equal_rowid, equal_numbers, equal_texts, equal_number_at, equal_text_at}
 
 -- the row is shown so where it passes each test
 abbrev pub passes : List Term → Row → Row → Bool
@@ -82,13 +85,17 @@ module _ {A B : Type 0} (p : A → Bool) (f : A → B) (xs : List A) (rows : Lis
 
 -- ---- the tests
 
-and_true : (c : Bool) → (c && true) ≡ c
+pub and_true : (c : Bool) → (c && true) ≡ c
 and_true true = refl
 and_true false = refl
 
 -- the test of a number is that of the rowid
 pub number_passes : (n : ℤ) (rest r : Row) → passes (number_is ∷ []) (Int n ∷ rest) r ≡ has_rowid n r
 number_passes n rest r = and_true _ ∙ equal_rowid (column r 0) n
+
+-- the test of a name is that of its kind and its key
+pub name_tests : (name : RecordName) (r : Row) → passes name_terms (Int (pos (kind_code name.kind)) ∷ Text name.key ∷ []) r ≡ has_name name r
+name_tests name r = rw (equal_number_at (column r 2) (pos (kind_code name.kind)), equal_text_at (column r 3) name.key, and_true (is_eq (value_cmp (column r 3) (Text name.key)))) refl
 
 -- a row passes the test of a name where it has its kind and its key
 pub name_passes : (k m : ℤ) (key other : List ℕ) (r : Row) → column r 2 ≡ Int m → column r 3 ≡ Text other → passes name_terms (Int k ∷ Text key ∷ []) r ≡ (int_eq m k && bytes_eq other key)

@@ -42,6 +42,18 @@ equal_rowid (Real x) n = truth_is _
 equal_rowid (Text t) n = truth_is _
 equal_rowid (Blob b) n = truth_is _
 
+pub equal_number_at : (v : Value) (n : ℤ) → is_true (binary (Compare Eq Binary) v (unary ToNumeric (Int n))) ≡ is_eq (value_cmp v (Int n))
+unfolding unary
+equal_number_at v n = equal_rowid v n
+
+pub equal_text_at : (v : Value) (t : List ℕ) → is_true (binary (Compare Eq Binary) v (Text t)) ≡ is_eq (value_cmp v (Text t))
+unfolding binary
+equal_text_at Null t = ap is_eq (sym (value_cmp-Null (Text t)))
+equal_text_at (Int m) t = truth_is _
+equal_text_at (Real x) t = truth_is _
+equal_text_at (Text s) t = truth_is _
+equal_text_at (Blob b) t = truth_is _
+
 pub rowid_is : (r : Row) (m n : ℤ) → rowid r ≡ Int m → has_rowid n r ≡ int_eq m n
 rowid_is r m n is = ap (λ v. is_eq (value_cmp v (Int n))) is ∙ ap is_eq (value_cmp-Int m n)
 

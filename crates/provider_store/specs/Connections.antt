@@ -1,5 +1,5 @@
 -- What the calls of the statements ask of a connection, and what they leave of it.
-use Rattle.std.specs.Prelude.{◌≡◌, ℕ, pos, false, List, [], ◌∷◌, Option, None, Ok, IsTrue, filter}
+use Rattle.std.specs.Prelude.{◌≡◌, ◌≢◌, ℕ, pos, false, List, [], ◌∷◌, Option, None, Ok, IsTrue, filter}
 use Rattle.sqlite_value.specs.declared.keys.Order.{Order}
 use Rattle.sqlite_value.specs.Order.{Row}
 use Rattle.sqlite_trees.specs.Tree.{has_rowid, put_row, without_rowid}
@@ -27,6 +27,7 @@ use Rattle.scim_resource.specs.Contents.{content_name}
 use Rattle.scim_resource.specs.Rows.{StoredRecord, IsStored}
 use Rattle.provider_store.specs.Format.{provider_schema, resource_tree}
 use Rattle.provider_store.specs.Rows.{shown_row, stored_row, IsRowOf}
+use Rattle.provider_store.specs.Lawful.{has_name}
 use Rattle.provider_store.specs.declared.tables.Found.{Found}
 use Rattle.provider_store.specs.declared.tables.Found.TheVariants.{Nothing, Damaged, There}
 
@@ -63,10 +64,15 @@ Answers sql params s rows = (c : Compiled) → understood s.now.schema sql ≡ O
 
 -- ---- one resource
 
+-- rows are there, and aren't one that shows a record
+pub record AreDamaged (rows : List Row) : Type 0 where
+  pub some : rows ≢ []
+  pub unread : (r : Row) (s : StoredRecord) → rows ≡ r ∷ [] → IsRowOf (shown_row r) s → ⊥
+
 -- the one row with this number
 abbrev pub FindsNumber : List Row → ℕ → Found → Type 0
 FindsNumber table number Nothing = filter (has_rowid (pos number)) table ≡ []
-FindsNumber table number Damaged = Unit {0}
+FindsNumber table number Damaged = AreDamaged (filter (has_rowid (pos number)) table)
 FindsNumber table number (There s) = (r : Row) × (filter (has_rowid (pos number)) table ≡ r ∷ []) × IsRowOf (shown_row r) s
 
 -- a row that shows a resource of this name
@@ -77,14 +83,14 @@ pub record IsNamed (table : List Row) (name : RecordName) (r : Row) (s : StoredR
 
 -- the one row of this name
 abbrev pub FindsName : List Row → RecordName → Found → Type 0
-FindsName table name Nothing = (r : Row) (s : StoredRecord) → IsNamed table name r s → ⊥
-FindsName table name Damaged = Unit {0}
-FindsName table name (There s) = (r : Row) × IsNamed table name r s × ((q : Row) (t : StoredRecord) → IsNamed table name q t → shown_row q ≡ shown_row r)
+FindsName table name Nothing = filter (has_name name) table ≡ []
+FindsName table name Damaged = AreDamaged (filter (has_name name) table)
+FindsName table name (There s) = (r : Row) × (filter (has_name name) table ≡ r ∷ []) × IsRowOf (shown_row r) s × (content_name s.content ≡ name)
 
 -- what the rows of an answer show of a look-up
 abbrev pub IsOnly : List Row → Found → Type 0
 IsOnly rows Nothing = rows ≡ []
-IsOnly rows Damaged = Unit {0}
+IsOnly rows Damaged = (rows ≢ []) × ((r : Row) (s : StoredRecord) → rows ≡ r ∷ [] → IsRowOf r s → ⊥)
 IsOnly rows (There s) = (r : Row) × (rows ≡ r ∷ []) × IsRowOf r s
 
 -- ---- a write

@@ -1,5 +1,6 @@
 pub mod Format
 pub mod Rows
+pub mod Lawful
 pub mod Connections
 pub mod Opening
 pub mod Kept

@@ -1,5 +1,5 @@
 -- What an opening looks for, what it finds, and what it leaves where it refuses.
-use Rattle.std.specs.Prelude.{◌≡◌, ◌⊎◌, ℕ, suc, ◌<◌, pos, false, List, [], ◌∷◌, Some, IsTrue, map, filter, slice_get, codes}
+use Rattle.std.specs.Prelude.{◌≡◌, ◌≢◌, ◌⊎◌, ℕ, suc, ◌<◌, ◌≤◌, pos, true, false, List, [], ◌∷◌, Some, IsTrue, length, map, filter, slice_get, codes}
 use Rattle.sqlite_value.specs.declared.keys.Order.{Order}
 use Rattle.sqlite_value.specs.declared.value.Value.TheVariants.{Int}
 use Rattle.sqlite_value.specs.Order.{Row, column}
@@ -10,14 +10,14 @@ use Rattle.sqlite_schema.specs.declared.schema.Table.{Table}
 use Rattle.sqlite_schema.specs.declared.schema.Schema.{Schema}
 use Rattle.sqlite.specs.State.{State, HasCleanDisk, Survives}
 use Rattle.scim_key.specs.declared.records.RecordName.{RecordName}
-use Rattle.scim_resource.specs.Contents.{content_name}
 use Rattle.scim_resource.specs.Rows.{StoredRecord}
 use Rattle.provider_core.specs.Rows.{IsNumberedFrom, AreNamedApart}
 use Rattle.provider_store.specs.Format.{provider_schema, no_schema, format_tree, resource_tree, resource_columns, name_places, format_number}
 use Rattle.provider_store.specs.Rows.{shown_row, IsRowOf, Holds}
+use Rattle.provider_store.specs.Lawful.{AreAllLawful, IsUnlawfulAt}
 use Rattle.provider_store.specs.Connections.{IsLaid, Keeps, IsNamed, resources}
 use Rattle.provider_store.specs.declared.opening.OpenFault.{OpenFault}
-use Rattle.provider_store.specs.declared.opening.OpenFault.TheVariants.{Store, Newer, Memory}
+use Rattle.provider_store.specs.declared.opening.OpenFault.TheVariants.{Store, Damaged, Newer, Memory}
 use Rattle.provider_core.specs.declared.registry.RegistryFault.{RegistryFault}
 use Rattle.provider_core.specs.declared.registry.RegistryFault.TheVariants as registry
 
@@ -72,24 +72,17 @@ abbrev pub open_fault : RegistryFault → OpenFault
 open_fault registry.Store = Store
 open_fault registry.Memory = Memory
 
--- a fault that tells of a newer format has its cause
-abbrev pub IsFor : Type 0 → OpenFault → Type 0
-IsFor newer Newer = newer
-IsFor newer fault = Unit {0}
+-- a fault that tells of a newer format, or of damage with its number, has its cause
+abbrev pub IsFor : Type 0 → (ℕ → Type 0) → OpenFault → Type 0
+IsFor newer damaged Newer = newer
+IsFor newer damaged (Damaged number) = damaged number
+IsFor newer damaged fault = Unit {0}
 
 -- ---- the rows
 
 -- no two rows show resources of this name
 abbrev pub IsAlone : List Row → RecordName → Type 0
 IsAlone table name = (q r : Row) (s t : StoredRecord) → IsNamed table name q s → IsNamed table name r t → shown_row q ≡ shown_row r
-
--- one row has this number, and shows a resource whose name no other row has
-pub record HasLawful (table : List Row) (number : ℕ) : Type 0 where
-  pub row : Row
-  pub held : StoredRecord
-  pub only : filter (has_rowid (pos number)) table ≡ row ∷ []
-  pub shows : IsRowOf (shown_row row) held
-  pub alone : IsAlone table (content_name held.content)
 
 -- the rows with the first numbers show these records, no two of one name
 pub record HoldsFirst (table : List Row) (rows : List StoredRecord) : Type 0 where
@@ -104,6 +97,7 @@ pub record IsStore (s : State) (rows : List StoredRecord) : Type 0 where
   pub laid : IsLaid s
   pub format : IsFormat s format_number
   pub holds : Holds (resources s) rows
+  pub lawful : AreAllLawful (resources s) (length rows)
 
 -- what stands in a store: the records of its tables, and none where no tables stand
 abbrev pub Stands : State → List StoredRecord → Type 0
@@ -119,9 +113,41 @@ pub record LeavesStore (old new : State) : Type 0 where
   pub was_open : IsTrue new.is_open → IsTrue old.is_open
   pub committed : IsTrue new.is_open → new.committed ≡ old.committed
 
+-- ---- what is refused
+
+-- tables stand that aren't those of the format
+pub record IsForeign (s : State) : Type 0 where
+  pub stand : s.now.schema ≢ no_schema
+  pub other : IsProvider s.now.schema → ⊥
+
+-- the tables aren't those of the format, or a transaction is under way
+abbrev pub IsNotLaid : State → Type 0
+IsNotLaid s = IsProvider s.now.schema → s.in_transaction ≡ true
+
+-- the table of the format doesn't show one number from that of the format on
+abbrev pub IsUnmarked : State → Type 0
+IsUnmarked s = (number : ℕ) → format_number ≤ number → IsFormat s number → ⊥
+
+-- the number of the format stands, and the row that an opening refuses has this number
+pub record HasUnlawful (s : State) (number : ℕ) : Type 0 where
+  pub format : IsFormat s format_number
+  pub row : IsUnlawfulAt (resources s) number
+
+-- the tables are of the format, and its number isn't lawful, or the row with this number
+abbrev pub IsSpoilt : State → ℕ → Type 0
+IsSpoilt s number = IsProvider s.now.schema × (((number ≡ 0) × IsUnmarked s) ⊎ HasUnlawful s number)
+
+-- what stands is no store
+abbrev pub IsDamaged : State → ℕ → Type 0
+IsDamaged s number = ((number ≡ 0) × IsForeign s) ⊎ IsSpoilt s number
+
 -- a newer format stands in the table
+abbrev pub IsNewer : State → Type 0
+IsNewer s = (number : ℕ) × (format_number < number) × IsFormat s number
+
+-- why an opening refuses what stands
 abbrev pub IsCause : State → OpenFault → Type 0
-IsCause s = IsFor ((number : ℕ) × (format_number < number) × IsFormat s number)
+IsCause s = IsFor (IsNewer s) (IsDamaged s)
 
 -- a stop leaves no row
 abbrev pub LeavesNone : Trees → Type 0

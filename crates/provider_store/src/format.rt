@@ -14,7 +14,8 @@ pub(crate) const FORMAT: u64 = 1;
 
 /// Whether no table stands.
 pub(crate) fn is_blank(schema: &Schema) -> bool
-    ensures { IsTrue result → schema.now ≡ no_schema }
+    ensures is { IsTrue result → schema.now ≡ no_schema }
+    ensures known { schema.now ≡ no_schema → IsTrue result }
 {
     schema.tables.is_empty() && schema.indexes.is_empty() && schema.views.is_empty()
 }
@@ -22,7 +23,8 @@ pub(crate) fn is_blank(schema: &Schema) -> bool
 /// Whether the tables are those of the format. The terms of their CHECKs may be any, since each row
 /// is tested.
 pub(crate) fn is_provider(schema: &Schema) -> bool
-    ensures { IsTrue result → IsProvider schema.now }
+    ensures is { IsTrue result → IsProvider schema.now }
+    ensures known { IsProvider schema.now → IsTrue result }
 {
     let [format, resource] = schema.tables.as_slice() else {
         return false;
@@ -39,7 +41,8 @@ pub(crate) fn is_provider(schema: &Schema) -> bool
 
 /// Whether the one UNIQUE of the table is in the order of the index.
 fn has_order(table: &Table, index: &Index) -> bool
-    ensures { IsTrue result → table.now.orders ≡ index.now.order ∷ [] }
+    ensures is { IsTrue result → table.now.orders ≡ index.now.order ∷ [] }
+    ensures known { table.now.orders ≡ index.now.order ∷ [] → IsTrue result }
 {
     match table.orders.as_slice() {
         [order] => order.digits == index.order.digits,
@@ -48,7 +51,8 @@ fn has_order(table: &Table, index: &Index) -> bool
 }
 
 fn is_format(table: &Table) -> bool
-    ensures { IsTrue result → table.now ≡ format_table table.now.checks }
+    ensures is { IsTrue result → table.now ≡ format_table table.now.checks }
+    ensures known { table.now ≡ format_table table.now.checks → IsTrue result }
 {
     match table.columns.as_slice() {
         [one, number] => table.name.as_slice() == b"provider_format".as_slice()
@@ -63,7 +67,8 @@ fn is_format(table: &Table) -> bool
 }
 
 fn is_resource(table: &Table) -> bool
-    ensures { IsTrue result → IsResourceTable table.now }
+    ensures is { IsTrue result → IsResourceTable table.now }
+    ensures known { IsResourceTable table.now → IsTrue result }
 {
     table.name.as_slice() == b"resource".as_slice()
         && table.tree == 1
@@ -74,7 +79,8 @@ fn is_resource(table: &Table) -> bool
 
 /// Whether the columns are those of a resource.
 fn has_columns(columns: &[Column]) -> bool
-    ensures { IsTrue result → columns.now ≡ resource_columns }
+    ensures is { IsTrue result → columns.now ≡ resource_columns }
+    ensures known { columns.now ≡ resource_columns → IsTrue result }
 {
     match columns {
         [number, kind, name_key, version, content] => is_column(
@@ -92,7 +98,8 @@ fn has_columns(columns: &[Column]) -> bool
 
 /// Whether the one UNIQUE is over kind and key.
 fn has_unique(table: &Table) -> bool
-    ensures { IsTrue result → table.now.uniques ≡ name_places ∷ [] }
+    ensures is { IsTrue result → table.now.uniques ≡ name_places ∷ [] }
+    ensures known { table.now.uniques ≡ name_places ∷ [] → IsTrue result }
 {
     match table.uniques.as_slice() {
         [places] => places.as_slice() == [2, 3].as_slice(),
@@ -101,7 +108,8 @@ fn has_unique(table: &Table) -> bool
 }
 
 fn is_name_index(index: &Index) -> bool
-    ensures { IsTrue result → index.now ≡ name_index index.now.order }
+    ensures is { IsTrue result → index.now ≡ name_index index.now.order }
+    ensures known { index.now ≡ name_index index.now.order → IsTrue result }
 {
     index.name.as_slice() == b"sqlite_autoindex_resource_1".as_slice()
         && index.tree == 2
@@ -112,7 +120,8 @@ fn is_name_index(index: &Index) -> bool
 
 /// Whether the first column stands for the number of the row, and nothing else is said of the table.
 fn is_plain(table: &Table) -> bool
-    ensures { IsTrue result → IsPlainTable table.now }
+    ensures is { IsTrue result → IsPlainTable table.now }
+    ensures known { IsPlainTable table.now → IsTrue result }
 {
     table.key == Some(0)
         && table.primary.as_slice() == [0].as_slice()
@@ -123,7 +132,8 @@ fn is_plain(table: &Table) -> bool
 }
 
 fn has_no_stamps(table: &Table) -> bool
-    ensures { IsTrue result → table.now.stamps ≡ no_stamps }
+    ensures is { IsTrue result → table.now.stamps ≡ no_stamps }
+    ensures known { table.now.stamps ≡ no_stamps → IsTrue result }
 {
     table.stamps.places.is_empty()
         && table.stamps.terms.roots.is_empty()
@@ -131,7 +141,8 @@ fn has_no_stamps(table: &Table) -> bool
 }
 
 fn is_column(column: &Column, name: &[u8], kind: Kind, not_null: bool) -> bool
-    ensures { IsTrue result → column.now ≡ record { name = name.now; kind = kind; is_strict = false; not_null = not_null; default = Null; collation = Binary } }
+    ensures is { IsTrue result → column.now ≡ record { name = name.now; kind = kind; is_strict = false; not_null = not_null; default = Null; collation = Binary } }
+    ensures known { column.now ≡ record { name = name.now; kind = kind; is_strict = false; not_null = not_null; default = Null; collation = Binary } → IsTrue result }
 {
     column.name.as_slice() == name
         && column.kind == kind

@@ -1,15 +1,17 @@
 //! The opening of a store: its tables are made, or tested with each of their rows.
-ghost use Rattle.std.specs.Prelude.{◌≡◌, ◌<◌, ℕ, false, List, [], length, pos, IfErr, IfOk, OnErr, OnOk, IsTrue, filter};
-ghost use Rattle.sqlite_value.specs.declared.value.Value.TheVariants.{Int};
+ghost use Rattle.std.specs.Prelude.{◌≡◌, ◌⊎◌, ◌<◌, ◌≤◌, ℕ, false, List, [], ◌∷◌, length, pos, IfErr, IfOk, OnErr, OnOk, IsTrue, filter};
 ghost use Rattle.sqlite_value.specs.Order.{column};
 ghost use Rattle.sqlite_trees.specs.Tree.{has_rowid};
+ghost use Rattle.sqlite_rules.specs.Lists.{Has};
 ghost use Rattle.sqlite.specs.Held.{state};
 ghost use Rattle.sqlite.specs.State.{HasCleanDisk, Survives};
 ghost use Rattle.scim_resource.specs.Contents.{content_name};
 ghost use Rattle.scim_resource.specs.Rows.{StoredRecord};
 ghost use Rattle.provider_store.specs.Format.{format_number};
 ghost use Rattle.provider_store.specs.Connections.{IsLaid, resources};
-ghost use Rattle.provider_store.specs.Opening.{HasLawful, HoldsFirst, IsAlone, IsBlank, IsCause, IsFormat, IsFor, IsMarked, IsStore, LeavesNone, LeavesStore, Looks, Stands};
+ghost use Rattle.provider_store.specs.Lawful.{AreLawfulTo, AreWithin, EndsAt, IsFirstWrong, IsLawfulAt, IsOutside, IsWrong, NoneNamed, has_name};
+ghost use Rattle.provider_store.specs.Rows.{number_at};
+ghost use Rattle.provider_store.specs.Opening.{HoldsFirst, IsAlone, IsBlank, IsCause, IsDamaged, IsFormat, IsFor, IsMarked, IsNewer, IsNotLaid, IsSpoilt, IsStore, IsUnmarked, LeavesNone, LeavesStore, Looks, Stands};
 
 use crate::format::{FORMAT, is_blank, is_provider};
 use crate::tables::{Found, ask, fault_of, find_named, find_numbered, number_at};
@@ -91,7 +93,8 @@ fn make_tables<S: Alter>(conn: &mut Connection<S>) -> Result<(), Error>
 fn check_format<S: Alter>(conn: &mut Connection<S>) -> Result<(), OpenFault>
     requires laid { HasCleanDisk (state S.Store conn.old) → IsTrue (state S.Store conn.old).is_open → IsLaid (state S.Store conn.old) }
     ensures known { HasCleanDisk (state S.Store conn.new) → OnOk result (IsFormat (state S.Store conn.old) format_number) }
-    ensures cause { HasCleanDisk (state S.Store conn.new) → IfErr result (IsCause (state S.Store conn.old)) }
+    ensures cause { HasCleanDisk (state S.Store conn.new) → IfErr result (IsFor (IsNewer (state S.Store conn.old)) (λ told. (told ≡ 0) × IsUnmarked (state S.Store conn.old))) }
+    ensures told { HasCleanDisk (state S.Store conn.new) → IfErr result (IsFor (IsTrue (state S.Store conn.new).is_open) (λ _. IsTrue (state S.Store conn.new).is_open)) }
     ensures open { HasCleanDisk (state S.Store conn.new) → OnOk result (IsTrue (state S.Store conn.new).is_open) }
     ensures looks { Looks (state S.Store conn.old) (state S.Store conn.new) }
 {
@@ -104,7 +107,7 @@ fn check_format<S: Alter>(conn: &mut Connection<S>) -> Result<(), OpenFault>
 /// Tests that the rows show the number of the format, and no other.
 fn format_in(rows: &[Row]) -> Result<(), OpenFault>
     ensures known { OnOk result (IsMarked rows.now format_number) }
-    ensures cause { IfErr result (IsFor ((number : ℕ) × (format_number < number) × IsMarked rows.now number)) }
+    ensures cause { IfErr result (IsFor ((number : ℕ) × (format_number < number) × IsMarked rows.now number) (λ told. (told ≡ 0) × ((number : ℕ) → format_number ≤ number → IsMarked rows.now number → ⊥))) }
 {
     let [row] = rows else {
         return Err(OpenFault::Damaged(0));
@@ -125,8 +128,9 @@ fn check_row<S: Alter>(
     number: u32,
 ) -> Result<bool, OpenFault>
     requires laid { HasCleanDisk (state S.Store conn.old) → IsTrue (state S.Store conn.old).is_open → IsLaid (state S.Store conn.old) }
-    ensures lawful { HasCleanDisk (state S.Store conn.new) → IfOk result (λ is. IsTrue is → HasLawful (resources (state S.Store conn.old)) number) }
-    ensures cause { IfErr result (IsFor ⊥) }
+    ensures lawful { HasCleanDisk (state S.Store conn.new) → IfOk result (λ is. IsTrue is → IsLawfulAt (resources (state S.Store conn.old)) number) }
+    ensures absent { HasCleanDisk (state S.Store conn.new) → IfOk result (λ is. is ≡ false → filter (has_rowid (pos number)) (resources (state S.Store conn.old)) ≡ []) }
+    ensures cause { HasCleanDisk (state S.Store conn.new) → IfErr result (IsFor ⊥ (λ told. IsTrue (state S.Store conn.new).is_open × (told ≡ number) × IsWrong (resources (state S.Store conn.old)) number)) }
     ensures open { HasCleanDisk (state S.Store conn.new) → OnOk result (IsTrue (state S.Store conn.new).is_open) }
     ensures looks { Looks (state S.Store conn.old) (state S.Store conn.new) }
 {
@@ -148,7 +152,8 @@ fn check_name<S: Alter>(
 ) -> Result<(), OpenFault>
     requires laid { HasCleanDisk (state S.Store conn.old) → IsTrue (state S.Store conn.old).is_open → IsLaid (state S.Store conn.old) }
     ensures alone { HasCleanDisk (state S.Store conn.new) → OnOk result (IsAlone (resources (state S.Store conn.old)) (content_name row.now.content)) }
-    ensures cause { IfErr result (IsFor ⊥) }
+    ensures named { HasCleanDisk (state S.Store conn.new) → OnOk result ((r : _) × (filter (has_name (content_name row.now.content)) (resources (state S.Store conn.old)) ≡ r ∷ [])) }
+    ensures cause { HasCleanDisk (state S.Store conn.new) → IfErr result (IsFor ⊥ (λ told. IsTrue (state S.Store conn.new).is_open × (told ≡ row.now.number) × NoneNamed (resources (state S.Store conn.old)) (content_name row.now.content))) }
     ensures open { HasCleanDisk (state S.Store conn.new) → OnOk result (IsTrue (state S.Store conn.new).is_open) }
     ensures looks { Looks (state S.Store conn.old) (state S.Store conn.new) }
 {
@@ -163,7 +168,9 @@ fn check_name<S: Alter>(
 fn check_rows<S: Alter>(alloc: Global, conn: &mut Connection<S>) -> Result<u32, OpenFault>
     requires laid { HasCleanDisk (state S.Store conn.old) → IsTrue (state S.Store conn.old).is_open → IsLaid (state S.Store conn.old) }
     ensures first { HasCleanDisk (state S.Store conn.new) → IfOk result (λ count. (rows : List StoredRecord) × HoldsFirst (resources (state S.Store conn.old)) rows × (length rows ≡ count)) }
-    ensures cause { IfErr result (IsFor ⊥) }
+    ensures lawful { HasCleanDisk (state S.Store conn.new) → IfOk result (AreLawfulTo (resources (state S.Store conn.old))) }
+    ensures ends { HasCleanDisk (state S.Store conn.new) → IfOk result (EndsAt (resources (state S.Store conn.old))) }
+    ensures cause { HasCleanDisk (state S.Store conn.new) → IfErr result (IsFor ⊥ (λ told. IsTrue (state S.Store conn.new).is_open × IsFirstWrong (resources (state S.Store conn.old)) told)) }
     ensures looks { Looks (state S.Store conn.old) (state S.Store conn.new) }
 {
     for count in 0..LAST_NUMBER {
@@ -178,7 +185,8 @@ fn check_rows<S: Alter>(alloc: Global, conn: &mut Connection<S>) -> Result<u32, 
 fn check_rest<S: Alter>(conn: &mut Connection<S>, count: u32) -> Result<(), OpenFault>
     requires laid { HasCleanDisk (state S.Store conn.old) → IsTrue (state S.Store conn.old).is_open → IsLaid (state S.Store conn.old) }
     ensures none { HasCleanDisk (state S.Store conn.new) → OnOk result ((n : ℕ) → count < n → filter (has_rowid (pos n)) (resources (state S.Store conn.old)) ≡ []) }
-    ensures cause { IfErr result (IsFor ⊥) }
+    ensures within { HasCleanDisk (state S.Store conn.new) → OnOk result (AreWithin (resources (state S.Store conn.old)) count) }
+    ensures cause { HasCleanDisk (state S.Store conn.new) → IfErr result (IsFor ⊥ (λ told. IsTrue (state S.Store conn.new).is_open × IsOutside (resources (state S.Store conn.old)) count told)) }
     ensures open { HasCleanDisk (state S.Store conn.new) → OnOk result (IsTrue (state S.Store conn.new).is_open) }
     ensures looks { Looks (state S.Store conn.old) (state S.Store conn.new) }
 {
@@ -195,7 +203,7 @@ fn check_rest<S: Alter>(conn: &mut Connection<S>, count: u32) -> Result<(), Open
 /// Tests that there is no row, or tells the number of the first.
 fn none_in(rows: &[Row]) -> Result<(), OpenFault>
     ensures none { OnOk result (rows.now ≡ []) }
-    ensures cause { IfErr result (IsFor ⊥) }
+    ensures cause { IfErr result (IsFor ⊥ (λ told. (r : _) × Has rows.now r × (told ≡ number_at (column r 0)))) }
 {
     match rows {
         [] => Ok(()),
@@ -209,7 +217,7 @@ fn none_in(rows: &[Row]) -> Result<(), OpenFault>
 fn check_laid<S: Alter>(alloc: Global, conn: &mut Connection<S>) -> Result<u32, OpenFault>
     requires laid { HasCleanDisk (state S.Store conn.old) → IsTrue (state S.Store conn.old).is_open → IsLaid (state S.Store conn.old) }
     ensures store { HasCleanDisk (state S.Store conn.new) → IfOk result (λ count. (rows : List StoredRecord) × IsStore (state S.Store conn.old) rows × (length rows ≡ count)) }
-    ensures cause { HasCleanDisk (state S.Store conn.new) → IfErr result (IsCause (state S.Store conn.old)) }
+    ensures cause { HasCleanDisk (state S.Store conn.new) → IfErr result (IsFor (IsNewer (state S.Store conn.old)) (IsSpoilt (state S.Store conn.old))) }
     ensures open { HasCleanDisk (state S.Store conn.new) → OnOk result (IsTrue (state S.Store conn.new).is_open) }
     ensures looks { Looks (state S.Store conn.old) (state S.Store conn.new) }
 {
@@ -221,7 +229,8 @@ fn check_laid<S: Alter>(alloc: Global, conn: &mut Connection<S>) -> Result<u32, 
 
 /// Whether the tables are laid out, and no transaction is under way.
 fn is_laid<S: Alter>(conn: &Connection<S>) -> bool
-    ensures { IsTrue result → IsTrue (state S.Store conn.now).is_open → IsLaid (state S.Store conn.now) }
+    ensures is { IsTrue result → IsTrue (state S.Store conn.now).is_open → IsLaid (state S.Store conn.now) }
+    ensures not { result ≡ false → IsNotLaid (state S.Store conn.now) }
 {
     conn.is_autocommit() && is_provider(conn.schema())
 }
@@ -232,7 +241,7 @@ pub(crate) fn check_tables<S: Alter>(
     conn: &mut Connection<S>,
 ) -> Result<u32, OpenFault>
     ensures store { HasCleanDisk (state S.Store conn.new) → IfOk result (λ count. (rows : List StoredRecord) × IsStore (state S.Store conn.old) rows × (length rows ≡ count)) }
-    ensures cause { HasCleanDisk (state S.Store conn.new) → IfErr result (IsCause (state S.Store conn.old)) }
+    ensures cause { HasCleanDisk (state S.Store conn.new) → IfErr result (IsFor (IsNewer (state S.Store conn.old)) (λ told. ((told ≡ 0) × IsNotLaid (state S.Store conn.old)) ⊎ IsSpoilt (state S.Store conn.old) told)) }
     ensures open { HasCleanDisk (state S.Store conn.new) → OnOk result (IsTrue (state S.Store conn.new).is_open) }
     ensures looks { Looks (state S.Store conn.old) (state S.Store conn.new) }
     ensures left { HasCleanDisk (state S.Store conn.new) → LeavesStore (state S.Store conn.old) (state S.Store conn.new) }
@@ -250,6 +259,7 @@ pub(crate) fn open_tables<S: Alter>(
     conn: &mut Connection<S>,
 ) -> Result<u32, OpenFault>
     ensures stands { HasCleanDisk (state S.Store conn.new) → IfOk result (λ count. (rows : List StoredRecord) × Stands (state S.Store conn.old) rows × IsStore (state S.Store conn.new) rows × (length rows ≡ count)) }
+    ensures sound { HasCleanDisk (state S.Store conn.new) → OnOk result ((number : ℕ) → IsDamaged (state S.Store conn.old) number → ⊥) }
     ensures cause { HasCleanDisk (state S.Store conn.new) → IfErr result (IsCause (state S.Store conn.old)) }
     ensures open { HasCleanDisk (state S.Store conn.new) → OnOk result (IsTrue (state S.Store conn.new).is_open) }
     ensures left { HasCleanDisk (state S.Store conn.new) → OnErr result (LeavesStore (state S.Store conn.old) (state S.Store conn.new)) }

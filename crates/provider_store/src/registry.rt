@@ -1,10 +1,10 @@
 //! A registry in SQLite.
-ghost use Rattle.std.specs.Prelude.{◌≡◌, ◌<◌, ◌≤◌, ◌+◌, ◌-◌, ◌↔◌, min, Ok, IfErr, IfOk, IsTrue, slice_get};
+ghost use Rattle.std.specs.Prelude.{◌≡◌, ℕ, ◌<◌, ◌≤◌, ◌+◌, ◌-◌, ◌↔◌, min, Ok, IfErr, IfOk, IsTrue, slice_get};
 ghost use Rattle.provider_core.specs.Rows.{row_named};
 ghost use Rattle.provider_core.specs.Stores.{CountsFault, CountsFaults, OnlyReads};
 ghost use Rattle.provider_store.specs.Kept.{IsFaithful, IsHonest, MayHold, kept_rows};
 ghost use Rattle.provider_store.specs.Lookups.{found_of};
-ghost use Rattle.provider_store.specs.Opening.{IsCause, LeavesNone, LeavesStore, Stands};
+ghost use Rattle.provider_store.specs.Opening.{IsCause, IsDamaged, LeavesNone, LeavesStore, Stands};
 ghost use Rattle.sqlite.specs.Held.{state};
 ghost use Rattle.sqlite.specs.State.{HasCleanDisk, Survives};
 
@@ -85,6 +85,7 @@ impl<S: Alter> SqlRegistry<S> {
         ensures rows { IfOk result (λ r. IsHonest S.Store r → Stands (state S.Store conn) (kept_rows S.Store r)) }
         ensures counts { IfOk result (λ r. (r.faults ≡ 0) × (r.writes ≡ 0)) }
         ensures stop { IfOk result (λ r. Survives (state S.Store conn) (state S.Store r.conn) LeavesNone) }
+        ensures sound { IfOk result (λ r. IsHonest S.Store r → (number : ℕ) → IsDamaged (state S.Store conn) number → ⊥) }
         ensures cause { IfErr result (λ e. HasCleanDisk (state S.Store e.1) → IsCause (state S.Store conn) e.0) }
         ensures left { IfErr result (λ e. HasCleanDisk (state S.Store e.1) → LeavesStore (state S.Store conn) (state S.Store e.1)) }
         ensures refused { IfErr result (λ e. Survives (state S.Store conn) (state S.Store e.1) LeavesNone) }

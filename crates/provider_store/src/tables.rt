@@ -1,5 +1,5 @@
 //! The tables, and the statements on them.
-ghost use Rattle.std.specs.Prelude.{◌≡◌, pos, Ok, IfOk, IfSome, OnOk, OnErr, IsTrue, MatchOption};
+ghost use Rattle.std.specs.Prelude.{◌≡◌, ℕ, pos, false, List, Ok, IfNone, IfOk, IfSome, OnOk, OnErr, IsTrue};
 ghost use Rattle.sqlite_value.specs.declared.value.Value.TheVariants.{Int, Text};
 ghost use Rattle.sqlite_value.specs.Order.{column};
 ghost use Rattle.sqlite.specs.Held.{state};
@@ -7,7 +7,7 @@ ghost use Rattle.sqlite.specs.State.{HasCleanDisk, Survives};
 ghost use Rattle.sqlite.specs.Values.{bound};
 ghost use Rattle.scim_resource.specs.Contents.{content_kind, content_name};
 ghost use Rattle.scim_resource.specs.Reading.{content_in};
-ghost use Rattle.scim_resource.specs.Rows.{IsStored};
+ghost use Rattle.scim_resource.specs.Rows.{IsStored, StoredRecord};
 ghost use Rattle.provider_store.specs.Rows.{IsRowOf, kind_code};
 ghost use Rattle.provider_store.specs.Connections.{Answers, FindsName, FindsNumber, IsEditText, IsLaid, IsOnly, IsQuery, IsThere, Keeps, Leaves, Makes, MayLeave, Ran, added, content_text, renewed, resources};
 
@@ -76,7 +76,8 @@ fn write<S: Alter>(
 
 /// The number in a column, if one is there and isn't negative.
 pub(crate) fn number_at(row: &Row, at: usize) -> Option<u64>
-    ensures { IfSome result (λ n. column row.now at ≡ Int (pos n)) }
+    ensures some { IfSome result (λ n. column row.now at ≡ Int (pos n)) }
+    ensures none { IfNone result ((n : ℕ) → column row.now at ≡ Int (pos n) → ⊥) }
 {
     match row.get_ref(at) {
         Ok(ValueRef::Int(number)) => u64::try_from(number).ok(),
@@ -86,7 +87,8 @@ pub(crate) fn number_at(row: &Row, at: usize) -> Option<u64>
 
 /// The text in a column, if one is there.
 fn text_at(row: &Row, at: usize) -> Option<&[u8]>
-    ensures { IfSome result (λ text. column row.now at ≡ Text text.now) }
+    ensures some { IfSome result (λ text. column row.now at ≡ Text text.now) }
+    ensures none { IfNone result ((text : List ℕ) → column row.now at ≡ Text text → ⊥) }
 {
     match row.get_ref(at) {
         Ok(ValueRef::Text(text)) => Some(text),
@@ -95,7 +97,8 @@ fn text_at(row: &Row, at: usize) -> Option<&[u8]>
 }
 
 fn kind_of(code: u64) -> Option<Kind>
-    ensures { IfSome result (λ kind. code ≡ kind_code kind) }
+    ensures some { IfSome result (λ kind. code ≡ kind_code kind) }
+    ensures none { IfNone result ((kind : Kind) → code ≡ kind_code kind → ⊥) }
 {
     match code {
         1 => Some(Kind::User),
@@ -116,7 +119,8 @@ fn code_of(kind: Kind) -> i64
 
 /// The content that a text spells, or none.
 fn read_content(alloc: Global, text: &[u8], kind: Kind) -> Result<Option<Content>, AllocError>
-    ensures { IfOk result (λ content. IfSome content (λ c. content_in kind text.now ≡ Ok c)) }
+    ensures some { IfOk result (λ content. IfSome content (λ c. content_in kind text.now ≡ Ok c)) }
+    ensures none { IfOk result (λ content. IfNone content ((c : Content) → content_in kind text.now ≡ Ok c → ⊥)) }
 {
     match Content::from_slice(alloc, text, kind) {
         Ok(content) => Ok(Some(content)),
@@ -127,7 +131,8 @@ fn read_content(alloc: Global, text: &[u8], kind: Kind) -> Result<Option<Content
 
 /// Whether the content is of this kind, under a name with this key.
 fn has_key(alloc: Global, content: &Content, kind: Kind, key: &[u8]) -> Result<bool, AllocError>
-    ensures { IfOk result (λ is. IsTrue is → content_name content.now ≡ record { kind = kind; key = key.now }) }
+    ensures same { IfOk result (λ is. IsTrue is → content_name content.now ≡ record { kind = kind; key = key.now }) }
+    ensures other { IfOk result (λ is. is ≡ false → content_name content.now ≡ record { kind = kind; key = key.now } → ⊥) }
 {
     let name = content.name(alloc)?;
     Ok(name.kind == kind && name.key.as_str().as_bytes() == key)
@@ -135,7 +140,8 @@ fn has_key(alloc: Global, content: &Content, kind: Kind, key: &[u8]) -> Result<b
 
 /// The resource that a row of the answer shows, or none where the row isn't lawful.
 fn read_row(alloc: Global, row: &Row) -> Result<Option<Stored>, AllocError>
-    ensures { IfOk result (λ stored. IfSome stored (IsRowOf row.now)) }
+    ensures some { IfOk result (λ stored. IfSome stored (IsRowOf row.now)) }
+    ensures none { IfOk result (λ stored. IfNone stored ((s : StoredRecord) → IsRowOf row.now s → ⊥)) }
 {
     let (Some(number), Some(code), Some(key), Some(version), Some(text)) = (
         number_at(row, 0),
@@ -162,6 +168,7 @@ fn read_row(alloc: Global, row: &Row) -> Result<Option<Stored>, AllocError>
 fn stored(number: u64, version: u64, content: Content) -> Option<Stored>
     ensures value { IfSome result (λ s. s ≡ record { number = number; version = version; content = content }) }
     ensures lawful { IfSome result IsStored }
+    ensures none { IfNone result (IsStored (record { number = number; version = version; content = content }) → ⊥) }
 {
     let number = u32::try_from(number).ok()?;
     if number == 0 || number > LAST_NUMBER || version == 0 || version > LAST_VERSION {

@@ -4,8 +4,8 @@ use Rattle.provider_store.specs.Opening.{IsResourceTable}
 use Rattle.provider_store.proofs.Fields.{one_item, two_items, provider_fields}
 use Rattle.provider_store.proofs.format.is_provider.Goals as goal
 
-pub returns-then-is_empty : goal.returns-then-is_empty
-returns-then-is_empty c is =
+pub returns-then-is_empty-clause-is : goal.returns-then-is_empty-clause-is
+returns-then-is_empty-clause-is c is =
     let format = c.format-item.result in
     let resource = c.resource-item.result in
     let index = c.index-item.result in
@@ -15,4 +15,4 @@ returns-then-is_empty c is =
     let is_resource : IsResourceTable resource = search (rules, tests) in
     let is_index : index ≡ name_index index.order = search (rules, tests) in
     let views : c.args.schema.now.views ≡ [] = search (rules, tests) in
-    provider_fields c.args.schema.now format resource index (sym c.as_slice.ensures ∙ tables) (sym c.as_slice-2.ensures ∙ indexes) views is_format is_resource is_index (c.has_order.ensures is)
+    provider_fields c.args.schema.now format resource index (sym c.as_slice.ensures ∙ tables) (sym c.as_slice-2.ensures ∙ indexes) views is_format is_resource is_index (c.has_order.ensures.is is)

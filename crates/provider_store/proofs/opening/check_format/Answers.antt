@@ -3,7 +3,7 @@ use Rattle.sqlite.specs.Held.{state}
 use Rattle.sqlite.specs.State.{HasCleanDisk}
 use Rattle.provider_store.specs.Format.{format_number}
 use Rattle.provider_store.proofs.Texts.{marked_query}
-use Rattle.provider_store.proofs.Checking.{on_ok, if_err, is_for, marked_found}
+use Rattle.provider_store.proofs.Checking.{on_ok, if_err, is_for, told_any, marked_found, found_marked}
 use Rattle.provider_store.proofs.opening.check_format.Goals as goal
 
 pub ask-requires-clause-query : goal.ask-requires-clause-query
@@ -20,5 +20,10 @@ returns-in-Ok-clause-cause g c clean =
     let early : HasCleanDisk (state g.S.Store c.args.conn.now) = omega (arith, clean, c.in-Ok.ensures.quiet.clean) in
     let laid = c.requires.laid early ((c.in-Ok.ensures.keeps clean).was_open (c.in-Ok.ensures.open clean)) in
     if_err c.format_in.result
-    (λ fault newer. is_for (λ h. (h.0, h.1, marked_found (state g.S.Store c.args.conn.now) c.in-Ok.rows.items c.as_slice.result.now h.0 c.as_slice.ensures.value laid (c.in-Ok.ensures.rows clean) h.2)) fault newer)
+    (λ fault cause. is_for
+    (λ h. (h.0, h.1, marked_found (state g.S.Store c.args.conn.now) c.in-Ok.rows.items c.as_slice.result.now h.0 c.as_slice.ensures.value laid (c.in-Ok.ensures.rows clean) h.2))
+    (λ told d. (d.0, λ number low format. d.1 number low (found_marked (state g.S.Store c.args.conn.now) c.in-Ok.rows.items c.as_slice.result.now number c.as_slice.ensures.value laid (c.in-Ok.ensures.rows clean) format))) fault cause)
     c.format_in.ensures.cause
+
+pub returns-in-Ok-clause-told : goal.returns-in-Ok-clause-told
+returns-in-Ok-clause-told g c clean = if_err c.format_in.result (λ fault _. told_any (c.in-Ok.ensures.open clean) fault) c.format_in.ensures.cause

@@ -1,10 +1,12 @@
-use Rattle.std.proofs.Common.{◌≡◌, [], pos, filter, arith, ◌∙◌, subst}
+use Rattle.std.proofs.Common.{◌≡◌, [], pos, filter, length, IsTrue, arith, sym, ◌∙◌, subst, inl, inr}
 use Rattle.sqlite_trees.specs.Tree.{has_rowid}
 use Rattle.sqlite.specs.Held.{state}
 use Rattle.sqlite.specs.State.{HasCleanDisk}
 use Rattle.provider_store.specs.Connections.{resources}
-use Rattle.provider_store.specs.Opening.{HoldsFirst}
-use Rattle.provider_store.proofs.Checking.{laid_on, was_laid, same_rows, first_all}
+use Rattle.provider_store.specs.Opening.{HoldsFirst, IsNewer, IsSpoilt, IsUnmarked}
+use Rattle.provider_store.specs.Lawful.{AreAllLawful, AreLawfulTo, AreWithin, EndsAt, IsFirstWrong, IsOutside}
+use Rattle.provider_store.proofs.Refusing.{provider_of, spoilt_by}
+use Rattle.provider_store.proofs.Checking.{both_of, damage_of, laid_on, was_laid, same_rows, first_all}
 use Rattle.provider_store.proofs.opening.check_laid.Goals as goal
 
 pub returns-clause-store : goal.returns-clause-store
@@ -25,4 +27,57 @@ returns-clause-store g c clean =
     let none = rest.none clean in
     let holds = first_all (resources (state g.S.Store old)) first.0 (subst (λ table. HoldsFirst table first.0) to_old first.1)
     (λ n far. subst (λ table. filter (has_rowid (pos n)) table ≡ []) (to_marked ∙ to_old) (none n (omega (arith, far, first.2)))) in
-    (first.0, record { laid = was_laid (state g.S.Store old) (state g.S.Store marked) format.looks c.requires.laid early was; format = format.known early; holds = holds }, first.2)
+    let lawful : AreAllLawful (resources (state g.S.Store old)) (length first.0) = record {
+      each = subst (AreLawfulTo (resources (state g.S.Store old))) (sym first.2) (subst (λ table. AreLawfulTo table c.in_ok-count.count) to_old (rows.lawful later));
+      within = subst (AreWithin (resources (state g.S.Store old))) (sym first.2) (subst (λ table. AreWithin table c.in_ok-count.count) (to_marked ∙ to_old) (rest.within clean));
+    } in
+    (first.0, record { laid = was_laid (state g.S.Store old) (state g.S.Store marked) format.looks c.requires.laid early was; format = format.known early; holds = holds; lawful = lawful }, first.2)
+
+pub returns-in_err-check_format-clause-cause : goal.returns-in_err-check_format-clause-cause
+returns-in_err-check_format-clause-cause g c clean =
+    let err = c.in_err-check_format.ensures in
+    let early : HasCleanDisk (state g.S.Store c.args.conn.now) = omega (arith, clean, err.looks.quiet.clean) in
+    let old = state g.S.Store c.args.conn.now in
+    let new = state g.S.Store c.check_format.new.conn in
+    both_of (IsNewer old) (IsTrue new.is_open) (λ told. (told ≡ 0) × IsUnmarked old) (λ _. IsTrue new.is_open) (IsSpoilt old)
+    (λ told d still. (provider_of old (c.requires.laid early ((err.looks.keeps clean).was_open still)), inl d))
+    c.from_residual.result c.in_err-check_format.field-0.0 c.from_residual.ensures.1 (err.cause clean) (err.told clean)
+
+pub returns-in_err-count-clause-cause : goal.returns-in_err-count-clause-cause
+returns-in_err-count-clause-cause g c clean =
+    let old = state g.S.Store c.args.conn.now in
+    let marked = state g.S.Store c.check_format.new.conn in
+    let format = c.in_ok-check_format.ensures in
+    let err = c.in_err-count.ensures in
+    let early : HasCleanDisk marked = omega (arith, clean, err.looks.quiet.clean) in
+    damage_of (IsNewer old) (λ told. IsTrue (state g.S.Store c.check_rows.new.conn).is_open × IsFirstWrong (resources marked) told) (IsSpoilt old)
+    (λ told it.
+    let was = (err.looks.keeps clean).was_open it.0 in
+    let to_old = same_rows old marked format.looks c.requires.laid early was in
+    spoilt_by old told (was_laid old marked format.looks c.requires.laid early was) (format.known early) (inl (subst (λ table. IsFirstWrong table told) to_old it.1)))
+    c.from_residual-in_err-count.result c.in_err-count.field-0.0 c.from_residual-in_err-count.ensures.1 (err.cause clean)
+
+pub returns-in_err-check_rest-clause-cause : goal.returns-in_err-check_rest-clause-cause
+returns-in_err-check_rest-clause-cause g c clean =
+    let old = state g.S.Store c.args.conn.now in
+    let marked = state g.S.Store c.check_format.new.conn in
+    let counted = state g.S.Store c.check_rows.new.conn in
+    let format = c.in_ok-check_format.ensures in
+    let rows = c.in_ok-count.ensures in
+    let err = c.in_err-check_rest.ensures in
+    let later : HasCleanDisk counted = omega (arith, clean, err.looks.quiet.clean) in
+    let early : HasCleanDisk marked = omega (arith, later, rows.looks.quiet.clean) in
+    damage_of (IsNewer old) (λ told. IsTrue (state g.S.Store c.check_rest.new.conn).is_open × IsOutside (resources counted) c.in_ok-count.count told) (IsSpoilt old)
+    (λ told it.
+    let still = (err.looks.keeps clean).was_open it.0 in
+    let was = (rows.looks.keeps later).was_open still in
+    let to_old = same_rows old marked format.looks c.requires.laid early was in
+    let to_marked = same_rows marked counted rows.looks (laid_on old marked format.looks c.requires.laid) later still in
+    spoilt_by old told (was_laid old marked format.looks c.requires.laid early was) (format.known early)
+    (inr (record {
+      count = c.in_ok-count.count;
+      before = subst (λ table. AreLawfulTo table c.in_ok-count.count) to_old (rows.lawful later);
+      ends = subst (λ table. EndsAt table c.in_ok-count.count) to_old (rows.ends later);
+      beside = subst (λ table. IsOutside table c.in_ok-count.count told) (to_marked ∙ to_old) it.1;
+    })))
+    c.from_residual-in_err-check_rest.result c.in_err-check_rest.field-0.0 c.from_residual-in_err-check_rest.ensures.1 (err.cause clean)

@@ -3,7 +3,7 @@ use Rattle.sqlite.specs.Held.{state}
 use Rattle.sqlite.specs.State.{HasCleanDisk}
 use Rattle.provider_store.proofs.Texts.{outside_query}
 use Rattle.provider_store.proofs.Values.{bound_int}
-use Rattle.provider_store.proofs.Checking.{on_ok, outside_found}
+use Rattle.provider_store.proofs.Checking.{on_ok, if_err, is_for, outside_found, within_found, beside_found}
 use Rattle.provider_store.proofs.opening.check_rest.Goals as goal
 
 pub ask-requires-clause-query : goal.ask-requires-clause-query
@@ -16,3 +16,23 @@ returns-in-Ok-clause-none g c clean =
     on_ok c.none_in.result
     (outside_found (state g.S.Store c.args.conn.now) _ c.args.count c.in-Ok.rows.items c.as_slice.result.now (bound_int c.from.result c.args.count c.from.ensures (omega (arith, c.ranges.count.fits))) c.as_slice.ensures.value laid (c.in-Ok.ensures.rows clean))
     c.none_in.ensures.none
+
+pub returns-in-Ok-clause-within : goal.returns-in-Ok-clause-within
+returns-in-Ok-clause-within g c clean =
+    let early : HasCleanDisk (state g.S.Store c.args.conn.now) = omega (arith, clean, c.in-Ok.ensures.quiet.clean) in
+    let laid = c.requires.laid early ((c.in-Ok.ensures.keeps clean).was_open (c.in-Ok.ensures.open clean)) in
+    on_ok c.none_in.result
+    (within_found (state g.S.Store c.args.conn.now) _ c.args.count c.in-Ok.rows.items c.as_slice.result.now (bound_int c.from.result c.args.count c.from.ensures (omega (arith, c.ranges.count.fits))) c.as_slice.ensures.value laid (c.in-Ok.ensures.rows clean))
+    c.none_in.ensures.none
+
+pub returns-in-Ok-clause-cause : goal.returns-in-Ok-clause-cause
+returns-in-Ok-clause-cause g c clean =
+    let early : HasCleanDisk (state g.S.Store c.args.conn.now) = omega (arith, clean, c.in-Ok.ensures.quiet.clean) in
+    let laid = c.requires.laid early ((c.in-Ok.ensures.keeps clean).was_open (c.in-Ok.ensures.open clean)) in
+    if_err c.none_in.result
+    (λ fault cause. is_for (λ none. none)
+    (λ told d. (
+      c.in-Ok.ensures.open clean,
+      beside_found (state g.S.Store c.args.conn.now) _ c.args.count c.in-Ok.rows.items c.as_slice.result.now (bound_int c.from.result c.args.count c.from.ensures (omega (arith, c.ranges.count.fits))) c.as_slice.ensures.value laid (c.in-Ok.ensures.rows clean) d.0 told d.1 d.2,
+    )) fault cause)
+    c.none_in.ensures.cause

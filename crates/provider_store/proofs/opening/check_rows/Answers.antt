@@ -1,13 +1,14 @@
-use Rattle.std.proofs.Common.{◌+◌, [], ◌∷◌, ◌++◌, IsTrue, length, length-append, refl, sym, ap, ◌∙◌, subst, arith, rules, tests}
+use Rattle.std.proofs.Common.{◌≡◌, ◌+◌, [], ◌∷◌, ◌++◌, IsTrue, length, length-append, refl, sym, ap, ◌∙◌, subst, arith, rules, tests}
 use Rattle.sqlite.specs.Held.{state}
 use Rattle.sqlite.specs.State.{HasCleanDisk}
 use Rattle.provider_store.specs.Connections.{resources}
-use Rattle.provider_store.specs.Opening.{HasLawful}
-use Rattle.provider_store.proofs.Checking.{looks_same, looks_then, same_rows, first_none, first_next}
+use Rattle.provider_store.specs.Lawful.{IsLawfulAt, IsFirstWrong, IsWrong}
+use Rattle.provider_store.proofs.Refusing.{none_lawful, next_lawful, first_wrong}
+use Rattle.provider_store.proofs.Checking.{damage_of, looks_same, looks_then, same_rows, first_none, first_next}
 use Rattle.provider_store.proofs.opening.check_rows.Goals as goal
 
 pub loop-count-init : goal.loop-count-init
-loop-count-init g c = (looks_same (state g.S.Store c.args.conn.now), λ _. ([], first_none _, refl))
+loop-count-init g c = (looks_same (state g.S.Store c.args.conn.now), λ _. ([], first_none _, refl), λ _. none_lawful _)
 
 pub loop-count-preserved : goal.loop-count-preserved
 loop-count-preserved g c =
@@ -20,7 +21,26 @@ loop-count-preserved g c =
           let still = (step.looks.keeps clean).was_open (step.open clean) in
           let table = same_rows (state g.S.Store c.args.conn.now) (state g.S.Store c.loop-count.conn) so_far.0 c.requires.laid mid_clean still in
           let is : IsTrue c.in_ok-check_row.field-0 = search (rules, tests) in
-          let lawful : HasLawful (resources (state g.S.Store c.args.conn.now)) (length first.0 + 1) =
-          subst (λ rows. HasLawful rows (length first.0 + 1)) table (subst (HasLawful (resources (state g.S.Store c.loop-count.conn))) (ap (λ n. n + 1) (sym first.2)) (step.lawful clean is)) in
+          let lawful : IsLawfulAt (resources (state g.S.Store c.args.conn.now)) (length first.0 + 1) =
+          subst (λ rows. IsLawfulAt rows (length first.0 + 1)) table (subst (IsLawfulAt (resources (state g.S.Store c.loop-count.conn))) (ap (λ n. n + 1) (sym first.2)) (step.lawful clean is)) in
           (first.0 ++ lawful.held ∷ [], first_next (resources (state g.S.Store c.args.conn.now)) first.0 first.1 lawful, length-append first.0 (lawful.held ∷ []) ∙ ap (λ n. n + 1) first.2),
+      λ clean.
+          let mid_clean : HasCleanDisk (state g.S.Store c.loop-count.conn) = omega (arith, clean, step.looks.quiet.clean) in
+          let still = (step.looks.keeps clean).was_open (step.open clean) in
+          let table = same_rows (state g.S.Store c.args.conn.now) (state g.S.Store c.loop-count.conn) so_far.0 c.requires.laid mid_clean still in
+          let is : IsTrue c.in_ok-check_row.field-0 = search (rules, tests) in
+          next_lawful (resources (state g.S.Store c.args.conn.now)) c.loop-count.count (so_far.2 mid_clean) (subst (λ rows. IsLawfulAt rows (c.loop-count.count + 1)) table (step.lawful clean is)),
     )
+
+pub returns-in_err-check_row-clause-cause : goal.returns-in_err-check_row-clause-cause
+returns-in_err-check_row-clause-cause g c clean =
+    let so_far = c.loop-count.invariant in
+    let err = c.in_err-check_row.ensures in
+    let mid_clean : HasCleanDisk (state g.S.Store c.loop-count.conn) = omega (arith, clean, err.looks.quiet.clean) in
+    damage_of ⊥ (λ told. IsTrue (state g.S.Store c.check_row.new.conn).is_open × (told ≡ c.loop-count.count + 1) × IsWrong (resources (state g.S.Store c.loop-count.conn)) (c.loop-count.count + 1))
+    (λ told. IsTrue (state g.S.Store c.check_row.new.conn).is_open × IsFirstWrong (resources (state g.S.Store c.args.conn.now)) told)
+    (λ told it.
+    let still = (err.looks.keeps clean).was_open it.0 in
+    let table = same_rows (state g.S.Store c.args.conn.now) (state g.S.Store c.loop-count.conn) so_far.0 c.requires.laid mid_clean still in
+    (it.0, first_wrong (resources (state g.S.Store c.args.conn.now)) c.loop-count.count told (so_far.2 mid_clean) it.1 (subst (λ rows. IsWrong rows (c.loop-count.count + 1)) table it.2)))
+    c.from_residual.result c.in_err-check_row.field-0.0 c.from_residual.ensures.1 (err.cause clean)

@@ -1,0 +1,84 @@
+-- Which rows of a table are lawful, and which row an opening refuses.
+use Rattle.std.specs.Prelude.{◌≡◌, ◌≢◌, ◌⊎◌, ℕ, suc, ◌<◌, ◌≤◌, pos, Bool, true, false, ◌&&◌, ◌||◌, List, [], ◌∷◌, filter}
+use Rattle.std.specs.Ordering.{is_eq, is_lt, is_gt}
+use Rattle.sqlite_value.specs.declared.value.Value.{Value}
+use Rattle.sqlite_value.specs.declared.value.Value.TheVariants.{Null, Int, Text}
+use Rattle.sqlite_value.specs.Order.{Row, column, value_cmp}
+use Rattle.sqlite_trees.specs.Tree.{rowid, has_rowid}
+use Rattle.sqlite_rules.specs.Lists.{Has}
+use Rattle.scim_key.specs.Identifiers.{last_number}
+use Rattle.scim_key.specs.declared.records.RecordName.{RecordName}
+use Rattle.scim_resource.specs.Contents.{content_name}
+use Rattle.scim_resource.specs.Rows.{StoredRecord}
+use Rattle.provider_store.specs.Rows.{kind_code, shown_row, IsRowOf, number_at}
+
+-- ---- one row
+
+-- the row has this kind and this key, as SQLite compares them
+abbrev pub has_name : RecordName → Row → Bool
+has_name name r = is_eq (value_cmp (column r 2) (Int (pos (kind_code name.kind)))) && is_eq (value_cmp (column r 3) (Text name.key))
+
+-- one row has this number, it shows a record, and no other row has the kind and the key of that record
+pub record IsLawfulAt (table : List Row) (number : ℕ) : Type 0 where
+  pub row : Row
+  pub held : StoredRecord
+  pub only : filter (has_rowid (pos number)) table ≡ row ∷ []
+  pub shows : IsRowOf (shown_row row) held
+  pub named : filter (has_name (content_name held.content)) table ≡ row ∷ []
+
+-- no row that shows a record has this kind and this key alone
+abbrev pub NoneNamed : List Row → RecordName → Type 0
+NoneNamed table name = (r : Row) (s : StoredRecord) → filter (has_name name) table ≡ r ∷ [] → IsRowOf (shown_row r) s → ⊥
+
+-- a row has this number, and isn't lawful
+pub record IsWrong (table : List Row) (number : ℕ) : Type 0 where
+  pub stands : filter (has_rowid (pos number)) table ≢ []
+  pub unlawful : IsLawfulAt table number → ⊥
+
+-- ---- the rows in turn
+
+-- the rows with the numbers from 1 to this one are lawful
+abbrev pub AreLawfulTo : List Row → ℕ → Type 0
+AreLawfulTo table count = (n : ℕ) → 1 ≤ n → n ≤ count → IsLawfulAt table n
+
+-- no row has the next number, or there is no next one
+abbrev pub EndsAt : List Row → ℕ → Type 0
+EndsAt table count = (filter (has_rowid (pos (suc count))) table ≡ []) ⊎ (count ≡ last_number)
+
+-- the number is below 1 or above this one, as SQLite compares them; NULL, which no row has as its number, is neither
+abbrev pub is_outside : ℕ → Value → Bool
+is_outside count Null = false
+is_outside count v = is_lt (value_cmp v (Int (pos 1))) || is_gt (value_cmp v (Int (pos count)))
+
+-- a row stands whose number isn't from 1 to this count; the number is told, and 0 for one that is below 0
+pub record IsOutside (table : List Row) (count number : ℕ) : Type 0 where
+  pub row : Row
+  pub there : Has table row
+  pub outside : is_outside count (rowid row) ≡ true
+  pub told : number ≡ number_at (rowid row)
+
+-- every row has a number from 1 to this count
+abbrev pub AreWithin : List Row → ℕ → Type 0
+AreWithin table count = filter (λ r. is_outside count (rowid r)) table ≡ []
+
+-- the rows are lawful, and are those from 1 to this count
+pub record AreAllLawful (table : List Row) (count : ℕ) : Type 0 where
+  pub each : AreLawfulTo table count
+  pub within : AreWithin table count
+
+-- the first row that isn't lawful: those before it are, from 1 on
+pub record IsFirstWrong (table : List Row) (number : ℕ) : Type 0 where
+  pub from_one : 1 ≤ number
+  pub before : (n : ℕ) → 1 ≤ n → n < number → IsLawfulAt table n
+  pub wrong : IsWrong table number
+
+-- a row that isn't to be there: lawful rows follow each other from 1 to the last that does, and it stands beside them
+pub record IsAstray (table : List Row) (number : ℕ) : Type 0 where
+  pub count : ℕ
+  pub before : AreLawfulTo table count
+  pub ends : EndsAt table count
+  pub beside : IsOutside table count number
+
+-- the row that an opening refuses
+abbrev pub IsUnlawfulAt : List Row → ℕ → Type 0
+IsUnlawfulAt table number = IsFirstWrong table number ⊎ IsAstray table number
