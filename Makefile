@@ -1,9 +1,13 @@
 # The commands of the README, and what a checkout needs from day to day.
 PREFIX ?= /usr/local
 
-.PHONY: answer map simulate try test edits build install
+.PHONY: loop answer map simulate try test edits build install
 
-# the main job on the example: one POST of a user, answered on standard output
+# the main job on the example: joiners, a leaver and a group, carried by both ends over TCP
+loop: build
+	crates/scimlink/out/scimlink loop --users examples/tuesday.csv --groups examples/groups.csv
+
+# one POST of a user, answered on standard output
 answer: build
 	crates/scimlink/out/scimlink answer < examples/create-user.http
 
@@ -15,7 +19,7 @@ map: build
 simulate: build
 	crates/scimlink/out/scimlink simulate examples/late-leaver.schedule
 
-# the main job with no proof and no kept program: for a first look. The last line says so: proved=no
+# that answer with no proof and no kept program: for a first look. The last line says so: proved=no
 try:
 	cd crates/scimlink && rt try --steps 1 -- answer < ../../examples/create-user.http
 

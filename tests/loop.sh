@@ -49,6 +49,11 @@ loops 'a group' 0 '' '1 new' '2 new' '3 new' 'settled in 6 exchanges' \
     'user ann wanted=1 confirmed=1 held=1 version=1 active=true' "$bob" \
     'group crew wanted=1 confirmed=1 held=1 version=1 members=2'
 
+# the example, as the README has it
+sed -n '/^    1 new$/,/^$/s/^    //p' README.md > "$room/wanted"
+expect 'the example' 0 '' "$program" loop --users examples/tuesday.csv --groups examples/groups.csv
+prints 'the example' "$room/wanted"
+
 # of two rows of a record the later revision is carried, once
 users bob,1,,,,,active bob,4,,,,,left bob,3,,,,,active BOB,4,,,,,left
 groups crew,1,bob crew,2,
