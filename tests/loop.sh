@@ -50,7 +50,7 @@ loops 'a group' 0 '' '1 new' '2 new' '3 new' 'settled in 6 exchanges' \
     'group crew wanted=1 confirmed=1 held=1 version=1 members=2'
 
 # the example, as the README has it
-sed -n '/^    1 new$/,/^$/s/^    //p' README.md > "$room/wanted"
+sed -n '/^    1 new$/,/^$/{s/^    //p; /^$/q}' README.md > "$room/wanted"
 expect 'the example' 0 '' "$program" loop --users examples/tuesday.csv --groups examples/groups.csv
 prints 'the example' "$room/wanted"
 
