@@ -75,7 +75,7 @@ def ran(*words, text=b"", **more):
 def dump(path):
     """All that SQLite reads in a file, if it is a database that it may read."""
     try:
-        with sqlite3.connect(path) as store:
+        with sqlite3.connect(path, timeout=0) as store:
             held = list(store.iterdump())
         store.close()
         return held
@@ -151,6 +151,10 @@ def is_locked(path):
 
 
 # ---- runs that go on
+
+# How much the files of a run may grow, so that some changes are committed and then one fails: the log takes
+# a quarter of a megabyte at its first change, and more later on
+SOME_MORE = 512 * 1024
 
 
 class Run:

@@ -307,7 +307,7 @@ def test_a_kill_while_rows_are_offered():
     path, users = file("offered"), many_users("offered-users")
     log = path.with_name(f"{path.name}-wal")
     run = Push("offered-lines", push(path, users, "127.0.0.1:1"))
-    run.until(lambda: log.exists() and log.stat().st_size > 200_000)
+    run.until(lambda: log.exists() and log.stat().st_size > files.SOME_MORE)
     run.kill()
     equal(run.lines(), [])
     shown = entries(path)
@@ -348,7 +348,7 @@ def test_a_journal_that_fails_ends_the_run():
     path, store, users = file("limited"), file("limited-store"), many_users("limited-users")
     equal(ran(*push(path, users, "127.0.0.1:1")), (3, b"", "connection fault\n"))
     server = Server(store, 1000)
-    run = Push("limited-lines", push(path, users, server.address), path.stat().st_size + 64 * 1024)
+    run = Push("limited-lines", push(path, users, server.address), path.stat().st_size + files.SOME_MORE)
     run.ends(3, "journal fault J1\n")
     server.kill()
     assert run.confirmed(), "nothing was carried"

@@ -245,9 +245,9 @@ def test_a_kill_while_a_request_is_sent():
     shows(path, BOB_SHOWN)
 
 
-def limited(path, more):
-    """A run over a file that may grow by so many bytes."""
-    return Server(path, 1000, path.stat().st_size + more)
+def limited(path):
+    """A run over a file that fails after some changes."""
+    return Server(path, 1000, path.stat().st_size + files.SOME_MORE)
 
 
 def fills(server):
@@ -257,6 +257,7 @@ def fills(server):
         answer = server.send(CREATE_BOB.replace(b'"bob"', f'"{place:03}"'.encode()))
         if not answer.startswith(b"HTTP/1.1 201 Created\r\n"):
             assert answer.startswith(b"HTTP/1.1 500 Internal Server Error\r\n"), answer
+            assert created, "the first change failed"
             return created
         created.append(f"{place:03}")
     raise AssertionError("the store never failed")
@@ -265,7 +266,7 @@ def fills(server):
 def test_a_store_that_failed_is_opened_anew():
     path = file("limited")
     shows(path, "")
-    server = limited(path, 64 * 1024)
+    server = limited(path)
     created = fills(server)
     # what was created is found, from the file as it is opened anew
     answer = server.send(b"GET /v2/Users?count=0 HTTP/1.1\r\nHost: h\r\n\r\n")
@@ -278,7 +279,7 @@ def test_a_store_that_failed_is_opened_anew():
 def test_a_store_that_is_not_opened_anew_ends_the_run():
     path = file("moved")
     shows(path, "")
-    server = limited(path, 64 * 1024)
+    server = limited(path)
     # the run holds the file under its new name, and finds a folder where it opens it anew
     moved = path.with_name("elsewhere")
     path.rename(moved)
