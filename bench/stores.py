@@ -95,9 +95,10 @@ INSERT INTO journal_format (one, number) VALUES (1, 1);
 CREATE TABLE user_entry (name_key TEXT PRIMARY KEY NOT NULL, login TEXT NOT NULL, revision INTEGER NOT NULL, number TEXT NOT NULL, given TEXT NOT NULL, family TEXT NOT NULL, mail TEXT NOT NULL, active INTEGER NOT NULL, confirmed INTEGER NOT NULL, id TEXT);
 CREATE TABLE group_entry (name_key TEXT PRIMARY KEY NOT NULL, name TEXT NOT NULL, revision INTEGER NOT NULL, members TEXT NOT NULL, confirmed INTEGER NOT NULL, id TEXT);
 """
-    user_columns = "name_key, login, revision, number, given, family, mail, active, confirmed, id"
-    group_columns = "name_key, name, revision, members, confirmed, id"
-    insert = f"INSERT INTO user_entry ({user_columns}) VALUES (?1, ?2, ?3, ?4, ?5, ?6, ?7, ?8, ?9, ?10)"
+    columns = "name_key, login, revision, number, given, family, mail, active, confirmed, id"
+    users = f"SELECT {columns} FROM user_entry"
+    groups = "SELECT name_key, name, revision, members, confirmed, id FROM group_entry"
+    insert = f"INSERT INTO user_entry ({columns}) VALUES (?1, ?2, ?3, ?4, ?5, ?6, ?7, ?8, ?9, ?10)"
     update = ("UPDATE user_entry SET login = ?2, revision = ?3, number = ?4, given = ?5, family = ?6, "
               "mail = ?7, active = ?8, confirmed = ?9, id = ?10 WHERE name_key = ?1")
 
@@ -107,17 +108,20 @@ CREATE TABLE group_entry (name_key TEXT PRIMARY KEY NOT NULL, name TEXT NOT NULL
     def open(self, connection, _users):
         """The statements of an opening, and of a load."""
         connection.execute("SELECT number FROM journal_format").fetchall()
-        for table in ("user_entry", "group_entry"):
-            connection.execute(f"SELECT rowid FROM {table} ORDER BY rowid").fetchall()
+        connection.execute("SELECT rowid FROM user_entry ORDER BY rowid").fetchall()
+        connection.execute("SELECT rowid FROM group_entry ORDER BY rowid").fetchall()
         for _ in range(2):
-            connection.execute(f"SELECT {self.user_columns} FROM user_entry ORDER BY name_key").fetchall()
-            connection.execute(f"SELECT {self.group_columns} FROM group_entry ORDER BY name_key").fetchall()
+            connection.execute(f"{self.users} ORDER BY name_key").fetchall()
+            connection.execute(f"{self.groups} ORDER BY name_key").fetchall()
 
     def run(self, connection, call, _users, _place, number):
         """The statements of one row."""
-        name, statement, revision = (f"new{number}", self.insert, 1) if call == "add" else (f"user{number}", self.update, 2)
-        connection.execute(f"SELECT {self.user_columns} FROM user_entry WHERE name_key = ?1", (name,)).fetchall()
-        connection.execute(statement, self.row(number, name, revision))
+        name = f"new{number}" if call == "add" else f"user{number}"
+        connection.execute(f"{self.users} WHERE name_key = ?1", (name,)).fetchall()
+        if call == "add":
+            connection.execute(self.insert, self.row(number, name))
+        else:
+            connection.execute(self.update, self.row(number, name, revision=2))
 
 
 def make_file(store, path, users):

@@ -64,8 +64,8 @@ def asked(path, query):
     return rows
 
 
-def ran(*words, text=b"", **more):
-    run = subprocess.run([PROGRAM, *map(str, words)], input=text, capture_output=True, timeout=60, **more)
+def ran(*words, text=b"", program=PROGRAM, **more):
+    run = subprocess.run([program, *map(str, words)], input=text, capture_output=True, timeout=60, **more)
     return run.returncode, run.stdout, run.stderr.decode()
 
 
@@ -88,11 +88,11 @@ def stands(path):
     return path.read_bytes() if path.is_file() else None, dump(path)
 
 
-def refuses(path, commands, told):
+def refuses(path, commands, told, **more):
     """Each of these commands tells this, and leaves the file as it was."""
     before = stands(path)
     for words in commands:
-        equal(ran(*words, text=CREATE_BOB), (3, b"", told))
+        equal(ran(*words, text=CREATE_BOB, **more), (3, b"", told))
         assert stands(path) == before, f"{path} is another"
 
 
@@ -115,21 +115,18 @@ def tries_a_damaged_page(refuses, path):
     refuses(path)
 
 
-def tries_a_read_only_file(refuses, path, words, told):
+def tries_a_read_only_file(path, commands, told):
     path.chmod(0o444)
     if os.geteuid() != 0:
-        refuses(path)
+        refuses(path, commands, told)
         return
     # root may write it all the same; the program is run as another user
     for folder in (ROOM, path.parent):
         folder.chmod(0o755)
-    before = path.read_bytes()
     program = ROOM / "program"
     shutil.copy(PROGRAM, program)
     program.chmod(0o755)
-    run = subprocess.run([program, *words, path], capture_output=True, user=65534, timeout=60)
-    equal((run.returncode, run.stdout, run.stderr.decode()), (3, b"", told))
-    equal(path.read_bytes(), before)
+    refuses(path, commands, told, program=program, user=65534)
 
 
 def tries_a_locked_file(refuses, path):

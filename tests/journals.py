@@ -68,11 +68,13 @@ def push(journal, users, to, groups=None):
     return ["push", "--users", users, *more, "--journal", journal, "--to", to]
 
 
+def commands(path):
+    """The commands that open a journal, before they look for the files of the source or the provider."""
+    return [["show", "--journal", path], push(path, "nowhere", "nowhere")]
+
+
 def refuses(path, code):
-    """Each command that opens a journal says why it doesn't, and leaves the file as it was."""
-    # neither the files of the source nor the provider is looked for
-    commands = (["show", "--journal", path], push(path, "nowhere", "nowhere"))
-    files.refuses(path, commands, f"journal fault {code}\n")
+    files.refuses(path, commands(path), f"journal fault {code}\n")
 
 
 def refuses_by_j1(path):
@@ -221,7 +223,8 @@ def test_other_formats_are_refused():
 def test_files_that_are_no_journals_are_refused():
     files.tries_what_is_no_database(refuses_by_j1)
     files.tries_a_damaged_page(refuses_by_j1, with_ann("damaged"))
-    files.tries_a_read_only_file(refuses_by_j1, with_ann("read-only"), ["show", "--journal"], "journal fault J1\n")
+    path = with_ann("read-only")
+    files.tries_a_read_only_file(path, commands(path), "journal fault J1\n")
 
 
 def test_a_locked_file_is_refused():

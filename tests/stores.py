@@ -63,10 +63,14 @@ def created_lines(names):
     return "".join(f"user {name} held=1 version=1 active=true\n" for name in names)
 
 
+def commands(path):
+    """The commands that open a store."""
+    each = (["show"], ["answer"], ["serve", "--listen", "127.0.0.1:0", "--requests", "1"])
+    return [[*words, "--store", path] for words in each]
+
+
 def refuses(path, code):
-    """Each command that opens a store says why it doesn't, and leaves the file as it was."""
-    commands = (["show"], ["answer"], ["serve", "--listen", "127.0.0.1:0", "--requests", "1"])
-    files.refuses(path, [[*words, "--store", path] for words in commands], f"store fault {code}\n")
+    files.refuses(path, commands(path), f"store fault {code}\n")
 
 
 def refuses_by_y1(path):
@@ -182,7 +186,8 @@ def test_other_formats_are_refused():
 def test_files_that_are_no_stores_are_refused():
     files.tries_what_is_no_database(refuses_by_y1)
     files.tries_a_damaged_page(refuses_by_y1, with_bob("damaged"))
-    files.tries_a_read_only_file(refuses_by_y1, with_bob("read-only"), ["show", "--store"], "store fault Y1\n")
+    path = with_bob("read-only")
+    files.tries_a_read_only_file(path, commands(path), "store fault Y1\n")
 
 
 def test_a_locked_file_is_refused():
