@@ -321,7 +321,7 @@ def test_a_kill_while_rows_are_offered():
 
 def test_what_was_printed_outlives_a_kill():
     path, store, users = file("killed"), file("killed-store"), many_users("killed-users")
-    for count in (1, 60, 180):
+    for count in (1, 30, 90):
         server = Server(store, 1000)
         run = Push(f"killed-lines-{count}", push(path, users, server.address))
         run.until_lines(count)
@@ -334,7 +334,7 @@ def test_what_was_printed_outlives_a_kill():
 
 def test_a_provider_that_is_killed_holds_what_was_confirmed():
     path, store, users = file("provided"), file("provided-store"), many_users("provided-users")
-    for count in (1, 60, 180):
+    for count in (1, 30, 90):
         server = Server(store, 1000)
         run = Push(f"provided-lines-{count}", push(path, users, server.address))
         run.until_lines(count)
