@@ -5,14 +5,14 @@
 
 It builds `stores.rattle`, a program over the provider and its store, and `journals.rattle`, one over
 the connector and its journal, in a copy of the crates that they stand on; what isn't proved there yet
-is proved first, which takes minutes. For 1,000, 10,000 and about 100,000 users it makes a file in
-FOLDER (else in a folder of its own), and on copies of it runs the program and then the same statements
-by sqlite3, both with a log and with every commit on the disk: the opening, and 300 calls of each kind,
-where a user is found, created or replaced at the provider, and a new row or a later one is offered to
-the connector. It prints the best of three times of each and their ratio. The same runs under valgrind
-count instructions, so that neither other work on the machine nor its caches are in the figures. The
-opening reads every row; it ends with status 1 where another call costs over twice as much among the
-most users as among the fewest.
+is proved first, which takes minutes (PROGRAMS, both paths, spares it). For 1,000, 10,000 and about
+100,000 users it makes a file in FOLDER (else in a folder of its own), and on copies of it runs the
+program and then the same statements by sqlite3, both with a log and with every commit on the disk: the
+opening, and 300 calls of each kind, where a user is found, created or replaced at the provider, and a
+new row or a later one is offered to the connector. It prints the best of three times of each and their
+ratio. The same runs under valgrind count instructions, so that neither other work on the machine nor
+its caches are in the figures. The opening reads every row; it ends with status 1 where another call
+costs over twice as much among the most users as among the fewest.
 """
 import os
 import re
