@@ -13,15 +13,13 @@ import sqlite3
 import subprocess
 import sys
 
+from ends import equal
+
 PROGRAM = str(pathlib.Path(sys.argv[1]).resolve())
 ROOM = pathlib.Path(sys.argv[2])
 SUITE = pathlib.Path(sys.argv[0]).stem
 ROOT = pathlib.Path(__file__).resolve().parent.parent
 CREATE_BOB = (ROOT / "examples/create-user.http").read_bytes()
-
-
-def equal(found, wanted):
-    assert found == wanted, f"{found!r} and not {wanted!r}"
 
 
 def file(name):
@@ -155,26 +153,28 @@ SOME_MORE = 512 * 1024
 
 
 class Run:
-    """A run of the program that goes on. It may write files of so many bytes, and prints into a pipe or a file."""
+    """A run of the program that goes on. It may write files of so many bytes."""
 
-    def __init__(self, words, largest=None, out=subprocess.PIPE):
+    def __init__(self, words, largest=None):
         def limit():
             signal.signal(signal.SIGXFSZ, signal.SIG_IGN)
             resource.setrlimit(resource.RLIMIT_FSIZE, (largest, largest))
 
         words = [PROGRAM, *map(str, words)]
         more = {"preexec_fn": limit} if largest else {}
-        self.run = subprocess.Popen(words, stdout=out, stderr=subprocess.PIPE, text=True, **more)
+        self.run = subprocess.Popen(words, stdout=subprocess.PIPE, stderr=subprocess.PIPE, text=True, **more)
 
     def ends(self, status, told=""):
-        """Waits for its end, before which it prints no more into a pipe."""
+        """Waits for its end, before which it prints no more."""
         printed, told_then = self.run.communicate(timeout=60)
-        equal((self.run.returncode, printed or "", told_then), (status, "", told))
+        equal((self.run.returncode, printed, told_then), (status, "", told))
 
     def kill(self):
+        """Kills it, and answers what it printed that wasn't read before."""
         self.run.send_signal(signal.SIGKILL)
-        self.run.communicate(timeout=60)
+        printed, _ = self.run.communicate(timeout=60)
         equal(self.run.returncode, -signal.SIGKILL)
+        return printed
 
 
 class Server(Run):
@@ -204,16 +204,3 @@ class Server(Run):
         with self.connect() as stream:
             stream.sendall(request)
             return b"".join(iter(lambda: stream.recv(65536), b""))
-
-
-def main(tests):
-    """Runs the tests among these, and answers whether one failed."""
-    failed = False
-    for name, test in tests.items():
-        if name.startswith("test_"):
-            try:
-                test()
-            except Exception as fault:
-                print(f"{SUITE}: {name}: {type(fault).__name__}: {fault}")
-                failed = True
-    return failed

@@ -2,10 +2,10 @@
 """Tries the connector's journals of scimlink: tests/journals.py PROGRAM ROOM. Called by tests/stores.sh."""
 import socket
 import sys
-import time
 
 import files
-from files import Run, Server, changed, equal, file, ran, resource_id
+from ends import GROUPS_HEADER, USERS_HEADER, awaits, equal, tests_of, try_all
+from files import Run, Server, changed, file, ran, resource_id
 
 # The statements of format 1
 FORMAT = """CREATE TABLE IF NOT EXISTS journal_format (
@@ -20,9 +20,6 @@ GROUP_ENTRY = """CREATE TABLE group_entry (
   revision INTEGER NOT NULL, members TEXT NOT NULL,
   confirmed INTEGER NOT NULL, id TEXT)"""
 TABLES = (FORMAT, USER_ENTRY, GROUP_ENTRY)
-
-USERS_HEADER = "login,revision,number,given,family,mail,status\n"
-GROUPS_HEADER = "name,revision,members\n"
 
 
 def user(key, **other):
@@ -58,7 +55,7 @@ def shows(path, *lines):
 def source(name, header, records):
     """A file of the source."""
     path = file(name)
-    path.write_text(header + "".join(f"{record}\n" for record in records))
+    path.write_text("\n".join([header, *records, ""]))
     return path
 
 
@@ -117,7 +114,7 @@ def test_what_the_program_writes_sqlite_reads():
     crew = group("crew", "ann bob", name="Crew", confirmed=1, id=resource_id(3))
     equal(listed(path), [[ann, bob], [crew]])
     # offered and not carried, as no provider is there
-    users.write_text(USERS_HEADER + "bob,4,,,,,active\nzoe,1,,,,,active\n")
+    users = source("later-users", USERS_HEADER, ["bob,4,,,,,active", "zoe,1,,,,,active"])
     equal(ran(*push(path, users, "127.0.0.1:1"))[0], 3)
     equal(listed(path)[0], [ann, user("bob", revision=4, confirmed=3, id=resource_id(2)), user("zoe")])
     equal(files.asked(path, "SELECT one, number FROM journal_format"), [(1, 1)])
@@ -241,123 +238,22 @@ def test_a_locked_file_is_refused():
     shows(path, "user ann wanted=1 confirmed=0 id=-", "user bob wanted=1 confirmed=0 id=-")
 
 
-# ---- runs that are stopped, over the users of NAMES, whom the source names from the last to the first
-
-NAMES = [f"u{place:03}" for place in range(300)]
-
-
-def many_users(name):
-    return source(name, USERS_HEADER, [f"{name},1,,,,,active" for name in reversed(NAMES)])
-
-
-def confirmed_line(name):
-    """The line of `show` for a user who was confirmed: they are created in order of their names."""
-    return f"user {name} wanted=1 confirmed=1 id={resource_id(NAMES.index(name) + 1)}"
-
-
-class Push(Run):
-    """A run of `push` that prints into a file."""
-
-    def __init__(self, name, words, largest=None):
-        self.printed = file(name)
-        with self.printed.open("w") as out:
-            super().__init__(words, largest, out)
-
-    def until(self, has_come):
-        while not has_come():
-            assert self.run.poll() is None, "it ended before it was stopped"
-            time.sleep(0.001)
-
-    def until_lines(self, count):
-        self.until(lambda: len(self.lines()) >= count)
-
-    def lines(self):
-        """The lines that were printed whole."""
-        return [line for line in self.printed.read_text().splitlines(keepends=True) if line.endswith("\n")]
-
-    def confirmed(self):
-        """The names of the users that it said are confirmed."""
-        return [line.split()[1] for line in self.lines() if line.split()[2] == "confirmed"]
-
-
-def entries(path):
-    """The lines of a journal that is opened."""
-    status, shown, told = ran("show", "--journal", path)
-    equal((status, told), (0, ""))
-    return shown.decode().splitlines()
-
-
-def holds(path, names):
-    """Each of these users is confirmed in a journal, which has every user."""
-    shown = entries(path)
-    equal([line.split()[1] for line in shown], NAMES)
-    for name in names:
-        equal(shown[NAMES.index(name)], confirmed_line(name))
-
-
-def is_done(path, users, store):
-    """One more run confirms every user, and each was created once."""
-    server = Server(store, 1000)
-    printed = "".join(f"user {name} confirmed 1\n" for name in NAMES)
-    equal(ran(*push(path, users, server.address)), (0, printed.encode(), ""))
-    server.kill()
-    holds(path, NAMES)
-    printed = "".join(f"user {name} held=1 version=1 active=true\n" for name in NAMES)
-    equal(ran("show", "--store", store), (0, printed.encode(), ""))
-
-
 def test_a_kill_while_rows_are_offered():
-    path, users = file("offered"), many_users("offered-users")
+    path = file("offered")
     log = path.with_name(f"{path.name}-wal")
-    run = Push("offered-lines", push(path, users, "127.0.0.1:1"))
-    run.until(lambda: log.exists() and log.stat().st_size > files.SOME_MORE)
-    run.kill()
-    equal(run.lines(), [])
-    shown = entries(path)
-    assert shown, "no row was offered"
-    equal(shown, [f"user {name} wanted=1 confirmed=0 id=-" for name in NAMES[-len(shown) :]])
-    is_done(path, users, file("offered-store"))
-
-
-def test_what_was_printed_outlives_a_kill():
-    path, store, users = file("killed"), file("killed-store"), many_users("killed-users")
-    for count in (1, 30, 90):
-        server = Server(store, 1000)
-        run = Push(f"killed-lines-{count}", push(path, users, server.address))
-        run.until_lines(count)
-        run.kill()
-        server.kill()
-        assert count <= len(run.confirmed()) < len(NAMES), run.lines()
-        holds(path, run.confirmed())
-    is_done(path, users, store)
-
-
-def test_a_provider_that_is_killed_holds_what_was_confirmed():
-    path, store, users = file("provided"), file("provided-store"), many_users("provided-users")
-    for count in (1, 30, 90):
-        server = Server(store, 1000)
-        run = Push(f"provided-lines-{count}", push(path, users, server.address))
-        run.until_lines(count)
-        server.kill()
-        run.ends(3, "connection fault\n")
-        held = ran("show", "--store", store)[1].decode().splitlines()
-        for name in run.confirmed():
-            equal(held[NAMES.index(name)], f"user {name} held=1 version=1 active=true")
-        holds(path, run.confirmed())
-    is_done(path, users, store)
-
-
-def test_a_journal_that_fails_ends_the_run():
-    path, store, users = file("limited"), file("limited-store"), many_users("limited-users")
-    equal(ran(*push(path, users, "127.0.0.1:1")), (3, b"", "connection fault\n"))
-    server = Server(store, 1000)
-    run = Push("limited-lines", push(path, users, server.address), path.stat().st_size + files.SOME_MORE)
-    run.ends(3, "journal fault J1\n")
-    server.kill()
-    assert run.confirmed(), "nothing was carried"
-    holds(path, run.confirmed())
-    is_done(path, users, store)
+    names = [f"u{place:03}" for place in range(300)]
+    # offered from the last to the first, and listed by name
+    users = source("offered-users", USERS_HEADER, [f"{name},1,,,,,active" for name in reversed(names)])
+    run = Run(push(path, users, "127.0.0.1:1"))
+    awaits(lambda: log.exists() and log.stat().st_size > files.SOME_MORE, "a log of some rows")
+    equal(run.kill(), "")
+    status, shown, _ = ran("show", "--journal", path)
+    shown = shown.decode().splitlines()
+    equal((status, bool(shown)), (0, True))
+    equal(shown, [f"user {name} wanted=1 confirmed=0 id=-" for name in names[-len(shown) :]])
+    equal(ran(*push(path, users, "127.0.0.1:1"))[0], 3)
+    shows(path, *[f"user {name} wanted=1 confirmed=0 id=-" for name in names])
 
 
 if __name__ == "__main__":
-    sys.exit(files.main(globals().copy()))
+    sys.exit(try_all(files.SUITE, tests_of(globals())))

@@ -5,7 +5,8 @@ import re
 import sys
 
 import files
-from files import CREATE_BOB, ROOT, changed, equal, file, ran, resource_id
+from ends import equal, tests_of, try_all
+from files import CREATE_BOB, ROOT, changed, file, ran, resource_id
 
 BOB_CREATED = (ROOT / "crates/scimlink/stdout").read_bytes()
 BOB = CREATE_BOB.split(b"\r\n\r\n", 1)[1].decode()
@@ -296,4 +297,4 @@ def test_a_store_that_is_not_opened_anew_ends_the_run():
 
 
 if __name__ == "__main__":
-    sys.exit(files.main(globals().copy()))
+    sys.exit(try_all(files.SUITE, tests_of(globals())))
