@@ -1,16 +1,18 @@
 #!/usr/bin/env python3
-"""Measures a provider whose store stands in a file, beside the same statements by Python's sqlite3.
+"""Measures both stores in files, beside the same statements by Python's sqlite3.
 
     python3 bench/stores.py [FOLDER]
 
-It builds `stores.rattle`, a program over the provider and its store, in a copy of the crates that it
-stands on; what isn't proved there yet is proved first, which takes minutes. For 1,000, 10,000 and
-100,000 users it makes a store in FOLDER (else in a folder of its own), and on copies of it runs the
-program and then the same statements by sqlite3, both with a log and with every commit on the disk:
-the opening, and 300 requests each that find, create and replace a user. It prints the best of three
-times of each and their ratio. The same runs under valgrind count instructions, so that neither other
-work on the machine nor its caches are in the figures. The opening reads every row; it ends with
-status 1 where another call costs over twice as much among 100,000 users as among 1,000.
+It builds `stores.rattle`, a program over the provider and its store, and `journals.rattle`, one over
+the connector and its journal, in a copy of the crates that they stand on; what isn't proved there yet
+is proved first, which takes minutes (PROGRAMS, both paths, spares it). For 1,000, 10,000 and about
+100,000 users it makes a file in FOLDER (else in a folder of its own), and on copies of it runs the
+program and then the same statements by sqlite3, both with a log and with every commit on the disk: the
+opening, and 300 calls of each kind, where a user is found, created or replaced at the provider, and a
+new row or a later one is offered to the connector. It prints the best of three times of each and their
+ratio. The same runs under valgrind count instructions, so that neither other work on the machine nor
+its caches are in the figures. The opening reads every row; it ends with status 1 where another call
+costs over twice as much among the most users as among the fewest.
 """
 import os
 import re
@@ -22,46 +24,112 @@ import tempfile
 import time
 
 TOP = os.path.dirname(os.path.dirname(os.path.abspath(__file__)))
-NAME = "stores_bench"
-LIBRARIES = ("scim_key scim_version scim_resource scim_filter scim_message provider_core "
-             "provider_store").split()
-SIZES = (1_000, 10_000, 100_000)
 TIMES = 300
-CALLS = ("find", "insert", "update")
-
-TABLES = """
-CREATE TABLE IF NOT EXISTS provider_format (one INTEGER PRIMARY KEY CHECK (one = 1), number INTEGER NOT NULL);
-INSERT INTO provider_format (one, number) VALUES (1, 1);
-CREATE TABLE resource (number INTEGER PRIMARY KEY CHECK (number >= 1), kind INTEGER NOT NULL CHECK (kind = 1 OR kind = 2), name_key TEXT NOT NULL, version INTEGER NOT NULL CHECK (version >= 1), content TEXT NOT NULL, UNIQUE (kind, name_key));
-"""
-BY_NUMBER = "SELECT number, kind, name_key, version, content FROM resource WHERE number = ?1"
-BY_NAME = "SELECT number, kind, name_key, version, content FROM resource WHERE kind = ?1 AND name_key = ?2"
-OUTSIDE = "SELECT number FROM resource WHERE number < 1 OR number > ?1"
-INSERT = "INSERT INTO resource (number, kind, name_key, version, content) VALUES (?1, ?2, ?3, ?4, ?5)"
-UPDATE = "UPDATE resource SET version = ?2, content = ?3 WHERE number = ?1"
-
-
-def content(name):
-    """The text of a user's content."""
-    return (f'{{"active":true,"emails":[{{"primary":true,"type":"work","value":"{name}@example.com"}}],'
-            f'"schemas":["urn:ietf:params:scim:schemas:core:2.0:User"],"userName":"{name}"}}')
 
 
 def connect(path):
-    """A connection that writes as the program does."""
+    """A connection that writes as the programs do."""
     connection = sqlite3.connect(path, isolation_level=None)
     connection.execute("PRAGMA journal_mode = WAL")
     connection.execute("PRAGMA synchronous = FULL")
     return connection
 
 
-def make_store(path, users):
-    """Makes a store of so many users."""
+class Provider:
+    """The provider over its store."""
+    name = "stores"
+    libraries = ("scim_key scim_version scim_resource scim_filter scim_message provider_core "
+                 "provider_store").split()
+    calls = ("find", "insert", "update")
+    sizes = (1_000, 10_000, 100_000)
+    tables = """
+CREATE TABLE IF NOT EXISTS provider_format (one INTEGER PRIMARY KEY CHECK (one = 1), number INTEGER NOT NULL);
+INSERT INTO provider_format (one, number) VALUES (1, 1);
+CREATE TABLE resource (number INTEGER PRIMARY KEY CHECK (number >= 1), kind INTEGER NOT NULL CHECK (kind = 1 OR kind = 2), name_key TEXT NOT NULL, version INTEGER NOT NULL CHECK (version >= 1), content TEXT NOT NULL, UNIQUE (kind, name_key));
+"""
+    by_number = "SELECT number, kind, name_key, version, content FROM resource WHERE number = ?1"
+    by_name = "SELECT number, kind, name_key, version, content FROM resource WHERE kind = ?1 AND name_key = ?2"
+    outside = "SELECT number FROM resource WHERE number < 1 OR number > ?1"
+    insert = "INSERT INTO resource (number, kind, name_key, version, content) VALUES (?1, ?2, ?3, ?4, ?5)"
+    update = "UPDATE resource SET version = ?2, content = ?3 WHERE number = ?1"
+
+    def content(self, name):
+        """The text of a user's content."""
+        return (f'{{"active":true,"emails":[{{"primary":true,"type":"work","value":"{name}@example.com"}}],'
+                f'"schemas":["urn:ietf:params:scim:schemas:core:2.0:User"],"userName":"{name}"}}')
+
+    def row(self, number, name):
+        return (number, 1, name, 1, self.content(name))
+
+    def open(self, connection, users):
+        """The statements of an opening."""
+        connection.execute("SELECT number FROM provider_format").fetchall()
+        for number in range(1, users + 2):
+            for row in connection.execute(self.by_number, (number,)).fetchall():
+                connection.execute(self.by_name, (row[1], row[2])).fetchall()
+        connection.execute(self.outside, (users,)).fetchall()
+
+    def run(self, connection, call, users, place, number):
+        """The statements of one request."""
+        name = f"new{number}" if call == "insert" else f"user{number}"
+        if call == "update":
+            row = connection.execute(self.by_number, (number,)).fetchall()[0]
+            connection.execute(self.update, (number, row[3] + 1, self.content(name)))
+            return
+        connection.execute(self.by_name, (1, name)).fetchall()
+        if call == "insert":
+            connection.execute(self.by_number, (1,)).fetchall()
+            connection.execute(self.insert, self.row(users + place + 1, name))
+
+
+class Journal:
+    """The connector over its journal."""
+    name = "journals"
+    libraries = "source_csv journal_core journal_store connector_core".split()
+    calls = ("add", "change")
+    # with those that are added not above the limit of a journal
+    sizes = (1_000, 10_000, 99_000)
+    tables = """
+CREATE TABLE IF NOT EXISTS journal_format (one INTEGER PRIMARY KEY CHECK (one = 1), number INTEGER NOT NULL);
+INSERT INTO journal_format (one, number) VALUES (1, 1);
+CREATE TABLE user_entry (name_key TEXT PRIMARY KEY NOT NULL, login TEXT NOT NULL, revision INTEGER NOT NULL, number TEXT NOT NULL, given TEXT NOT NULL, family TEXT NOT NULL, mail TEXT NOT NULL, active INTEGER NOT NULL, confirmed INTEGER NOT NULL, id TEXT);
+CREATE TABLE group_entry (name_key TEXT PRIMARY KEY NOT NULL, name TEXT NOT NULL, revision INTEGER NOT NULL, members TEXT NOT NULL, confirmed INTEGER NOT NULL, id TEXT);
+"""
+    columns = "name_key, login, revision, number, given, family, mail, active, confirmed, id"
+    users = f"SELECT {columns} FROM user_entry"
+    groups = "SELECT name_key, name, revision, members, confirmed, id FROM group_entry"
+    insert = f"INSERT INTO user_entry ({columns}) VALUES (?1, ?2, ?3, ?4, ?5, ?6, ?7, ?8, ?9, ?10)"
+    update = ("UPDATE user_entry SET login = ?2, revision = ?3, number = ?4, given = ?5, family = ?6, "
+              "mail = ?7, active = ?8, confirmed = ?9, id = ?10 WHERE name_key = ?1")
+
+    def row(self, number, name, revision=1):
+        return (name, name, revision, str(number), "", "", f"{name}@example.com", 1, 0, None)
+
+    def open(self, connection, _users):
+        """The statements of an opening, and of a load."""
+        connection.execute("SELECT number FROM journal_format").fetchall()
+        connection.execute("SELECT rowid FROM user_entry ORDER BY rowid").fetchall()
+        connection.execute("SELECT rowid FROM group_entry ORDER BY rowid").fetchall()
+        for _ in range(2):
+            connection.execute(f"{self.users} ORDER BY name_key").fetchall()
+            connection.execute(f"{self.groups} ORDER BY name_key").fetchall()
+
+    def run(self, connection, call, _users, _place, number):
+        """The statements of one row."""
+        name = f"new{number}" if call == "add" else f"user{number}"
+        connection.execute(f"{self.users} WHERE name_key = ?1", (name,)).fetchall()
+        if call == "add":
+            connection.execute(self.insert, self.row(number, name))
+        else:
+            connection.execute(self.update, self.row(number, name, revision=2))
+
+
+def make_file(store, path, users):
+    """Makes a file of so many users."""
     connection = connect(path)
-    connection.executescript(TABLES)
+    connection.executescript(store.tables)
     connection.execute("BEGIN")
-    connection.executemany(INSERT, ((n, 1, f"user{n}", 1, content(f"user{n}"))
-                                    for n in range(1, users + 1)))
+    connection.executemany(store.insert, (store.row(n, f"user{n}") for n in range(1, users + 1)))
     connection.execute("COMMIT")
     connection.close()
 
@@ -84,24 +152,31 @@ def below(names, all_crates):
     return found
 
 
-def build(room):
-    """Builds the program in a folder, and says where it is."""
+def lay_out(room, stores):
+    """Copies the crates that the programs stand on into a folder, and the programs beside them."""
     all_crates = crates()
-    wanted = below(LIBRARIES, all_crates)
+    wanted = below([name for store in stores for name in store.libraries], all_crates)
     for name in wanted:
         shutil.copytree(os.path.join(TOP, "crates", name), os.path.join(room, "crates", name))
     with open(os.path.join(room, "crates.txt"), "w", encoding="utf-8") as file:
         for name in wanted:
             print(f"{name}: {' '.join(all_crates[name])}", file=file)
-        print(f"{NAME}: {' '.join(LIBRARIES)} sqlite anyhow", file=file)
+        for store in stores:
+            print(f"{store.name}_bench: {' '.join(store.libraries)} sqlite anyhow", file=file)
     shutil.copy(os.path.join(TOP, "HANDLES"), room)
-    folder = os.path.join(room, "crates", NAME)
-    os.makedirs(os.path.join(folder, "src"))
-    shutil.copy(os.path.join(TOP, "bench/stores.rattle"), os.path.join(folder, "src/main.rt"))
-    store = os.path.join(room, "first")
-    subprocess.run(["rt", "run", "--", "find", store, "0", "0"], cwd=folder,
+    for store in stores:
+        folder = os.path.join(room, "crates", f"{store.name}_bench")
+        os.makedirs(os.path.join(folder, "src"))
+        shutil.copy(os.path.join(TOP, f"bench/{store.name}.rattle"), os.path.join(folder, "src/main.rt"))
+
+
+def build(room, store):
+    """Builds a program, and says where it is."""
+    folder = os.path.join(room, "crates", f"{store.name}_bench")
+    first = os.path.join(room, f"first-{store.name}")
+    subprocess.run(["rt", "run", "--", store.calls[0], first, "0", "0"], cwd=folder,
                    stdout=subprocess.DEVNULL, check=True)
-    return os.path.join(folder, "out", NAME)
+    return os.path.join(folder, "out", f"{store.name}_bench")
 
 
 def ours(program, call, path, users, times=TIMES):
@@ -123,56 +198,30 @@ def instructions(program, call, path, users, times):
         return int(re.search(r"^(?:summary|totals): (\d+)", file.read(), re.M).group(1))
 
 
-def open_store(path, users):
-    """The statements of an opening."""
-    connection = connect(path)
-    connection.execute("SELECT number FROM provider_format").fetchall()
-    for number in range(1, users + 2):
-        for row in connection.execute(BY_NUMBER, (number,)).fetchall():
-            connection.execute(BY_NAME, (row[1], row[2])).fetchall()
-    connection.execute(OUTSIDE, (users,)).fetchall()
-    return connection
-
-
-def answer(connection, call, users, place, number):
-    """The statements of one request."""
-    name = f"new{number}" if call == "insert" else f"user{number}"
-    if call == "update":
-        row = connection.execute(BY_NUMBER, (number,)).fetchall()[0]
-        connection.execute(UPDATE, (number, row[3] + 1, content(name)))
-        return
-    connection.execute(BY_NAME, (1, name)).fetchall()
-    if call == "insert":
-        connection.execute(BY_NUMBER, (1,)).fetchall()
-        connection.execute(INSERT, (users + place + 1, 1, name, 1, content(name)))
-
-
-def theirs(call, path, users):
+def theirs(store, call, path, users):
     """How long sqlite3 takes for the same statements, in microseconds."""
     start = time.perf_counter()
-    connection = open_store(path, users)
+    connection = connect(path)
+    store.open(connection, users)
     opened = time.perf_counter()
     for place in range(TIMES):
-        answer(connection, call, users, place, place * (users // TIMES) + 1)
+        store.run(connection, call, users, place, place * (users // TIMES) + 1)
     taken = time.perf_counter()
     connection.close()
     return (opened - start) * 1e6, (taken - opened) * 1e6
 
 
-def best(room, store, run):
-    """The best of three times, each over a copy of the store."""
-    found = None
-    for _ in range(3):
-        opened, taken = over_a_copy(room, store, run)
-        found = (opened, taken) if found is None else (min(found[0], opened), min(found[1], taken))
-    return found
+def best(room, source, run):
+    """The best of three times, each over a copy of a file."""
+    found = [over_a_copy(room, source, run) for _ in range(3)]
+    return [min(times) for times in zip(*found)]
 
 
-def over_a_copy(room, store, run):
-    """What a run over a copy of the store gives."""
+def over_a_copy(room, source, run):
+    """What a run over a copy of a file gives."""
     with tempfile.TemporaryDirectory(dir=room) as folder:
         path = os.path.join(folder, "store")
-        shutil.copy(store, path)
+        shutil.copy(source, path)
         return run(path)
 
 
@@ -183,30 +232,38 @@ def tell(what, users, costs, times):
           f"sqlite3 {theirs_took:11,.0f} us, ratio {ours_took / theirs_took:5.2f}", flush=True)
 
 
-def measure(program, room, users):
+def measure(store, program, room, users):
     """What each call costs among so many users, in instructions."""
-    store = os.path.join(room, f"{users}")
-    make_store(store, users)
-    start = over_a_copy(room, store, lambda path: instructions(program, "find", path, users, 0))
+    source = os.path.join(room, f"{store.name}-{users}")
+    make_file(store, source, users)
+    start = over_a_copy(room, source,
+                        lambda path: instructions(program, store.calls[0], path, users, 0))
     costs = {}
-    for call in CALLS:
-        many = over_a_copy(room, store,
+    for call in store.calls:
+        many = over_a_copy(room, source,
                            lambda path: instructions(program, call, path, users, TIMES))
         costs[call] = (many - start) / TIMES
-        we = best(room, store, lambda path: ours(program, call, path, users))
-        they = best(room, store, lambda path: theirs(call, path, users))
-        if call == "find":
+        we = best(room, source, lambda path: ours(program, call, path, users))
+        they = best(room, source, lambda path: theirs(store, call, path, users))
+        if call == store.calls[0]:
             tell("open", users, start, (we[0], they[0]))
         tell(call, users, costs[call], (we[1] / TIMES, they[1] / TIMES))
     return costs
 
 
 def main():
+    stores = (Provider(), Journal())
+    good = True
     with tempfile.TemporaryDirectory(prefix="stores-", dir=(sys.argv + [None])[1]) as room:
-        program = os.environ.get("PROGRAM") or build(room)
-        costs = [measure(program, room, users) for users in SIZES]
-    if any(costs[-1][call] > 2 * costs[0][call] for call in CALLS):
-        sys.exit("a call costs over twice as much among 100,000 users as among 1,000")
+        programs = os.environ.get("PROGRAMS", "").split()
+        if not programs:
+            lay_out(room, stores)
+            programs = [build(room, store) for store in stores]
+        for store, program in zip(stores, programs):
+            costs = [measure(store, program, room, users) for users in store.sizes]
+            good = good and all(costs[-1][call] <= 2 * costs[0][call] for call in store.calls)
+    if not good:
+        sys.exit("a call costs over twice as much among the most users as among the fewest")
 
 
 if __name__ == "__main__":

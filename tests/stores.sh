@@ -1,6 +1,7 @@
 #!/usr/bin/env bash
-# Tries the built program's stores: `show`, `answer --store` and `serve --store`, files that SQLite
-# made and files that SQLite reads, each opening that is refused, and a run that is killed.
+# Tries the built program's stores and journals: `show`, `answer --store`, `serve --store` and `push`,
+# files that SQLite made and files that SQLite reads, each opening that is refused, and runs that are
+# killed.
 set -uo pipefail
 cd "$(dirname "$0")/.."
 suite=stores
@@ -12,5 +13,7 @@ expect 'a word more' 2 '*' "$program" show --store "$room/x" more
 expect 'a store without a name' 2 '*' "$program" answer --store
 [ -e "$room/x" ] && fails 'a word more: it opened the store'
 
-python3 tests/stores.py "$program" "$room" || failed=1
+for tests in tests/stores.py tests/journals.py; do
+    python3 -B "$tests" "$program" "$room" || failed=1
+done
 ends
