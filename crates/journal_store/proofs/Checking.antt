@@ -1,19 +1,23 @@
 -- What the checks of an opening show, and what they leave.
-use Rattle.std.proofs.Common.{◌≡◌, ℕ, pos, false, List, [], ◌∷◌, map, filter, codes, Result, Ok, Err, IsTrue, OnOk, IfErr, refl, sym, ap, ◌∙◌, subst, inl, arith, IsPermutation}
+use Rattle.std.proofs.Common.{◌≡◌, ◌≢◌, ◌⊎◌, ℕ, pos, false, List, [], ◌∷◌, map, filter, codes, Result, Ok, Err, IsTrue, OnOk, IfErr, IsErrAnd, refl, sym, ap, ◌∙◌, subst, inl, inr, arith, IsPermutation}
 use Rattle.sqlite_value.specs.declared.value.Value.TheVariants.{Int}
 use Rattle.sqlite_value.specs.Order.{Row, column}
 use Rattle.sqlite_trees.specs.Tree.{Trees, rowid}
 use Rattle.sqlite.specs.Effect.{Database}
 use Rattle.sqlite.specs.State.{State, HasCleanDisk, Survives}
+use Rattle.sqlite.proofs.Callers.{one_permutation}
 use Rattle.sqlite.proofs.StateLemmas.{survives_then}
 use Rattle.scim_key.specs.declared.records.Kind.{Kind}
 use Rattle.scim_key.specs.declared.records.Kind.TheVariants.{User, Group}
 use Rattle.journal_core.specs.Entries.{EntryMap}
 use Rattle.journal_core.specs.declared.entries.Entry.{Entry}
-use Rattle.journal_store.specs.Format.{format_number, format_tree, entry_tree, marked_text, numbers_text}
+use Rattle.journal_store.specs.Format.{no_schema, format_number, format_tree, entry_tree, marked_text, numbers_text}
 use Rattle.journal_store.specs.Connections.{AreNumbered, Answers, HasNumbers, IsLaid, ListsAll}
 use Rattle.journal_store.specs.Rows.{entries_in}
-use Rattle.journal_store.specs.Opening.{AreLawful, AreRising, HoldsEntries, IsFormat, IsMarked, IsFor, IsJournal, IsStore, Looks, LeavesStore}
+use Rattle.journal_store.specs.Opening.{AreLawful, AreRising, HoldsEntries, IsCause, IsDamaged, IsFormat, IsMarked, IsFor, IsJournal, IsNewer, IsNotLaid, IsSpoilt, open_fault, IsStore, Looks, LeavesStore}
+use Rattle.journal_store.specs.Faults.{IsOfStatement}
+use Rattle.journal_store.specs.declared.statements.TableFault.{TableFault}
+use Rattle.journal_store.specs.declared.statements.TableFault.TheVariants as table
 use Rattle.journal_store.specs.declared.opening.OpenFault.{OpenFault}
 use Rattle.journal_store.specs.declared.opening.OpenFault.TheVariants.{Store, Damaged, Newer, Memory}
 use Rattle.journal_store.proofs.Texts.{marked_shown, marked_is, marked_query, number_shown, number_order, numbers_is, numbers_query}
@@ -37,11 +41,36 @@ pub if_err : {T F : Type 0} {P Q : F → Type 0} (r : Result T F) → ((e : F) �
 if_err (Ok x) f p = tt
 if_err (Err e) f p = f e p
 
-pub is_for : {P Q : Type 0} (f : P → Q) (fault : OpenFault) → IsFor P fault → IsFor Q fault
-is_for f Store h = tt
-is_for f Damaged h = tt
-is_for f Newer h = f h
-is_for f Memory h = tt
+pub is_for : {P Q D E : Type 0} (f : P → Q) (h : D → E) (fault : OpenFault) → IsFor P D fault → IsFor Q E fault
+is_for f h Store it = tt
+is_for f h Damaged it = h it
+is_for f h Newer it = f it
+is_for f h Memory it = tt
+
+pub no_damage : (P D : Type 0) (fault : TableFault) → IsOfStatement fault → IsFor P D (open_fault fault)
+no_damage P D table.Store it = tt
+no_damage P D table.Damaged it = absurd it
+no_damage P D table.Memory it = tt
+
+may_damage : (P D E : Type 0) (h : E) (fault : OpenFault) → IsFor ⊥ D fault → IsFor P E fault
+may_damage P D E h Store it = tt
+may_damage P D E h Damaged it = h
+may_damage P D E h Newer it = absurd it
+may_damage P D E h Memory it = tt
+
+-- a fault that tells of no newer format may tell of this damage
+pub damage_on : {T : Type 0} (P D E : Type 0) (h : E) (r : Result T OpenFault) → IfErr r (IsFor ⊥ D) → IfErr r (IsFor P E)
+damage_on P D E h (Ok x) it = tt
+damage_on P D E h (Err fault) it = may_damage P D E h fault it
+
+-- and so where it is handed on
+pub damage_of : {T : Type 0} (P D E : Type 0) (h : E) (r : Result T OpenFault) (fault : OpenFault) → IsErrAnd r (λ given. given ≡ fault) → IsFor ⊥ D fault → IfErr r (IsFor P E)
+damage_of P D E h (Ok x) fault is it = tt
+damage_of P D E h (Err given) fault is it = subst (IsFor P E) (sym is) (may_damage P D E h fault it)
+
+pub handed_on : {T : Type 0} (P D E : Type 0) (h : D → E) (r : Result T OpenFault) (fault : OpenFault) → IsErrAnd r (λ given. given ≡ fault) → IsFor P D fault → IfErr r (IsFor P E)
+handed_on P D E h (Ok x) fault is it = tt
+handed_on P D E h (Err given) fault is it = subst (IsFor P E) (sym is) (is_for (λ p. p) h fault it)
 
 -- ---- looking
 
@@ -98,6 +127,20 @@ marked_found s rows given number same laid answers marked =
     let number_is : column one.0 2 ≡ Int (pos number) = sym (ap (λ row. column row 0) one.2) ∙ marked.2 in
     ap (map (λ (r : Row). column r 2)) table ∙ ap (λ v. v ∷ []) number_is
 
+one_mapped : {A B : Type 0} (f : A → B) (xs : List A) (y : B) → map f xs ≡ y ∷ [] → (x : A) × (xs ≡ x ∷ []) × (f x ≡ y)
+one_mapped f [] y is = absurd (cc)
+one_mapped f (x ∷ []) y is = (x, refl, cc)
+one_mapped f (x ∷ z ∷ xs) y is = absurd (cc)
+
+-- and what stands in the table is what its rows show
+pub found_marked : (s : State) (rows given : List Row) (number : ℕ) → given ≡ rows → IsLaid s → Answers marked_text [] s rows → IsFormat s number → IsMarked given number
+found_marked s rows given number same laid answers format =
+    let all = answered_by s marked_text format_tree (λ _. refl) [] marked_shown [] (codes "number" ∷ []) [] rows marked_is marked_query laid answers in
+    let one = one_mapped (λ (r : Row). column r 2) (s.now.trees format_tree) (Int (pos number)) format in
+    let table : filter (passes [] []) (s.now.trees format_tree) ≡ one.0 ∷ [] = every (s.now.trees format_tree) [] ∙ one.1 in
+    let shown : rows ≡ shows marked_shown [] one.0 ∷ [] = one_permutation (shows marked_shown [] one.0) rows (subst (λ l. IsPermutation (map (shows marked_shown []) l) rows) table all) in
+    (shows marked_shown [] one.0, same ∙ shown, one.2)
+
 -- ---- the numbers of the rows
 
 pub numbers_found : (s : State) (kind : Kind) (rows given : List Row) → given ≡ rows → IsLaid s → Answers (numbers_text kind) [] s rows → AreRising given → AreNumbered (s.now.trees (entry_tree kind))
@@ -141,3 +184,13 @@ store_found old marked numbered new r first laid second third clean format numbe
         are = refl;
       },
     ))
+
+-- ---- what is refused
+
+-- where tables stand and no transaction is under way, what isn't laid out is foreign
+pub opening_cause : {T : Type 0} (s : State) (r : Result T OpenFault) → s.now.schema ≢ no_schema → s.in_transaction ≡ false → IfErr r (IsFor (IsNewer s) (IsNotLaid s ⊎ IsSpoilt s)) → IfErr r (IsCause s)
+opening_cause s r stand outside = if_err r (λ fault it. is_for {P = IsNewer s} {Q = IsNewer s} (λ newer. newer) step fault it)
+  where
+    step : IsNotLaid s ⊎ IsSpoilt s → IsDamaged s
+    step (inl other) = inl (record { stand = stand; other = λ journal. absurd (let clash = sym outside ∙ other journal in cc) })
+    step (inr spoilt) = inr spoilt

@@ -1,5 +1,5 @@
 -- What an opening looks for, what it finds, and what it leaves where it refuses.
-use Rattle.std.specs.Prelude.{◌≡◌, ◌⊎◌, ◌≤◌, ℕ, ◌<◌, ℤ, pos, Bool, true, false, ◌||◌, List, [], ◌∷◌, None, IsTrue, length, map}
+use Rattle.std.specs.Prelude.{◌≡◌, ◌≢◌, ◌⊎◌, ◌≤◌, ℕ, ◌<◌, ℤ, pos, Bool, true, false, ◌||◌, List, [], ◌∷◌, None, IsTrue, length, map}
 use Rattle.std.specs.Prelude.{is_some}
 use Rattle.std.specs.FinMap.{empty}
 use Rattle.std.specs.List.{AllByRecursion, list_all}
@@ -89,10 +89,11 @@ abbrev pub journal_fault : OpenFault → JournalFault
 journal_fault Memory = journal.Memory
 journal_fault fault = journal.Store
 
--- a fault that tells of a newer format has its cause
-abbrev pub IsFor : Type 0 → OpenFault → Type 0
-IsFor newer Newer = newer
-IsFor newer fault = Unit {0}
+-- a fault that tells of a newer format, or of damage, has its cause
+abbrev pub IsFor : (newer damaged : Type 0) → OpenFault → Type 0
+IsFor newer damaged Newer = newer
+IsFor newer damaged Damaged = damaged
+IsFor newer damaged fault = Unit {0}
 
 -- ---- the numbers of the rows
 
@@ -156,9 +157,39 @@ pub record LeavesStore (old new : State) : Type 0 where
   pub was_open : IsTrue new.is_open → IsTrue old.is_open
   pub committed : IsTrue new.is_open → new.committed ≡ old.committed
 
+-- ---- what is refused
+
+-- tables stand that aren't those of the format
+pub record IsForeign (s : State) : Type 0 where
+  pub stand : s.now.schema ≢ no_schema
+  pub other : IsJournal s.now.schema → ⊥
+
+-- the tables aren't those of the format, or a transaction is under way
+abbrev pub IsNotLaid : State → Type 0
+IsNotLaid s = IsJournal s.now.schema → s.in_transaction ≡ true
+
+-- the table of the format doesn't show one number from that of the format on
+abbrev pub IsUnmarked : State → Type 0
+IsUnmarked s = (number : ℕ) → format_number ≤ number → IsFormat s number → ⊥
+
+-- the number isn't lawful; or it is that of the format, and of the rows nothing is said
+abbrev pub IsMarkedOrNot : State → Type 0
+IsMarkedOrNot s = IsUnmarked s ⊎ IsFormat s format_number
+
+abbrev pub IsSpoilt : State → Type 0
+IsSpoilt s = IsJournal s.now.schema × IsMarkedOrNot s
+
+-- what stands may be no journal: its tables are others, or its format isn't a newer one
+abbrev pub IsDamaged : State → Type 0
+IsDamaged s = IsForeign s ⊎ IsSpoilt s
+
 -- a newer format stands in the table
+abbrev pub IsNewer : State → Type 0
+IsNewer s = (number : ℕ) × (format_number < number) × IsFormat s number
+
+-- why an opening refuses what stands
 abbrev pub IsCause : State → OpenFault → Type 0
-IsCause s = IsFor ((number : ℕ) × (format_number < number) × IsFormat s number)
+IsCause s = IsFor (IsNewer s) (IsDamaged s)
 
 -- a stop leaves no entry
 abbrev pub LeavesNone : Trees → Type 0

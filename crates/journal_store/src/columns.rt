@@ -1,5 +1,5 @@
 //! The columns of a row of an answer, and the entry that they show.
-ghost use Rattle.std.specs.Prelude.{◌≡◌, ◌≤◌, ◌+◌, pos, Some, IfOk, IsTrue, string_bytes};
+ghost use Rattle.std.specs.Prelude.{◌≡◌, ◌≤◌, ◌+◌, ℕ, pos, Some, IfOk, OnErr, IsTrue, string_bytes};
 ghost use Rattle.scim_key.specs.Revisions.{IsRevision, ◌≼◌};
 ghost use Rattle.sqlite_value.specs.Order.{column};
 ghost use Rattle.sqlite_value.specs.declared.value.Value.TheVariants.{Int, Text};
@@ -29,7 +29,8 @@ pub(crate) fn integer_at(row: &Row, at: usize) -> Result<i64, TableFault>
 }
 
 pub(crate) fn number_at(row: &Row, at: usize) -> Result<u64, TableFault>
-    ensures { IfOk result (λ n. column row.now at ≡ Int (pos n)) }
+    ensures some { IfOk result (λ n. column row.now at ≡ Int (pos n)) }
+    ensures none { OnErr result ((n : ℕ) → column row.now at ≡ Int (pos n) → ⊥) }
 {
     match row.get_ref(at) {
         Ok(ValueRef::Int(number)) => match u64::try_from(number) {

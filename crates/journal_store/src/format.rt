@@ -16,7 +16,8 @@ pub(crate) const FORMAT: u64 = 1;
 
 /// Whether no table stands.
 pub(crate) fn is_blank(schema: &Schema) -> bool
-    ensures { IsTrue result → schema.now ≡ no_schema }
+    ensures is { IsTrue result → schema.now ≡ no_schema }
+    ensures known { schema.now ≡ no_schema → IsTrue result }
 {
     schema.tables.is_empty() && schema.indexes.is_empty() && schema.views.is_empty()
 }
@@ -24,7 +25,8 @@ pub(crate) fn is_blank(schema: &Schema) -> bool
 /// Whether the tables are those of the format. The terms of the format's CHECK may be any, since its
 /// row is tested.
 pub(crate) fn is_journal(schema: &Schema) -> bool
-    ensures { IsTrue result → IsJournal schema.now }
+    ensures is { IsTrue result → IsJournal schema.now }
+    ensures known { IsJournal schema.now → IsTrue result }
 {
     let [format, users, groups] = schema.tables.as_slice() else {
         return false;
@@ -44,7 +46,8 @@ pub(crate) fn is_journal(schema: &Schema) -> bool
 
 /// Whether the one UNIQUE of the table is in the order of the index.
 fn has_order(table: &Table, index: &Index) -> bool
-    ensures { IsTrue result → table.now.orders ≡ index.now.order ∷ [] }
+    ensures is { IsTrue result → table.now.orders ≡ index.now.order ∷ [] }
+    ensures known { table.now.orders ≡ index.now.order ∷ [] → IsTrue result }
 {
     match table.orders.as_slice() {
         [order] => order.digits == index.order.digits,
@@ -53,7 +56,8 @@ fn has_order(table: &Table, index: &Index) -> bool
 }
 
 fn is_format(table: &Table) -> bool
-    ensures { IsTrue result → table.now ≡ format_table table.now.checks }
+    ensures is { IsTrue result → table.now ≡ format_table table.now.checks }
+    ensures known { table.now ≡ format_table table.now.checks → IsTrue result }
 {
     match table.columns.as_slice() {
         [one, number] => table.name.as_slice() == b"journal_format".as_slice()
@@ -70,7 +74,8 @@ fn is_format(table: &Table) -> bool
 }
 
 fn is_entries(kind: RecordKind, table: &Table) -> bool
-    ensures { IsTrue result → IsEntryTable kind table.now }
+    ensures is { IsTrue result → IsEntryTable kind table.now }
+    ensures known { IsEntryTable kind table.now → IsTrue result }
 {
     table.name.as_slice() == entry_name(kind)
         && table.tree == entry_tree(kind)
@@ -101,7 +106,8 @@ fn entry_tree(kind: RecordKind) -> u32
 }
 
 fn has_columns(kind: RecordKind, columns: &[Column]) -> bool
-    ensures { IsTrue result → columns.now ≡ entry_columns kind }
+    ensures is { IsTrue result → columns.now ≡ entry_columns kind }
+    ensures known { columns.now ≡ entry_columns kind → IsTrue result }
 {
     match kind {
         RecordKind::User => has_user_columns(columns),
@@ -110,7 +116,8 @@ fn has_columns(kind: RecordKind, columns: &[Column]) -> bool
 }
 
 fn has_user_columns(columns: &[Column]) -> bool
-    ensures { IsTrue result → columns.now ≡ entry_columns User }
+    ensures is { IsTrue result → columns.now ≡ entry_columns User }
+    ensures known { columns.now ≡ entry_columns User → IsTrue result }
 {
     match columns {
         [
@@ -139,7 +146,8 @@ fn has_user_columns(columns: &[Column]) -> bool
 }
 
 fn has_group_columns(columns: &[Column]) -> bool
-    ensures { IsTrue result → columns.now ≡ entry_columns Group }
+    ensures is { IsTrue result → columns.now ≡ entry_columns Group }
+    ensures known { columns.now ≡ entry_columns Group → IsTrue result }
 {
     match columns {
         [name_key, name, revision, members, confirmed, id] => is_column(
@@ -158,7 +166,8 @@ fn has_group_columns(columns: &[Column]) -> bool
 
 /// Whether the one UNIQUE is over the key.
 fn has_unique(table: &Table) -> bool
-    ensures { IsTrue result → table.now.uniques ≡ key_places ∷ [] }
+    ensures is { IsTrue result → table.now.uniques ≡ key_places ∷ [] }
+    ensures known { table.now.uniques ≡ key_places ∷ [] → IsTrue result }
 {
     match table.uniques.as_slice() {
         [places] => places.as_slice() == [1].as_slice(),
@@ -185,7 +194,8 @@ fn key_tree(kind: RecordKind) -> u32
 }
 
 fn is_key_index(kind: RecordKind, index: &Index) -> bool
-    ensures { IsTrue result → index.now ≡ key_index kind index.now.order }
+    ensures is { IsTrue result → index.now ≡ key_index kind index.now.order }
+    ensures known { index.now ≡ key_index kind index.now.order → IsTrue result }
 {
     index.name.as_slice() == index_name(kind)
         && index.tree == key_tree(kind)
@@ -196,7 +206,8 @@ fn is_key_index(kind: RecordKind, index: &Index) -> bool
 
 /// Whether nothing is said of the table but its columns, its keys and its CHECKs.
 fn is_plain(table: &Table) -> bool
-    ensures { IsTrue result → IsPlainTable table.now }
+    ensures is { IsTrue result → IsPlainTable table.now }
+    ensures known { IsPlainTable table.now → IsTrue result }
 {
     table.references.is_empty()
         && table.computed.is_empty()
@@ -205,7 +216,8 @@ fn is_plain(table: &Table) -> bool
 }
 
 fn has_no_stamps(table: &Table) -> bool
-    ensures { IsTrue result → table.now.stamps ≡ no_stamps }
+    ensures is { IsTrue result → table.now.stamps ≡ no_stamps }
+    ensures known { table.now.stamps ≡ no_stamps → IsTrue result }
 {
     table.stamps.places.is_empty()
         && table.stamps.terms.roots.is_empty()
@@ -213,7 +225,8 @@ fn has_no_stamps(table: &Table) -> bool
 }
 
 fn is_column(column: &Column, name: &[u8], kind: Kind, not_null: bool) -> bool
-    ensures { IsTrue result → column.now ≡ record { name = name.now; kind = kind; is_strict = false; not_null = not_null; default = Null; collation = Binary } }
+    ensures is { IsTrue result → column.now ≡ record { name = name.now; kind = kind; is_strict = false; not_null = not_null; default = Null; collation = Binary } }
+    ensures known { column.now ≡ record { name = name.now; kind = kind; is_strict = false; not_null = not_null; default = Null; collation = Binary } → IsTrue result }
 {
     column.name.as_slice() == name
         && column.kind == kind

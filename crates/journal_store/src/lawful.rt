@@ -77,7 +77,7 @@ fn have_members(keys: &[Key], groups: &[Entry]) -> bool
 /// Tests the entries of both types, which are in order of their keys.
 pub(crate) fn check_lists(alloc: Global, users: &[Entry], groups: &[Entry]) -> Result<(), OpenFault>
     ensures lawful { OnOk result (AreLawful users.now groups.now) }
-    ensures cause { IfErr result (IsFor ⊥) }
+    ensures cause { IfErr result (IsFor ⊥ (Unit {0})) }
 {
     if users.len() > USER_LIMIT || groups.len() > GROUP_LIMIT {
         return Err(OpenFault::Damaged);

@@ -1,5 +1,5 @@
 //! The opening of a store: its tables are made, or tested with each of their rows.
-ghost use Rattle.std.specs.Prelude.{◌≡◌, ◌<◌, ℕ, false, IfErr, MatchOption, OnErr, OnOk, IsTrue};
+ghost use Rattle.std.specs.Prelude.{◌≡◌, ◌⊎◌, ◌<◌, ◌≤◌, ℕ, false, IfErr, MatchOption, OnErr, OnOk, IsTrue};
 ghost use Rattle.std.specs.Ordering.{int_cmp};
 ghost use Rattle.std.specs.declared.cmp.Ordering.TheVariants.{Less};
 ghost use Rattle.std.specs.FinMap.{empty};
@@ -8,7 +8,7 @@ ghost use Rattle.sqlite.specs.Held.{state};
 ghost use Rattle.sqlite.specs.State.{HasCleanDisk, Survives};
 ghost use Rattle.journal_store.specs.Connections.{AreNumbered, HasNumbers, IsLaid};
 ghost use Rattle.journal_store.specs.Format.{entry_tree, format_number, numbers_text};
-ghost use Rattle.journal_store.specs.Opening.{AreRising, HoldsEntries, IsBlank, IsCause, IsFormat, IsFor, IsMarked, IsStore, LeavesNone, LeavesStore, Looks, Stands};
+ghost use Rattle.journal_store.specs.Opening.{AreRising, HoldsEntries, IsBlank, IsCause, IsFormat, IsFor, IsJournal, IsMarked, IsMarkedOrNot, IsNewer, IsNotLaid, IsSpoilt, IsStore, IsUnmarked, LeavesNone, LeavesStore, Looks, Stands};
 
 use crate::columns::{integer_at, number_at};
 use crate::format::{FORMAT, is_blank, is_journal};
@@ -95,7 +95,7 @@ fn make_tables<S: Alter>(conn: &mut Connection<S>) -> Result<(), Error>
 fn check_format<S: Alter>(conn: &mut Connection<S>) -> Result<(), OpenFault>
     requires laid { HasCleanDisk (state S.Store conn.old) → IsTrue (state S.Store conn.old).is_open → IsLaid (state S.Store conn.old) }
     ensures known { HasCleanDisk (state S.Store conn.new) → OnOk result (IsFormat (state S.Store conn.old) format_number) }
-    ensures cause { HasCleanDisk (state S.Store conn.new) → IfErr result (IsCause (state S.Store conn.old)) }
+    ensures cause { HasCleanDisk (state S.Store conn.new) → IfErr result (IsFor (IsNewer (state S.Store conn.old)) (IsUnmarked (state S.Store conn.old))) }
     ensures open { HasCleanDisk (state S.Store conn.new) → OnOk result (IsTrue (state S.Store conn.new).is_open) }
     ensures looks { Looks (state S.Store conn.old) (state S.Store conn.new) }
 {
@@ -108,7 +108,7 @@ fn check_format<S: Alter>(conn: &mut Connection<S>) -> Result<(), OpenFault>
 /// Tests that the rows show the number of the format, and no other.
 fn format_in(rows: &[Row]) -> Result<(), OpenFault>
     ensures known { OnOk result (IsMarked rows.now format_number) }
-    ensures cause { IfErr result (IsFor ((number : ℕ) × (format_number < number) × IsMarked rows.now number)) }
+    ensures cause { IfErr result (IsFor ((number : ℕ) × (format_number < number) × IsMarked rows.now number) ((number : ℕ) → format_number ≤ number → IsMarked rows.now number → ⊥)) }
 {
     let [row] = rows else {
         return Err(OpenFault::Damaged);
@@ -144,7 +144,7 @@ fn rises(last: Option<i64>, number: i64) -> bool
 /// Tests that the rows show numbers that rise.
 fn check_rising(rows: &[Row]) -> Result<(), OpenFault>
     ensures rising { OnOk result (AreRising rows.now) }
-    ensures cause { IfErr result (IsFor ⊥) }
+    ensures cause { IfErr result (IsFor ⊥ (Unit {0})) }
 {
     let mut last = None;
     for row in rows {
@@ -161,7 +161,7 @@ fn check_rising(rows: &[Row]) -> Result<(), OpenFault>
 fn check_table<S: Alter>(conn: &mut Connection<S>, kind: Kind) -> Result<(), OpenFault>
     requires laid { HasCleanDisk (state S.Store conn.old) → IsTrue (state S.Store conn.old).is_open → IsLaid (state S.Store conn.old) }
     ensures numbered { HasCleanDisk (state S.Store conn.new) → OnOk result (AreNumbered ((state S.Store conn.old).now.trees (entry_tree kind))) }
-    ensures cause { IfErr result (IsFor ⊥) }
+    ensures cause { IfErr result (IsFor ⊥ (Unit {0})) }
     ensures open { HasCleanDisk (state S.Store conn.new) → OnOk result (IsTrue (state S.Store conn.new).is_open) }
     ensures looks { Looks (state S.Store conn.old) (state S.Store conn.new) }
 {
@@ -175,7 +175,7 @@ fn check_table<S: Alter>(conn: &mut Connection<S>, kind: Kind) -> Result<(), Ope
 fn check_numbers<S: Alter>(conn: &mut Connection<S>) -> Result<(), OpenFault>
     requires laid { HasCleanDisk (state S.Store conn.old) → IsTrue (state S.Store conn.old).is_open → IsLaid (state S.Store conn.old) }
     ensures numbered { HasCleanDisk (state S.Store conn.new) → OnOk result (HasNumbers (state S.Store conn.old).now.trees) }
-    ensures cause { IfErr result (IsFor ⊥) }
+    ensures cause { IfErr result (IsFor ⊥ (Unit {0})) }
     ensures open { HasCleanDisk (state S.Store conn.new) → OnOk result (IsTrue (state S.Store conn.new).is_open) }
     ensures looks { Looks (state S.Store conn.old) (state S.Store conn.new) }
 {
@@ -187,7 +187,7 @@ fn check_numbers<S: Alter>(conn: &mut Connection<S>) -> Result<(), OpenFault>
 fn check_entries<S: Alter>(alloc: Global, conn: &mut Connection<S>) -> Result<(), OpenFault>
     requires laid { HasCleanDisk (state S.Store conn.old) → IsTrue (state S.Store conn.old).is_open → IsLaid (state S.Store conn.old) }
     ensures holds { HasCleanDisk (state S.Store conn.new) → OnOk result (HoldsEntries (state S.Store conn.old).now.trees) }
-    ensures cause { IfErr result (IsFor ⊥) }
+    ensures cause { IfErr result (IsFor ⊥ (Unit {0})) }
     ensures open { HasCleanDisk (state S.Store conn.new) → OnOk result (IsTrue (state S.Store conn.new).is_open) }
     ensures looks { Looks (state S.Store conn.old) (state S.Store conn.new) }
 {
@@ -202,7 +202,7 @@ fn check_entries<S: Alter>(alloc: Global, conn: &mut Connection<S>) -> Result<()
 fn check_laid<S: Alter>(alloc: Global, conn: &mut Connection<S>) -> Result<(), OpenFault>
     requires laid { HasCleanDisk (state S.Store conn.old) → IsTrue (state S.Store conn.old).is_open → IsLaid (state S.Store conn.old) }
     ensures store { HasCleanDisk (state S.Store conn.new) → OnOk result ((entries : EntryMap) × IsStore (state S.Store conn.old) entries) }
-    ensures cause { HasCleanDisk (state S.Store conn.new) → IfErr result (IsCause (state S.Store conn.old)) }
+    ensures cause { HasCleanDisk (state S.Store conn.new) → IfErr result (IsFor (IsNewer (state S.Store conn.old)) (IsMarkedOrNot (state S.Store conn.old))) }
     ensures open { HasCleanDisk (state S.Store conn.new) → OnOk result (IsTrue (state S.Store conn.new).is_open) }
     ensures looks { Looks (state S.Store conn.old) (state S.Store conn.new) }
 {
@@ -213,7 +213,9 @@ fn check_laid<S: Alter>(alloc: Global, conn: &mut Connection<S>) -> Result<(), O
 
 /// Whether the tables are laid out, and no transaction is under way.
 fn is_laid<S: Alter>(conn: &Connection<S>) -> bool
-    ensures { IsTrue result → IsTrue (state S.Store conn.now).is_open → IsLaid (state S.Store conn.now) }
+    ensures is { IsTrue result → IsTrue (state S.Store conn.now).is_open → IsLaid (state S.Store conn.now) }
+    ensures journal { IsTrue result → IsJournal (state S.Store conn.now).now.schema }
+    ensures not { result ≡ false → IsNotLaid (state S.Store conn.now) }
 {
     conn.is_autocommit() && is_journal(conn.schema())
 }
@@ -224,7 +226,7 @@ pub(crate) fn check_tables<S: Alter>(
     conn: &mut Connection<S>,
 ) -> Result<(), OpenFault>
     ensures store { HasCleanDisk (state S.Store conn.new) → OnOk result ((entries : EntryMap) × IsStore (state S.Store conn.old) entries) }
-    ensures cause { HasCleanDisk (state S.Store conn.new) → IfErr result (IsCause (state S.Store conn.old)) }
+    ensures cause { HasCleanDisk (state S.Store conn.new) → IfErr result (IsFor (IsNewer (state S.Store conn.old)) (IsNotLaid (state S.Store conn.old) ⊎ IsSpoilt (state S.Store conn.old))) }
     ensures open { HasCleanDisk (state S.Store conn.new) → OnOk result (IsTrue (state S.Store conn.new).is_open) }
     ensures looks { Looks (state S.Store conn.old) (state S.Store conn.new) }
     ensures left { HasCleanDisk (state S.Store conn.new) → LeavesStore (state S.Store conn.old) (state S.Store conn.new) }

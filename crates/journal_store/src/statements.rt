@@ -42,6 +42,10 @@ impl From<NameFault> for TableFault {
 }
 
 impl From<Error> for TableFault {
+    ghost use Rattle.journal_store.specs.Faults.{IsOfStatement};
+
+    ghost from_gives = { λ _ fault. IsOfStatement fault };
+
     fn from(error: Error) -> TableFault {
         match error {
             Error::SqliteFailure(ErrorCode::OutOfMemory) => TableFault::Memory,

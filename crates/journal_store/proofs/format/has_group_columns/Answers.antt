@@ -4,8 +4,8 @@ use Rattle.journal_store.specs.Format.{optional, required}
 use Rattle.journal_store.proofs.Fields.{six_items}
 use Rattle.journal_store.proofs.format.has_group_columns.Goals as goal
 
-pub returns-then-is_column-5 : goal.returns-then-is_column-5
-returns-then-is_column-5 c is =
+pub returns-then-is_column-5-clause-is : goal.returns-then-is_column-5-clause-is
+returns-then-is_column-5-clause-is c is =
     let all = six_items c.args.columns.now c.name_key-item.result c.name-item.result c.revision-item.result c.members-item.result c.confirmed-item.result c.id-item.result c.in-len6.len_at_least c.in-len6.len_below
     c.name_key-item.is c.name-item.is c.revision-item.is c.members-item.is c.confirmed-item.is c.id-item.is in
     let name_key : c.name_key-item.result ≡ required (codes "name_key") Text = search (rules, tests) in

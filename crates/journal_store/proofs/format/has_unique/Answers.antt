@@ -3,8 +3,8 @@ use Rattle.journal_store.specs.Format.{key_places}
 use Rattle.journal_store.proofs.Fields.{one_item}
 use Rattle.journal_store.proofs.format.has_unique.Goals as goal
 
-pub returns-in-len1 : goal.returns-in-len1
-returns-in-len1 c is =
+pub returns-in-len1-clause-is : goal.returns-in-len1-clause-is
+returns-in-len1-clause-is c is =
     let all = one_item c.as_slice.result.now c.places-item.result c.in-len1.len_at_least c.in-len1.len_below c.places-item.is in
     let places : c.places-item.result ≡ key_places = search (rules, tests) in
     sym c.as_slice.ensures ∙ all ∙ ap (λ p. p ∷ []) places

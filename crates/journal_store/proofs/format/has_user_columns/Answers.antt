@@ -4,8 +4,8 @@ use Rattle.journal_store.specs.Format.{optional, required}
 use Rattle.journal_store.proofs.Fields.{ten_items}
 use Rattle.journal_store.proofs.format.has_user_columns.Goals as goal
 
-pub returns-then-is_column-9 : goal.returns-then-is_column-9
-returns-then-is_column-9 c is =
+pub returns-then-is_column-9-clause-is : goal.returns-then-is_column-9-clause-is
+returns-then-is_column-9-clause-is c is =
     let all = ten_items c.args.columns.now c.name_key-item.result c.login-item.result c.revision-item.result c.number-item.result c.given-item.result c.family-item.result c.mail-item.result c.active-item.result c.confirmed-item.result c.id-item.result c.in-len10.len_at_least c.in-len10.len_below
     c.name_key-item.is c.login-item.is c.revision-item.is c.number-item.is c.given-item.is c.family-item.is c.mail-item.is c.active-item.is c.confirmed-item.is c.id-item.is in
     let name_key : c.name_key-item.result ≡ required (codes "name_key") Text = search (rules, tests) in

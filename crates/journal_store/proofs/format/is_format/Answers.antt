@@ -4,8 +4,8 @@ use Rattle.journal_store.specs.Format.{optional, required}
 use Rattle.journal_store.proofs.Fields.{two_items, format_fields}
 use Rattle.journal_store.proofs.format.is_format.Goals as goal
 
-pub returns-then-is_empty-2 : goal.returns-then-is_empty-2
-returns-then-is_empty-2 c is =
+pub returns-then-is_empty-2-clause-is : goal.returns-then-is_empty-2-clause-is
+returns-then-is_empty-2-clause-is c is =
     let all = two_items c.as_slice.result.now c.one-item.result c.number-item.result c.in-len2.len_at_least c.in-len2.len_below c.one-item.is c.number-item.is in
     let one : c.one-item.result ≡ optional (codes "one") Integer = search (rules, tests) in
     let number : c.number-item.result ≡ required (codes "number") Integer = search (rules, tests) in
@@ -15,6 +15,6 @@ returns-then-is_empty-2 c is =
     let primary : c.args.table.now.primary ≡ 0 ∷ [] = search (rules, tests) in
     let uniques : c.args.table.now.uniques ≡ [] = search (rules, tests) in
     let orders : c.args.table.now.orders ≡ [] = search (rules, tests) in
-    let plain = c.is_plain.ensures is in
+    let plain = c.is_plain.ensures.is is in
     let columns : c.args.table.now.columns ≡ optional (codes "one") Integer ∷ required (codes "number") Integer ∷ [] = sym c.as_slice.ensures ∙ all ∙ rw (one, number) refl in
     format_fields c.args.table.now name tree columns key primary uniques orders plain

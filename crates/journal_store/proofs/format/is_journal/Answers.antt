@@ -5,8 +5,8 @@ use Rattle.journal_store.specs.Opening.{IsEntryTable}
 use Rattle.journal_store.proofs.Fields.{two_items, three_items, journal_fields}
 use Rattle.journal_store.proofs.format.is_journal.Goals as goal
 
-pub returns-then-has_order : goal.returns-then-has_order
-returns-then-has_order c is =
+pub returns-then-has_order-clause-is : goal.returns-then-has_order-clause-is
+returns-then-has_order-clause-is c is =
     let format = c.format-item.result in
     let users = c.users-item.result in
     let groups = c.groups-item.result in
@@ -21,4 +21,4 @@ returns-then-has_order c is =
     let is_group_keys : group_keys ≡ key_index Group group_keys.order = search (rules, tests) in
     let views : c.args.schema.now.views ≡ [] = search (rules, tests) in
     let user_orders : users.orders ≡ user_keys.order ∷ [] = search (rules, tests) in
-    journal_fields c.args.schema.now format users groups user_keys group_keys (sym c.as_slice.ensures ∙ tables) (sym c.as_slice-2.ensures ∙ indexes) views is_format is_users is_groups is_user_keys is_group_keys user_orders (c.has_order-then-has_order.ensures is)
+    journal_fields c.args.schema.now format users groups user_keys group_keys (sym c.as_slice.ensures ∙ tables) (sym c.as_slice-2.ensures ∙ indexes) views is_format is_users is_groups is_user_keys is_group_keys user_orders (c.has_order-then-has_order.ensures.is is)

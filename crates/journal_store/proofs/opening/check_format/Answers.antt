@@ -1,9 +1,10 @@
-use Rattle.std.proofs.Common.{arith}
+use Rattle.std.proofs.Common.{sym, subst, arith}
 use Rattle.sqlite.specs.Held.{state}
 use Rattle.sqlite.specs.State.{HasCleanDisk}
 use Rattle.journal_store.specs.Format.{format_number}
+use Rattle.journal_store.specs.Opening.{IsFor, IsNewer, IsUnmarked}
 use Rattle.journal_store.proofs.Texts.{marked_query}
-use Rattle.journal_store.proofs.Checking.{on_ok, if_err, is_for, marked_found}
+use Rattle.journal_store.proofs.Checking.{on_ok, if_err, is_for, no_damage, marked_found, found_marked}
 use Rattle.journal_store.proofs.opening.check_format.Goals as goal
 
 pub ask-requires-clause-query : goal.ask-requires-clause-query
@@ -20,5 +21,11 @@ returns-in-Ok-clause-cause g c clean =
     let early : HasCleanDisk (state g.S.Store c.args.conn.now) = omega (arith, clean, c.in-Ok.ensures.quiet.clean) in
     let laid = c.requires.laid early ((c.in-Ok.ensures.keeps clean).was_open (c.in-Ok.ensures.open clean)) in
     if_err c.format_in.result
-    (λ fault newer. is_for (λ h. (h.0, h.1, marked_found (state g.S.Store c.args.conn.now) c.in-Ok.rows.items c.as_slice.result.now h.0 c.as_slice.ensures.value laid (c.in-Ok.ensures.rows clean) h.2)) fault newer)
+    (λ fault cause. is_for (λ h. (h.0, h.1, marked_found (state g.S.Store c.args.conn.now) c.in-Ok.rows.items c.as_slice.result.now h.0 c.as_slice.ensures.value laid (c.in-Ok.ensures.rows clean) h.2))
+    (λ none number low format. none number low (found_marked (state g.S.Store c.args.conn.now) c.in-Ok.rows.items c.as_slice.result.now number c.as_slice.ensures.value laid (c.in-Ok.ensures.rows clean) format)) fault cause)
     c.format_in.ensures.cause
+
+pub returns-in-Err-clause-cause : goal.returns-in-Err-clause-cause
+returns-in-Err-clause-cause g c clean =
+    let old = state g.S.Store c.args.conn.now in
+    subst (IsFor (IsNewer old) (IsUnmarked old)) (sym c.from-in-Err.ensures) (no_damage (IsNewer old) (IsUnmarked old) c.from.result c.from.ensures)

@@ -1,9 +1,9 @@
-use Rattle.std.proofs.Common.{refl, inl, inr, IsTrue}
+use Rattle.std.proofs.Common.{◌≡◌, false, refl, sym, ◌∙◌, inl, inr, subst, IsTrue, rules, tests}
 use Rattle.std.specs.FinMap.{empty}
 use Rattle.sqlite.specs.Held.{state}
 use Rattle.journal_core.specs.Entries.{EntryMap}
-use Rattle.journal_store.specs.Opening.{IsStore}
-use Rattle.journal_store.proofs.Checking.{on_both}
+use Rattle.journal_store.specs.Opening.{IsCause, IsDamaged, IsNewer, IsStore}
+use Rattle.journal_store.proofs.Checking.{on_both, no_damage, opening_cause}
 use Rattle.journal_store.proofs.Reopening.{store_on}
 use Rattle.journal_store.proofs.opening.open_tables.Goals as goal
 
@@ -17,3 +17,14 @@ returns-then-not-is_blank-clause-stands g c clean =
 
 pub returns-in-Ok-clause-stands : goal.returns-in-Ok-clause-stands
 returns-in-Ok-clause-stands g c clean = let it = c.in-Ok.ensures.made clean in (empty, inr (it.1, refl), it.2)
+
+pub returns-then-not-is_blank-clause-cause : goal.returns-then-not-is_blank-clause-cause
+returns-then-not-is_blank-clause-cause g c clean =
+    let stands : c.is_blank.result ≡ false = search (rules, tests) in
+    let outside : (state g.S.Store c.args.conn.now).in_transaction ≡ false = search (rules, tests) in
+    opening_cause (state g.S.Store c.args.conn.now) c.check_tables.result (λ none. absurd (let clash = sym stands ∙ c.is_blank.ensures.known (c.schema.ensures.value ∙ none) in cc)) outside (c.check_tables.ensures.cause clean)
+
+pub returns-in-Err-clause-cause : goal.returns-in-Err-clause-cause
+returns-in-Err-clause-cause g c clean =
+    let old = state g.S.Store c.args.conn.now in
+    subst (IsCause old) (sym c.from-in-Err.ensures) (no_damage (IsNewer old) (IsDamaged old) c.from.result c.from.ensures)
