@@ -30,6 +30,7 @@ IN_CODE = re.compile(r"^note: (?:\./)?(src/\S+\.rt):(\d+):\d+: it is not proved"
 IN_PROOF = re.compile(r"^(?:\./)?proofs/(\S+)/[A-Z]\w*\.antt:\d+:\d+: error(.*)", re.M)
 # a proof that names what the edit took away says little of the contract
 OF_NAMES = re.compile(r"has no field|is not in scope|has no `|was not admitted")
+ONLY_BY_NAMES = ", only by a name in its proof"
 FUNCTION = re.compile(r"^( *)(?:pub(?:\([a-z]+\))? )?(?:const )?fn (\w+)")
 
 
@@ -178,7 +179,7 @@ def refusal_by(said, file, name, first, last):
     of_proof = [it for it in IN_PROOF.finditer(said) if it[1].startswith(f"{module}/") and it[1].split("/")[-1] == name]
     if any(not OF_NAMES.search(it[2]) for it in of_proof):
         return f"{name}, in its proof"
-    return f"{name}, only by a name in its proof" if of_proof else None
+    return f"{name}{ONLY_BY_NAMES}" if of_proof else None
 
 
 def tried(name, edits):
@@ -196,6 +197,9 @@ def tried(name, edits):
                 continue
             for it in check:
                 by = refusal(it, said)
+                if len(check) > 1 and (not by or ONLY_BY_NAMES in by):
+                    # a proof that isn't read beside it can keep the prover from its goals
+                    by = refusal(it, checked([it], told, kept))
                 answers.append((f"{it.name}: refused by {by}" if by else f"{it.name}: NOT REFUSED", bool(by)))
     return answers
 
