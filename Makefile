@@ -27,6 +27,8 @@ test:
 	tests/stores.sh
 	tests/push.sh
 	tests/simulate.sh
+	tests/memory.sh
+	tests/guide.sh
 	tests/edits.py --apply
 
 # the wrong programs of every crate, over the libraries that rt ci or rt all check built

@@ -16,8 +16,8 @@ lines header 0
 : > "$room/empty"
 expect empty 1 'users: S1' "$program" map "$room/empty"
 
-printf '%s\nann,1\nbob,1,,,,,active\nc d,1,,,,,active\n' "$header" > "$room/refused"
-expect refused 1 $'users record 1: S2\nusers record 3: S4' "$program" map "$room/refused"
+printf '%s\nann,1\n\xff,1,,,,,active\nbob,1,,,,,active\nc d,1,,,,,active\ncid,1,,,,,gone\n' "$header" > "$room/refused"
+expect refused 1 $'users record 1: S2\nusers record 2: S3\nusers record 4: S4\nusers record 5: S6' "$program" map "$room/refused"
 lines refused 1
 
 expect absent 3 'file fault' "$program" map "$room/nothing"

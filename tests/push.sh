@@ -42,6 +42,11 @@ shows() {
     prints "$name" "$room/wanted"
 }
 
+# answers of every kind, some of them late, beside all that follows
+mkdir "$room/foreign" "$room/kills"
+python3 -B tests/foreign.py "$program" "$room/foreign" &
+foreign=$!
+
 groups=
 users bob,1,,,,,active ann,1,,,,,active
 starts 4
@@ -122,7 +127,68 @@ meets 'HTTP/1.1 200 OK\r\nContent-Length: 2\r\n\r\nno' 3
 pushes 'an answer that is no JSON' 1 '' 'user bob unconfirmed K2'
 wait "$server"
 
+# what files refuse, each code of a record: users before groups, and before anything is asked
+rm -f "$room"/journal*
+to=127.0.0.1:1
+users 'ann,1' $'\xff,1,,,,,active' 'a b,1,,,,,active' 'ann,0,,,,,active' 'ann,1,,,,,gone'
+many=$(seq 401 | sed 's/^/u/' | paste -sd ' ')
+printf '%s\n' name,revision,members 'crew,1' $'\xff,1,' ' crew,1,' 'crew,0,' 'crew,1,ann  bob' 'crew,1,ann Ann' \
+    "crew,1,$many" > "$room/groups"
+groups=$room/groups
+pushes 'refused records' 1 "$(printf '%s\n' 'users record 1: S2' 'users record 2: S3' 'users record 3: S4' \
+    'users record 4: S5' 'users record 5: S6' 'groups record 1: S2' 'groups record 2: S3' 'groups record 3: S4' \
+    'groups record 4: S5' 'groups record 5: S4' 'groups record 6: S9' 'groups record 7: S10')"
+: > "$room/users"
+printf '%s\n' "$users_header" > "$room/groups"
+pushes 'refused headers' 1 $'users: S1\ngroups: S1'
+
+# a journal that has as many records as it may; each is confirmed, so nothing is asked
+python3 - "$room/journal" << 'FULL'
+import sqlite3, sys
+base = sqlite3.connect(sys.argv[1])
+with base:
+    users = ((f"u{place:06}", f"U{place:06}", str(place)) for place in range(100_000))
+    base.executemany("INSERT INTO user_entry VALUES (?, ?, 1, '', '', '', '', 1, 1, ?)", users)
+    groups = ((f"g{place:05}", f"G{place:05}", f"g{place}") for place in range(10_000))
+    base.executemany("INSERT INTO group_entry VALUES (?, ?, 1, '', 1, ?)", groups)
+base.close()
+FULL
+users one-more,1,,,,,active
+printf 'name,revision,members\nmore,1,u000000\n' > "$room/groups"
+expect 'a full journal' 1 $'users record 1: S12\ngroups record 1: S12' "$program" push --users "$room/users" \
+    --groups "$groups" --journal "$room/journal" --to "$to"
+lines 'a full journal' 110000
+
+# a journal that can't grow: what is told as confirmed before is in it, and the next run goes on
+limited=(bash -c 'trap "" XFSZ; ulimit -f "$0"; exec "$@"' 300)
+groups=
+rm -f "$room"/journal* "$room"/store*
+printf "$users_header\n$(printf 'u%03d,1,,,,,active\\n' $(seq 0 199))" > "$room/users"
+push=("$program" push --users "$room/users" --journal "$room/journal")
+expect 'rows that are not kept' 3 'journal fault J1' "${limited[@]}" "${push[@]}" --to 127.0.0.1:1
+lines 'rows that are not kept' 0
+expect 'rows that are kept' 3 'connection fault' "${push[@]}" --to 127.0.0.1:1
+starts 1000
+expect 'what is learnt is not kept' 3 'journal fault J1' "${limited[@]}" "${push[@]}" --to "$to"
+cp "$room/out" "$room/first"
+[ -s "$room/first" ] || fails 'what is learnt is not kept: nothing was done before'
+expect 'what is learnt is not kept' 0 '' "$program" show --journal "$room/journal"
+sed -n 's/^\(user .*\) wanted=1 confirmed=1 id=.*/\1 confirmed 1/p' "$room/out" | cmp -s - "$room/first" ||
+    fails 'what is learnt is not kept: more or less is kept than was told'
+expect 'a disk with room again' 0 '' "${push[@]}" --to "$to"
+lines 'a disk with room again' 200
+kill "$server"; wait "$server" 2> /dev/null
+
 # words, files and journals that can't be used
+expect 'a full disk' 3 'file fault' bash -c "${push[*]} --to 127.0.0.1:1 > /dev/full"
+expect 'the store to a full disk' 3 'file fault' bash -c "$program show --store $room/store > /dev/full"
+expect 'the journal to a full disk' 3 'file fault' bash -c "$program show --journal $room/journal > /dev/full"
+expect 'absent groups' 3 'file fault' "${push[@]}" --groups "$room/absent" --to 127.0.0.1:1
+expect 'a base of another form' 2 'error: --base is http://HOST/v2' "${push[@]}" --to 127.0.0.1:1 --base ftp://x/v2
+users zoe,1,,,,,active
+for address in 127.0.0.1 127.0.0.1:65536 :1 ''; do
+    expect "address [$address]" 3 'connection fault' "$program" push --users "$room/users" --journal "$room/other" --to "$address"
+done
 expect 'no journal' 2 '*' "$program" push --users "$room/users" --to 127.0.0.1:1
 expect 'no users' 2 '*' "$program" push --journal "$room/new" --to 127.0.0.1:1
 [ -e "$room/new" ] && fails 'no users: it opened the journal'
@@ -142,4 +208,7 @@ base.commit()
 NEWER
 expect 'a newer journal' 3 'journal fault J4' "$program" show --journal "$room/newer"
 expect 'both' 2 'error: show takes one of --store FILE and --journal FILE' "$program" show --store "$room/store" --journal "$room/journal"
+
+python3 -B tests/kills.py "$program" "$room/kills" || failed=1
+wait "$foreign" || failed=1
 ends

@@ -1,10 +1,13 @@
 #!/usr/bin/env python3
 """Tries `scimlink serve` with clients: tests/serve.py PROGRAM. Called by tests/serve.sh."""
 import concurrent.futures
+import contextlib
 import http.client
 import json
 import pathlib
+import resource
 import socket
+import sqlite3
 import struct
 import subprocess
 import sys
@@ -20,6 +23,8 @@ BOB_PATH = "/v2/Users/5c1a0000-0000-8000-8000-000000000001"
 SCIM = "application/scim+json"
 FIND = f"GET {BOB_PATH} HTTP/1.1\r\nHost: h\r\n\r\n".encode()
 FAULT = "connection fault\n"
+# the body of the one answer to all that the provider couldn't complete
+UNDONE = b'{"detail":"the provider could not complete the request","schemas":["urn:ietf:params:scim:api:messages:2.0:Error"],"status":"500"}'
 # how long a connection may take in all, and how much later than that its end may be noticed
 LIMIT, SLACK = 30, 4
 
@@ -97,12 +102,14 @@ def user(revision, **more):
 
 
 def test_a_life_by_http_client():
-    with Server(10) as server:
+    with Server(11) as server:
         status, head, shown = server.ask("POST", "/v2/Users", BOB)
         equal((status, head["ETag"], shown["userName"]), (201, '"1"', "bob"))
         equal((head["Location"], head["Connection"]), (f"http://localhost:8080{BOB_PATH}", "close"))
         status, head, found = server.ask("GET", BOB_PATH)
         equal((status, head["ETag"], found), (200, '"1"', shown))
+        status, head, nothing = server.ask("HEAD", BOB_PATH)
+        equal((status, head["Content-Type"], nothing), (501, SCIM, None))
         status, _, _ = server.ask("GET", BOB_PATH, If_None_Match='"1"')
         equal(status, 304)
         status, head, changed = server.ask("PUT", BOB_PATH, user(2, active=False), If_Match='"1"')
@@ -121,6 +128,20 @@ def test_a_life_by_http_client():
         equal((status, listed["totalResults"]), (200, 1))
 
 
+def test_a_group_by_http_client():
+    path = "/v2/Groups/5c1a0000-0000-8000-8000-000000000001"
+    group = {"schemas": ["urn:ietf:params:scim:schemas:core:2.0:Group"], "displayName": "crew two"}
+    with Server(4) as server:
+        status, head, shown = server.ask("POST", "/v2/Groups", json.dumps(group | {"members": [{"value": "x"}, {"value": "x"}]}))
+        equal((status, head["ETag"], shown["members"]), (201, '"1"', [{"value": "x"}]))
+        status, head, shown = server.ask("PUT", path, json.dumps(group), If_Match='"1"')
+        equal((status, head["ETag"], shown.get("members")), (200, '"2"', None))
+        status, _, listed = server.ask("GET", "/v2/Groups?filter=displayName%20eq%20%22CREW%20TWO%22")
+        equal((status, listed["totalResults"], listed["Resources"]), (200, 1, [shown]))
+        status, _, _ = server.ask("GET", path.replace("Groups", "Users"))
+        equal(status, 404)
+
+
 def test_bytes_are_those_of_answer():
     with Server(1) as server:
         equal(server.bytes(CREATE_BOB), BOB_CREATED)
@@ -132,55 +153,110 @@ def test_another_base():
         equal(server.bytes(CREATE_BOB), moved.replace(b"Content-Length: 388", b"Content-Length: 386"))
 
 
-def test_curl():
-    with tempfile.TemporaryDirectory() as room, Server(5) as server:
+def code_of(server, *words):
+    """The status that curl is answered."""
+    return int(server.curl("-o", "/dev/null", "-w", "%{http_code}", *words))
+
+
+def test_a_life_by_curl():
+    with tempfile.TemporaryDirectory() as room, Server(10) as server:
         file = pathlib.Path(room) / "bob"
         file.write_bytes(BOB)
-        posted = server.curl("-i", "-H", f"Content-Type: {SCIM}", "--data-binary", f"@{file}", "URL/v2/Users")
-        equal(posted, BOB_CREATED)
-        found = server.curl(f"URL{BOB_PATH}")
-        equal(found, BOB_CREATED.split(b"\r\n\r\n", 1)[1])
+        words = ["-H", f"Content-Type: {SCIM}", "--data-binary", f"@{file}"]
+        equal(server.curl("-i", *words, "URL/v2/Users"), BOB_CREATED)
+        equal(server.curl(f"URL{BOB_PATH}"), BOB_CREATED.split(b"\r\n\r\n", 1)[1])
         head = server.curl("-I", f"URL{BOB_PATH}")
         assert head.startswith(b"HTTP/1.1 501 Not Implemented\r\n") and head.endswith(b"\r\n\r\n"), head
-        same = server.curl("-o", "/dev/null", "-w", "%{http_code}", "-H", 'If-None-Match: "1"', f"URL{BOB_PATH}")
-        equal(same, b"304")
-        chunked = server.curl("-o", "/dev/null", "-w", "%{http_code}", "-H", "Transfer-Encoding: chunked",
-                              "-d", "{}", "URL/v2/Users")
-        equal(chunked, b"501")
+        equal(code_of(server, "-H", 'If-None-Match: "1"', f"URL{BOB_PATH}"), 304)
+        file.write_text(user(2, active=False))
+        replaced = server.curl("-i", "-X", "PUT", "-H", 'If-Match: "1"', *words, f"URL{BOB_PATH}")
+        assert replaced.startswith(b"HTTP/1.1 200 OK\r\n") and b'ETag: "2"\r\n' in replaced, replaced
+        equal(code_of(server, "-X", "PUT", "-H", 'If-Match: "1"', *words, f"URL{BOB_PATH}"), 412)
+        found = server.curl("-G", "--data-urlencode", 'filter=userName eq "BOB"', "URL/v2/Users")
+        equal([shown["active"] for shown in json.loads(found)["Resources"]], [False])
+        equal(code_of(server, "-H", "Transfer-Encoding: chunked", "-d", "{}", "URL/v2/Users"), 501)
+        file.write_bytes(BOB.replace(b'"bob"', b'"ann"').ljust(32768))
+        equal(code_of(server, "-H", "Expect: 100-continue", *words, "URL/v2/Users"), 417)
+        equal(code_of(server, *words, "URL/v2/Users"), 201)
 
 
+READABLE, ALLOWED = "the body is not a readable resource", "a value is missing or not allowed"
+MALFORMED, NO_PATH = "the request is malformed", "no such path"
+# by code: what is told of it with which status, and a request to a provider that holds bob
 REFUSED = [
-    (404, ("GET", "/v2/Users/x")),
-    (404, ("GET", "/v1/Users")),
-    (501, ("DELETE", BOB_PATH)),
-    (501, ("PATCH", BOB_PATH, "{}")),
-    (415, ("POST", "/v2/Users", "{}", "text/plain")),
-    (400, ("POST", "/v2/Users", "{")),
-    (400, ("POST", "/v2/Users", "{}")),
-    (400, ("GET", "/v2/Users?startIndex=x")),
-    (400, ("GET", "/v2/Users?filter=x")),
+    ("P1", 400, READABLE, ("POST", "/v2/Users", "{")),
+    ("P2", 400, ALLOWED, ("POST", "/v2/Users", "{}")),
+    ("P2", 400, ALLOWED, ("GET", "/v2/Users?startIndex=x")),
+    ("P3", 400, "the filter is not supported", ("GET", "/v2/Users?filter=x")),
+    ("P4", 400, "the name of a resource is fixed", ("PUT", BOB_PATH, BOB.replace(b'"bob"', b'"bill"'))),
+    ("P5", 404, "no such resource", ("GET", "/v2/Users/x")),
+    ("P6", 409, "the name is taken", ("POST", "/v2/Users", BOB)),
+    ("P8", 501, "the method is not supported", ("DELETE", BOB_PATH)),
+    ("P8", 501, "the method is not supported", ("PATCH", BOB_PATH, "{}")),
+    ("H8", 415, "the media type is not supported", ("POST", "/v2/Users", "{}", "text/plain")),
+    ("H9", 404, NO_PATH, ("GET", "/v1/Users")),
 ]
+POST = b"POST /v2/Users HTTP/1.1\r\nHost: h\r\n"
 REFUSED_BYTES = [
-    (b"400 Bad Request", b"GET /v2/Users HTTP/1.1\r\n\r\n"),
-    (b"400 Bad Request", b"\x00\r\n"),
-    (b"411 Length Required", b"POST /v2/Users HTTP/1.1\r\nHost: h\r\n\r\n"),
-    (b"417 Expectation Failed", b"POST /v2/Users HTTP/1.1\r\nHost: h\r\nExpect: 100-continue\r\nContent-Length: 1\r\n\r\n"),
-    (b"431 Request Header Fields Too Large", b"GET /v2/Users HTTP/1.1\r\nHost: h\r\nA: " + b"a" * 20000 + b"\r\n\r\n"),
+    ("H1", b"400 Bad Request", MALFORMED, b"\x00\r\n"),
+    ("H2", b"400 Bad Request", "the Host field is missing or repeated", b"GET /v2/Users HTTP/1.1\r\n\r\n"),
+    ("H3", b"411 Length Required", "the length of the body is missing", POST + b"\r\n"),
+    ("H4", b"413 Content Too Large", "the body is too long", POST + b"Content-Length: 32769\r\n\r\n"),
+    ("H5", b"431 Request Header Fields Too Large", "the head is too long", POST + b"A: " + b"a" * 20000 + b"\r\n\r\n"),
+    ("H6", b"501 Not Implemented", "transfer codings are not supported", POST + b"Transfer-Encoding: chunked\r\n\r\n"),
+    ("H7", b"417 Expectation Failed", "expectations are not supported", POST + b"Expect: 100-continue\r\nContent-Length: 1\r\n\r\n"),
 ]
 
 
 def test_refused_forms():
-    with Server(len(REFUSED) + len(REFUSED_BYTES)) as server:
-        for status, (method, path, *more) in REFUSED:
+    with Server(1 + len(REFUSED) + len(REFUSED_BYTES)) as server:
+        server.bytes(CREATE_BOB)
+        for code, status, detail, (method, path, *more) in REFUSED:
             body = more[0] if more else None
             fields = {"Content_Type": more[1]} if len(more) > 1 else {}
             answered, head, error = server.ask(method, path, body, **fields)
-            equal((answered, error["status"]), (status, str(status)))
+            equal((code, answered, error["status"], error["detail"]), (code, status, str(status), detail))
             equal(head["Content-Type"], SCIM)
-        for line, request in REFUSED_BYTES:
-            answer = server.bytes(request)
-            assert answer.startswith(b"HTTP/1.1 " + line + b"\r\n"), answer
-            assert answer.endswith(b"}"), answer
+        for code, line, detail, request in REFUSED_BYTES:
+            head, _, body = server.bytes(request).partition(b"\r\n\r\n")
+            equal((code, head.split(b"\r\n")[0]), (code, b"HTTP/1.1 " + line))
+            equal((code, json.loads(body)["detail"]), (code, detail))
+
+
+def test_a_full_counter_and_a_stale_tag():
+    with tempfile.TemporaryDirectory() as room:
+        store = pathlib.Path(room) / "store"
+        with Server(2, more=["--store", store]) as server:
+            server.bytes(CREATE_BOB)
+            status, _, error = server.ask("PUT", BOB_PATH, user(2), If_Match='"2"')
+            equal((status, error["detail"]), (412, "the resource has another version"))
+        with contextlib.closing(sqlite3.connect(store)) as rows, rows:
+            rows.execute("UPDATE resource SET version = 9007199254740991")
+        with Server(2, more=["--store", store]) as server:
+            # it goes before the condition
+            for more in ({}, {"If_Match": '"1"'}):
+                status, _, error = server.ask("PUT", BOB_PATH, user(2), **more)
+                equal((status, error["detail"]), (500, "a limit of the provider is reached"))
+
+
+def test_a_server_without_memory():
+    # users that are long, so that a page of them takes far more memory than the run has left
+    texts = {"givenName": "g" * 256, "familyName": "f" * 256}
+    emails = [{"value": f"{place}" * 25, "type": "t" * 256} for place in range(100, 110)]
+    with Server(201) as server:
+        for place in range(198):
+            status, _, _ = server.ask("POST", "/v2/Users", user(1, userName=f"u{place}", name=texts, emails=emails))
+            equal(status, 201)
+        pid = server.run.pid
+        held = int(pathlib.Path(f"/proc/{pid}/statm").read_text().split()[0]) * resource.getpagesize()
+        resource.prlimit(pid, resource.RLIMIT_AS, (held + 65_536, resource.RLIM_INFINITY))
+        head, _, body = server.bytes(b"GET /v2/Users HTTP/1.1\r\nHost: h\r\n\r\n").partition(b"\r\n\r\n")
+        equal((head.split(b"\r\n")[0], body), (b"HTTP/1.1 500 Internal Server Error", UNDONE))
+        status, _, shown = server.ask("GET", BOB_PATH)
+        equal((status, shown["userName"]), (200, "u0"))
+        resource.prlimit(pid, resource.RLIMIT_AS, (resource.RLIM_INFINITY,) * 2)
+        status, _, shown = server.ask("GET", "/v2/Users")
+        equal((status, len(shown["Resources"])), (200, 198))
 
 
 def test_the_longest_body():

@@ -100,6 +100,12 @@ expect many 1 '' "$program" simulate "$room/many"
 lines many 20100
 expect pipe 3 'file fault' bash -c "$program simulate $room/many | true; exit \${PIPESTATUS[0]}"
 
+# one user more than the connector takes
+awk 'BEGIN { for (n = 1; n <= 100001; n++) printf "user user%d,1,,,,,active\n", n }' > "$room/full"
+expect 'too many users' 1 '' "$program" simulate "$room/full"
+lines 'too many users' 200001
+[ "$(sed -n 100001p "$room/out")" = '100001 S12' ] || fails 'too many users: the last one is taken'
+
 expect 'no file' 2 '*' "$program" simulate
 expect 'two files' 2 '*' "$program" simulate a b
 expect option 2 '*' "$program" simulate --base http://localhost/v2 "$room/empty"

@@ -6,3 +6,4 @@ pub mod Fitting
 pub mod Running
 pub mod Schedules
 pub mod Views
+pub mod Lines

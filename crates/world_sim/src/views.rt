@@ -6,6 +6,7 @@ ghost use Rattle.provider_core.specs.Stores.{OnlyReads};
 ghost use Rattle.world_sim.specs.Messages.{text_at, texts_of};
 ghost use Rattle.world_sim.specs.Running.{names_in};
 ghost use Rattle.world_sim.specs.Sides.{CountsWorldFault};
+ghost use Rattle.world_sim.specs.Lines.{kind_word};
 ghost use Rattle.world_sim.specs.Views.{IsBlind, IsNoName, Looks, Shows, viewed};
 
 use crate::messages::sent_at;
@@ -37,25 +38,56 @@ pub struct View {
     pub members: usize,
 }
 
-fn write_name<W: fmt::Write>(f: &mut fmt::Formatter<W>, name: &RecordName) -> fmt::Result {
-    let kind = match name.kind {
+fn kind_word(kind: Kind) -> &'static str
+    ensures { result.now ≡ kind_word kind }
+{
+    match kind {
         Kind::User => "user",
         Kind::Group => "group",
-    };
-    write!(f, "{kind} {}", name.key.as_str())
+    }
+}
+
+/// The end of a view's line.
+#[derive(Clone, Copy)]
+struct Held {
+    kind: Kind,
+    active: Option<bool>,
+    members: usize,
+}
+
+impl fmt::Display for Held {
+    ghost use Rattle.std.specs.Prelude.{Some};
+    ghost use Rattle.world_sim.specs.Lines.{held_text};
+
+    ghost output = { λ held. Some (held_text held.kind held.active held.members) };
+
+    fn fmt<W: fmt::Write>(&self, f: &mut fmt::Formatter<W>) -> fmt::Result {
+        match (self.kind, self.active) {
+            (Kind::Group, _) => write!(f, "members={}", self.members),
+            (Kind::User, Some(active)) => write!(f, "active={active}"),
+            (Kind::User, None) => write!(f, "active=-"),
+        }
+    }
 }
 
 impl fmt::Display for View {
+    ghost use Rattle.std.specs.Prelude.{Some};
+    ghost use Rattle.world_sim.specs.Lines.{view_text};
+
+    ghost output = { λ view. Some (view_text view) };
+
     /// A line: `user bob wanted=2 confirmed=1 held=1 version=1 active=true`.
     fn fmt<W: fmt::Write>(&self, f: &mut fmt::Formatter<W>) -> fmt::Result {
-        write_name(f, &self.name)?;
-        write!(f, " wanted={} confirmed={}", self.wanted, self.confirmed)?;
-        write!(f, " held={} version={}", self.held, self.version)?;
-        match (self.name.kind, self.active) {
-            (Kind::Group, _) => write!(f, " members={}", self.members),
-            (Kind::User, Some(active)) => write!(f, " active={active}"),
-            (Kind::User, None) => f.write_str(" active=-"),
-        }
+        let (kind, key) = (kind_word(self.name.kind), self.name.key.as_str());
+        let (wanted, confirmed) = (self.wanted, self.confirmed);
+        let (held, version) = (self.held, self.version);
+        let end = Held {
+            kind: self.name.kind,
+            active: self.active,
+            members: self.members,
+        };
+        write!(f, "{kind} {key} wanted={wanted} confirmed={confirmed}")?;
+        write!(f, " held={held} version={version} {end}")
     }
 }
 

@@ -1,0 +1,54 @@
+-- What reports and views are printed as. The code of a fault isn't told here: its derived Display has no clause.
+use Rattle.std.specs.Prelude.{ℕ, List, ◌++◌, Bool, true, false, Option, Some, None, Ok, Err, codes}
+use Rattle.std.specs.Fmt.{decimal}
+use Rattle.scim_key.specs.Revisions.{revision_text}
+use Rattle.scim_key.specs.declared.records.Kind.{Kind}
+use Rattle.scim_key.specs.declared.records.Kind.TheVariants.{User, Group}
+use Rattle.source_book.specs.declared.accepting.Verdict.TheVariants as verdicts
+use Rattle.connector_core.specs.declared.learning.Learnt.TheVariants as lessons
+use Rattle.world_sim.specs.declared.reports.Report.{Report}
+use Rattle.world_sim.specs.declared.reports.Report.TheVariants as reports
+use Rattle.world_sim.specs.declared.views.View.{View}
+
+-- a word, and a number after a space
+abbrev pub numbered : (word : List ℕ) → ℕ → List ℕ
+numbered word number = word ++ (codes " " ++ decimal number)
+
+abbrev pub report_text : Report → Option (List ℕ)
+report_text (reports.Judged (Ok verdicts.New)) = Some (codes "new")
+report_text (reports.Judged (Ok verdicts.Known)) = Some (codes "known")
+report_text (reports.Judged (Ok verdicts.Older)) = Some (codes "older")
+report_text (reports.Judged (Err _)) = None
+report_text reports.UnknownRecord = Some (codes "C7")
+report_text reports.Idle = Some (codes "nothing")
+report_text (reports.Waiting member) = Some (codes "waits " ++ member)
+report_text (reports.Finding number) = Some (numbered (codes "find") number)
+report_text (reports.Creating number) = Some (numbered (codes "create") number)
+report_text (reports.Replacing number) = Some (numbered (codes "replace") number)
+report_text (reports.Answering number status) = Some (numbered (codes "answer") number ++ (codes " " ++ decimal status))
+report_text (reports.Taught (Ok (lessons.Confirmed revision))) = Some (codes "confirmed " ++ revision_text revision)
+report_text (reports.Taught (Ok lessons.Seen)) = Some (codes "seen")
+report_text (reports.Taught (Ok lessons.Absent)) = Some (codes "absent")
+report_text (reports.Taught (Ok lessons.Forgotten)) = Some (codes "forgotten")
+report_text (reports.Taught (Ok lessons.Nothing)) = Some (codes "nothing")
+report_text (reports.Taught (Err _)) = None
+report_text reports.NoMessage = Some (codes "none")
+report_text reports.CutShort = Some (codes "cut")
+report_text reports.Restarted = Some (codes "restarted")
+
+abbrev pub kind_word : Kind → List ℕ
+kind_word User = codes "user"
+kind_word Group = codes "group"
+
+abbrev pub flag_text : Bool → List ℕ
+flag_text true = codes "true"
+flag_text false = codes "false"
+
+-- of a group how many members are held, of a user whether it is switched on, or a hyphen where none is held
+abbrev pub held_text : Kind → Option Bool → (members : ℕ) → List ℕ
+held_text Group _ members = codes "members=" ++ decimal members
+held_text User (Some active) _ = codes "active=" ++ flag_text active
+held_text User None _ = codes "active=-"
+
+abbrev pub view_text : View → List ℕ
+view_text view = kind_word view.name.kind ++ (codes " " ++ (view.name.key ++ (codes " wanted=" ++ (revision_text view.wanted ++ (codes " confirmed=" ++ (revision_text view.confirmed ++ (codes " held=" ++ (revision_text view.held ++ (codes " version=" ++ (decimal view.version ++ (codes " " ++ held_text view.name.kind view.active view.members)))))))))))
