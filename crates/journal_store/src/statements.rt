@@ -20,12 +20,20 @@ pub enum TableFault {
 }
 
 impl From<AllocError> for TableFault {
+    ghost use Rattle.journal_store.specs.declared.statements.TableFault.TheVariants.{Memory};
+
+    ghost from_gives = { λ _ fault. fault ≡ Memory };
+
     fn from(_: AllocError) -> TableFault {
         TableFault::Memory
     }
 }
 
 impl<T: Drop> From<AllocFailed<T>> for TableFault {
+    ghost use Rattle.journal_store.specs.declared.statements.TableFault.TheVariants.{Memory};
+
+    ghost from_gives = { λ _ fault. fault ≡ Memory };
+
     fn from(_: AllocFailed<T>) -> TableFault {
         TableFault::Memory
     }
@@ -33,6 +41,10 @@ impl<T: Drop> From<AllocFailed<T>> for TableFault {
 
 /// A text that is no lawful name, or no id, is damage.
 impl From<NameFault> for TableFault {
+    ghost use Rattle.journal_store.specs.Faults.{name_damage};
+
+    ghost from_gives = { λ fault given. given ≡ name_damage fault };
+
     fn from(fault: NameFault) -> TableFault {
         match fault {
             NameFault::Memory => TableFault::Memory,
