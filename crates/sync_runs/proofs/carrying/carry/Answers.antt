@@ -1,4 +1,4 @@
-use Rattle.std.proofs.Common.{inl, refl}
+use Rattle.std.proofs.Common.{inl}
 use Rattle.sync_runs.proofs.carrying.carry.Goals as goal
 
 pub returns-in-Ok : goal.returns-in-Ok
