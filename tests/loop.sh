@@ -168,16 +168,15 @@ refuses 'no users' 'file fault' "${store[@]}" "${journal[@]}"
 cmp -s "$room/text" "$room/copy" || fails 'a text as the store: it was written'
 shows 'refused runs' --store "$room/store" 'user bob held=2 version=2 active=false'
 
-# a store that can't be written: what was held before is there, and the rest stays unconfirmed
-users bob,2,,,,,left cid,1,,,,,active
+# a store that can't be written ends the run at once, and what was held before is there
+users bob,2,,,,,left cid,1,,,,,active dee,1,,,,,active
 (trap '' XFSZ; ulimit -f 4; exec "$program" loop --users "$room/users" "${store[@]}") 2> "$room/err" | cat > "$room/out"
 status=${PIPESTATUS[0]}
-[ "$status" = 1 ] || fails "a store that can't be written: status $status"
-[ -s "$room/err" ] && fails "a store that can't be written: told: $(cat "$room/err")"
-printf '%s\n' '1 new' '2 new' 'user bob wanted=2 confirmed=2 held=2 version=2 active=false' \
-    'user cid wanted=1 confirmed=0 held=0 version=0 active=-' > "$room/wanted"
-prints "a store that can't be written" "$room/wanted"
-shows "a store that can't be written" --store "$room/store" 'user bob held=2 version=2 active=false'
+[ "$status" = 3 ] || fails "a store that fails: status $status"
+[ "$(cat "$room/err")" = 'store fault Y1' ] || fails "a store that fails: told: $(cat "$room/err")"
+printf '%s\n' '1 new' '2 new' '3 new' > "$room/wanted"
+prints 'a store that fails' "$room/wanted"
+shows 'a store that fails' --store "$room/store" 'user bob held=2 version=2 active=false'
 
 # files that can't be read, and lines that can't be written
 users bob,1,,,,,active

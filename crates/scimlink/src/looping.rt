@@ -7,8 +7,8 @@ use crate::status::{RunFault, Status};
 use connector_core::Connector;
 use journal_core::{Journal, MemoryJournal};
 use journal_file::JournalFile;
-use provider_core::{MemoryRegistry, Provider, Registry};
-use provider_file::{Storage, StoreFile};
+use provider_core::Provider;
+use provider_file::{InMemory, Storage, StoreFile};
 use provisioning::PushFault;
 use scim_client::ScimService;
 use scim_key::Base;
@@ -35,9 +35,8 @@ pub fn run(rt: &HostRuntime, files: &LoopFiles, base: Base) -> Result<Status, Ru
     match files.store.as_deref() {
         Some(path) => run_stored(rt, &StoreFile { rt, path }, files, base),
         None => {
-            let provider = Provider::new(MemoryRegistry::new(rt.alloc()));
-            let (_provider, ended) = run_from(rt, provider, files, base);
-            ended
+            let memory = InMemory { alloc: rt.alloc() };
+            run_stored(rt, &memory, files, base)
         }
     }
 }
@@ -50,38 +49,42 @@ fn run_stored<K: Storage>(
     base: Base,
 ) -> Result<Status, RunFault> {
     let provider = Provider::new(storage.open()?);
-    let (provider, ended) = run_from(rt, provider, files, base);
+    let (provider, ended) = run_from(rt, storage, provider, files, base);
     storage.close(provider.close());
     ended
 }
 
 /// A run to a provider, from the journal that the files name, or one in memory.
-fn run_from<S: Registry>(
+fn run_from<S: Storage>(
     rt: &HostRuntime,
-    provider: Provider<S>,
+    store: &S,
+    provider: Provider<S::Rows>,
     files: &LoopFiles,
     base: Base,
-) -> (Provider<S>, Result<Status, RunFault>) {
+) -> (Provider<S::Rows>, Result<Status, RunFault>) {
     match files.journal.as_deref() {
-        Some(path) => run_journaled(rt, provider, &JournalFile { rt, path }, files, base),
+        Some(path) => {
+            run_journaled(rt, store, provider, &JournalFile { rt, path }, files, base)
+        },
         None => match Connector::open(rt.alloc(), MemoryJournal::new(rt.alloc())) {
-            Ok(mut connector) => run_over(rt, provider, &mut connector, files, base),
+            Ok(mut connector) => run_over(rt, store, provider, &mut connector, files, base),
             Err((fault, _journal)) => (provider, Err(RunFault::from(PushFault::from(fault)))),
         },
     }
 }
 
 /// A run from a journal that is opened first.
-fn run_journaled<R: Runtime + Net + AllocGlobal, S: Registry, K: journal_file::Storage>(
+fn run_journaled<R: Runtime + Net + AllocGlobal, S: Storage, K: journal_file::Storage>(
     rt: &R,
-    provider: Provider<S>,
+    store: &S,
+    provider: Provider<S::Rows>,
     storage: &K,
     files: &LoopFiles,
     base: Base,
-) -> (Provider<S>, Result<Status, RunFault>) {
+) -> (Provider<S::Rows>, Result<Status, RunFault>) {
     match open_connector(rt, storage) {
         Ok(mut connector) => {
-            let (provider, ended) = run_over(rt, provider, &mut connector, files, base);
+            let (provider, ended) = run_over(rt, store, provider, &mut connector, files, base);
             storage.close(connector.close());
             (provider, ended)
         }
@@ -90,13 +93,14 @@ fn run_journaled<R: Runtime + Net + AllocGlobal, S: Registry, K: journal_file::S
 }
 
 /// Reads the files, and carries their records to the provider.
-fn run_over<R: Runtime + Net + AllocGlobal, S: Registry, J: Journal>(
+fn run_over<R: Runtime + Net + AllocGlobal, S: Storage, J: Journal>(
     rt: &R,
-    provider: Provider<S>,
+    store: &S,
+    provider: Provider<S::Rows>,
     connector: &mut Connector<J>,
     files: &LoopFiles,
     base: Base,
-) -> (Provider<S>, Result<Status, RunFault>) {
+) -> (Provider<S::Rows>, Result<Status, RunFault>) {
     match read_sources(rt, files.users.as_str(), files.groups.as_deref()) {
         Ok(sources) => {
             let service = ScimService::new(base);
@@ -106,6 +110,7 @@ fn run_over<R: Runtime + Net + AllocGlobal, S: Registry, J: Journal>(
                 rt.alloc(),
                 &service,
                 connector,
+                store,
                 provider,
                 &sources,
                 &mut out,

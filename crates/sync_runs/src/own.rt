@@ -1,7 +1,8 @@
 //! Streams to a provider in the same program: one thread asks and answers.
 use connection::{Listen, TimedStream, serve_next};
 use core::mem::replace_with;
-use provider_core::{Provider, Registry, RegistryFault};
+use provider_core::Provider;
+use provider_file::Storage;
 use provisioning::{Dial, Remote};
 use scim_key::Base;
 use std::alloc::Global;
@@ -11,45 +12,40 @@ use std::io::{ErrorKind, Read};
 use std::net::Net;
 use std::time::Clock;
 
-/// A provider, and the connections on which it is asked.
+/// A provider, where its rows are kept, and the connections on which it is asked.
 #[derive(Drop)]
-pub struct OwnProvider<'b, L: Listen + Drop, R: Registry> {
+pub struct OwnProvider<'b, L: Listen + Drop, K: Storage> {
     pub(crate) alloc: Global,
     pub(crate) base: &'b Base,
     pub(crate) listener: L,
-    pub(crate) provider: Provider<R>,
+    pub(crate) storage: &'b K,
+    pub(crate) provider: Provider<K::Rows>,
 }
 
-/// Whether a fault has shut the store of a provider.
-pub(crate) fn is_shut<R: Registry>(provider: &mut Provider<R>) -> bool {
-    matches!(
-        replace_with(provider, (), count_rows),
-        Err(RegistryFault::Store)
-    )
+/// Whether a fault of a provider's store was counted.
+pub(crate) fn has_failed<K: Storage>(storage: &K, provider: &mut Provider<K::Rows>) -> bool {
+    replace_with(provider, storage, asked)
 }
 
-/// How many rows a provider has.
-fn count_rows<R: Registry>(
-    provider: Provider<R>,
-    _: (),
-) -> (Provider<R>, Result<u32, RegistryFault>) {
-    let mut registry = provider.close();
-    let count = registry.count();
-    (Provider::new(registry), count)
+/// Whether a fault of the rows was counted.
+fn asked<K: Storage>(provider: Provider<K::Rows>, storage: &K) -> (Provider<K::Rows>, bool) {
+    let rows = provider.close();
+    let has_failed = storage.has_failed(&rows);
+    (Provider::new(rows), has_failed)
 }
 
 /// Streams to a provider in the same program, each answered once it is read from.
 #[derive(Drop)]
-pub(crate) struct OwnStreams<'r, 'p, 'b, N: Net + Clock, L: Listen + Drop, R: Registry> {
+pub(crate) struct OwnStreams<'r, 'p, 'b, N: Net + Clock, L: Listen + Drop, K: Storage> {
     pub remote: Remote<'r, N>,
-    pub own: &'p RefCell<OwnProvider<'b, L, R>>,
+    pub own: &'p RefCell<OwnProvider<'b, L, K>>,
 }
 
 /// What a provider in the same program answers.
 #[derive(Drop)]
-pub struct OwnReader<'r, 'p, 'b, N: Net + Clock, L: Listen + Drop, R: Registry> {
+pub struct OwnReader<'r, 'p, 'b, N: Net + Clock, L: Listen + Drop, K: Storage> {
     stream: TimedStream<'r, N::Stream, N>,
-    own: &'p RefCell<OwnProvider<'b, L, R>>,
+    own: &'p RefCell<OwnProvider<'b, L, K>>,
     is_served: bool,
 }
 
@@ -57,7 +53,7 @@ fn busy() -> io::Error {
     io::Error::from(ErrorKind::ResourceBusy)
 }
 
-impl<'r, 'p, 'b, N: Net + Clock, L: Listen + Drop, R: Registry> OwnReader<'r, 'p, 'b, N, L, R> {
+impl<'r, 'p, 'b, N: Net + Clock, L: Listen + Drop, K: Storage> OwnReader<'r, 'p, 'b, N, L, K> {
     /// Ends what is asked, and has it answered.
     fn be_served(&mut self) -> io::Result<()> {
         if self.is_served {
@@ -72,8 +68,8 @@ impl<'r, 'p, 'b, N: Net + Clock, L: Listen + Drop, R: Registry> OwnReader<'r, 'p
     }
 }
 
-impl<'r, 'p, 'b, N: Net + Clock, L: Listen + Drop, R: Registry> Read
-    for OwnReader<'r, 'p, 'b, N, L, R> {
+impl<'r, 'p, 'b, N: Net + Clock, L: Listen + Drop, K: Storage> Read
+    for OwnReader<'r, 'p, 'b, N, L, K> {
     fn read(&mut self, buffer: &mut [u8]) -> io::Result<usize> {
         self.be_served()?;
         self.stream.read(buffer)
@@ -85,17 +81,17 @@ impl<'r, 'p, 'b, N: Net + Clock, L: Listen + Drop, R: Registry> Read
     }
 }
 
-impl<'r, 'p, 'b, N: Net + Clock, L: Listen + Drop, R: Registry> Dial
-    for OwnStreams<'r, 'p, 'b, N, L, R> {
-    type Reader = OwnReader<'r, 'p, 'b, N, L, R>;
+impl<'r, 'p, 'b, N: Net + Clock, L: Listen + Drop, K: Storage> Dial
+    for OwnStreams<'r, 'p, 'b, N, L, K> {
+    type Reader = OwnReader<'r, 'p, 'b, N, L, K>;
 
     type Writer = TimedStream<'r, N::Stream, N>;
 
-    /// Opens a stream. A provider whose store a fault has shut isn't asked any more.
+    /// Opens a stream. A provider whose store has failed isn't asked any more.
     fn dial(&mut self) -> io::Result<(Self::Reader, Self::Writer)> {
         let mut guard = self.own.try_borrow_mut().map_err(|_| busy())?;
         let own = &mut *guard;
-        if is_shut(&mut own.provider) {
+        if has_failed(own.storage, &mut own.provider) {
             return Err(io::Error::from(ErrorKind::NotConnected));
         }
         let (stream, writer) = self.remote.dial()?;

@@ -1,0 +1,25 @@
+//! Memory as the place of the rows.
+use crate::storage::Storage;
+use provider_core::MemoryRegistry;
+use provider_store::OpenFault;
+use std::alloc::Global;
+
+/// Rows that are in memory, and gone once they are closed.
+#[derive(Clone, Copy)]
+pub struct InMemory {
+    pub alloc: Global,
+}
+
+impl Storage for InMemory {
+    type Rows = MemoryRegistry;
+
+    fn open(&self) -> Result<MemoryRegistry, OpenFault> {
+        Ok(MemoryRegistry::new(self.alloc))
+    }
+
+    fn has_failed(&self, _: &MemoryRegistry) -> bool {
+        false
+    }
+
+    fn close(&self, _: MemoryRegistry) {}
+}
