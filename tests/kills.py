@@ -116,7 +116,8 @@ def test_a_provider_that_comes_back_during_a_push():
             goes_on(story, run)
         others = story.notes(rest(run))
         assert all(word == "unconfirmed" and said in GONE | {"waits"} for word, said in others), others
-        equal((run.returncode in (0, 1), run.stderr.read()), (True, ""))
+        # a connection that waited where the provider was killed may be one that couldn't be opened
+        assert (run.returncode, run.stderr.read()) in [(0, ""), (1, ""), (3, CONNECTION_FAULT)], run.returncode
         story.kills_provider()
         story.checks_both()
         story.ends()
