@@ -1,5 +1,5 @@
 -- One connection more, from where the rows are kept.
-use Rattle.std.proofs.Common.{◌≡◌, ℕ, suc, ◌+◌, arith, List, [], ◌∷◌, length, Option, Result, Ok, refl, ap, ◌∙◌}
+use Rattle.std.proofs.Common.{◌≡◌, ℕ, suc, ◌+◌, arith, List, [], ◌∷◌, Option, Result, Ok, refl, ap, ◌∙◌}
 use Rattle.std.specs.Result.{result_and}
 use Rattle.provider_core.specs.declared.registry.Registry.{Ghosts}
 use Rattle.connection.specs.declared.serving.ConnectionFault.{ConnectionFault}
