@@ -28,6 +28,21 @@ prints() {
     cmp -s "$2" "$room/out" || fails "$1: printed $(wc -c < "$room/out") bytes, and not those of $2"
 }
 
+# wants LINE..: writes the lines that are wanted to $room/wanted
+wants() {
+    : > "$room/wanted"
+    [ "$#" = 0 ] || printf '%s\n' "$@" > "$room/wanted"
+}
+
+# shows NAME OPTION FILE LINE..: `show` prints just these lines of a store or a journal
+shows() {
+    local name=$1 option=$2 file=$3
+    shift 3
+    wants "$@"
+    expect "$name" 0 '' "$program" show "$option" "$file"
+    prints "$name" "$room/wanted"
+}
+
 # lines NAME COUNT: how many lines the last command printed
 lines() {
     [ "$(wc -l < "$room/out")" = "$2" ] || fails "$1: $(wc -l < "$room/out") lines"

@@ -20,18 +20,8 @@ loops() {
     local name=$1 status=$2 told=$3 files=(--users "$room/users")
     shift 3
     [ -e "$room/groups" ] && files+=(--groups "$room/groups")
-    printf '%s\n' "$@" > "$room/wanted"
-    [ "$#" = 0 ] && : > "$room/wanted"
+    wants "$@"
     expect "$name" "$status" "$told" "$program" loop "${files[@]}" "${over[@]}"
-    prints "$name" "$room/wanted"
-}
-
-# shows NAME OPTION FILE LINE..
-shows() {
-    local name=$1 option=$2 file=$3
-    shift 3
-    printf '%s\n' "$@" > "$room/wanted"
-    expect "$name" 0 '' "$program" show "$option" "$file"
     prints "$name" "$room/wanted"
 }
 
@@ -174,7 +164,7 @@ users bob,2,,,,,left cid,1,,,,,active dee,1,,,,,active
 status=${PIPESTATUS[0]}
 [ "$status" = 3 ] || fails "a store that fails: status $status"
 [ "$(cat "$room/err")" = 'store fault Y1' ] || fails "a store that fails: told: $(cat "$room/err")"
-printf '%s\n' '1 new' '2 new' '3 new' > "$room/wanted"
+wants '1 new' '2 new' '3 new'
 prints 'a store that fails' "$room/wanted"
 shows 'a store that fails' --store "$room/store" 'user bob held=2 version=2 active=false'
 

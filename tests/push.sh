@@ -26,19 +26,9 @@ starts() {
 pushes() {
     local name=$1 status=$2 told=$3
     shift 3
-    printf '%s\n' "$@" > "$room/wanted"
-    [ "$#" = 0 ] && : > "$room/wanted"
+    wants "$@"
     expect "$name" "$status" "$told" "$program" push --users "$room/users" ${groups:+--groups "$groups"} \
         --journal "$room/journal" --to "$to"
-    prints "$name" "$room/wanted"
-}
-
-# shows NAME OPTION FILE LINE..
-shows() {
-    local name=$1 option=$2 file=$3
-    shift 3
-    printf '%s\n' "$@" > "$room/wanted"
-    expect "$name" 0 '' "$program" show "$option" "$file"
     prints "$name" "$room/wanted"
 }
 
