@@ -20,6 +20,9 @@ pub struct StoreFile<'a> {
 impl<'a> Storage for StoreFile<'a> {
     type Rows = SqlRegistry<FileStore<File>>;
 
+    /// What a file holds that was there before isn't known.
+    ghost refuses = { λ _ _. Unit {0} };
+
     fn open(&self) -> Result<Self::Rows, OpenFault> {
         open_file(self.rt, self.path, Unknown)
     }

@@ -13,6 +13,9 @@ pub struct InMemory {
 impl Storage for InMemory {
     type Rows = MemoryRegistry;
 
+    /// It refuses nothing.
+    ghost refuses = { λ _ _. ⊥ };
+
     fn open(&self) -> Result<MemoryRegistry, OpenFault> {
         Ok(MemoryRegistry::new(self.alloc))
     }

@@ -1,5 +1,5 @@
 //! Connections served from where the rows are kept.
-ghost use Rattle.std.specs.Prelude.{◌≡◌, ◌<◌, IfOk, OnErr};
+ghost use Rattle.std.specs.Prelude.{◌≡◌, ◌<◌, IfErr, IfOk, OnErr};
 ghost use Rattle.provider_file.specs.Opened.{IsMended};
 ghost use Rattle.provider_file.specs.Serving.{AnswersFrom, IsRefused, ServesEach, ServesFrom, ServesNext};
 
@@ -23,6 +23,7 @@ pub fn serve_one<K: Storage, I: Read, O: Write>(
 ) -> Result<Served, OpenFault>
     ensures answers { IfOk result (AnswersFrom K.Rows.Registry base.now reader.old reader.new writer.old writer.new) }
     ensures refused { OnErr result ((reader.new ≡ reader.old) × (writer.new ≡ writer.old)) }
+    ensures cause { IfErr result (K.refuses storage.now) }
 {
     let mut provider = Provider::new(storage.open()?);
     let served = serve(alloc, &mut provider, base, reader, writer);
@@ -46,6 +47,7 @@ pub fn serve_stored<K: Storage, L: Listen>(
         K.Rows.Registry base.now listener.old listener.new rows last count outcome) }
     ensures refused { OnErr result (IsRefused L.waiting L.Reader.remaining L.Writer.contents
         K.Rows.Registry base.now listener.old listener.new rows count) }
+    ensures cause { IfErr result (K.refuses storage.now) }
 {
     let mut provider = Provider::new(rows);
     let mut outcome = Ok(());
@@ -65,6 +67,7 @@ fn mended<K: Storage>(
 ) -> Result<Provider<K::Rows>, OpenFault>
     ensures mended { IfOk result (IsMended K.Rows.Registry provider) }
     ensures refused { OnErr result (0 < K.Rows.faults provider) }
+    ensures cause { IfErr result (K.refuses storage.now) }
 {
     let rows = provider.close();
     if !storage.has_failed(&rows) {

@@ -1,6 +1,7 @@
 //! Where the rows of a provider are kept.
-ghost use Rattle.std.specs.Prelude.{◌<◌, ◌↔◌, IfOk, IsTrue};
+ghost use Rattle.std.specs.Prelude.{◌<◌, ◌↔◌, IfErr, IfOk, IsTrue};
 ghost use Rattle.provider_file.specs.Opened.{IsOpened};
+ghost use Rattle.provider_store.specs.declared.opening.OpenFault.{OpenFault as Refusal};
 
 use provider_core::Registry;
 use provider_store::OpenFault;
@@ -9,9 +10,13 @@ use provider_store::OpenFault;
 pub trait Storage {
     type Rows: Registry;
 
+    /// What it may refuse to open them with.
+    ghost refuses: { Self → Refusal → Type 0 };
+
     /// Opens the rows.
     fn open(&self) -> Result<Self::Rows, OpenFault>
-        ensures { IfOk result (IsOpened Self.Rows.Registry) };
+        ensures opened { IfOk result (IsOpened Self.Rows.Registry) }
+        ensures refused { IfErr result (refuses self.now) };
 
     /// Whether a fault of the store was counted since the rows were opened.
     fn has_failed(&self, rows: &Self::Rows) -> bool
