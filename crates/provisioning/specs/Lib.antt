@@ -4,3 +4,4 @@ pub mod Onward
 pub mod Records
 pub mod Runs
 pub mod Turns
+pub mod Lines

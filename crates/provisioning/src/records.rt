@@ -28,6 +28,10 @@ pub enum Standing {
 }
 
 impl fmt::Display for Standing {
+    ghost use Rattle.provisioning.specs.Lines.{standing_text};
+
+    ghost output = { standing_text };
+
     /// How it stands, in a few words: `confirmed 2`, `unconfirmed C4`, `unconfirmed waits ann`, and
     /// `unconfirmed -` where there was no fault.
     fn fmt<W: fmt::Write>(&self, f: &mut fmt::Formatter<W>) -> fmt::Result {

@@ -1,4 +1,13 @@
 //! The lines of a run.
+ghost use Rattle.std.specs.Prelude.{◌≡◌, ◌+◌, ◌-◌, ◌^◌, ◌∷◌, [], None, min, IfSome, OnOk};
+ghost use Rattle.std.specs.Io.KnownBytes.{Appends};
+ghost use Rattle.provisioning.specs.Lines.{standing_text};
+ghost use Rattle.provisioning.specs.Runs.{Tells};
+ghost use Rattle.source_offers.specs.Offering.{Hears};
+ghost use Rattle.sync_runs.specs.Telling.{kind_word, record_line, row_line};
+ghost use Rattle.world_sim.specs.Lines.{report_text};
+ghost use Rattle.world_sim.specs.declared.reports.Report.TheVariants.{Judged as JudgedReport};
+
 use provisioning::{Pushed, Tell};
 use scim_key::{Kind, RecordName};
 use source_offers::{Hear, Judged, label};
@@ -30,13 +39,23 @@ impl<'a, W: Write + Drop, E: Eprint> Hear for Lines<'a, W, E> {
 }
 
 impl<'a, W: Write + Drop, E: Eprint> Tell for Lines<'a, W, E> {
-    fn tell(&mut self, name: &RecordName, pushed: &Pushed) -> io::Result<()> {
-        let kind = match name.kind {
-            Kind::User => "user",
-            Kind::Group => "group",
-        };
-        writeln!(self.out, "{kind} {} {}", name.key.as_str(), pushed.standing)?;
+    fn tell(&mut self, name: &RecordName, pushed: &Pushed) -> io::Result<()>
+        ensures tells { OnOk result (Tells None None ((name.now, pushed.now) ∷ [])) }
+        ensures line { OnOk result (IfSome (standing_text pushed.now.standing) (λ text.
+            Appends (W.contents self.old.out) (W.contents self.new.out) (record_line name.now text))) }
+    {
+        let (kind, key) = (kind_word(name.kind), name.key.as_str());
+        writeln!(self.out, "{kind} {key} {}", pushed.standing)?;
         self.out.flush()
+    }
+}
+
+fn kind_word(kind: Kind) -> &'static str
+    ensures { result.now ≡ kind_word kind }
+{
+    match kind {
+        Kind::User => "user",
+        Kind::Group => "group",
     }
 }
 
@@ -55,7 +74,12 @@ impl<W: Drop> Reports<W> {
 }
 
 impl<W: Write + Drop> Hear for Reports<W> {
-    fn hear(&mut self, judged: Judged) -> io::Result<()> {
+    fn hear(&mut self, judged: Judged) -> io::Result<()>
+        ensures hears { OnOk result (Hears None None (judged ∷ [])) }
+        ensures line { OnOk result (IfSome (report_text (JudgedReport judged.verdict)) (λ text.
+            Appends (W.contents self.old.out) (W.contents self.new.out) (row_line self.new.rows text))) }
+        ensures counted { self.new.rows ≡ min (self.old.rows + 1) (2 ^ 64 - 1) }
+    {
         let Judged { verdict, .. } = judged;
         let report = Report::Judged(verdict);
         self.rows = self.rows.saturating_add(1);
