@@ -14,18 +14,19 @@ use Rattle.journal_core.specs.declared.entries.Entry.{Entry}
 use Rattle.journal_store.specs.Format.{no_schema, format_number, format_tree, entry_tree, marked_text, numbers_text}
 use Rattle.journal_store.specs.Connections.{AreNumbered, Answers, HasNumbers, IsLaid, ListsAll}
 use Rattle.journal_store.specs.Rows.{entries_in}
-use Rattle.journal_store.specs.Opening.{AreLawful, AreRising, HoldsEntries, IsCause, IsDamaged, IsFormat, IsMarked, IsFor, IsJournal, IsNewer, IsNotLaid, IsSpoilt, open_fault, IsStore, Looks, LeavesStore}
-use Rattle.journal_store.specs.Faults.{IsOfStatement}
+use Rattle.journal_store.specs.Opening.{AreInOrder, AreLawful, AreRising, HoldsEntries, IsCause, IsDamaged, IsFormat, IsMarked, IsFor, IsJournal, IsNewer, IsNotLaid, IsSpoilt, keys_of, open_fault, IsStore, Looks, LeavesStore}
+use Rattle.journal_store.specs.Faults.{HasCause, IsOfStatement}
 use Rattle.journal_store.specs.declared.statements.TableFault.{TableFault}
 use Rattle.journal_store.specs.declared.statements.TableFault.TheVariants as table
 use Rattle.journal_store.specs.declared.opening.OpenFault.{OpenFault}
 use Rattle.journal_store.specs.declared.opening.OpenFault.TheVariants.{Store, Damaged, Newer, Memory}
-use Rattle.journal_store.proofs.Texts.{marked_shown, marked_is, marked_query, number_shown, number_order, numbers_is, numbers_query}
-use Rattle.journal_store.proofs.Selecting.{passes, same_tree, shows}
-use Rattle.journal_store.proofs.Finding.{answered_by, every, single}
+use Rattle.journal_store.proofs.Texts.{marked_shown, marked_is, marked_query}
+use Rattle.journal_store.proofs.Selecting.{passes, shows}
+use Rattle.journal_store.proofs.Finding.{answered_by, every, numbers_of_all, single}
 use Rattle.journal_store.proofs.Keeping.{laid_still, keeps_then}
 use Rattle.journal_store.proofs.Leaving.{keeps_leaves}
 use Rattle.journal_store.proofs.Numbering.{numbered}
+use Rattle.journal_store.proofs.Holding.{keys_in_order, lawful_lists}
 
 -- ---- results
 
@@ -47,26 +48,27 @@ is_for f h Damaged it = h it
 is_for f h Newer it = f it
 is_for f h Memory it = tt
 
+-- a fault of a statement tells of what it told there
+pub told : (P D E : Type 0) → (D → E) → (fault : TableFault) → HasCause D fault → IsFor P E (open_fault fault)
+told P D E h table.Store it = tt
+told P D E h table.Damaged it = h it
+told P D E h table.Memory it = tt
+
 pub no_damage : (P D : Type 0) (fault : TableFault) → IsOfStatement fault → IsFor P D (open_fault fault)
-no_damage P D table.Store it = tt
-no_damage P D table.Damaged it = absurd it
-no_damage P D table.Memory it = tt
+no_damage P D = told P ⊥ D (λ none. absurd none)
 
-may_damage : (P D E : Type 0) (h : E) (fault : OpenFault) → IsFor ⊥ D fault → IsFor P E fault
-may_damage P D E h Store it = tt
-may_damage P D E h Damaged it = h
-may_damage P D E h Newer it = absurd it
-may_damage P D E h Memory it = tt
+pub told_of : {T : Type 0} (P D E : Type 0) → (D → E) → (r : Result T OpenFault) (fault : TableFault) → IsErrAnd r (λ given. given ≡ open_fault fault) → HasCause D fault → IfErr r (IsFor P E)
+told_of P D E h (Ok x) fault is it = tt
+told_of P D E h (Err given) fault is it = subst (IsFor P E) (sym is) (told P D E h fault it)
 
--- a fault that tells of no newer format may tell of this damage
-pub damage_on : {T : Type 0} (P D E : Type 0) (h : E) (r : Result T OpenFault) → IfErr r (IsFor ⊥ D) → IfErr r (IsFor P E)
-damage_on P D E h (Ok x) it = tt
-damage_on P D E h (Err fault) it = may_damage P D E h fault it
+-- a fault that tells of no newer format
+pub damage_on : {T : Type 0} (P D E : Type 0) → (D → E) → (r : Result T OpenFault) → IfErr r (IsFor ⊥ D) → IfErr r (IsFor P E)
+damage_on P D E h r = if_err r (λ fault. is_for {P = ⊥} {Q = P} (λ none. absurd none) h fault)
 
--- and so where it is handed on
-pub damage_of : {T : Type 0} (P D E : Type 0) (h : E) (r : Result T OpenFault) (fault : OpenFault) → IsErrAnd r (λ given. given ≡ fault) → IsFor ⊥ D fault → IfErr r (IsFor P E)
+-- and where it is handed on
+pub damage_of : {T : Type 0} (P D E : Type 0) → (D → E) → (r : Result T OpenFault) (fault : OpenFault) → IsErrAnd r (λ given. given ≡ fault) → IsFor ⊥ D fault → IfErr r (IsFor P E)
 damage_of P D E h (Ok x) fault is it = tt
-damage_of P D E h (Err given) fault is it = subst (IsFor P E) (sym is) (may_damage P D E h fault it)
+damage_of P D E h (Err given) fault is it = subst (IsFor P E) (sym is) (is_for {P = ⊥} {Q = P} (λ none. absurd none) h fault it)
 
 pub handed_on : {T : Type 0} (P D E : Type 0) (h : D → E) (r : Result T OpenFault) (fault : OpenFault) → IsErrAnd r (λ given. given ≡ fault) → IsFor P D fault → IfErr r (IsFor P E)
 handed_on P D E h (Ok x) fault is it = tt
@@ -146,24 +148,31 @@ found_marked s rows given number same laid answers format =
 pub numbers_found : (s : State) (kind : Kind) (rows given : List Row) → given ≡ rows → IsLaid s → Answers (numbers_text kind) [] s rows → AreRising given → AreNumbered (s.now.trees (entry_tree kind))
 numbers_found s kind rows given same laid answers rising =
     let table = s.now.trees (entry_tree kind) in
-    let all = answered_by s (numbers_text kind) (entry_tree kind) (same_tree kind) [] number_shown number_order (codes "rowid" ∷ []) [] rows (numbers_is kind) (numbers_query kind) laid answers in
-    numbered table given (subst (IsPermutation (map (λ (r : Row). rowid r ∷ []) table)) (sym same) (subst (λ l. IsPermutation (map (λ (r : Row). rowid r ∷ []) l) rows) (every table []) all)) rising
+    numbered table given (subst (IsPermutation (map (λ (r : Row). rowid r ∷ []) table)) (sym same) (numbers_of_all s kind rows laid answers)) rising
 
 -- ---- one check after the other
 
-module _ {T F : Type 0} (old mid new : State) (r : Result T F) (first : Looks old mid) (laid : LaidIfOpen old) (second : Looks mid new) (clean : HasCleanDisk new) where
+module _ (old mid new : State) (first : Looks old mid) (laid : LaidIfOpen old) (second : Looks mid new) (clean : HasCleanDisk new) where
   abbrev mid_clean : HasCleanDisk mid
   mid_clean = was_clean mid new second (laid_on old mid first laid) clean
 
-  mid_same : IsTrue new.is_open → mid.now ≡ old.now
+  pub mid_same : IsTrue new.is_open → mid.now ≡ old.now
   mid_same still = same_now old mid first laid mid_clean ((second.keeps clean).was_open still)
 
-  pub numbers_both : (HasCleanDisk mid → AreNumbered (old.now.trees (entry_tree User))) → OnOk r (AreNumbered (mid.now.trees (entry_tree Group))) → OnOk r (IsTrue new.is_open) → OnOk r (HasNumbers old.now.trees)
-  numbers_both users = on_both r (λ groups still. record { users = users mid_clean; groups = subst (λ (d : Database). AreNumbered (d.trees (entry_tree Group))) (mid_same still) groups })
+  pub numbers_both : {T F : Type 0} (r : Result T F) → (HasCleanDisk mid → AreNumbered (old.now.trees (entry_tree User))) → OnOk r (AreNumbered (mid.now.trees (entry_tree Group))) → OnOk r (IsTrue new.is_open) → OnOk r (HasNumbers old.now.trees)
+  numbers_both r users = on_both r (λ groups still. record { users = users mid_clean; groups = subst (λ (d : Database). AreNumbered (d.trees (entry_tree Group))) (mid_same still) groups })
 
-  pub entries_both : (users groups : List Entry) → (HasCleanDisk mid → ListsAll User old.now.trees users) → ListsAll Group mid.now.trees groups → IsTrue new.is_open → OnOk r (AreLawful users groups) → OnOk r (HoldsEntries old.now.trees)
-  entries_both users groups all_users all_groups still =
-      on_ok r (λ lawful. record { users = users; groups = groups; all_users = all_users mid_clean; all_groups = subst (λ (d : Database). ListsAll Group d.trees groups) (mid_same still) all_groups; lawful = lawful })
+  pub groups_listed : (groups : List Entry) → ListsAll Group mid.now.trees groups → IsTrue new.is_open → ListsAll Group old.now.trees groups
+  groups_listed groups all still = subst (λ (d : Database). ListsAll Group d.trees groups) (mid_same still) all
+
+  pub entries_both : {T F : Type 0} (r : Result T F) (users groups : List Entry) → (HasCleanDisk mid → ListsAll User old.now.trees users) → ListsAll Group mid.now.trees groups → IsTrue new.is_open → OnOk r (AreLawful users groups) → OnOk r (HoldsEntries old.now.trees)
+  entries_both r users groups all_users all_groups still =
+      on_ok r (λ lawful. record { users = users; groups = groups; all_users = all_users mid_clean; all_groups = groups_listed groups all_groups still; lawful = lawful })
+
+  pub lists_refused : (users groups : List Entry) → (HasCleanDisk mid → ListsAll User old.now.trees users) → ListsAll Group mid.now.trees groups → IsTrue new.is_open → (AreInOrder (keys_of users) → AreLawful users groups → ⊥) → HoldsEntries old.now.trees → ⊥
+  lists_refused users groups all_users all_groups still unlawful holds =
+      let lists_users = all_users mid_clean in
+      unlawful (keys_in_order old.now.trees users lists_users) (lawful_lists old.now.trees users groups lists_users (groups_listed groups all_groups still) holds)
 
 pub store_found : {T F : Type 0} (old marked numbered new : State) (r : Result T F) → Looks old marked → LaidIfOpen old → Looks marked numbered → Looks numbered new → HasCleanDisk new → (HasCleanDisk marked → IsFormat old format_number)
     → (HasCleanDisk numbered → HasNumbers marked.now.trees) → OnOk r (HoldsEntries numbered.now.trees) → OnOk r (IsTrue new.is_open) → OnOk r ((entries : EntryMap) × IsStore old entries)

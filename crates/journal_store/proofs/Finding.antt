@@ -1,14 +1,15 @@
 -- What the rows of an answer show.
-use Rattle.std.proofs.Common.{◌≡◌, ℕ, List, [], ◌∷◌, map, filter, Option, Some, None, Ok, Err, Result, IfOk, refl, ap, ◌∙◌, subst, arith, IsPermutation}
+use Rattle.std.proofs.Common.{◌≡◌, ℕ, codes, List, [], ◌∷◌, map, filter, Option, Some, None, Ok, Err, Result, IfOk, refl, ap, ◌∙◌, subst, arith, IsPermutation}
 use Rattle.std.proofs.lemmas.List.Sorted.{length_permutation}
 use Rattle.sqlite_value.specs.declared.keys.Key.{Key}
 use Rattle.sqlite_value.specs.declared.keys.Order.{Order}
 use Rattle.sqlite_value.specs.declared.value.Value.TheVariants.{Text}
-use Rattle.sqlite_value.specs.Order.{Row}
+use Rattle.sqlite_value.specs.Order.{Row, column}
 use Rattle.sqlite_trees.proofs.ListLemmas.{all_of, filter_same}
 use Rattle.sqlite_sql.specs.Program.{overlay}
-use Rattle.sqlite_sql.specs.Term.{Term}
-use Rattle.sqlite_trees.specs.Tree.{Trees}
+use Rattle.sqlite_sql.specs.Term.{Env, Term, col, eval, eval_all}
+use Rattle.sqlite_trees.specs.Tree.{Trees, rowid}
+use Rattle.sqlite_schema.specs.declared.command.Command.{Command}
 use Rattle.sqlite_schema.specs.declared.command.Command.TheVariants.{Select}
 use Rattle.sqlite_resolve.specs.declared.compiled.Compiled.{Compiled}
 use Rattle.sqlite_resolve.specs.declared.error.CompileError.{CompileError}
@@ -18,26 +19,31 @@ use Rattle.sqlite.specs.Listing.{understood}
 use Rattle.sqlite.specs.State.{State}
 use Rattle.sqlite.proofs.Callers.{command_of, one_permutation}
 use Rattle.scim_key.specs.declared.records.Kind.{Kind}
+use Rattle.scim_key.specs.declared.records.Kind.TheVariants.{User, Group}
 use Rattle.scim_key.specs.declared.records.RecordName.{RecordName}
 use Rattle.journal_core.specs.declared.entries.Entry.{Entry}
-use Rattle.journal_store.specs.Format.{entry_tree, find_text, all_text, journal_schema}
+use Rattle.journal_store.specs.Format.{entry_tree, find_text, all_text, journal_schema, numbers_text}
 use Rattle.journal_store.specs.Rows.{shown_row}
 use Rattle.journal_store.specs.Connections.{Answers, AreShown, Finds, IsLaid, IsOnly, IsQuery, ListsAll, Shows, has_key}
-use Rattle.journal_store.proofs.Texts.{query, shown_terms, names, key_is, find_is, find_query, all_is, all_query, all_order}
-use Rattle.journal_store.proofs.Selecting.{passes, same_tree, selected_over, shows, shows_all, key_passes}
+use Rattle.journal_store.proofs.Texts.{query, shown_terms, names, key_is, find_is, find_query, all_is, all_query, all_order, number_shown, number_order, numbers_is, numbers_query}
+use Rattle.journal_store.proofs.Selecting.{IsOrdered, ordered_over, passes, same_tree, selected_over, shows, shows_all, key_passes}
 
 read_by : (r : Result Compiled CompileError) (db : Database) (params : Row) (rows : List Row) → IsPlain r → ((c : Compiled) → r ≡ Ok c → Reads c.command db params rows) → Reads (command_of r) db params rows
 read_by (Ok c) db params rows plain reads = reads c refl
 read_by (Err e) db params rows plain reads = absurd plain
 
+read_as : (s : State) (sql : List ℕ) (command : Command) (params : Row) (rows : List Row) → ((a : List Term) (o p : Order) → command_of (understood (journal_schema a o p) sql) ≡ command) → IsQuery sql → IsLaid s → Answers sql params s rows → Reads command s.now params rows
+read_as s sql command params rows means query_text laid answers =
+    let schema = journal_schema laid.format_checks laid.users laid.groups in
+    let plain = (query_text laid.format_checks laid.users laid.groups).0 in
+    let reads = read_by (understood schema sql) s.now params rows plain (λ c is. answers c (ap (λ x. understood x sql) laid.schema ∙ is)) in
+    subst (λ it. Reads it s.now params rows) (means laid.format_checks laid.users laid.groups) reads
+
 pub answered_by : (s : State) (sql : List ℕ) (tree : ℕ) → ((db : Trees) → overlay db [] tree ≡ db tree) → (terms shown : List Term) (order : List (Term × Key)) (heads : List (List ℕ)) (params : Row) (rows : List Row)
     → ((a : List Term) (o p : Order) → command_of (understood (journal_schema a o p) sql) ≡ Select (record { lets = []; body = query tree terms shown order }) heads)
     → IsQuery sql → IsLaid s → Answers sql params s rows → IsPermutation (map (shows shown params) (filter (passes terms params) (s.now.trees tree))) rows
 answered_by s sql tree own terms shown order heads params rows means query_text laid answers =
-    let schema = journal_schema laid.format_checks laid.users laid.groups in
-    let plain = (query_text laid.format_checks laid.users laid.groups).0 in
-    let reads = read_by (understood schema sql) s.now params rows plain (λ c is. answers c (ap (λ x. understood x sql) laid.schema ∙ is)) in
-    selected_over tree terms shown order params own s.now rows (subst (λ command. Reads command s.now params rows) (means laid.format_checks laid.users laid.groups) reads)
+    selected_over tree terms shown order params own s.now rows (read_as s sql (Select (record { lets = []; body = query tree terms shown order }) heads) params rows means query_text laid answers)
 
 picked : (s : State) (sql : List ℕ) (kind : Kind) (terms : List Term) (order : List (Term × Key)) (params : Row) (rows : List Row)
     → ((a : List Term) (o p : Order) → command_of (understood (journal_schema a o p) sql) ≡ Select (record { lets = []; body = query (entry_tree kind) terms (shown_terms kind) order }) (names kind))
@@ -86,6 +92,27 @@ rows_of_all s kind rows laid answers =
     let table = s.now.trees (entry_tree kind) in
     subst (λ l. IsPermutation l rows) (ap (map (shows (shown_terms kind) [])) (every table []) ∙ map_same (shows (shown_terms kind) []) (shown_row kind) (shows_all kind []) table)
     (picked s (all_text kind) kind [] all_order [] rows (all_is kind) (all_query kind) laid answers)
+
+-- ---- their order
+
+by_key : (kind : Kind) (env : Env) → eval (col 1 1) env ≡ column (eval_all (shown_terms kind) env) 0
+by_key User env = refl
+by_key Group env = refl
+
+pub all_ordered : (s : State) (kind : Kind) (rows : List Row) → IsLaid s → Answers (all_text kind) [] s rows → IsOrdered rows
+all_ordered s kind rows laid answers =
+    ordered_over (entry_tree kind) [] (shown_terms kind) (col 1 1) [] (by_key kind) s.now rows
+    (read_as s (all_text kind) (Select (record { lets = []; body = query (entry_tree kind) [] (shown_terms kind) all_order }) (names kind)) [] rows (all_is kind) (all_query kind) laid answers)
+
+pub numbers_ordered : (s : State) (kind : Kind) (rows : List Row) → IsLaid s → Answers (numbers_text kind) [] s rows → IsOrdered rows
+numbers_ordered s kind rows laid answers =
+    ordered_over (entry_tree kind) [] number_shown (col 1 0) [] (λ _. refl) s.now rows
+    (read_as s (numbers_text kind) (Select (record { lets = []; body = query (entry_tree kind) [] number_shown number_order }) (codes "rowid" ∷ [])) [] rows (numbers_is kind) (numbers_query kind) laid answers)
+
+pub numbers_of_all : (s : State) (kind : Kind) (rows : List Row) → IsLaid s → Answers (numbers_text kind) [] s rows → IsPermutation (map (λ (r : Row). rowid r ∷ []) (s.now.trees (entry_tree kind))) rows
+numbers_of_all s kind rows laid answers =
+    let all = answered_by s (numbers_text kind) (entry_tree kind) (same_tree kind) [] number_shown number_order (codes "rowid" ∷ []) [] rows (numbers_is kind) (numbers_query kind) laid answers in
+    subst (λ l. IsPermutation (map (λ (r : Row). rowid r ∷ []) l) rows) (every (s.now.trees (entry_tree kind)) []) all
 
 -- ---- what the calls answer
 

@@ -22,3 +22,6 @@ pub mod Checking
 pub mod Reopening
 pub mod Fields
 pub mod Leaving
+pub mod Refusing
+pub mod Repeating
+pub mod Holding

@@ -30,7 +30,7 @@ use Rattle.journal_store.proofs.Standing.{all_named, find_has, has_find, has_nam
 
 -- ---- names in order
 
-abbrev Sorted : List RecordName → Type 0
+abbrev pub Sorted : List RecordName → Type 0
 Sorted names = IsStrictlySortedBy name_cmp names
 
 below_last : (names : List RecordName) (new : RecordName) → Sorted names → MatchOption (last_name names) (Unit {0}) (λ p. name_cmp p new ≡ Less) → AllByRecursion (λ k. name_cmp k new ≡ Less) names
@@ -50,7 +50,7 @@ sorted_append [] ys first second apart = second
 sorted_append (x ∷ xs) ys first second apart =
     (all-append (λ y. name_cmp x y ≡ Less) xs ys first.0 (all_from (λ y. name_cmp x y ≡ Less) ys (λ y there. apart x y (inl refl) there)), sorted_append xs ys first.1 second (λ a b here there. apart a b (inr here) there))
 
-abbrev names_of : List Entry → List RecordName
+abbrev pub names_of : List Entry → List RecordName
 names_of list = map (λ (e : Entry). row_name e.row) list
 
 last_push : (names : List RecordName) (new : RecordName) → last_name (names ++ new ∷ []) ≡ Some new
@@ -93,14 +93,14 @@ next_shown kind rows list row entry previous name rows_now list_now more pushed 
 
 -- ---- entries and rows
 
-zip_right : (kind : Kind) (rows : List Row) (list : List Entry) (e : Entry) → AllZip (Shows kind) rows list → Has list e → (r : Row) × Has rows r × Shows kind r e
+pub zip_right : (kind : Kind) (rows : List Row) (list : List Entry) (e : Entry) → AllZip (Shows kind) rows list → Has list e → (r : Row) × Has rows r × Shows kind r e
 zip_right kind [] [] e zip there = absurd there
 zip_right kind [] (b ∷ list) e zip there = absurd zip
 zip_right kind (r ∷ rows) [] e zip there = absurd zip
 zip_right kind (r ∷ rows) (b ∷ list) e zip (inl same) = (r, inl refl, subst (Shows kind r) (sym same) zip.0)
 zip_right kind (r ∷ rows) (b ∷ list) e zip (inr later) = let it = zip_right kind rows list e zip.1 later in (it.0, inr it.1, it.2)
 
-zip_left : (kind : Kind) (rows : List Row) (list : List Entry) (r : Row) → AllZip (Shows kind) rows list → Has rows r → (e : Entry) × Has list e × Shows kind r e
+pub zip_left : (kind : Kind) (rows : List Row) (list : List Entry) (r : Row) → AllZip (Shows kind) rows list → Has rows r → (e : Entry) × Has list e × Shows kind r e
 zip_left kind [] [] r zip there = absurd there
 zip_left kind [] (b ∷ list) r zip there = absurd zip
 zip_left kind (q ∷ rows) [] r zip there = absurd zip

@@ -1,9 +1,9 @@
 -- What the calls of the statements ask of a connection, and what they leave of it.
-use Rattle.std.specs.Prelude.{◌≡◌, ℕ, ℤ, Bool, true, false, List, [], ◌∷◌, Option, Some, None, Ok, IsTrue, IsPermutation, filter, is_some, map}
-use Rattle.std.specs.List.{AllZip}
+use Rattle.std.specs.Prelude.{◌≡◌, ◌⊎◌, ◌+◌, ℕ, ℤ, Bool, true, false, List, [], ◌∷◌, ◌++◌, Option, Some, None, Ok, IsTrue, IsPermutation, filter, is_some, map}
+use Rattle.std.specs.List.{AllByRecursion, AllZip}
 use Rattle.std.specs.List.Sorted.{IsStrictlySortedBy}
 use Rattle.scim_key.specs.Records.{name_cmp}
-use Rattle.std.specs.Ordering.{is_eq}
+use Rattle.std.specs.Ordering.{is_eq, is_lt}
 use Rattle.sqlite_value.specs.declared.keys.Order.{Order}
 use Rattle.sqlite_value.specs.declared.value.Value.TheVariants.{Int, Text}
 use Rattle.sqlite_value.specs.Order.{Row, column, value_cmp}
@@ -26,9 +26,10 @@ use Rattle.scim_key.specs.declared.records.Kind.{Kind}
 use Rattle.scim_key.specs.declared.records.Kind.TheVariants.{User, Group}
 use Rattle.scim_key.specs.declared.records.RecordName.{RecordName}
 use Rattle.source_csv.specs.Records.{IsRow, row_name, row_revision}
+use Rattle.source_csv.specs.declared.rows.Row as source
 use Rattle.journal_core.specs.declared.entries.Entry.{Entry}
 use Rattle.journal_store.specs.Format.{journal_schema, entry_tree, insert_text, update_text}
-use Rattle.journal_store.specs.Rows.{entry_in, row_of, shown_row}
+use Rattle.journal_store.specs.Rows.{IsLawfulId, IsReadable, confirmed_in, entry_in, id_in, row_of, shown_row, source_in, texts_of}
 
 -- ---- the tables of a connection
 
@@ -63,11 +64,33 @@ Answers sql params s rows = (c : Compiled) → understood s.now.schema sql ≡ O
 
 -- ---- entries
 
--- the row of a query shows this entry, and its row is a lawful one of the source, at a revision that isn't below the confirmed one
+-- the row of a query shows this row of the source, which is a lawful one
+pub record ShowsSource (kind : Kind) (shown : Row) (row : source.Row) : Type 0 where
+  pub row_is : source_in kind shown ≡ Some row
+  pub lawful : IsRow row
+  pub texts : AllByRecursion IsReadable (texts_of kind shown)
+
+-- from this column on it shows the rest of the entry with this row: its confirmed revision, which isn't above that of the row, and its id
+pub record ShowsRest (kind : Kind) (shown : Row) (row : source.Row) (after : ℕ) (entry : Entry) : Type 0 where
+  pub row_is : entry.row ≡ row
+  pub key : column shown 0 ≡ Text (row_name row).key
+  pub kind_is : (row_name row).kind ≡ kind
+  pub confirmed : confirmed_in (column shown after) ≡ Some entry.confirmed
+  pub id_is : id_in (column shown (after + 1)) ≡ Some entry.id
+  pub id : IsLawfulId entry.id
+  pub within : entry.confirmed ≼ row_revision row
+
+-- it shows this entry, which is a lawful one: its row is, its id is, and its revision isn't below the confirmed one
 pub record Shows (kind : Kind) (shown : Row) (entry : Entry) : Type 0 where
   pub entry_is : entry_in kind shown ≡ Some entry
   pub lawful : IsRow entry.row
+  pub texts : AllByRecursion IsReadable (texts_of kind shown)
+  pub id : IsLawfulId entry.id
   pub within : entry.confirmed ≼ row_revision entry.row
+
+-- it shows none
+abbrev pub ShowsNone : Kind → Row → Type 0
+ShowsNone kind shown = (entry : Entry) → Shows kind shown entry → ⊥
 
 -- the key in a row of a table
 abbrev pub has_key : List ℕ → Row → Bool
@@ -99,11 +122,28 @@ pub record AreShown (kind : Kind) (rows : List Row) (list : List Entry) : Type 0
   pub each : AllZip (Shows kind) rows list
   pub rising : IsStrictlySortedBy name_cmp (map (λ (entry : Entry). row_name entry.row) list)
 
+-- a row follows one whose first column isn't below its own
+pub record FailsToRise (rows : List Row) : Type 0 where
+  pub front : List Row
+  pub first : Row
+  pub second : Row
+  pub back : List Row
+  pub is : rows ≡ front ++ first ∷ second ∷ back
+  pub not_below : is_lt (value_cmp (column first 0) (column second 0)) ≡ false
+
+-- a row shows no lawful entry, or the rows aren't in order of their keys, each of its own
+abbrev pub IsUnshown : Kind → List Row → Type 0
+IsUnshown kind rows = ((r : Row) × Has rows r × ShowsNone kind r) ⊎ FailsToRise rows
+
 -- they are those of all rows of the table
 pub record ListsAll (kind : Kind) (db : Trees) (list : List Entry) : Type 0 where
   pub rows : List Row
   pub all : IsPermutation (map (shown_row kind) (db (entry_tree kind))) rows
   pub shown : AreShown kind rows list
+
+-- the rows of the table aren't those of any such list
+abbrev pub ListsNone : Kind → Trees → Type 0
+ListsNone kind db = (list : List Entry) → ListsAll kind db list → ⊥
 
 -- each row has a number that no other has
 abbrev pub AreNumbered : List Row → Type 0

@@ -4,7 +4,8 @@ use Rattle.std.specs.Prelude.{is_some}
 use Rattle.std.specs.FinMap.{empty}
 use Rattle.std.specs.List.{AllByRecursion, list_all}
 use Rattle.std.specs.List.Sorted.{IsStrictlySortedBy}
-use Rattle.std.specs.Ordering.{int_cmp}
+use Rattle.std.specs.Cmp.Lexicographic.{slice_cmp}
+use Rattle.std.specs.Ordering.{int_cmp, nat_cmp}
 use Rattle.sqlite_value.specs.declared.keys.Order.{Order}
 use Rattle.sqlite_value.specs.declared.value.Value.TheVariants.{Int}
 use Rattle.sqlite_value.specs.Order.{Row, column}
@@ -25,7 +26,7 @@ use Rattle.journal_core.specs.declared.journals.JournalFault.{JournalFault}
 use Rattle.journal_core.specs.declared.journals.JournalFault.TheVariants as journal
 use Rattle.journal_store.specs.Format.{journal_schema, no_schema, format_tree, format_number, entry_columns, entry_name, entry_tree, key_places}
 use Rattle.journal_store.specs.Rows.{entries_in}
-use Rattle.journal_store.specs.Connections.{HasNumbers, IsLaid, Keeps, ListsAll}
+use Rattle.journal_store.specs.Connections.{FailsToRise, HasNumbers, IsLaid, Keeps, ListsAll}
 use Rattle.journal_store.specs.declared.statements.TableFault.{TableFault}
 use Rattle.journal_store.specs.declared.statements.TableFault.TheVariants as table
 use Rattle.journal_store.specs.declared.opening.OpenFault.{OpenFault}
@@ -103,6 +104,10 @@ pub record AreRising (rows : List Row) : Type 0 where
   pub shown : map (λ (r : Row). column r 0) rows ≡ map Int numbers
   pub rising : IsStrictlySortedBy int_cmp numbers
 
+-- a row shows no number, or the numbers fail to rise
+abbrev pub IsUnnumbered : List Row → Type 0
+IsUnnumbered rows = ((r : Row) × Has rows r × ((n : ℤ) → column r 0 ≡ Int n → ⊥)) ⊎ FailsToRise rows
+
 -- ---- the entries
 
 -- nothing is confirmed of a record that has no id
@@ -112,6 +117,10 @@ is_identified entry = same_revision entry.confirmed no_revision || is_some entry
 -- the keys of the entries' records
 abbrev pub keys_of : List Entry → List (List ℕ)
 keys_of entries = map (λ (entry : Entry). (row_name entry.row).key) entries
+
+-- keys rise, none of them twice
+abbrev pub AreInOrder : List (List ℕ) → Type 0
+AreInOrder keys = IsStrictlySortedBy (slice_cmp nat_cmp) keys
 
 -- each member of a group is a user that is there
 abbrev pub HasMembersOf : List (List ℕ) → Entry → Type 0
@@ -172,14 +181,24 @@ IsNotLaid s = IsJournal s.now.schema → s.in_transaction ≡ true
 abbrev pub IsUnmarked : State → Type 0
 IsUnmarked s = (number : ℕ) → format_number ≤ number → IsFormat s number → ⊥
 
--- the number isn't lawful; or it is that of the format, and of the rows nothing is said
-abbrev pub IsMarkedOrNot : State → Type 0
-IsMarkedOrNot s = IsUnmarked s ⊎ IsFormat s format_number
+-- the rows aren't lawful: they have no numbers, each its own, or they don't hold lawful entries
+abbrev pub IsUnlawful : Trees → Type 0
+IsUnlawful db = (HasNumbers db → ⊥) ⊎ (HoldsEntries db → ⊥)
 
+-- the number of the format stands, and the rows aren't lawful
+pub record HasUnlawful (s : State) : Type 0 where
+  pub format : IsFormat s format_number
+  pub rows : IsUnlawful s.now.trees
+
+-- what the tables show isn't lawful: the number of their format, or their rows
+abbrev pub ShowsDamage : State → Type 0
+ShowsDamage s = IsUnmarked s ⊎ HasUnlawful s
+
+-- the tables are of the format, and what they show isn't lawful
 abbrev pub IsSpoilt : State → Type 0
-IsSpoilt s = IsJournal s.now.schema × IsMarkedOrNot s
+IsSpoilt s = IsJournal s.now.schema × ShowsDamage s
 
--- what stands may be no journal: its tables are others, or its format isn't a newer one
+-- what stands is no journal
 abbrev pub IsDamaged : State → Type 0
 IsDamaged s = IsForeign s ⊎ IsSpoilt s
 

@@ -3,10 +3,12 @@ use Rattle.std.specs.Prelude.{ℕ, zero, suc, ℤ, pos, Bool, true, false, if◌
 use Rattle.std.specs.FinMap.{from_entries}
 use Rattle.std.specs.List.{join_with_byte}
 use Rattle.std.specs.Option.{option_and_then, option_map}
+use Rattle.std.specs.Str.{IsUtf8}
 use Rattle.sqlite_value.specs.declared.value.Value.{Value}
 use Rattle.sqlite_value.specs.declared.value.Value.TheVariants.{Null, Int, Real, Text, Blob}
 use Rattle.sqlite_value.specs.Order.{Row, column}
 use Rattle.sqlite_trees.specs.Tree.{Trees}
+use Rattle.scim_key.specs.Identifiers.{IsId}
 use Rattle.scim_key.specs.Revisions.{RevisionValue, no_revision, revision_number, revision_of_number}
 use Rattle.scim_key.specs.Records.{same_name}
 use Rattle.scim_key.specs.declared.records.Kind.{Kind}
@@ -123,6 +125,11 @@ group_in r = do
   members ← members_in (column r 3)
   Some (Group (record { name = name; revision = revision; members = members }))
 
+-- the row of the source
+abbrev pub source_in : Kind → Row → Option source.Row
+source_in kind.User r = user_in r
+source_in kind.Group r = group_in r
+
 abbrev pub entry_by : Option source.Row → Option RevisionValue → Option (Option (List ℕ)) → Option Entry
 entry_by row confirmed id = do
   source ← row
@@ -142,6 +149,26 @@ keyed type key (Some e) = if same_name (row_name e.row) (record { kind = type; k
 -- The entry that a row of a query shows, if each column is of its form and the key is that of the name
 abbrev pub entry_in : Kind → Row → Option Entry
 entry_in type r = option_and_then (λ key. keyed type key (fields_in type r)) (text_in (column r 0))
+
+-- ---- texts
+
+-- a text is UTF-8
+abbrev pub IsReadable : Value → Type 0
+IsReadable Null = Unit {0}
+IsReadable (Int n) = Unit {0}
+IsReadable (Real x) = Unit {0}
+IsReadable (Text t) = IsUtf8 t
+IsReadable (Blob b) = Unit {0}
+
+-- the texts of the row of the source
+abbrev pub texts_of : Kind → Row → List Value
+texts_of kind.User r = column r 1 ∷ column r 3 ∷ column r 4 ∷ column r 5 ∷ column r 6 ∷ []
+texts_of kind.Group r = column r 1 ∷ column r 3 ∷ []
+
+-- an id is a lawful one
+abbrev pub IsLawfulId : Option (List ℕ) → Type 0
+IsLawfulId None = Unit {0}
+IsLawfulId (Some id) = IsId id × IsUtf8 id
 
 -- ---- the entries of the tables
 

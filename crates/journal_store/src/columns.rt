@@ -1,13 +1,17 @@
 //! The columns of a row of an answer, and the entry that they show.
-ghost use Rattle.std.specs.Prelude.{◌≡◌, ◌≤◌, ◌+◌, ℕ, pos, Some, IfOk, OnErr, IsTrue, string_bytes};
-ghost use Rattle.scim_key.specs.Revisions.{IsRevision, ◌≼◌};
+ghost use Rattle.std.specs.Prelude.{◌≡◌, ◌≤◌, ◌+◌, ℕ, ℤ, pos, false, List, Option, None, Some, IfErr, IfOk, OnErr, OnOk, IsTrue, string_bytes};
+ghost use Rattle.std.specs.List.{AllByRecursion};
+ghost use Rattle.std.specs.Str.{IsUtf8};
+ghost use Rattle.scim_key.specs.Revisions.{IsRevision};
+ghost use Rattle.scim_key.specs.declared.records.Kind.TheVariants.{User, Group};
 ghost use Rattle.sqlite_value.specs.Order.{column};
 ghost use Rattle.sqlite_value.specs.declared.value.Value.TheVariants.{Int, Text};
 ghost use Rattle.source_csv.specs.Fields.{pieces};
-ghost use Rattle.source_csv.specs.Records.{IsRow, row_name, row_revision};
+ghost use Rattle.source_csv.specs.Records.{IsRow, row_name};
 ghost use Rattle.source_csv.specs.Rows.{AreUserKeys, IsUserKey};
-ghost use Rattle.journal_store.specs.Connections.{Shows};
-ghost use Rattle.journal_store.specs.Rows.{active_in, confirmed_in, group_in, id_in, revision_in, user_in};
+ghost use Rattle.journal_store.specs.Connections.{Shows, ShowsNone, ShowsRest, ShowsSource};
+ghost use Rattle.journal_store.specs.Faults.{HasCause};
+ghost use Rattle.journal_store.specs.Rows.{IsLawfulId, IsReadable, active_in, confirmed_in, group_in, id_in, revision_in, texts_of, user_in};
 
 use crate::statements::TableFault;
 use journal_core::Entry;
@@ -20,7 +24,8 @@ use std::str;
 
 /// The integer in a column.
 pub(crate) fn integer_at(row: &Row, at: usize) -> Result<i64, TableFault>
-    ensures { IfOk result (λ n. column row.now at ≡ Int n) }
+    ensures some { IfOk result (λ n. column row.now at ≡ Int n) }
+    ensures none { OnErr result ((n : ℤ) → column row.now at ≡ Int n → ⊥) }
 {
     match row.get_ref(at) {
         Ok(ValueRef::Int(number)) => Ok(number),
@@ -42,7 +47,8 @@ pub(crate) fn number_at(row: &Row, at: usize) -> Result<u64, TableFault>
 }
 
 fn bytes_at(row: &Row, at: usize) -> Result<&[u8], TableFault>
-    ensures { IfOk result (λ text. column row.now at ≡ Text text.now) }
+    ensures some { IfOk result (λ text. column row.now at ≡ Text text.now) }
+    ensures none { OnErr result ((text : List ℕ) → column row.now at ≡ Text text → ⊥) }
 {
     match row.get_ref(at) {
         Ok(ValueRef::Text(text)) => Ok(text),
@@ -51,7 +57,9 @@ fn bytes_at(row: &Row, at: usize) -> Result<&[u8], TableFault>
 }
 
 fn text_at(row: &Row, at: usize) -> Result<&str, TableFault>
-    ensures { IfOk result (λ text. column row.now at ≡ Text text.now) }
+    ensures some { IfOk result (λ text. column row.now at ≡ Text text.now) }
+    ensures utf8 { IfOk result (λ text. IsUtf8 text.now) }
+    ensures none { OnErr result ((text : List ℕ) → column row.now at ≡ Text text → IsUtf8 text → ⊥) }
 {
     match str::from_utf8(bytes_at(row, at)?) {
         Ok(text) => Ok(text),
@@ -60,7 +68,9 @@ fn text_at(row: &Row, at: usize) -> Result<&str, TableFault>
 }
 
 fn value_at(alloc: Global, row: &Row, at: usize) -> Result<String, TableFault>
-    ensures { IfOk result (λ value. column row.now at ≡ Text (string_bytes value)) }
+    ensures some { IfOk result (λ value. column row.now at ≡ Text (string_bytes value)) }
+    ensures utf8 { IfOk result (λ value. IsUtf8 (string_bytes value)) }
+    ensures none { IfErr result (HasCause ((text : List ℕ) → column row.now at ≡ Text text → IsUtf8 text → ⊥)) }
 {
     Ok(String::from_str(alloc, text_at(row, at)?)?)
 }
@@ -68,6 +78,7 @@ fn value_at(alloc: Global, row: &Row, at: usize) -> Result<String, TableFault>
 fn revision_at(row: &Row, at: usize) -> Result<Revision, TableFault>
     ensures value { IfOk result (λ revision. revision_in (column row.now at) ≡ Some revision) }
     ensures lawful { IfOk result (λ revision. IsRevision revision) }
+    ensures none { OnErr result (revision_in (column row.now at) ≡ None) }
 {
     match Revision::of_number(number_at(row, at)?) {
         Some(revision) => Ok(revision),
@@ -77,7 +88,8 @@ fn revision_at(row: &Row, at: usize) -> Result<Revision, TableFault>
 
 /// The confirmed revision, 0 for none.
 fn confirmed_at(row: &Row, at: usize) -> Result<Revision, TableFault>
-    ensures { IfOk result (λ revision. confirmed_in (column row.now at) ≡ Some revision) }
+    ensures some { IfOk result (λ revision. confirmed_in (column row.now at) ≡ Some revision) }
+    ensures none { OnErr result (confirmed_in (column row.now at) ≡ None) }
 {
     let number = number_at(row, at)?;
     if number == 0 {
@@ -90,7 +102,8 @@ fn confirmed_at(row: &Row, at: usize) -> Result<Revision, TableFault>
 }
 
 fn active_at(row: &Row, at: usize) -> Result<bool, TableFault>
-    ensures { IfOk result (λ active. active_in (column row.now at) ≡ Some active) }
+    ensures some { IfOk result (λ active. active_in (column row.now at) ≡ Some active) }
+    ensures none { OnErr result (active_in (column row.now at) ≡ None) }
 {
     match number_at(row, at)? {
         0 => Ok(false),
@@ -99,20 +112,23 @@ fn active_at(row: &Row, at: usize) -> Result<bool, TableFault>
     }
 }
 
-/// The id, or none where the column is NULL.
+/// The id, or none where the column is NULL, as one past the end is.
 fn id_at(alloc: Global, row: &Row, at: usize) -> Result<Option<ResourceId>, TableFault>
-    ensures { IfOk result (λ id. id_in (column row.now at) ≡ Some id) }
+    ensures some { IfOk result (λ id. id_in (column row.now at) ≡ Some id) }
+    ensures lawful { IfOk result IsLawfulId }
+    ensures none { IfErr result (HasCause ((id : Option (List ℕ)) → id_in (column row.now at) ≡ Some id → IsLawfulId id → ⊥)) }
 {
-    if let Ok(ValueRef::Null) = row.get_ref(at) {
-        return Ok(None);
+    match row.get_ref(at) {
+        Ok(ValueRef::Null) | Err(_) => Ok(None),
+        Ok(_) => Ok(Some(ResourceId::read(alloc, text_at(row, at)?)?)),
     }
-    Ok(Some(ResourceId::read(alloc, text_at(row, at)?)?))
 }
 
 /// The key of a member, which is written as it stands.
 fn member_of(alloc: Global, text: &str) -> Result<Key, TableFault>
     ensures value { IfOk result (λ key. key ≡ text.now) }
     ensures lawful { IfOk result IsUserKey }
+    ensures none { IfErr result (HasCause (IsUserKey text.now → ⊥)) }
 {
     let name = UserName::read(alloc, text)?;
     let key = name.key(alloc)?;
@@ -126,6 +142,7 @@ fn member_of(alloc: Global, text: &str) -> Result<Key, TableFault>
 fn members_of(alloc: Global, text: &str) -> Result<Vec<Key>, TableFault>
     ensures value { IfOk result (λ keys. keys.items ≡ pieces text.now) }
     ensures lawful { IfOk result (λ keys. AreUserKeys keys.items) }
+    ensures none { IfErr result (HasCause (AreUserKeys (pieces text.now) → ⊥)) }
 {
     let mut keys = Vec::new(alloc);
     if text.is_empty() {
@@ -138,7 +155,9 @@ fn members_of(alloc: Global, text: &str) -> Result<Vec<Key>, TableFault>
 }
 
 fn user_at(alloc: Global, row: &Row) -> Result<SourceRow, TableFault>
-    ensures { IfOk result (λ user. user_in row.now ≡ Some user) }
+    ensures some { IfOk result (λ user. user_in row.now ≡ Some user) }
+    ensures texts { OnOk result (AllByRecursion IsReadable (texts_of User row.now)) }
+    ensures none { IfErr result (HasCause ((user : _) → ShowsSource User row.now user → ⊥)) }
 {
     let login = UserName::read(alloc, text_at(row, 1)?)?;
     let revision = revision_at(row, 2)?;
@@ -154,7 +173,9 @@ fn user_at(alloc: Global, row: &Row) -> Result<SourceRow, TableFault>
 }
 
 fn group_at(alloc: Global, row: &Row) -> Result<SourceRow, TableFault>
-    ensures { IfOk result (λ group. group_in row.now ≡ Some group) }
+    ensures some { IfOk result (λ group. group_in row.now ≡ Some group) }
+    ensures texts { OnOk result (AllByRecursion IsReadable (texts_of Group row.now)) }
+    ensures none { IfErr result (HasCause ((group : _) → ShowsSource Group row.now group → ⊥)) }
 {
     let name = GroupName::read(alloc, text_at(row, 1)?)?;
     let revision = revision_at(row, 2)?;
@@ -169,6 +190,8 @@ fn group_at(alloc: Global, row: &Row) -> Result<SourceRow, TableFault>
 fn has_its_key(alloc: Global, kind: Kind, row: &Row, source: &SourceRow) -> Result<bool, TableFault>
     ensures key { IfOk result (λ is. IsTrue is → column row.now 0 ≡ Text (row_name source.now).key) }
     ensures kind { IfOk result (λ is. IsTrue is → (row_name source.now).kind ≡ kind) }
+    ensures other { IfOk result (λ is. is ≡ false → column row.now 0 ≡ Text (row_name source.now).key → (row_name source.now).kind ≡ kind → ⊥) }
+    ensures none { IfErr result (HasCause (column row.now 0 ≡ Text (row_name source.now).key → ⊥)) }
 {
     let name = source.record_name(alloc)?;
     Ok(name.kind == kind && name.key.as_str().as_bytes() == bytes_at(row, 0)?)
@@ -183,13 +206,9 @@ fn entry_of(
     after: usize,
 ) -> Result<Entry, TableFault>
     requires { after ≤ 8 }
-    ensures key { IfOk result (λ entry. column row.now 0 ≡ Text (row_name source).key) }
-    ensures kind { IfOk result (λ entry. (row_name source).kind ≡ kind) }
-    ensures row { IfOk result (λ entry. entry.row ≡ source) }
-    ensures confirmed { IfOk result (λ entry. confirmed_in (column row.now after) ≡ Some entry.confirmed) }
-    ensures id { IfOk result (λ entry. id_in (column row.now (after + 1)) ≡ Some entry.id) }
-    ensures lawful { IfOk result (λ entry. IsRow entry.row) }
-    ensures within { IfOk result (λ entry. entry.confirmed ≼ row_revision entry.row) }
+    ensures some { IfOk result (ShowsRest kind row.now source after) }
+    ensures lawful { OnOk result (IsRow source) }
+    ensures none { IfErr result (HasCause ((entry : _) → ShowsRest kind row.now source after entry → ⊥)) }
 {
     let confirmed = confirmed_at(row, after)?;
     let id = id_at(alloc, row, after + 1)?;
@@ -205,7 +224,8 @@ fn entry_of(
 
 /// The entry that a row of an answer shows.
 pub(crate) fn read_entry(alloc: Global, kind: Kind, row: &Row) -> Result<Entry, TableFault>
-    ensures { IfOk result (Shows kind row.now) }
+    ensures some { IfOk result (Shows kind row.now) }
+    ensures none { IfErr result (HasCause (ShowsNone kind row.now)) }
 {
     match kind {
         Kind::User => entry_of(alloc, Kind::User, row, user_at(alloc, row)?, 8),

@@ -1,8 +1,8 @@
 //! What the entries of a journal must be where it is opened.
-ghost use Rattle.std.specs.Prelude.{◌≡◌, IfErr, IfOk, OnOk, IsTrue};
+ghost use Rattle.std.specs.Prelude.{◌≡◌, false, IfErr, IfOk, OnOk, IsTrue};
 ghost use Rattle.std.specs.List.{AllByRecursion, list_all};
 ghost use Rattle.sqlite_rules.specs.Lists.{Has};
-ghost use Rattle.journal_store.specs.Opening.{AreLawful, HasMembersOf, IsFor, is_identified, keys_of};
+ghost use Rattle.journal_store.specs.Opening.{AreInOrder, AreLawful, HasMembersOf, IsFor, is_identified, keys_of};
 
 use crate::opening::OpenFault;
 use journal_core::{Entry, GROUP_LIMIT, USER_LIMIT};
@@ -37,13 +37,15 @@ fn keys_of(alloc: Global, entries: &[Entry]) -> Result<Vec<Key>, AllocError>
 
 /// Whether the key is among these, which are in order.
 fn is_among(keys: &[Key], key: &Key) -> bool
-    ensures { IsTrue result → Has keys.now key.now }
+    ensures is { IsTrue result → Has keys.now key.now }
+    ensures not { result ≡ false → AreInOrder keys.now → Has keys.now key.now → ⊥ }
 {
     keys.binary_search(key).is_ok()
 }
 
 fn are_among(keys: &[Key], members: &[Key]) -> bool
-    ensures { IsTrue result → AllByRecursion (Has keys.now) members.now }
+    ensures are { IsTrue result → AllByRecursion (Has keys.now) members.now }
+    ensures not { result ≡ false → AreInOrder keys.now → AllByRecursion (Has keys.now) members.now → ⊥ }
 {
     for member in members {
         if !is_among(keys, member) {
@@ -55,7 +57,8 @@ fn are_among(keys: &[Key], members: &[Key]) -> bool
 
 /// Whether each member of a group is a user with one of these keys.
 fn has_members(keys: &[Key], group: &Entry) -> bool
-    ensures { IsTrue result → HasMembersOf keys.now group.now }
+    ensures has { IsTrue result → HasMembersOf keys.now group.now }
+    ensures not { result ≡ false → AreInOrder keys.now → HasMembersOf keys.now group.now → ⊥ }
 {
     match &group.row {
         SourceRow::User(_) => true,
@@ -64,7 +67,8 @@ fn has_members(keys: &[Key], group: &Entry) -> bool
 }
 
 fn have_members(keys: &[Key], groups: &[Entry]) -> bool
-    ensures { IsTrue result → AllByRecursion (HasMembersOf keys.now) groups.now }
+    ensures have { IsTrue result → AllByRecursion (HasMembersOf keys.now) groups.now }
+    ensures not { result ≡ false → AreInOrder keys.now → AllByRecursion (HasMembersOf keys.now) groups.now → ⊥ }
 {
     for group in groups {
         if !has_members(keys, group) {
@@ -77,7 +81,7 @@ fn have_members(keys: &[Key], groups: &[Entry]) -> bool
 /// Tests the entries of both types, which are in order of their keys.
 pub(crate) fn check_lists(alloc: Global, users: &[Entry], groups: &[Entry]) -> Result<(), OpenFault>
     ensures lawful { OnOk result (AreLawful users.now groups.now) }
-    ensures cause { IfErr result (IsFor ⊥ (Unit {0})) }
+    ensures cause { IfErr result (IsFor ⊥ (AreInOrder (keys_of users.now) → AreLawful users.now groups.now → ⊥)) }
 {
     if users.len() > USER_LIMIT || groups.len() > GROUP_LIMIT {
         return Err(OpenFault::Damaged);

@@ -1,6 +1,6 @@
 //! The opening of a store: its tables are made, or tested with each of their rows.
 ghost use Rattle.std.specs.Prelude.{◌≡◌, ◌⊎◌, ◌<◌, ◌≤◌, ℕ, false, IfErr, MatchOption, OnErr, OnOk, IsTrue};
-ghost use Rattle.std.specs.Ordering.{int_cmp};
+ghost use Rattle.std.specs.Ordering.{int_cmp, is_lt};
 ghost use Rattle.std.specs.declared.cmp.Ordering.TheVariants.{Less};
 ghost use Rattle.std.specs.FinMap.{empty};
 ghost use Rattle.journal_core.specs.Entries.{EntryMap};
@@ -8,7 +8,7 @@ ghost use Rattle.sqlite.specs.Held.{state};
 ghost use Rattle.sqlite.specs.State.{HasCleanDisk, Survives};
 ghost use Rattle.journal_store.specs.Connections.{AreNumbered, HasNumbers, IsLaid};
 ghost use Rattle.journal_store.specs.Format.{entry_tree, format_number, numbers_text};
-ghost use Rattle.journal_store.specs.Opening.{AreRising, HoldsEntries, IsBlank, IsCause, IsFormat, IsFor, IsJournal, IsMarked, IsMarkedOrNot, IsNewer, IsNotLaid, IsSpoilt, IsStore, IsUnmarked, LeavesNone, LeavesStore, Looks, Stands};
+ghost use Rattle.journal_store.specs.Opening.{AreRising, HoldsEntries, IsBlank, IsCause, IsFormat, IsFor, IsJournal, IsMarked, IsNewer, IsNotLaid, IsSpoilt, IsStore, IsUnmarked, IsUnnumbered, ShowsDamage, LeavesNone, LeavesStore, Looks, Stands};
 
 use crate::columns::{integer_at, number_at};
 use crate::format::{FORMAT, is_blank, is_journal};
@@ -133,7 +133,8 @@ fn numbers_statement(kind: Kind) -> &'static str
 
 /// Whether the number is above the last one, if there is one.
 fn rises(last: Option<i64>, number: i64) -> bool
-    ensures { IsTrue result → MatchOption last (Unit {0}) (λ n. int_cmp n number ≡ Less) }
+    ensures is { IsTrue result → MatchOption last (Unit {0}) (λ n. int_cmp n number ≡ Less) }
+    ensures not { result ≡ false → MatchOption last ⊥ (λ n. is_lt (int_cmp n number) ≡ false) }
 {
     match last {
         Some(last) => last < number,
@@ -144,7 +145,7 @@ fn rises(last: Option<i64>, number: i64) -> bool
 /// Tests that the rows show numbers that rise.
 fn check_rising(rows: &[Row]) -> Result<(), OpenFault>
     ensures rising { OnOk result (AreRising rows.now) }
-    ensures cause { IfErr result (IsFor ⊥ (Unit {0})) }
+    ensures cause { IfErr result (IsFor ⊥ (IsUnnumbered rows.now)) }
 {
     let mut last = None;
     for row in rows {
@@ -161,7 +162,7 @@ fn check_rising(rows: &[Row]) -> Result<(), OpenFault>
 fn check_table<S: Alter>(conn: &mut Connection<S>, kind: Kind) -> Result<(), OpenFault>
     requires laid { HasCleanDisk (state S.Store conn.old) → IsTrue (state S.Store conn.old).is_open → IsLaid (state S.Store conn.old) }
     ensures numbered { HasCleanDisk (state S.Store conn.new) → OnOk result (AreNumbered ((state S.Store conn.old).now.trees (entry_tree kind))) }
-    ensures cause { IfErr result (IsFor ⊥ (Unit {0})) }
+    ensures cause { HasCleanDisk (state S.Store conn.new) → IfErr result (IsFor ⊥ (IsTrue (state S.Store conn.new).is_open × (AreNumbered ((state S.Store conn.old).now.trees (entry_tree kind)) → ⊥))) }
     ensures open { HasCleanDisk (state S.Store conn.new) → OnOk result (IsTrue (state S.Store conn.new).is_open) }
     ensures looks { Looks (state S.Store conn.old) (state S.Store conn.new) }
 {
@@ -175,7 +176,7 @@ fn check_table<S: Alter>(conn: &mut Connection<S>, kind: Kind) -> Result<(), Ope
 fn check_numbers<S: Alter>(conn: &mut Connection<S>) -> Result<(), OpenFault>
     requires laid { HasCleanDisk (state S.Store conn.old) → IsTrue (state S.Store conn.old).is_open → IsLaid (state S.Store conn.old) }
     ensures numbered { HasCleanDisk (state S.Store conn.new) → OnOk result (HasNumbers (state S.Store conn.old).now.trees) }
-    ensures cause { IfErr result (IsFor ⊥ (Unit {0})) }
+    ensures cause { HasCleanDisk (state S.Store conn.new) → IfErr result (IsFor ⊥ (IsTrue (state S.Store conn.new).is_open × (HasNumbers (state S.Store conn.old).now.trees → ⊥))) }
     ensures open { HasCleanDisk (state S.Store conn.new) → OnOk result (IsTrue (state S.Store conn.new).is_open) }
     ensures looks { Looks (state S.Store conn.old) (state S.Store conn.new) }
 {
@@ -187,7 +188,7 @@ fn check_numbers<S: Alter>(conn: &mut Connection<S>) -> Result<(), OpenFault>
 fn check_entries<S: Alter>(alloc: Global, conn: &mut Connection<S>) -> Result<(), OpenFault>
     requires laid { HasCleanDisk (state S.Store conn.old) → IsTrue (state S.Store conn.old).is_open → IsLaid (state S.Store conn.old) }
     ensures holds { HasCleanDisk (state S.Store conn.new) → OnOk result (HoldsEntries (state S.Store conn.old).now.trees) }
-    ensures cause { IfErr result (IsFor ⊥ (Unit {0})) }
+    ensures cause { HasCleanDisk (state S.Store conn.new) → IfErr result (IsFor ⊥ (IsTrue (state S.Store conn.new).is_open × (HoldsEntries (state S.Store conn.old).now.trees → ⊥))) }
     ensures open { HasCleanDisk (state S.Store conn.new) → OnOk result (IsTrue (state S.Store conn.new).is_open) }
     ensures looks { Looks (state S.Store conn.old) (state S.Store conn.new) }
 {
@@ -202,7 +203,7 @@ fn check_entries<S: Alter>(alloc: Global, conn: &mut Connection<S>) -> Result<()
 fn check_laid<S: Alter>(alloc: Global, conn: &mut Connection<S>) -> Result<(), OpenFault>
     requires laid { HasCleanDisk (state S.Store conn.old) → IsTrue (state S.Store conn.old).is_open → IsLaid (state S.Store conn.old) }
     ensures store { HasCleanDisk (state S.Store conn.new) → OnOk result ((entries : EntryMap) × IsStore (state S.Store conn.old) entries) }
-    ensures cause { HasCleanDisk (state S.Store conn.new) → IfErr result (IsFor (IsNewer (state S.Store conn.old)) (IsMarkedOrNot (state S.Store conn.old))) }
+    ensures cause { HasCleanDisk (state S.Store conn.new) → IfErr result (IsFor (IsNewer (state S.Store conn.old)) (ShowsDamage (state S.Store conn.old))) }
     ensures open { HasCleanDisk (state S.Store conn.new) → OnOk result (IsTrue (state S.Store conn.new).is_open) }
     ensures looks { Looks (state S.Store conn.old) (state S.Store conn.new) }
 {

@@ -1,16 +1,18 @@
 //! The statements on the tables of entries.
-ghost use Rattle.std.specs.Prelude.{◌≡◌, pos, true, MatchOption, IfOk, IsTrue, OnOk, OnErr, string_bytes};
+ghost use Rattle.std.specs.Prelude.{◌≡◌, pos, true, false, MatchOption, IfErr, IfOk, IsTrue, OnOk, OnErr, string_bytes};
 ghost use Rattle.sqlite.specs.Held.{state};
 ghost use Rattle.sqlite.specs.State.{HasCleanDisk, Survives};
 ghost use Rattle.sqlite.specs.Values.{bound_value};
 ghost use Rattle.sqlite_value.specs.Value.{owned};
 ghost use Rattle.sqlite_value.specs.declared.value.Value.TheVariants.{Int, Text};
+ghost use Rattle.std.specs.Ordering.{is_lt};
 ghost use Rattle.std.specs.declared.cmp.Ordering.TheVariants.{Less};
 ghost use Rattle.scim_key.specs.Records.{name_cmp};
 ghost use Rattle.source_csv.specs.Records.{row_name};
 ghost use Rattle.source_csv.specs.Rows.{IsGroupRow, IsUserRow};
 ghost use Rattle.source_csv.specs.declared.rows.Row.TheVariants.{User, Group};
-ghost use Rattle.journal_store.specs.Connections.{AreShown, Finds, IsLaid, IsOnly, ListsAll, IsThere, Keeps, Makes, MayLeave, PutsIn, Ran, IsEditText, put_text};
+ghost use Rattle.journal_store.specs.Connections.{AreShown, Finds, IsLaid, IsOnly, IsUnshown, ListsAll, ListsNone, IsThere, Keeps, Makes, MayLeave, PutsIn, Ran, IsEditText, put_text};
+ghost use Rattle.journal_store.specs.Faults.{HasCause};
 ghost use Rattle.journal_store.specs.Format.{all_text, find_text};
 ghost use Rattle.journal_store.specs.Rows.{active_number, id_value, members_text, row_by};
 
@@ -256,7 +258,8 @@ fn all_statement(kind: Kind) -> &'static str
 
 /// Whether the name comes after the previous one, if there is one.
 fn comes_after(previous: &Option<RecordName>, name: &RecordName) -> bool
-    ensures { IsTrue result → MatchOption previous.now (Unit {0}) (λ p. name_cmp p name.now ≡ Less) }
+    ensures is { IsTrue result → MatchOption previous.now (Unit {0}) (λ p. name_cmp p name.now ≡ Less) }
+    ensures not { result ≡ false → MatchOption previous.now ⊥ (λ p. is_lt (name_cmp p name.now) ≡ false) }
 {
     match previous {
         Some(previous) => previous < name,
@@ -266,7 +269,8 @@ fn comes_after(previous: &Option<RecordName>, name: &RecordName) -> bool
 
 /// The entries that the rows show, which are in order of their names.
 fn read_all(alloc: Global, kind: Kind, rows: &[Row]) -> Result<Vec<Entry>, TableFault>
-    ensures { IfOk result (λ list. AreShown kind rows.now list.items) }
+    ensures some { IfOk result (λ list. AreShown kind rows.now list.items) }
+    ensures none { IfErr result (HasCause (IsUnshown kind rows.now)) }
 {
     let mut list = Vec::new(alloc);
     let mut previous = None;
@@ -290,6 +294,7 @@ pub(crate) fn list_entries<S: Alter>(
 ) -> Result<Vec<Entry>, TableFault>
     requires laid { HasCleanDisk (state S.Store conn.old) → IsTrue (state S.Store conn.old).is_open → IsLaid (state S.Store conn.old) }
     ensures all { HasCleanDisk (state S.Store conn.new) → IfOk result (λ list. ListsAll kind (state S.Store conn.old).now.trees list.items) }
+    ensures none { HasCleanDisk (state S.Store conn.new) → IfErr result (HasCause (IsTrue (state S.Store conn.new).is_open × ListsNone kind (state S.Store conn.old).now.trees)) }
     ensures keeps { HasCleanDisk (state S.Store conn.new) → Keeps (state S.Store conn.old) (state S.Store conn.new) }
     ensures open { HasCleanDisk (state S.Store conn.new) → OnOk result (IsTrue (state S.Store conn.new).is_open) }
     ensures quiet { Survives (state S.Store conn.old) (state S.Store conn.new) (λ _. ⊥) }

@@ -1,7 +1,12 @@
-use Rattle.std.proofs.Common.{subst}
+use Rattle.std.proofs.Common.{IsTrue, subst, sym}
+use Rattle.sqlite.specs.Effect.{Database}
 use Rattle.sqlite.specs.Held.{state}
-use Rattle.journal_store.specs.Opening.{AreLawful, Looks}
-use Rattle.journal_store.proofs.Checking.{entries_both, on_ok}
+use Rattle.scim_key.specs.declared.records.Kind.TheVariants.{User, Group}
+use Rattle.journal_core.specs.declared.entries.Entry.{Entry}
+use Rattle.std.proofs.Common.{List}
+use Rattle.journal_store.specs.Connections.{ListsAll, ListsNone}
+use Rattle.journal_store.specs.Opening.{AreInOrder, AreLawful, HoldsEntries, Looks, keys_of}
+use Rattle.journal_store.proofs.Checking.{damage_on, entries_both, lists_refused, mid_same, on_ok, told_of}
 use Rattle.journal_store.proofs.opening.check_entries.Goals as goal
 
 pub returns-clause-holds : goal.returns-clause-holds
@@ -17,4 +22,45 @@ returns-clause-holds g c clean =
     let groups = c.in_ok-groups.groups.items in
     let lawful = on_ok {Q = AreLawful users groups} c.check_lists.result
     (λ (it : AreLawful c.as_slice.result.now c.as_slice-2.result.now). subst (λ l. AreLawful l groups) c.as_slice.ensures.value (subst (AreLawful c.as_slice.result.now) c.as_slice-2.ensures.value it)) c.check_lists.ensures.lawful in
-    entries_both old mid new c.check_lists.result to_mid c.requires.laid to_new clean users groups first.all (second.all clean) (second.open clean) lawful
+    entries_both old mid new to_mid c.requires.laid to_new clean c.check_lists.result users groups first.all (second.all clean) (second.open clean) lawful
+
+pub returns-in_err-users-clause-cause : goal.returns-in_err-users-clause-cause
+returns-in_err-users-clause-cause g c clean =
+    let old = state g.S.Store c.args.conn.now in
+    let still = IsTrue (state g.S.Store c.list_entries.new.conn).is_open in
+    told_of ⊥ (still × ListsNone User old.now.trees) (still × (HoldsEntries old.now.trees → ⊥)) (λ it. (it.0, λ holds. it.1 holds.users holds.all_users))
+    c.from_residual.result c.in_err-users.field-0.0 c.from_residual.ensures.1 (c.in_err-users.ensures.none clean)
+
+pub returns-in_err-groups-clause-cause : goal.returns-in_err-groups-clause-cause
+returns-in_err-groups-clause-cause g c clean =
+    let old = state g.S.Store c.args.conn.now in
+    let mid = state g.S.Store c.list_entries.new.conn in
+    let new = state g.S.Store c.list_entries-2.new.conn in
+    let first = c.in_ok-users.ensures in
+    let second = c.in_err-groups.ensures in
+    let to_mid : Looks old mid = record { keeps = first.keeps; quiet = first.quiet } in
+    let to_new : Looks mid new = record { keeps = second.keeps; quiet = second.quiet } in
+    let same = mid_same old mid new to_mid c.requires.laid to_new clean in
+    told_of ⊥ (IsTrue new.is_open × ListsNone Group mid.now.trees) (IsTrue new.is_open × (HoldsEntries old.now.trees → ⊥))
+    (λ it. (it.0, λ holds. it.1 holds.groups (subst (λ (d : Database). ListsAll Group d.trees holds.groups) (sym (same it.0)) holds.all_groups)))
+    c.from_residual-in_err-groups.result c.in_err-groups.field-0.0 c.from_residual-in_err-groups.ensures.1 (second.none clean)
+
+pub returns-clause-cause : goal.returns-clause-cause
+returns-clause-cause g c clean =
+    let old = state g.S.Store c.args.conn.now in
+    let mid = state g.S.Store c.list_entries.new.conn in
+    let new = state g.S.Store c.list_entries-2.new.conn in
+    let first = c.in_ok-users.ensures in
+    let second = c.in_ok-groups.ensures in
+    let to_mid : Looks old mid = record { keeps = first.keeps; quiet = first.quiet } in
+    let to_new : Looks mid new = record { keeps = second.keeps; quiet = second.quiet } in
+    let users = c.in_ok-users.users.items in
+    let groups = c.in_ok-groups.groups.items in
+    let still = second.open clean in
+    damage_on ⊥ (AreInOrder (keys_of c.as_slice.result.now) → AreLawful c.as_slice.result.now c.as_slice-2.result.now → ⊥) (IsTrue new.is_open × (HoldsEntries old.now.trees → ⊥))
+    (λ unlawful. (
+      still,
+      lists_refused old mid new to_mid c.requires.laid to_new clean users groups first.all (second.all clean) still
+          (subst (λ (l : List Entry). AreInOrder (keys_of l) → AreLawful l groups → ⊥) c.as_slice.ensures.value (subst (λ (l : List Entry). AreInOrder (keys_of c.as_slice.result.now) → AreLawful c.as_slice.result.now l → ⊥) c.as_slice-2.ensures.value unlawful)),
+    ))
+    c.check_lists.result c.check_lists.ensures.cause

@@ -1,9 +1,12 @@
-use Rattle.std.proofs.Common.{[], arith, subst}
+use Rattle.std.proofs.Common.{[], IsTrue, arith, subst, sym}
 use Rattle.sqlite.specs.Held.{state}
 use Rattle.sqlite.specs.State.{HasCleanDisk}
-use Rattle.journal_store.specs.Connections.{Answers}
+use Rattle.journal_store.specs.Connections.{Answers, AreNumbered}
+use Rattle.journal_store.specs.Format.{entry_tree}
+use Rattle.journal_store.specs.Opening.{IsFor, IsUnnumbered}
 use Rattle.journal_store.proofs.Texts.{numbers_query}
-use Rattle.journal_store.proofs.Checking.{on_ok, numbers_found}
+use Rattle.journal_store.proofs.Checking.{damage_on, no_damage, on_ok, numbers_found}
+use Rattle.journal_store.proofs.Refusing.{unnumbered}
 use Rattle.journal_store.proofs.opening.check_table.Goals as goal
 
 pub ask-requires-clause-query : goal.ask-requires-clause-query
@@ -15,3 +18,18 @@ returns-in-Ok-clause-numbered g c clean =
     let laid = c.requires.laid early ((c.in-Ok.ensures.keeps clean).was_open (c.in-Ok.ensures.open clean)) in
     let answers = subst (λ sql. Answers sql [] (state g.S.Store c.args.conn.now) c.in-Ok.rows.items) c.numbers_statement.ensures (c.in-Ok.ensures.rows clean) in
     on_ok c.check_rising.result (numbers_found (state g.S.Store c.args.conn.now) c.args.kind c.in-Ok.rows.items c.as_slice.result.now c.as_slice.ensures.value laid answers) c.check_rising.ensures.rising
+
+pub returns-in-Ok-clause-cause : goal.returns-in-Ok-clause-cause
+returns-in-Ok-clause-cause g c clean =
+    let old = state g.S.Store c.args.conn.now in
+    let early : HasCleanDisk old = omega (arith, clean, c.in-Ok.ensures.quiet.clean) in
+    let still = c.in-Ok.ensures.open clean in
+    let laid = c.requires.laid early ((c.in-Ok.ensures.keeps clean).was_open still) in
+    damage_on ⊥ (IsUnnumbered c.as_slice.result.now) (IsTrue (state g.S.Store c.ask.new.conn).is_open × (AreNumbered (old.now.trees (entry_tree c.args.kind)) → ⊥))
+    (λ fails. (still, unnumbered old c.args.kind c.numbers_statement.result.now c.in-Ok.rows.items c.as_slice.result.now c.numbers_statement.ensures c.as_slice.ensures.value laid (c.in-Ok.ensures.rows clean) fails))
+    c.check_rising.result c.check_rising.ensures.cause
+
+pub returns-in-Err-clause-cause : goal.returns-in-Err-clause-cause
+returns-in-Err-clause-cause g c clean =
+    let refused = IsTrue (state g.S.Store c.ask.new.conn).is_open × (AreNumbered ((state g.S.Store c.args.conn.now).now.trees (entry_tree c.args.kind)) → ⊥) in
+    subst (IsFor ⊥ refused) (sym c.from-in-Err.ensures) (no_damage ⊥ refused c.from.result c.from.ensures)

@@ -1,8 +1,11 @@
-use Rattle.std.proofs.Common.{arith}
+use Rattle.std.proofs.Common.{IsTrue, arith}
 use Rattle.sqlite.specs.Held.{state}
 use Rattle.sqlite.specs.State.{HasCleanDisk}
 use Rattle.journal_store.proofs.Texts.{all_query}
+use Rattle.journal_store.specs.Connections.{IsUnshown, ListsNone}
+use Rattle.journal_store.proofs.Checking.{if_err}
 use Rattle.journal_store.proofs.Finding.{listed_by}
+use Rattle.journal_store.proofs.Refusing.{cause_by, unlisted}
 use Rattle.journal_store.proofs.tables.list_entries.Goals as goal
 
 pub ask-requires-clause-query : goal.ask-requires-clause-query
@@ -13,4 +16,17 @@ returns-in-Ok-clause-all g c clean =
     let early : HasCleanDisk (state g.S.Store c.args.conn.now) = omega (arith, clean, c.in-Ok.ensures.quiet.clean) in
     let laid = c.requires.laid early ((c.in-Ok.ensures.keeps clean).was_open (c.in-Ok.ensures.open clean)) in
     listed_by (λ list. list.items) (state g.S.Store c.args.conn.now) c.args.kind c.all_statement.result.now c.in-Ok.rows.items c.as_slice.result.now c.read_all.result
-    c.all_statement.ensures c.as_slice.ensures.value laid (c.in-Ok.ensures.rows clean) c.read_all.ensures
+    c.all_statement.ensures c.as_slice.ensures.value laid (c.in-Ok.ensures.rows clean) c.read_all.ensures.some
+
+pub returns-in-Ok-clause-none : goal.returns-in-Ok-clause-none
+returns-in-Ok-clause-none g c clean =
+    let early : HasCleanDisk (state g.S.Store c.args.conn.now) = omega (arith, clean, c.in-Ok.ensures.quiet.clean) in
+    let still = c.in-Ok.ensures.open clean in
+    let laid = c.requires.laid early ((c.in-Ok.ensures.keeps clean).was_open still) in
+    if_err c.read_all.result (λ fault. cause_by (IsUnshown c.args.kind c.as_slice.result.now) (IsTrue (state g.S.Store c.ask.new.conn).is_open × ListsNone c.args.kind (state g.S.Store c.args.conn.now).now.trees)
+    (λ unshown. (still, unlisted (state g.S.Store c.args.conn.now) c.args.kind c.all_statement.result.now c.in-Ok.rows.items c.as_slice.result.now c.all_statement.ensures c.as_slice.ensures.value laid (c.in-Ok.ensures.rows clean) unshown)) fault)
+    c.read_all.ensures.none
+
+pub returns-in-Err-clause-none : goal.returns-in-Err-clause-none
+returns-in-Err-clause-none g c clean =
+    cause_by ⊥ (IsTrue (state g.S.Store c.ask.new.conn).is_open × ListsNone c.args.kind (state g.S.Store c.args.conn.now).now.trees) (λ none. absurd none) c.from.result c.from.ensures
