@@ -1,21 +1,24 @@
 -- What a query and a write do, once they are prepared.
-use Rattle.std.proofs.Common.{◌≡◌, ℕ, false, cond, List, [], append-nil, Option, None, Result, Ok, Err, IsTrue, IfOk, IfErr, OnOk, OnErr, refl, sym, ap, ◌∙◌, subst, inl, inr, arith}
+use Rattle.std.proofs.Common.{◌≡◌, ◌≤◌, ℕ, true, false, cond, List, [], append-nil, Option, Some, None, Result, Ok, Err, IsTrue, IfOk, IfErr, IsErrAnd, OnOk, OnErr, refl, sym, ap, ◌∙◌, subst, inl, inr, arith}
 use Rattle.sqlite_value.specs.Order.{Row}
 use Rattle.sqlite_trees.specs.Tree.{Trees}
+use Rattle.sqlite_trees.specs.declared.error.StoreError.{StoreError}
+use Rattle.sqlite_trees.specs.declared.error.StoreError.TheVariants.{OutOfMemory, Io, Corrupt, Full, Broken, Unstorable}
 use Rattle.sqlite_resolve.specs.declared.compiled.Compiled.{Compiled}
 use Rattle.sqlite_schema.specs.declared.schema.Schema.{Schema}
 use Rattle.sqlite_schema.specs.declared.command.Returning.{Returning}
 use Rattle.sqlite_schema.specs.declared.command.Command.{Command}
 use Rattle.sqlite_schema.specs.declared.command.Command.TheVariants.{Insert, Update, Commit, Release}
-use Rattle.sqlite.specs.Effect.{Database, Reads, is_query}
-use Rattle.sqlite.specs.Does.{Does}
+use Rattle.sqlite.specs.Effect.{Database, Reads, RefusesToRead, is_query}
+use Rattle.sqlite.specs.Does.{Does, Tally}
 use Rattle.sqlite.specs.Given.{IsPlain}
-use Rattle.sqlite.specs.Listing.{understood, reads_listing}
+use Rattle.sqlite.specs.Listing.{IsSourceOf, understood, reads_listing}
 use Rattle.sqlite.specs.declared.error.Error.{Error}
 use Rattle.sqlite.specs.Clock.{timed}
-use Rattle.sqlite.specs.State.{State, HasCleanDisk, IsUnchanged, Shown, ShowsRows, FailsToQuery, Survives, CommitsShowing, CommitsBy, Executes, ExecutesIn, Runs, Writes, is_pragma, shows_rows, text_of}
+use Rattle.sqlite.specs.State.{State, HasCleanDisk, IsUnchanged, Shown, ShowsRows, FailsToQuery, FailsToShow, HasCause, IsMisplaced, IsNotRun, RunsCommand, Survives, CommitsShowing, CommitsBy, Executes, ExecutesIn, Runs, Writes, is_pragma, shows_rows, text_of}
 use Rattle.sqlite.proofs.StateLemmas.{survives_then}
-use Rattle.sqlite.proofs.Callers.{command_of, reads_as, never_commits}
+use Rattle.sqlite.proofs.Callers.{command_of, reads_as, never_commits, unchanged_then}
+use Rattle.sqlite.proofs.StreamLemmas.{fails_since as store_fails_since, rolled_back_since}
 use Rattle.journal_store.specs.Connections.{IsLaid, Keeps, IsQuery, IsEdit, IsEditText, Answers, Ran, MayLeave, plain_mode}
 use Rattle.journal_store.proofs.Keeping.{unchanged_keeps, laid_still, keeps_then, query_keeps}
 
@@ -57,6 +60,36 @@ shown_unchanged mid new sql params rows plain h =
     let none : h.0.returning ≡ None = (subst IsPlain h.1.is plain).0 in
     (subst (λ (o : Option Returning). ShowsRows mid new sql h.0 (timed params h.0.formats h.1.now) rows o) none h.2).3
 
+pub not_run_fails : (old new : State) (sql : List ℕ) (params : Row) (e : Error) → IsNotRun old new sql params e → FailsToQuery sql params old new e
+unfolding FailsToQuery
+not_run_fails old new sql params e it = inl it
+
+pub not_run_executes : (old new : State) (sql : List ℕ) (params : Row) (e : Error) → IsNotRun old new sql params e → Executes sql params old new (Err e)
+unfolding ExecutesIn
+not_run_executes old new sql params e it = inl it
+
+-- what fails once it is prepared fails so from before
+fails_since : (old mid new : State) (sql : List ℕ) (params : Row) (e : Error) → IsUnchanged old mid → old.faults ≤ mid.faults → mid.step_limit ≡ old.step_limit → IsPlain (understood old.now.schema sql)
+    → FailsToQuery sql params mid new e → FailsToQuery sql params old new e
+unfolding FailsToQuery IsNotRun
+fails_since old mid new sql params e same counts limit plain (inl (inl h)) = inl (inl (rw (← same.0.now_is) h.0, unchanged_then old mid new same h.1))
+fails_since old mid new sql params e same counts limit plain (inl (inr h)) = inl (inr (store_fails_since old mid new same counts e h))
+fails_since old mid new sql params e same counts limit plain (inr h) =
+    let is : understood old.now.schema sql ≡ Ok h.0 = ap (λ (d : Database). understood d.schema sql) (sym same.0.now_is) ∙ h.1.is in
+    let none : h.0.returning ≡ None = (subst IsPlain is plain).0 in
+    let full = timed params h.0.formats h.1.now in
+    let it = subst (FailsToShow mid new sql h.0 full e) none h.2 in
+    inr (
+      h.0,
+      record { is = is; whole = h.1.whole; given = h.1.given; now = h.1.now },
+      subst (FailsToShow old new sql h.0 full e) (sym none) (
+        it.0,
+        subst (λ (d : Database). IsSourceOf (reads_listing d.schema sql) d it.0) same.0.now_is it.1,
+        subst (λ l. RefusesToRead l h.0.command it.0 full e) limit it.2,
+        unchanged_then old mid new same it.3,
+      ),
+    )
+
 module _ {X : Type 0} (items : X → List Row) (old mid new : State) (sql text : List ℕ) (params : Row) (query_text : IsQuery sql) (laid : IsTrue old.is_open → IsLaid old)
     (prepared : (text ≡ sql) × IsUnchanged old mid) where
   laid_now : IsLaid old
@@ -73,9 +106,19 @@ module _ {X : Type 0} (items : X → List Row) (old mid new : State) (sql text :
   stays_open (Ok x) shown = (shown_unchanged mid new sql params (items x) plain_now (subst (λ t. Shown t params mid new (items x)) prepared.0 shown)).0.is_open
   stays_open (Err e) shown = tt
 
+  pub ask_fails : (r : Result X Error) → old.faults ≤ mid.faults → mid.step_limit ≡ old.step_limit → IfErr r (FailsToQuery text params mid new) → IfErr r (FailsToQuery sql params old new)
+  ask_fails (Ok x) counts limit fails = tt
+  ask_fails (Err e) counts limit fails =
+      fails_since old mid new sql params e prepared.1 counts limit (query_at old sql query_text laid_now).0 (subst (λ t. FailsToQuery t params mid new e) prepared.0 fails)
+
   pub ask_keeps : (r : Result X Error) → IfOk r (λ x. Shown text params mid new (items x)) → IfErr r (FailsToQuery text params mid new) → Keeps old new
   ask_keeps (Ok x) shown fails = keeps_then old mid new (unchanged_keeps old mid prepared.1) (unchanged_keeps mid new (shown_unchanged mid new sql params (items x) plain_now (subst (λ t. Shown t params mid new (items x)) prepared.0 shown)))
   ask_keeps (Err e) shown fails = keeps_then old mid new (unchanged_keeps old mid prepared.1) (query_keeps mid new text params e fails)
+
+-- an error that is handed on
+pub handed_error : {X : Type 0} (P : Error → Type 0) (r : Result X Error) (error : Error) → IsErrAnd r (λ given. given ≡ error) → P error → IfErr r P
+handed_error P (Ok x) error is it = tt
+handed_error P (Err given) error is it = subst P (sym is) it
 
 pub on_err : {X E P : Type 0} (r : Result X E) → P → OnErr r P
 on_err (Ok x) p = tt
@@ -118,6 +161,48 @@ ran old mid new sql params count edit laid same h =
       does = subst (λ (d : Database). Does mid.step_limit plain_mode params d (text_of sql c) None c.command (Ok (w.tally, new.now))) same.0.now_is w.changed;
       settled = λ _. (w.shown.committed_is ∙ ap (λ b. cond b mid.committed new.now) laid_now.autocommit, w.shown.mode ∙ laid_now.autocommit);
     }
+
+not_misplaced : (s : State) (command : Command) (e : Error) → IsEdit command → IsMisplaced s command e → ⊥
+not_misplaced s command e edit (inl (_, inl (is, _))) = subst IsEdit is edit
+not_misplaced s command e edit (inl (_, inr (inl is, _))) = subst IsEdit is edit
+not_misplaced s command e edit (inl (_, inr (inr is, _))) = subst IsEdit is edit
+not_misplaced s command e edit (inr (_, _, inl is, _)) = subst IsEdit is edit
+not_misplaced s command e edit (inr (_, _, inr is, _)) = subst IsEdit is edit
+
+-- a command that fails once it is prepared fails so from before
+module _ (old mid new : State) (same : IsUnchanged old mid) (counts : old.faults ≤ mid.faults) (limit : mid.step_limit ≡ old.step_limit) where
+  does_since : (params : Row) (text : List ℕ) (returning : Option Returning) (command : Command) (r : Result (Tally × Database) (Option Error))
+      → Does mid.step_limit plain_mode params mid.now text returning command r → Does old.step_limit plain_mode params old.now text returning command r
+  does_since params text returning command r it =
+      subst (λ (d : Database). Does old.step_limit plain_mode params d text returning command r) same.0.now_is (subst (λ l. Does l plain_mode params mid.now text returning command r) limit it)
+
+  cause_since : (P Q : Type 0) → (P → Q) → (cause : StoreError) → HasCause mid new P cause → HasCause old new Q cause
+  cause_since P Q f OutOfMemory it = tt
+  cause_since P Q f Io it = omega (arith, counts, it)
+  cause_since P Q f Corrupt it = omega (arith, counts, it)
+  cause_since P Q f Full it = omega (arith, counts, it)
+  cause_since P Q f Broken it = absurd (let clash : true ≡ false = sym same.0.is_open ∙ it in cc)
+  cause_since P Q f Unstorable it = f it
+
+  command_since : (sql : List ℕ) (c : Compiled) (params : Row) (e : Error) → IsEdit c.command → RunsCommand mid new sql c params (Err e) → RunsCommand old new sql c params (Err e)
+  command_since sql c params e edit (inl (inl misplaced, still)) = absurd (not_misplaced mid c.command e edit misplaced)
+  command_since sql c params e edit (inl (inr (may, does), still)) = inl (inr (may, does_since params (text_of sql c) c.returning c.command (Err (Some e)) does), unchanged_then old mid new same still)
+  command_since sql c params e edit (inr failed) =
+      inr (failed.0, failed.1, cause_since _ _ (does_since params (text_of sql c) c.returning c.command (Err None)) failed.0 failed.2, rolled_back_since old mid new same counts failed.3, failed.4)
+
+  pub write_fails : (sql : List ℕ) (params : Row) (e : Error) → IsEditText sql → IsLaid old → Executes sql params mid new (Err e) → Executes sql params old new (Err e)
+  unfolding ExecutesIn IsNotRun
+  write_fails sql params e edit laid (inl (inl it)) = inl (inl (rw (← same.0.now_is) it.0, unchanged_then old mid new same it.1))
+  write_fails sql params e edit laid (inl (inr it)) = inl (inr (store_fails_since old mid new same counts e it))
+  write_fails sql params e edit laid (inr it) =
+      let c = it.0 in
+      let facts = edit_at mid sql c edit (laid_mid old mid same laid) it.1.is in
+      let none = shows_none c.command facts.2 in
+      let quiet : shows_rows false c ≡ false = rw (none.0, none.1, facts.0) refl in
+      let full = timed params c.formats it.1.now in
+      let failed : RunsCommand mid new sql c full (Err e) = rw quiet at it.2 in
+      let is = ap (λ (d : Database). understood d.schema sql) (sym same.0.now_is) ∙ it.1.is in
+      inr (c, record { is = is; whole = it.1.whole; given = it.1.given; now = it.1.now }, rw quiet (command_since sql c full e facts.2 failed))
 
 no_commit : (command : Command) → IsEdit command → command ≡ Commit → ⊥
 no_commit command edit is = subst IsEdit is edit

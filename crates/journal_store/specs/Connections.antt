@@ -80,7 +80,7 @@ pub record ShowsRest (kind : Kind) (shown : Row) (row : source.Row) (after : ℕ
   pub id : IsLawfulId entry.id
   pub within : entry.confirmed ≼ row_revision row
 
--- it shows this entry, which is a lawful one: its row is, its id is, and its revision isn't below the confirmed one
+-- it shows this entry, which is a lawful one: its row and its id are, and its revision isn't below the confirmed one
 pub record Shows (kind : Kind) (shown : Row) (entry : Entry) : Type 0 where
   pub entry_is : entry_in kind shown ≡ Some entry
   pub lawful : IsRow entry.row
@@ -131,7 +131,7 @@ pub record FailsToRise (rows : List Row) : Type 0 where
   pub is : rows ≡ front ++ first ∷ second ∷ back
   pub not_below : is_lt (value_cmp (column first 0) (column second 0)) ≡ false
 
--- a row shows no lawful entry, or the rows aren't in order of their keys, each of its own
+-- a row shows no lawful entry, or the keys fail to rise
 abbrev pub IsUnshown : Kind → List Row → Type 0
 IsUnshown kind rows = ((r : Row) × Has rows r × ShowsNone kind r) ⊎ FailsToRise rows
 
@@ -141,7 +141,7 @@ pub record ListsAll (kind : Kind) (db : Trees) (list : List Entry) : Type 0 wher
   pub all : IsPermutation (map (shown_row kind) (db (entry_tree kind))) rows
   pub shown : AreShown kind rows list
 
--- the rows of the table aren't those of any such list
+-- no list is so of the rows of the table
 abbrev pub ListsNone : Kind → Trees → Type 0
 ListsNone kind db = (list : List Entry) → ListsAll kind db list → ⊥
 

@@ -181,7 +181,7 @@ IsNotLaid s = IsJournal s.now.schema → s.in_transaction ≡ true
 abbrev pub IsUnmarked : State → Type 0
 IsUnmarked s = (number : ℕ) → format_number ≤ number → IsFormat s number → ⊥
 
--- the rows aren't lawful: they have no numbers, each its own, or they don't hold lawful entries
+-- the rows aren't lawful: not each has a number of its own, or they don't hold lawful entries
 abbrev pub IsUnlawful : Trees → Type 0
 IsUnlawful db = (HasNumbers db → ⊥) ⊎ (HoldsEntries db → ⊥)
 

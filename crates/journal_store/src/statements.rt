@@ -1,7 +1,7 @@
 //! Queries and writes on the tables.
-ghost use Rattle.std.specs.Prelude.{◌≡◌, IfOk, OnOk, OnErr, IsTrue};
+ghost use Rattle.std.specs.Prelude.{◌≡◌, Err, IfErr, IfOk, OnOk, OnErr, IsTrue};
 ghost use Rattle.sqlite.specs.Held.{state};
-ghost use Rattle.sqlite.specs.State.{HasCleanDisk, Survives};
+ghost use Rattle.sqlite.specs.State.{Executes, FailsToQuery, HasCleanDisk, Survives};
 ghost use Rattle.sqlite.specs.Values.{bound};
 ghost use Rattle.journal_store.specs.Connections.{Answers, IsEditText, IsLaid, IsQuery, Keeps, MayLeave, Ran};
 
@@ -54,9 +54,9 @@ impl From<NameFault> for TableFault {
 }
 
 impl From<Error> for TableFault {
-    ghost use Rattle.journal_store.specs.Faults.{IsOfStatement};
+    ghost use Rattle.journal_store.specs.Faults.{IsOfStatement, statement_fault};
 
-    ghost from_gives = { λ _ fault. IsOfStatement fault };
+    ghost from_gives = { λ error fault. (fault ≡ statement_fault error) × IsOfStatement fault };
 
     fn from(error: Error) -> TableFault {
         match error {
@@ -75,6 +75,7 @@ pub(crate) fn ask<S: Alter>(
     requires query { IsQuery sql.now }
     requires laid { HasCleanDisk (state S.Store conn.old) → IsTrue (state S.Store conn.old).is_open → IsLaid (state S.Store conn.old) }
     ensures rows { HasCleanDisk (state S.Store conn.new) → IfOk result (λ rows. Answers sql.now (bound params.now) (state S.Store conn.old) rows.items) }
+    ensures fails { HasCleanDisk (state S.Store conn.new) → IfErr result (FailsToQuery sql.now (bound params.now) (state S.Store conn.old) (state S.Store conn.new)) }
     ensures keeps { HasCleanDisk (state S.Store conn.new) → Keeps (state S.Store conn.old) (state S.Store conn.new) }
     ensures open { HasCleanDisk (state S.Store conn.new) → OnOk result (IsTrue (state S.Store conn.new).is_open) }
     ensures quiet { Survives (state S.Store conn.old) (state S.Store conn.new) (λ _. ⊥) }
@@ -92,6 +93,7 @@ pub(crate) fn write<S: Alter>(
     requires edit { IsEditText sql.now }
     requires laid { HasCleanDisk (state S.Store conn.old) → IsTrue (state S.Store conn.old).is_open → IsLaid (state S.Store conn.old) }
     ensures ran { HasCleanDisk (state S.Store conn.new) → OnOk result (Ran sql.now (bound params.now) (state S.Store conn.old) (state S.Store conn.new)) }
+    ensures fails { HasCleanDisk (state S.Store conn.new) → IfErr result (λ e. Executes sql.now (bound params.now) (state S.Store conn.old) (state S.Store conn.new) (Err e)) }
     ensures keeps { HasCleanDisk (state S.Store conn.new) → OnErr result (Keeps (state S.Store conn.old) (state S.Store conn.new)) }
     ensures stop { Survives (state S.Store conn.old) (state S.Store conn.new) (MayLeave sql.now (bound params.now) (state S.Store conn.old)) }
 {

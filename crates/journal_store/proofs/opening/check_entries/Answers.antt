@@ -1,9 +1,8 @@
-use Rattle.std.proofs.Common.{IsTrue, subst, sym}
+use Rattle.std.proofs.Common.{IsTrue, List, subst, sym}
 use Rattle.sqlite.specs.Effect.{Database}
 use Rattle.sqlite.specs.Held.{state}
 use Rattle.scim_key.specs.declared.records.Kind.TheVariants.{User, Group}
 use Rattle.journal_core.specs.declared.entries.Entry.{Entry}
-use Rattle.std.proofs.Common.{List}
 use Rattle.journal_store.specs.Connections.{ListsAll, ListsNone}
 use Rattle.journal_store.specs.Opening.{AreInOrder, AreLawful, HoldsEntries, Looks, keys_of}
 use Rattle.journal_store.proofs.Checking.{damage_on, entries_both, lists_refused, mid_same, on_ok, told_of}

@@ -28,4 +28,4 @@ returns-in-Ok-clause-cause g c clean =
 pub returns-in-Err-clause-cause : goal.returns-in-Err-clause-cause
 returns-in-Err-clause-cause g c clean =
     let old = state g.S.Store c.args.conn.now in
-    subst (IsFor (IsNewer old) (IsUnmarked old)) (sym c.from-in-Err.ensures) (no_damage (IsNewer old) (IsUnmarked old) c.from.result c.from.ensures)
+    subst (IsFor (IsNewer old) (IsUnmarked old)) (sym c.from-in-Err.ensures) (no_damage (IsNewer old) (IsUnmarked old) c.from.result c.from.ensures.1)

@@ -32,4 +32,4 @@ returns-in-Ok-clause-cause g c clean =
 pub returns-in-Err-clause-cause : goal.returns-in-Err-clause-cause
 returns-in-Err-clause-cause g c clean =
     let refused = IsTrue (state g.S.Store c.ask.new.conn).is_open × (AreNumbered ((state g.S.Store c.args.conn.now).now.trees (entry_tree c.args.kind)) → ⊥) in
-    subst (IsFor ⊥ refused) (sym c.from-in-Err.ensures) (no_damage ⊥ refused c.from.result c.from.ensures)
+    subst (IsFor ⊥ refused) (sym c.from-in-Err.ensures) (no_damage ⊥ refused c.from.result c.from.ensures.1)

@@ -27,4 +27,4 @@ returns-then-not-is_blank-clause-cause g c clean =
 pub returns-in-Err-clause-cause : goal.returns-in-Err-clause-cause
 returns-in-Err-clause-cause g c clean =
     let old = state g.S.Store c.args.conn.now in
-    subst (IsCause old) (sym c.from-in-Err.ensures) (no_damage (IsNewer old) (IsDamaged old) c.from.result c.from.ensures)
+    subst (IsCause old) (sym c.from-in-Err.ensures) (no_damage (IsNewer old) (IsDamaged old) c.from.result c.from.ensures.1)

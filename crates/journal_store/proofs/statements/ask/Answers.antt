@@ -1,8 +1,9 @@
 use Rattle.std.proofs.Common.{[], arith}
 use Rattle.sqlite.specs.Held.{state}
-use Rattle.sqlite.specs.State.{HasCleanDisk}
+use Rattle.sqlite.specs.State.{FailsToQuery, HasCleanDisk}
+use Rattle.sqlite.specs.Values.{bound}
 use Rattle.journal_store.proofs.Keeping.{not_run_keeps}
-use Rattle.journal_store.proofs.Asking.{answers, stays_open, ask_keeps, ask_quiet}
+use Rattle.journal_store.proofs.Asking.{answers, ask_fails, ask_keeps, ask_quiet, handed_error, not_run_fails, stays_open}
 use Rattle.journal_store.proofs.statements.ask.Goals as goal
 
 pub returns-in_err-statement-clause-keeps : goal.returns-in_err-statement-clause-keeps
@@ -29,3 +30,14 @@ returns-clause-open g c clean =
 pub returns-clause-quiet : goal.returns-clause-quiet
 returns-clause-quiet g c =
     ask_quiet _ (state g.S.Store c.prepare.new.self) _ c.args.sql.now _ _ c.requires.query c.requires.laid c.in_ok-statement.ensures.ok c.prepare.ensures.survives c.query_all.ensures.survives
+
+pub returns-in_err-statement-clause-fails : goal.returns-in_err-statement-clause-fails
+returns-in_err-statement-clause-fails g c clean =
+    handed_error (FailsToQuery c.args.sql.now (bound c.args.params.now) (state g.S.Store c.args.conn.now) (state g.S.Store c.prepare.new.self)) c.from_residual.result c.in_err-statement.field-0.0 c.from_residual.ensures.1
+    (not_run_fails _ _ _ _ _ (c.in_err-statement.ensures.err clean (bound c.args.params.now)))
+
+pub returns-clause-fails : goal.returns-clause-fails
+returns-clause-fails g c clean =
+    let mid_clean : HasCleanDisk (state g.S.Store c.prepare.new.self) = omega (arith, clean, c.query_all.ensures.survives.clean) in
+    let first_clean : HasCleanDisk (state g.S.Store c.args.conn.now) = omega (arith, mid_clean, c.prepare.ensures.survives.clean) in
+    ask_fails (λ rows. rows.items) _ (state g.S.Store c.prepare.new.self) _ c.args.sql.now _ _ c.requires.query (c.requires.laid first_clean) (c.in_ok-statement.ensures.ok mid_clean) c.query_all.result c.prepare.ensures.survives.counts c.prepare.ensures.survives.limit (c.query_all.ensures.err clean)

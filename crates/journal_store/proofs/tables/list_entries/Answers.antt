@@ -29,4 +29,4 @@ returns-in-Ok-clause-none g c clean =
 
 pub returns-in-Err-clause-none : goal.returns-in-Err-clause-none
 returns-in-Err-clause-none g c clean =
-    cause_by ⊥ (IsTrue (state g.S.Store c.ask.new.conn).is_open × ListsNone c.args.kind (state g.S.Store c.args.conn.now).now.trees) (λ none. absurd none) c.from.result c.from.ensures
+    cause_by ⊥ (IsTrue (state g.S.Store c.ask.new.conn).is_open × ListsNone c.args.kind (state g.S.Store c.args.conn.now).now.trees) (λ none. absurd none) c.from.result c.from.ensures.1
