@@ -12,7 +12,6 @@ ghost use Rattle.provider_store.specs.Rows.{IsRowOf, kind_code};
 ghost use Rattle.provider_store.specs.Connections.{Answers, FindsName, FindsNumber, IsEditText, IsLaid, IsOnly, IsQuery, IsThere, Keeps, Leaves, Makes, MayLeave, Ran, added, content_text, renewed, resources};
 
 use provider_core::RegistryFault;
-use scim_json::compact;
 use scim_key::{Kind, LAST_NUMBER, RecordName};
 use scim_resource::{Content, LAST_VERSION, ReadFault, Stored};
 use sqlite::{Alter, Connection, Error, ErrorCode, Row};
@@ -243,8 +242,7 @@ fn text_of(alloc: Global, content: &Content) -> Result<Vec<u8>, AllocError>
     ensures text { IfOk result (λ text. text.items ≡ content_text content.now) }
     ensures spelled { OnOk result (content_in (content_kind content.now) (content_text content.now) ≡ Ok content.now) }
 {
-    let value = content.to_value(alloc)?;
-    compact(alloc, &value)
+    content.text(alloc)
 }
 
 /// Adds a row.

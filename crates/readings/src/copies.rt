@@ -1,5 +1,5 @@
 //! Contents and rows with every attribute: their texts, and that copies are the same.
-use scim_json::compact;
+use json::Writer;
 use scim_key::{Base, Kind, RecordName};
 use scim_resource::{Content, Shown, Stored};
 use serde_json::Value;
@@ -22,15 +22,15 @@ pub static CREW_SHOWN: &str =
 
 /// The text of a content.
 pub fn text_of(alloc: Global, content: &Content) -> Result<Vec<u8>, Fail> {
-    let value = content.to_value(alloc)?;
-    Ok(compact(alloc, &value)?)
+    Ok(content.text(alloc)?)
 }
 
 /// The text of a resource as it is shown.
 pub fn shown_text(alloc: Global, shown: &Shown) -> Result<Vec<u8>, Fail> {
     let base = Base::read(alloc, "http://localhost:8080/v2")?;
-    let value = shown.to_value(alloc, &base)?;
-    Ok(compact(alloc, &value)?)
+    let mut out = Writer::new(Vec::new(alloc));
+    shown.write(alloc, &base, &mut out)?;
+    Ok(out.into_inner())
 }
 
 fn is_named(rt: &impl Abort, name: &RecordName, kind: Kind, key: &str) {

@@ -17,7 +17,6 @@ use form_urlencoded::Serializer;
 use http_text::{FieldLine, write_request};
 use itoa::Buffer;
 use scim_filter::Filter;
-use scim_json::compact;
 use scim_key::{Base, Kind, ResourceId};
 use scim_message::Request;
 use scim_resource::{Content, location};
@@ -216,7 +215,7 @@ fn content_text(alloc: Global, content: &Content) -> Result<Vec<u8>, AllocError>
     ensures text { IfOk result (λ text. text.items ≡ spec.content_text content.now) }
     ensures lawful { OnOk result (IsSentContent content.now) }
 {
-    compact(alloc, &content.to_value(alloc)?)
+    content.text(alloc)
 }
 
 fn sent(body: Option<&[u8]>) -> &[u8]

@@ -3,3 +3,4 @@ pub mod Parts
 pub mod RepeatedNames
 pub mod Texts
 pub mod Utf8Texts
+pub mod Written

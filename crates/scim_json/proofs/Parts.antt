@@ -4,14 +4,14 @@ use Rattle.std.proofs.lemmas.Bool.{and_parts}
 use Rattle.std.proofs.lemmas.Slice.Eq.{bytes_eq-Decides}
 use Rattle.std.specs.Prelude.{⊤}
 use Rattle.std.specs.Cmp.Lexicographic.{slice_cmp}
-use Rattle.std.specs.Ordering.{is_lt, match_ordering}
+use Rattle.std.specs.Ordering.{is_lt}
 use Rattle.std.specs.Str.{str_to_ascii_lowercase}
-use Rattle.serde_json.specs.Data.{Num, unsigned, negative, float, Data, null, boolean, number, string, array, object, Items, no_items, item, Members, no_members, member, put, depth, members_depth}
+use Rattle.serde_json.specs.Data.{Num, unsigned, negative, float, Data, null, boolean, number, string, array, object, Items, no_items, item, Members, no_members, member, depth, members_depth}
 use Rattle.serde_json.specs.Written.{has_float, items_have_float, members_have_float}
 use Rattle.serde_json.specs.Find.{is_float}
 use Rattle.scim_json.specs.Attributes.{same_name, named, has_name, repeats}
 use Rattle.scim_json.specs.Plain.{IsWhole, IsBelow, IsPlain, ItemsArePlain, MembersArePlain}
-use Rattle.scim_json.specs.Writing.{Part, member_if, members_from, put_if}
+use Rattle.scim_json.specs.Writing.{Part, members_from}
 
 -- ---- tests on the names of parts, which compute where the names are literals
 
@@ -38,34 +38,10 @@ abbrev pub part_named : List ℕ → List Part → Option Data
 part_named name [] = None
 part_named name (p ∷ ps) = cond (same_name p.0 name) p.1 (part_named name ps)
 
--- ---- putting the parts in, from the last to the first
-
-abbrev pub put_all : List Part → Members
-put_all [] = no_members
-put_all (p ∷ ps) = put_if p.0 p.1 (put_all ps)
-
 is_less : (o : Ordering) → is_lt o ≡ true → o ≡ Less
 is_less Less h = refl
 is_less Equal h = cc
 is_less Greater h = cc
-
-put-first : (k : List ℕ) (d : Data) (ps : List Part) → is_below k ps ≡ true → put k d (members_from ps) ≡ member k d (members_from ps)
-put-first k d [] h = refl
-put-first k d ((l, None) ∷ ps) h = put-first k d ps (and_parts (is_lt (slice_cmp nat_cmp k l)) _ h).1
-put-first k d ((l, Some e) ∷ ps) h =
-    let less = is_less (slice_cmp nat_cmp k l) (and_parts (is_lt (slice_cmp nat_cmp k l)) _ h).0 in
-    ap (λ o. match_ordering o (member k d (member l e (members_from ps))) (member l d (members_from ps)) (member l e (put k d (members_from ps)))) less
-
-put_if-first : (k : List ℕ) (o : Option Data) (ps : List Part) → is_below k ps ≡ true → put_if k o (members_from ps) ≡ member_if k o (members_from ps)
-put_if-first k None ps h = refl
-put_if-first k (Some d) ps h = put-first k d ps h
-
--- parts in rising order may be put in from the last to the first
-pub put_all-rising : (ps : List Part) → are_rising ps ≡ true → put_all ps ≡ members_from ps
-put_all-rising [] h = refl
-put_all-rising (p ∷ ps) h =
-    let both = and_parts (is_below p.0 ps) _ h in
-    ap (put_if p.0 p.1) (put_all-rising ps both.1) ∙ put_if-first p.0 p.1 ps both.0
 
 -- ---- finding a part
 

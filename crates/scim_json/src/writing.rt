@@ -1,35 +1,33 @@
-//! Objects with optional members, and their compact text.
-ghost use Rattle.std.specs.Prelude.{◌≡◌, false, IfOk, OnOk, OnErr, option_map};
-ghost use Rattle.std.specs.Str.{IsUtf8};
-ghost use Rattle.serde_json.specs.View.{view, members_view};
-ghost use Rattle.serde_json.specs.Written.{has_float, compact_text};
-ghost use Rattle.scim_json.specs.Writing as spec;
+//! Members of an object that is written.
+ghost use Rattle.std.specs.Prelude.{Some, OnOk, option_map};
+ghost use Rattle.serde_json.specs.Data.{array, item, no_items, number, string, unsigned};
+ghost use Rattle.scim_json.specs.Writing.{WritesPart};
 
-use serde_json::{Map, Value};
-use std::alloc::{AllocError, Global};
+use json::Writer;
+use std::alloc::AllocError;
 
-/// Puts a member into the object, where there is a value for it.
-pub fn put_if(
-    members: &mut Map<String, Value>,
-    alloc: Global,
-    name: &str,
-    value: Option<Value>,
-) -> Result<(), AllocError>
-    ensures ok { OnOk result (members_view members.new.entries
-        ≡ spec.put_if name.now (option_map view value) (members_view members.old.entries)) }
-    ensures err { OnErr result (members.new.entries ≡ members.old.entries) }
+/// Writes a member that is a text.
+pub fn write_text(out: &mut Writer, name: &str, text: &str) -> Result<(), AllocError>
+    ensures { OnOk result (WritesPart name.now (Some (string text.now)) out.old out.new) }
 {
-    match value {
+    out.key(name)?;
+    out.string(text)
+}
+
+/// Writes a member that is a text, where there is one.
+pub fn write_text_if(out: &mut Writer, name: &str, text: Option<&str>) -> Result<(), AllocError>
+    ensures { OnOk result (WritesPart name.now (option_map string (option_map (λ t. t.now) text.entry)) out.old out.new) }
+{
+    match text {
         None => Ok(()),
-        Some(value) => serde_json::put(members, alloc, name, value),
+        Some(text) => write_text(out, name, text),
     }
 }
 
-/// The value's text with no space in it, in UTF-8.
-pub fn compact(alloc: Global, value: &Value) -> Result<Vec<u8>, AllocError>
-    requires { has_float (view value.now) ≡ false }
-    ensures text { IfOk result (λ text. text.items ≡ compact_text (view value.now)) }
-    ensures utf8 { IfOk result (λ text. IsUtf8 text.items) }
+/// Writes a member that is a whole number.
+pub fn write_whole(out: &mut Writer, name: &str, n: u64) -> Result<(), AllocError>
+    ensures { OnOk result (WritesPart name.now (Some (number (unsigned n))) out.old out.new) }
 {
-    value.to_vec(alloc)
+    out.key(name)?;
+    out.u64(n)
 }

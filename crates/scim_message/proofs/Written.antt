@@ -1,66 +1,56 @@
--- What the writers make is the data that their definitions name, and it holds no float.
-use Rattle.std.proofs.Common.{◌≡◌, ℕ, false, ◌||◌, List, [], ◌∷◌, ◌++◌, length, Option, Some, None, option_map, codes, BTreeMap, String, Global, refl, ap, ◌∙◌}
-use Rattle.std.proofs.lemmas.Bool.{or_parts}
+-- What the writers of bodies add is the data that their definitions name.
+use Rattle.std.proofs.Common.{◌≡◌, ℕ, List, [], ◌∷◌, ◌++◌, length, Result, OnOk, Some, option_map, codes, flat_map, sym, ap, ◌∙◌, append-nil}
+use Rattle.std.proofs.lemmas.Grind.{flat_map-append}
 use Rattle.std.specs.Fmt.{decimal}
-use Rattle.serde_json.specs.Data.{Data, unsigned, number, string, array, object, no_items, item, Members, no_members}
-use Rattle.serde_json.specs.View.{items_of, view, members_view}
-use Rattle.serde_json.specs.Written.{has_float, items_have_float}
-use Rattle.serde_json.specs.declared.value.Value.{Value, Object}
-use Rattle.serde_json.proofs.Views.{view-Object}
-use Rattle.scim_json.specs.Writing.{put_if}
-use Rattle.scim_json.proofs.Parts.{put_all, put_all-rising}
+use Rattle.json.specs.Token.{Token, begin_object, end_object}
+use Rattle.json.specs.Written.{Written}
+use Rattle.json.specs.Written as token
+use Rattle.serde_json.specs.Data.{unsigned, number, string, array, no_items, item}
+use Rattle.scim_json.specs.Writing.{data_tokens, part_tokens, Adds, Writes, WritesPart}
+use Rattle.scim_json.proofs.Written.{then, object_closed}
 use Rattle.scim_resource.specs.Rows.{ShownRecord}
+use Rattle.scim_resource.specs.Writing.{shown_data}
 use Rattle.scim_message.specs.Fitting.{IsLawful, AreLawful}
 use Rattle.scim_message.specs.Bodies.{error_message, error_parts, error_data, list_message, page_data, list_parts, list_data}
 use Rattle.scim_message.specs.declared.lists.ListResponse.{ListResponse}
 use Rattle.scim_message.specs.Refusals.{ErrorRecord}
 
-pub error_written : (m : BTreeMap (String Global) Value) (e : ErrorRecord) → members_view m.entries ≡ put_all (error_parts e) → view (Object m) ≡ error_data e
+four : (p q r s : List Token) → p ++ (q ++ (r ++ (s ++ []))) ≡ p ++ (q ++ (r ++ s))
+four p q r s = simp append-nil
+
+pub error_closed : {E : Type 0} (x : Result (Unit {0}) E) (m : ErrorRecord) (a b c d e f g : Written) → Adds (begin_object ∷ []) a b
+    → WritesPart (codes "detail") (option_map string m.detail) b c → WritesPart (codes "schemas") (Some (array (item (string error_message) no_items))) c d
+    → WritesPart (codes "scimType") (option_map string m.scim_type) d e → WritesPart (codes "status") (Some (string (decimal m.status))) e f
+    → token.Writes x f g end_object → OnOk x (Writes (error_data m) a g)
 unfolding error_data
-error_written m e put = view-Object m ∙ ap object (put ∙ put_all-rising (error_parts e) refl)
-
--- the steps of the writer, from the last name to the first
-pub error_put : (e : ErrorRecord) (m0 m1 m2 m3 m4 : Members) (status schemas : Data) (scim_type detail : Option Data) → m0 ≡ no_members
-    → m1 ≡ put_if (codes "status") (Some status) m0 → m2 ≡ put_if (codes "scimType") scim_type m1
-    → m3 ≡ put_if (codes "schemas") (Some schemas) m2 → m4 ≡ put_if (codes "detail") detail m3
-    → status ≡ string (decimal e.status) → scim_type ≡ option_map string e.scim_type → schemas ≡ array (item (string error_message) no_items)
-    → detail ≡ option_map string e.detail → m4 ≡ put_all (error_parts e)
-error_put e m0 m1 m2 m3 m4 status schemas scim_type detail e0 e1 e2 e3 e4 s t n d = rw (e4, e3, e2, e1, e0, s, t, n, d)
-
-no_float : (scim_type detail : Option (List ℕ)) (status : ℕ) → has_float (error_data (record { status = status; scim_type = scim_type; detail = detail })) ≡ false
-unfolding error_data
-no_float None None status = refl
-no_float None (Some d) status = refl
-no_float (Some t) None status = refl
-no_float (Some t) (Some d) status = refl
-
-pub error_has_no_float : (e : ErrorRecord) → has_float (error_data e) ≡ false
-error_has_no_float e = no_float e.scim_type e.detail e.status
+error_closed x m a b c d e f g first detail schemas kind status last =
+    let p = part_tokens (codes "detail") (option_map string m.detail) in
+    let q = part_tokens (codes "schemas") (Some (array (item (string error_message) no_items))) in
+    let r = part_tokens (codes "scimType") (option_map string m.scim_type) in
+    let s = part_tokens (codes "status") (Some (string (decimal m.status))) in
+    object_closed x (error_parts m) (p ++ (q ++ (r ++ s))) a b f g (four p q r s) first (then p (q ++ (r ++ s)) b c f detail (then q (r ++ s) c d f schemas (then r s d e f kind status))) last
 
 -- ---- lists
 
-pub list_written : (m : BTreeMap (String Global) Value) (base : List ℕ) (l : ListResponse) → members_view m.entries ≡ put_all (list_parts base l) → view (Object m) ≡ list_data base l
+pub page_closed : {E : Type 0} (x : Result (Unit {0}) E) (base : List ℕ) (l : ListResponse) (a b c d e f g h : Written) → Adds (begin_object ∷ []) a b
+    → WritesPart (codes "Resources") (Some (array (page_data base l.resources))) b c → WritesPart (codes "itemsPerPage") (Some (number (unsigned (length l.resources)))) c d
+    → WritesPart (codes "schemas") (Some (array (item (string list_message) no_items))) d e → WritesPart (codes "startIndex") (Some (number (unsigned l.start))) e f
+    → WritesPart (codes "totalResults") (Some (number (unsigned l.total))) f g → token.Writes x g h end_object → OnOk x (Writes (list_data base l) a h)
 unfolding list_data
-list_written m base l put = view-Object m ∙ ap object (put ∙ put_all-rising (list_parts base l) refl)
+page_closed x base l a b c d e f g h first page count schemas start total last =
+    let o = part_tokens (codes "Resources") (Some (array (page_data base l.resources))) in
+    let p = part_tokens (codes "itemsPerPage") (Some (number (unsigned (length l.resources)))) in
+    let q = part_tokens (codes "schemas") (Some (array (item (string list_message) no_items))) in
+    let r = part_tokens (codes "startIndex") (Some (number (unsigned l.start))) in
+    let s = part_tokens (codes "totalResults") (Some (number (unsigned l.total))) in
+    object_closed x (list_parts base l) (o ++ (p ++ (q ++ (r ++ s)))) a b g h (ap (λ ts. o ++ ts) (four p q r s)) first
+    (then o (p ++ (q ++ (r ++ s))) b c g page (then p (q ++ (r ++ s)) c d g count (then q (r ++ s) d e g schemas (then r s e f g start total)))) last
 
--- the steps of the writer, from the last name to the first
-pub list_put : (base : List ℕ) (l : ListResponse) (m0 m1 m2 m3 m4 m5 : Members) (total start schemas on_page resources : Data) → m0 ≡ no_members
-    → m1 ≡ put_if (codes "totalResults") (Some total) m0 → m2 ≡ put_if (codes "startIndex") (Some start) m1
-    → m3 ≡ put_if (codes "schemas") (Some schemas) m2 → m4 ≡ put_if (codes "itemsPerPage") (Some on_page) m3
-    → m5 ≡ put_if (codes "Resources") (Some resources) m4
-    → total ≡ number (unsigned l.total) → start ≡ number (unsigned l.start) → schemas ≡ array (item (string list_message) no_items)
-    → on_page ≡ number (unsigned (length l.resources)) → resources ≡ array (page_data base l.resources) → m5 ≡ put_all (list_parts base l)
-list_put base l m0 m1 m2 m3 m4 m5 total start schemas on_page resources e0 e1 e2 e3 e4 e5 t s n p r = rw (e5, e4, e3, e2, e1, e0, t, s, n, p, r)
-
-pub items_have_float-append : (ds : List Data) (d : Data) → items_have_float (items_of ds) ≡ false → has_float d ≡ false → items_have_float (items_of (ds ++ d ∷ [])) ≡ false
-items_have_float-append [] d none whole = ap (λ b. b || false) whole
-items_have_float-append (e ∷ ds) d none whole =
-    let parts = or_parts (has_float e) _ none in
-    rw parts.0 (items_have_float-append ds d parts.1 whole)
-
-pub list_has_no_float : (base : List ℕ) (l : ListResponse) → items_have_float (page_data base l.resources) ≡ false → has_float (list_data base l) ≡ false
-unfolding list_data
-list_has_no_float base l h = ap (λ b. b || false) h
+pub page_step : (base : List ℕ) (done : List ShownRecord) (s : ShownRecord) (a b c : Written) → Adds (flat_map (λ x. data_tokens (shown_data base x)) done) a b → Writes (shown_data base s) b c
+    → Adds (flat_map (λ x. data_tokens (shown_data base x)) (done ++ s ∷ [])) a c
+page_step base done s a b c before next =
+    let told : ShownRecord → List Token = λ x. data_tokens (shown_data base x) in
+    rw (flat_map-append told done (s ∷ []), append-nil (told s)) (then (flat_map told done) (told s) a b c before next)
 
 pub AreLawful-push : (page : List ShownRecord) (s : ShownRecord) → AreLawful page → IsLawful s → AreLawful (page ++ s ∷ [])
 AreLawful-push [] s h one = (one, tt)

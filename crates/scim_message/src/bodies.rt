@@ -1,21 +1,25 @@
 //! The bodies of answers.
-ghost use Rattle.std.specs.Prelude.{◌≡◌, false, map, IfOk, IfSome, OnOk, option_map, string_bytes};
+ghost use Rattle.std.specs.Prelude.{◌≡◌, Some, IfOk, OnOk, codes};
+ghost use Rattle.std.specs.Fmt.{decimal};
 ghost use Rattle.std.specs.Str.{IsUtf8};
 ghost use Rattle.serde_json.specs.Data.{array, item, no_items, string};
-ghost use Rattle.serde_json.specs.View.{items_view, view};
-ghost use Rattle.serde_json.specs.Written.{has_float, items_have_float};
+ghost use Rattle.serde_json.specs.Written.{compact_text};
+ghost use Rattle.scim_json.specs.Writing.{Writes, WritesPart};
 ghost use Rattle.scim_resource.specs.Writing.{shown_data};
-ghost use Rattle.scim_message.specs.Fitting.{AreLawful, ShowsLawfully};
-ghost use Rattle.scim_message.specs.Bodies.{body_data, body_text, error_data, error_message, list_data, list_message};
+ghost use Rattle.scim_message.specs.Fitting.{AreLawful, IsLawful, ShowsLawfully};
+ghost use Rattle.scim_message.specs.Bodies.{body_text, error_data, error_message, list_data, list_message, page_data};
 
 use crate::lists::ListResponse;
 use crate::messages::Answer;
 use crate::refusals::ErrorResponse;
-use scim_json::{compact, put_if};
+use json::Writer;
+use scim_json::{write_text_if, write_whole};
 use scim_key::Base;
 use scim_resource::Shown;
-use serde_json::{Map, Value};
 use std::alloc::{AllocError, Global};
+
+/// The room that a body is given at first.
+const ROOM: usize = 512;
 
 /// The body of an answer by a service at this base, in UTF-8. Where nothing was modified it is empty.
 pub fn body_of(alloc: Global, answer: &Answer, base: &Base) -> Result<Vec<u8>, AllocError>
@@ -23,25 +27,46 @@ pub fn body_of(alloc: Global, answer: &Answer, base: &Base) -> Result<Vec<u8>, A
     ensures utf8 { IfOk result (λ body. IsUtf8 body.items) }
     ensures lawful { OnOk result (ShowsLawfully answer.now) }
 {
-    match body_value(alloc, answer, base)? {
-        Some(value) => compact(alloc, &value),
-        None => Ok(Vec::new(alloc)),
+    match answer {
+        Answer::Created(shown) | Answer::Found(shown) | Answer::Replaced(shown) => {
+            shown_text(alloc, shown, base)
+        }
+        Answer::List(list) => list_text(alloc, list, base),
+        Answer::NotModified { .. } => Ok(Vec::new(alloc)),
+        Answer::Error(error) => error_text(alloc, error),
     }
 }
 
-fn body_value(alloc: Global, answer: &Answer, base: &Base) -> Result<Option<Value>, AllocError>
-    ensures value { IfOk result (λ value. option_map view value ≡ body_data base.now answer.now) }
-    ensures whole { IfOk result (λ value. IfSome value (λ v. has_float (view v) ≡ false)) }
-    ensures lawful { OnOk result (ShowsLawfully answer.now) }
+#[tactic(auto, using(scim_json::proofs::Written::written_text))]
+fn shown_text(alloc: Global, shown: &Shown, base: &Base) -> Result<Vec<u8>, AllocError>
+    ensures text { IfOk result (λ text. text.items ≡ compact_text (shown_data base.now shown.now)) }
+    ensures utf8 { IfOk result (λ text. IsUtf8 text.items) }
+    ensures lawful { OnOk result (IsLawful shown.now) }
 {
-    match answer {
-        Answer::Created(shown) | Answer::Found(shown) | Answer::Replaced(shown) => {
-            Ok(Some(shown.to_value(alloc, base)?))
-        }
-        Answer::List(list) => Ok(Some(list_value(alloc, list, base)?)),
-        Answer::NotModified { .. } => Ok(None),
-        Answer::Error(error) => Ok(Some(error_value(alloc, error)?)),
-    }
+    let mut out = Writer::new(Vec::with_capacity(alloc, ROOM)?);
+    shown.write(alloc, base, &mut out)?;
+    Ok(out.into_inner())
+}
+
+#[tactic(auto, using(scim_json::proofs::Written::written_text))]
+fn list_text(alloc: Global, list: &ListResponse, base: &Base) -> Result<Vec<u8>, AllocError>
+    ensures text { IfOk result (λ text. text.items ≡ compact_text (list_data base.now list.now)) }
+    ensures utf8 { IfOk result (λ text. IsUtf8 text.items) }
+    ensures lawful { OnOk result (AreLawful list.now.resources) }
+{
+    let mut out = Writer::new(Vec::with_capacity(alloc, ROOM)?);
+    write_list(alloc, list, base, &mut out)?;
+    Ok(out.into_inner())
+}
+
+#[tactic(auto, using(scim_json::proofs::Written::written_text))]
+fn error_text(alloc: Global, error: &ErrorResponse) -> Result<Vec<u8>, AllocError>
+    ensures text { IfOk result (λ text. text.items ≡ compact_text (error_data error.now)) }
+    ensures utf8 { IfOk result (λ text. IsUtf8 text.items) }
+{
+    let mut out = Writer::new(Vec::with_capacity(alloc, ROOM)?);
+    write_error(error, &mut out)?;
+    Ok(out.into_inner())
 }
 
 /// The URN of an error message.
@@ -59,69 +84,70 @@ fn list_schema() -> &'static str
     "urn:ietf:params:scim:api:messages:2.0:ListResponse"
 }
 
-/// The list with one URN.
-fn schemas_with(alloc: Global, schema: &str) -> Result<Value, AllocError>
-    ensures { IfOk result (λ value. view value ≡ array (item (string schema.now) no_items)) }
+/// Writes the list with one URN.
+fn write_schema(out: &mut Writer, schema: &str) -> Result<(), AllocError>
+    ensures { OnOk result
+        (WritesPart (codes "schemas") (Some (array (item (string schema.now) no_items))) out.old out.new) }
 {
-    let mut items = Vec::new(alloc);
-    items.push(Value::try_from_str(alloc, schema)?)?;
-    Ok(Value::Array(items))
+    out.key("schemas")?;
+    out.begin_array()?;
+    out.string(schema)?;
+    out.end_array()
 }
 
-fn list_value(alloc: Global, list: &ListResponse, base: &Base) -> Result<Value, AllocError>
-    ensures value { IfOk result (λ value. view value ≡ list_data base.now list.now) }
-    ensures whole { IfOk result (λ value. has_float (view value) ≡ false) }
+fn write_list(
+    alloc: Global,
+    list: &ListResponse,
+    base: &Base,
+    out: &mut Writer,
+) -> Result<(), AllocError>
+    ensures written { OnOk result (Writes (list_data base.now list.now) out.old out.new) }
     ensures lawful { OnOk result (AreLawful list.now.resources) }
 {
     let page = list.resources.as_slice();
-    let mut members = Map::new(alloc);
-    let total = Value::from(list.total);
-    put_if(&mut members, alloc, "totalResults", Some(total))?;
-    let start = Value::from(list.start);
-    put_if(&mut members, alloc, "startIndex", Some(start))?;
-    let schema = schemas_with(alloc, list_schema())?;
-    put_if(&mut members, alloc, "schemas", Some(schema))?;
-    let on_page = Value::from(page.len());
-    put_if(&mut members, alloc, "itemsPerPage", Some(on_page))?;
-    let resources = Value::Array(shown_values(alloc, page, base)?);
-    put_if(&mut members, alloc, "Resources", Some(resources))?;
-    Ok(Value::Object(members))
+    out.begin_object()?;
+    out.key("Resources")?;
+    write_page(alloc, page, base, out)?;
+    write_whole(out, "itemsPerPage", page.len() as u64)?;
+    write_schema(out, list_schema())?;
+    write_whole(out, "startIndex", list.start)?;
+    write_whole(out, "totalResults", list.total)?;
+    out.end_object()
 }
 
-/// The resources of a page as they are shown.
-fn shown_values(alloc: Global, shown: &[Shown], base: &Base) -> Result<Vec<Value>, AllocError>
-    ensures value { IfOk result (λ values. map view values.items ≡ map (shown_data base.now) shown.now) }
-    ensures whole { IfOk result (λ values. items_have_float (items_view values.items) ≡ false) }
-    ensures lawful { OnOk result (AreLawful shown.now) }
+/// Writes the resources of a page as they are shown.
+fn write_page(
+    alloc: Global,
+    page: &[Shown],
+    base: &Base,
+    out: &mut Writer,
+) -> Result<(), AllocError>
+    ensures written { OnOk result (Writes (array (page_data base.now page.now)) out.old out.new) }
+    ensures lawful { OnOk result (AreLawful page.now) }
 {
-    let mut values = Vec::with_capacity(alloc, shown.len())?;
-    for resource in shown {
-        values.push(resource.to_value(alloc, base)?)?;
+    out.begin_array()?;
+    for resource in page {
+        resource.write(alloc, base, out)?;
     }
-    Ok(values)
+    out.end_array()
 }
 
-fn error_value(alloc: Global, error: &ErrorResponse) -> Result<Value, AllocError>
-    ensures value { IfOk result (λ value. view value ≡ error_data error.now) }
-    ensures whole { IfOk result (λ value. has_float (view value) ≡ false) }
+fn write_error(error: &ErrorResponse, out: &mut Writer) -> Result<(), AllocError>
+    ensures { OnOk result (Writes (error_data error.now) out.old out.new) }
 {
-    let mut members = Map::new(alloc);
-    let status = Value::String(error.status().to_string(alloc)?);
-    put_if(&mut members, alloc, "status", Some(status))?;
-    let scim_type = text_value(alloc, error.scim_type())?;
-    put_if(&mut members, alloc, "scimType", scim_type)?;
-    let schemas = schemas_with(alloc, error_schema())?;
-    put_if(&mut members, alloc, "schemas", Some(schemas))?;
-    let detail = text_value(alloc, error.detail())?;
-    put_if(&mut members, alloc, "detail", detail)?;
-    Ok(Value::Object(members))
+    out.begin_object()?;
+    write_text_if(out, "detail", error.detail())?;
+    write_schema(out, error_schema())?;
+    write_text_if(out, "scimType", error.scim_type())?;
+    write_status(out, error.status())?;
+    out.end_object()
 }
 
-fn text_value(alloc: Global, text: Option<&str>) -> Result<Option<Value>, AllocError>
-    ensures { IfOk result (λ value. option_map view value ≡ option_map string (option_map (λ t. t.now) text.entry)) }
+/// Writes the status, which is a text.
+fn write_status(out: &mut Writer, status: u16) -> Result<(), AllocError>
+    ensures { OnOk result
+        (WritesPart (codes "status") (Some (string (decimal status))) out.old out.new) }
 {
-    match text {
-        None => Ok(None),
-        Some(text) => Ok(Some(Value::try_from_str(alloc, text)?)),
-    }
+    out.key("status")?;
+    out.quoted_u64(u64::from(status))
 }

@@ -1,10 +1,10 @@
 -- A content that is written is plain, and is read back as itself; so is a resource that is shown.
-use Rattle.std.proofs.Common.{◌≡◌, ℕ, ◌≤◌, List, false, Option, Some, None, Ok, option_map, IsUtf8, refl, ap, ◌∙◌, arith}
+use Rattle.std.proofs.Common.{◌≡◌, ℕ, ◌≤◌, List, Option, Some, None, Ok, option_map, IsUtf8, refl, ap, ◌∙◌, arith}
 use Rattle.serde_json.specs.Data.{Data, string, depth}
 use Rattle.serde_json.specs.Read.{read}
-use Rattle.serde_json.specs.Written.{has_float, compact_text}
+use Rattle.serde_json.specs.Written.{compact_text}
 use Rattle.scim_json.specs.Plain.{IsPlain}
-use Rattle.scim_json.proofs.Parts.{IsPlainIf, MembersArePlain-members_from, depth_if, AreWithin, members_depth-members_from, has_float-plain}
+use Rattle.scim_json.proofs.Parts.{IsPlainIf, MembersArePlain-members_from, depth_if, AreWithin, members_depth-members_from}
 use Rattle.scim_json.proofs.Texts.{read-compact_text}
 use Rattle.scim_json.proofs.Utf8Texts.{json_of-utf8}
 use Rattle.scim_resource.specs.Contents.{content_kind, IsContent}
@@ -39,9 +39,6 @@ content_spelled c h = resource_spelled None None c h tt tt (omega arith) (omega 
 pub content_sent : (c : Content) → IsContent c → IsUtf8 (compact_text (content_data c)) → content_in (content_kind c) (compact_text (content_data c)) ≡ Ok c
 content_sent c h text = ap (content_from (content_kind c)) (json_of-utf8 _ text ∙ content_spelled c h) ∙ content_read None None c h
 
-pub content_whole : (c : Content) → IsContent c → has_float (content_data c) ≡ false
-content_whole c h = has_float-plain (content_data c) (resource_plain None None c h tt tt)
-
 -- ---- resources that are shown
 
 meta_plain : (base : List ℕ) (s : ShownRecord) → IsPlain (meta_data base s)
@@ -70,6 +67,3 @@ shown_depth base s = resource_depth (Some (string s.id)) (Some (meta_data base s
 
 pub shown_spelled : (base : List ℕ) (s : ShownRecord) → IsContent s.content → read (compact_text (shown_data base s)) ≡ Some (shown_data base s)
 shown_spelled base s h = read-compact_text (shown_data base s) (shown_plain base s h) (omega (arith, shown_depth base s))
-
-pub shown_whole : (base : List ℕ) (s : ShownRecord) → IsContent s.content → has_float (shown_data base s) ≡ false
-shown_whole base s h = has_float-plain (shown_data base s) (shown_plain base s h)

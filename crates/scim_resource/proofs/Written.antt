@@ -1,70 +1,103 @@
--- What the writers make is the data that their definitions name.
-use Rattle.std.proofs.Common.{◌≡◌, ℕ, List, Option, Some, option_map, codes, true, BTreeMap, String, Global, refl, ap, ◌∙◌}
-use Rattle.serde_json.specs.Data.{Data, boolean, string, array, object, Members, no_members}
-use Rattle.serde_json.specs.View.{view, members_view}
-use Rattle.serde_json.specs.declared.value.Value.{Value, Object}
-use Rattle.serde_json.proofs.Views.{view-Object}
-use Rattle.scim_json.specs.Writing.{Part, members_from, put_if}
-use Rattle.scim_json.proofs.Parts.{are_rising, put_all, put_all-rising}
-use Rattle.scim_resource.specs.Rows.{ShownRecord}
+-- The tokens of what is written, part by part.
+use Rattle.std.proofs.Common.{◌≡◌, ℕ, List, [], ◌∷◌, ◌++◌, Option, None, Some, Result, Ok, Err, OnOk, option_map, codes, flat_map, map, length, is_none, ◌&&◌, ◌==◌, false, refl, sym, ap, ◌∙◌, append_assoc, append-nil}
+use Rattle.json.specs.Token.{Token, key, begin_object, end_object, begin_array, end_array}
+use Rattle.json.specs.Written.{Written}
+use Rattle.json.specs.Written as token
+use Rattle.serde_json.specs.Data.{Data, array, string, object}
+use Rattle.serde_json.specs.View.{items_of}
+use Rattle.scim_json.specs.Writing.{Part, members_from, data_tokens, part_tokens, parts_tokens, Adds, Writes, WritesPart, WritesParts}
+use Rattle.scim_json.proofs.Written.{object_tokens, items_written, parts_tokens-append, then, object_closed}
 use Rattle.scim_resource.specs.Contents.{content_kind}
 use Rattle.scim_resource.specs.Groups.{GroupRecord}
 use Rattle.scim_resource.specs.Locations.{type_name}
-use Rattle.scim_resource.specs.Schemas.{core_user, core_group, source_extension}
+use Rattle.scim_resource.specs.Rows.{ShownRecord}
 use Rattle.scim_resource.specs.Users.{UserRecord}
 use Rattle.scim_resource.specs.declared.emails.Email.{Email}
-use Rattle.scim_resource.specs.Writing.{group_parts, group_data, group_members_data, user_parts, user_data, schemas_data, source_data, name_parts, name_data, email_parts, email_data, primary_data, emails_data, meta_parts, meta_data, shown_location}
+use Rattle.scim_resource.specs.Writing.{group_parts, group_data, group_front, group_back, group_members_data, member_data, user_parts, user_data, user_front, user_back, name_parts, name_data, email_parts, email_data, primary_data, emails_data, meta_parts, meta_data, shown_location}
 
--- members that were put in from the last to the first
-abbrev written : (m : BTreeMap (String Global) Value) (ps : List Part) → members_view m.entries ≡ put_all ps → are_rising ps ≡ true → view (Object m) ≡ object (members_from ps)
-written m ps e h = view-Object m ∙ ap object (e ∙ put_all-rising ps h)
+pub user_closed : {E : Type 0} (r : Result (Unit {0}) E) (u : UserRecord) (a b c d e : Written) → Adds (begin_object ∷ []) a b → WritesParts (user_front u) b c → WritesParts (user_back u) c d
+    → token.Writes r d e end_object → OnOk r (Writes (user_data None None u) a e)
+unfolding user_data user_front user_back
+user_closed r u a b c d e first front back last =
+    let f = user_front u in
+    let g = user_back u in
+    object_closed r (user_parts None None u) (parts_tokens f ++ parts_tokens g) a b d e (parts_tokens-append f g) first (then (parts_tokens f) (parts_tokens g) b c d front back) last
 
-pub user_written : (m : BTreeMap (String Global) Value) (id meta : Option Data) (u : UserRecord) → members_view m.entries ≡ put_all (user_parts id meta u) → view (Object m) ≡ user_data id meta u
-unfolding user_data source_extension
-user_written m id meta u e = written m (user_parts id meta u) e refl
+pub shown_user_closed : {E : Type 0} (r : Result (Unit {0}) E) (id meta : Data) (u : UserRecord) (a b c d e f g : Written) → Adds (begin_object ∷ []) a b → WritesParts (user_front u) b c
+    → WritesPart (codes "id") (Some id) c d → WritesPart (codes "meta") (Some meta) d e → WritesParts (user_back u) e f → token.Writes r f g end_object
+    → OnOk r (Writes (user_data (Some id) (Some meta) u) a g)
+unfolding user_data user_front user_back
+shown_user_closed r id meta u a b c d e f g first front named shown back last =
+    let p = parts_tokens (user_front u) in
+    let i = part_tokens (codes "id") (Some id) in
+    let m = part_tokens (codes "meta") (Some meta) in
+    let q = parts_tokens (user_back u) in
+    object_closed r (user_parts (Some id) (Some meta) u) (p ++ (i ++ (m ++ q))) a b f g (parts_tokens-append (user_front u) ((codes "id", Some id) ∷ (codes "meta", Some meta) ∷ user_back u)) first
+    (then p (i ++ (m ++ q)) b c f front (then i (m ++ q) c d f named (then m q d e f shown back))) last
 
-pub meta_written : (m : BTreeMap (String Global) Value) (base : List ℕ) (s : ShownRecord) → members_view m.entries ≡ put_all (meta_parts base s) → view (Object m) ≡ meta_data base s
+pub group_closed : {E : Type 0} (r : Result (Unit {0}) E) (o : GroupRecord) (a b c d e f : Written) → Adds (begin_object ∷ []) a b → WritesParts (group_front o) b c
+    → WritesPart (codes "members") (group_members_data o.members) c d → WritesParts (group_back o) d e → token.Writes r e f end_object → OnOk r (Writes (group_data None None o) a f)
+unfolding group_data group_front group_back
+group_closed r o a b c d e f first front members back last =
+    let p = parts_tokens (group_front o) in
+    let v = part_tokens (codes "members") (group_members_data o.members) in
+    let q = parts_tokens (group_back o) in
+    object_closed r (group_parts None None o) (p ++ (v ++ q)) a b e f (parts_tokens-append (group_front o) ((codes "members", group_members_data o.members) ∷ group_back o)) first
+    (then p (v ++ q) b c e front (then v q c d e members back)) last
+
+pub shown_group_closed : {E : Type 0} (r : Result (Unit {0}) E) (id meta : Data) (o : GroupRecord) (a b c d e f g h : Written) → Adds (begin_object ∷ []) a b → WritesParts (group_front o) b c
+    → WritesPart (codes "id") (Some id) c d → WritesPart (codes "members") (group_members_data o.members) d e → WritesPart (codes "meta") (Some meta) e f → WritesParts (group_back o) f g
+    → token.Writes r g h end_object → OnOk r (Writes (group_data (Some id) (Some meta) o) a h)
+unfolding group_data group_front group_back
+shown_group_closed r id meta o a b c d e f g h first front named members shown back last =
+    let p = parts_tokens (group_front o) in
+    let i = part_tokens (codes "id") (Some id) in
+    let v = part_tokens (codes "members") (group_members_data o.members) in
+    let m = part_tokens (codes "meta") (Some meta) in
+    let q = parts_tokens (group_back o) in
+    object_closed r (group_parts (Some id) (Some meta) o) (p ++ (i ++ (v ++ (m ++ q)))) a b g h
+    (parts_tokens-append (group_front o) ((codes "id", Some id) ∷ (codes "members", group_members_data o.members) ∷ (codes "meta", Some meta) ∷ group_back o)) first
+    (then p (i ++ (v ++ (m ++ q))) b c g front (then i (v ++ (m ++ q)) c d g named (then v (m ++ q) d e g members (then m q e f g shown back)))) last
+
+three : (a b c : List Token) → a ++ (b ++ (c ++ [])) ≡ a ++ (b ++ c)
+three a b c = simp append-nil
+
+pub meta_closed : {E : Type 0} (r : Result (Unit {0}) E) (base : List ℕ) (s : ShownRecord) (a b c d e f : Written) → Adds (begin_object ∷ []) a b
+    → WritesPart (codes "location") (Some (string (shown_location base s))) b c → WritesPart (codes "resourceType") (Some (string (type_name (content_kind s.content)))) c d
+    → WritesPart (codes "version") (option_map string s.version) d e → token.Writes r e f end_object → OnOk r (Writes (meta_data base s) a f)
 unfolding meta_data
-meta_written m base s e = written m (meta_parts base s) e refl
+meta_closed r base s a b c d e f first place name version last =
+    let p = part_tokens (codes "location") (Some (string (shown_location base s))) in
+    let n = part_tokens (codes "resourceType") (Some (string (type_name (content_kind s.content)))) in
+    let v = part_tokens (codes "version") (option_map string s.version) in
+    object_closed r (meta_parts base s) (p ++ (n ++ v)) a b e f (three p n v) first (then p (n ++ v) b c e place (then n v c d e name version)) last
 
--- the steps of the writers, from the last name to the first
-pub meta_put : (base : List ℕ) (s : ShownRecord) (m0 m1 m2 m3 : Members) (version : Option Data) (name place : Data) → m0 ≡ no_members
-    → m1 ≡ put_if (codes "version") version m0 → m2 ≡ put_if (codes "resourceType") (Some name) m1 → m3 ≡ put_if (codes "location") (Some place) m2
-    → version ≡ option_map string s.version → name ≡ string (type_name (content_kind s.content)) → place ≡ string (shown_location base s)
-    → m3 ≡ put_all (meta_parts base s)
-meta_put base s m0 m1 m2 m3 version name place e0 e1 e2 e3 v n p = rw (e3, e2, e1, e0, v, n, p)
-
-pub name_put : (m : BTreeMap (String Global) Value) (given family : Option (List ℕ)) (m0 m1 m2 : Members) (first last : Option Data) → m0 ≡ no_members
-    → m1 ≡ put_if (codes "givenName") first m0 → m2 ≡ put_if (codes "familyName") last m1 → first ≡ option_map string given → last ≡ option_map string family
-    → members_view m.entries ≡ m2 → view (Object m) ≡ object (members_from (name_parts given family))
-name_put m given family m0 m1 m2 first last e0 e1 e2 f l e = written m (name_parts given family) (e ∙ rw (e2, e1, e0, f, l)) refl
-
-pub email_put : (m : BTreeMap (String Global) Value) (email : Email) (m0 m1 m2 m3 : Members) (value : Data) (kind primary : Option Data) → m0 ≡ no_members
-    → m1 ≡ put_if (codes "value") (Some value) m0 → m2 ≡ put_if (codes "type") kind m1 → m3 ≡ put_if (codes "primary") primary m2
-    → value ≡ string email.value → kind ≡ option_map string email.type_text → primary ≡ primary_data email.primary
-    → members_view m.entries ≡ m3 → view (Object m) ≡ email_data email
+pub email_closed : {E : Type 0} (r : Result (Unit {0}) E) (m : Email) (a b c d e f : Written) → Adds (begin_object ∷ []) a b
+    → WritesPart (codes "primary") (primary_data m.primary) b c → WritesPart (codes "type") (option_map string m.type_text) c d → WritesPart (codes "value") (Some (string m.value)) d e
+    → token.Writes r e f end_object → OnOk r (Writes (email_data m) a f)
 unfolding email_data
-email_put m email m0 m1 m2 m3 value kind primary e0 e1 e2 e3 v k p e = written m (email_parts email) (e ∙ rw (e3, e2, e1, e0, v, k, p)) refl
+email_closed r m a b c d e f first primary kind value last =
+    let p = part_tokens (codes "primary") (primary_data m.primary) in
+    let t = part_tokens (codes "type") (option_map string m.type_text) in
+    let v = part_tokens (codes "value") (Some (string m.value)) in
+    object_closed r (email_parts m) (p ++ (t ++ v)) a b e f (three p t v) first (then p (t ++ v) b c e primary (then t v c d e kind value)) last
 
-pub user_put : (id meta : Option Data) (u : UserRecord) (urn : List ℕ) (m0 m1 m2 m3 m4 m5 m6 m7 m8 m9 : Members) (name schemas flag : Data) (source parts external emails : Option Data) → m0 ≡ no_members
-    → m1 ≡ put_if (codes "userName") (Some name) m0 → m2 ≡ put_if urn source m1 → m3 ≡ put_if (codes "schemas") (Some schemas) m2
-    → m4 ≡ put_if (codes "name") parts m3 → m5 ≡ put_if (codes "meta") meta m4 → m6 ≡ put_if (codes "id") id m5
-    → m7 ≡ put_if (codes "externalId") external m6 → m8 ≡ put_if (codes "emails") emails m7 → m9 ≡ put_if (codes "active") (Some flag) m8
-    → urn ≡ source_extension → name ≡ string u.user_name → schemas ≡ array (schemas_data core_user u.revision) → flag ≡ boolean u.active → source ≡ source_data u.revision
-    → parts ≡ name_data u.given_name u.family_name → external ≡ option_map string u.external_id → emails ≡ emails_data u.emails
-    → m9 ≡ put_all (user_parts id meta u)
-user_put id meta u urn m0 m1 m2 m3 m4 m5 m6 m7 m8 m9 name schemas flag source parts external emails e0 e1 e2 e3 e4 e5 e6 e7 e8 e9 is n l f s p x e =
-    rw (e9, e8, e7, e6, e5, e4, e3, e2, e1, e0, is, n, l, f, s, p, x, e)
+two : (a b c : List Token) → (a ++ (b ++ [])) ++ c ≡ a ++ (b ++ c)
+two a b c = simp (append_assoc, append-nil)
 
-pub group_written : (m : BTreeMap (String Global) Value) (id meta : Option Data) (g : GroupRecord) → members_view m.entries ≡ put_all (group_parts id meta g) → view (Object m) ≡ group_data id meta g
-unfolding group_data source_extension
-group_written m id meta g e = written m (group_parts id meta g) e refl
+pub name_tokens : (given family : Option (List ℕ)) → data_tokens (object (members_from (name_parts given family)))
+    ≡ begin_object ∷ (part_tokens (codes "familyName") (option_map string family) ++ (part_tokens (codes "givenName") (option_map string given) ++ end_object ∷ []))
+name_tokens given family = object_tokens (name_parts given family) ∙ ap (λ ts. begin_object ∷ ts) (two (part_tokens (codes "familyName") (option_map string family)) (part_tokens (codes "givenName") (option_map string given)) (end_object ∷ []))
 
-pub group_put : (id meta : Option Data) (g : GroupRecord) (urn : List ℕ) (m0 m1 m2 m3 m4 m5 m6 m7 : Members) (name schemas : Data) (source external values : Option Data) → m0 ≡ no_members
-    → m1 ≡ put_if urn source m0 → m2 ≡ put_if (codes "schemas") (Some schemas) m1 → m3 ≡ put_if (codes "meta") meta m2
-    → m4 ≡ put_if (codes "members") values m3 → m5 ≡ put_if (codes "id") id m4 → m6 ≡ put_if (codes "externalId") external m5
-    → m7 ≡ put_if (codes "displayName") (Some name) m6
-    → urn ≡ source_extension → name ≡ string g.display_name → schemas ≡ array (schemas_data core_group g.revision) → source ≡ source_data g.revision
-    → external ≡ option_map string g.external_id → values ≡ group_members_data g.members → m7 ≡ put_all (group_parts id meta g)
-group_put id meta g urn m0 m1 m2 m3 m4 m5 m6 m7 name schemas source external values e0 e1 e2 e3 e4 e5 e6 e7 is n l s x v =
-    rw (e7, e6, e5, e4, e3, e2, e1, e0, is, n, l, s, x, v)
+pub name_some : (given family : Option (List ℕ)) → (is_none given && is_none family) ≡ false → name_data given family ≡ Some (object (members_from (name_parts given family)))
+name_some None None h = cc
+name_some None (Some f) h = refl
+name_some (Some g) family h = refl
+
+pub emails_some : (es : List Email) → (length es == 0) ≡ false → emails_data es ≡ Some (array (items_of (map email_data es)))
+emails_some [] h = cc
+emails_some (e ∷ es) h = refl
+
+pub members_some : (vs : List (List ℕ)) → (length vs == 0) ≡ false → group_members_data vs ≡ Some (array (items_of (map member_data vs)))
+members_some [] h = cc
+members_some (v ∷ vs) h = refl

@@ -1,5 +1,5 @@
 -- Writing a resource as JSON.
-use Rattle.std.specs.Prelude.{ℕ, Bool, true, false, List, [], ◌∷◌, Option, None, Some, option_map, map, codes}
+use Rattle.std.specs.Prelude.{ℕ, Bool, true, false, List, [], ◌∷◌, Option, None, Some, option_map, map, take, drop, codes}
 use Rattle.scim_key.specs.Revisions.{RevisionValue, revision_number}
 use Rattle.serde_json.specs.Data.{unsigned, Data, boolean, number, string, array, object, Items, no_items, item, no_members, member}
 use Rattle.serde_json.specs.View.{items_of}
@@ -94,6 +94,20 @@ group_data id meta g = object (members_from (group_parts id meta g))
 abbrev pub resource_data : Option Data → Option Data → Content → Data
 resource_data id meta (User u) = user_data id meta u
 resource_data id meta (Group g) = group_data id meta g
+
+-- a user's attributes before `id`, and those after `meta`
+unfoldable pub user_front : UserRecord → List Part
+user_front u = take 3 (user_parts None None u)
+
+unfoldable pub user_back : UserRecord → List Part
+user_back u = drop 5 (user_parts None None u)
+
+-- a group's attributes before `id`, and those after `meta`
+unfoldable pub group_front : GroupRecord → List Part
+group_front g = take 2 (group_parts None None g)
+
+unfoldable pub group_back : GroupRecord → List Part
+group_back g = drop 5 (group_parts None None g)
 
 -- what is stored of a resource
 abbrev pub content_data : Content → Data

@@ -1,69 +1,101 @@
-//! Writing a group as JSON.
-ghost use Rattle.std.specs.Prelude.{◌≡◌, IfOk, OnOk, map, option_map};
-ghost use Rattle.serde_json.specs.View.{view};
+//! Writing a group as JSON, straight as text.
+ghost use Rattle.std.specs.Prelude.{None, Some, OnOk, codes, map};
+ghost use Rattle.serde_json.specs.Data.{array, string};
+ghost use Rattle.serde_json.specs.View.{items_of};
+ghost use Rattle.scim_json.specs.Writing.{Writes, WritesPart, WritesParts};
 ghost use Rattle.scim_resource.specs.Groups.{IsGroup};
+ghost use Rattle.scim_resource.specs.Rows.{IsShown};
 ghost use Rattle.scim_resource.specs.Writing as spec;
 
 use crate::groups::Group;
-use crate::schemas::{core_group, source_extension};
+use crate::rows::Shown;
+use crate::schemas::core_group;
 use crate::texts::Text;
-use crate::writing::{schemas_value, source_value, text_value};
-use scim_json::put_if;
-use serde_json::{Map, Value};
+use crate::writing::{write_schemas, write_source, write_text_of};
+use json::Writer;
+use scim_json::write_text;
+use scim_key::Base;
 use std::alloc::{AllocError, Global};
 
-pub(crate) fn group_value(
-    alloc: Global,
-    group: &Group,
-    id: Option<Value>,
-    meta: Option<Value>,
-) -> Result<Value, AllocError>
-    ensures value { IfOk result (λ value. view value
-        ≡ spec.group_data (option_map view id) (option_map view meta) group.now) }
+pub(crate) fn write_group(out: &mut Writer, group: &Group) -> Result<(), AllocError>
+    ensures written { OnOk result (Writes (spec.group_data None None group.now) out.old out.new) }
     ensures lawful { OnOk result (IsGroup group.now) }
 {
-    let mut members = Map::new(alloc);
-    let source = source_value(alloc, group.revision())?;
-    put_if(&mut members, alloc, source_extension(), source)?;
-    let schemas = schemas_value(alloc, core_group(), group.revision())?;
-    put_if(&mut members, alloc, "schemas", Some(schemas))?;
-    put_if(&mut members, alloc, "meta", meta)?;
-    let values = group_members_value(alloc, group.members())?;
-    put_if(&mut members, alloc, "members", values)?;
-    put_if(&mut members, alloc, "id", id)?;
-    let external_id = text_value(alloc, group.external_id())?;
-    put_if(&mut members, alloc, "externalId", external_id)?;
-    let name = Value::try_from_str(alloc, group.display_name().as_str())?;
-    put_if(&mut members, alloc, "displayName", Some(name))?;
-    Ok(Value::Object(members))
+    out.begin_object()?;
+    write_group_front(out, group)?;
+    write_members(out, group.members())?;
+    write_group_back(out, group)?;
+    out.end_object()
+}
+
+/// The group as a content beside the id and `meta` of what is shown.
+pub(crate) fn write_shown_group(
+    alloc: Global,
+    base: &Base,
+    out: &mut Writer,
+    shown: &Shown,
+    group: &Group,
+) -> Result<(), AllocError>
+    ensures written { OnOk result
+        (Writes (spec.group_data (Some (string shown.now.id)) (Some (spec.meta_data base.now shown.now)) group.now) out.old out.new) }
+    ensures lawful { OnOk result (IsGroup group.now) }
+    ensures shown { OnOk result (IsShown shown.now) }
+{
+    out.begin_object()?;
+    write_group_front(out, group)?;
+    shown.write_id(out)?;
+    write_members(out, group.members())?;
+    shown.write_meta(alloc, base, out)?;
+    write_group_back(out, group)?;
+    out.end_object()
+}
+
+#[tactic(auto, unfolding(crate::specs::Writing::group_front))]
+fn write_group_front(out: &mut Writer, group: &Group) -> Result<(), AllocError>
+    ensures { OnOk result (WritesParts (spec.group_front group.now) out.old out.new) }
+{
+    write_text(out, "displayName", group.display_name().as_str())?;
+    write_text_of(out, "externalId", group.external_id())
+}
+
+#[tactic(auto, unfolding(crate::specs::Writing::group_back))]
+fn write_group_back(out: &mut Writer, group: &Group) -> Result<(), AllocError>
+    ensures written { OnOk result (WritesParts (spec.group_back group.now) out.old out.new) }
+    ensures lawful { OnOk result (IsGroup group.now) }
+{
+    write_schemas(out, core_group(), group.revision())?;
+    write_source(out, group.revision())
 }
 
 /// The members, where there are any.
-fn group_members_value(alloc: Global, values: &[Text]) -> Result<Option<Value>, AllocError>
-    ensures { IfOk result (λ value. option_map view value ≡ spec.group_members_data values.now) }
+#[tactic(auto, using(crate::proofs::Written::members_some))]
+fn write_members(out: &mut Writer, values: &[Text]) -> Result<(), AllocError>
+    ensures { OnOk result
+        (WritesPart (codes "members") (spec.group_members_data values.now) out.old out.new) }
 {
     if values.is_empty() {
-        return Ok(None);
+        return Ok(());
     }
-    Ok(Some(Value::Array(member_values(alloc, values)?)))
+    out.key("members")?;
+    write_member_list(out, values)
 }
 
-fn member_values(alloc: Global, values: &[Text]) -> Result<Vec<Value>, AllocError>
-    ensures { IfOk result (λ members. map view members.items ≡ map spec.member_data values.now) }
+fn write_member_list(out: &mut Writer, values: &[Text]) -> Result<(), AllocError>
+    ensures { OnOk result
+        (Writes (array (items_of (map spec.member_data values.now))) out.old out.new) }
 {
-    let mut members = Vec::with_capacity(alloc, values.len())?;
+    out.begin_array()?;
     for value in values {
-        members.push(member_value(alloc, value)?)?;
+        write_member(out, value)?;
     }
-    Ok(members)
+    out.end_array()
 }
 
 #[tactic(auto, unfolding(crate::specs::Writing::member_data))]
-fn member_value(alloc: Global, value: &Text) -> Result<Value, AllocError>
-    ensures { IfOk result (λ member. view member ≡ spec.member_data value.now) }
+fn write_member(out: &mut Writer, value: &Text) -> Result<(), AllocError>
+    ensures { OnOk result (Writes (spec.member_data value.now) out.old out.new) }
 {
-    let text = Value::try_from_str(alloc, value.as_str())?;
-    let mut members = Map::new(alloc);
-    put_if(&mut members, alloc, "value", Some(text))?;
-    Ok(Value::Object(members))
+    out.begin_object()?;
+    write_text(out, "value", value.as_str())?;
+    out.end_object()
 }

@@ -1,37 +1,55 @@
-//! Writing a resource as JSON.
-ghost use Rattle.std.specs.Prelude.{◌≡◌, false, IfOk, OnOk, map, option_map, string_bytes};
+//! Writing a resource as JSON, straight as text.
+ghost use Rattle.std.specs.Prelude.{◌≡◌, None, Some, IfOk, OnOk, codes, map, option_map, string_bytes};
 ghost use Rattle.std.specs.Option.{option_copied};
-ghost use Rattle.serde_json.specs.Data.{array, string};
-ghost use Rattle.serde_json.specs.View.{view};
-ghost use Rattle.serde_json.specs.Written.{has_float};
+ghost use Rattle.std.specs.Str.{IsUtf8};
+ghost use Rattle.serde_json.specs.Data.{array, object, string};
+ghost use Rattle.serde_json.specs.View.{items_of};
+ghost use Rattle.serde_json.specs.Written.{compact_text};
+ghost use Rattle.scim_json.specs.Writing.{members_from, Writes, WritesPart, WritesParts};
 ghost use Rattle.scim_resource.specs.Contents.{IsContent};
 ghost use Rattle.scim_resource.specs.Rows.{IsShown};
+ghost use Rattle.scim_resource.specs.Schemas.{source_extension as urn};
 ghost use Rattle.scim_resource.specs.Users.{IsUser};
 ghost use Rattle.scim_resource.specs.Writing as spec;
 
 use crate::contents::Content;
 use crate::emails::Email;
-use crate::group_writing::group_value;
+use crate::group_writing::{write_group, write_shown_group};
 use crate::locations::{location, type_name};
 use crate::rows::Shown;
 use crate::schemas::{core_user, source_extension};
 use crate::texts::Text;
 use crate::users::User;
-use scim_json::put_if;
+use json::Writer;
+use scim_json::{write_text, write_whole};
 use scim_key::{Base, Revision};
-use serde_json::{Map, Value};
 use std::alloc::{AllocError, Global};
 use std::str;
 
+/// The room that a content's text is given at first.
+const ROOM: usize = 512;
+
 impl Content {
-    /// What is stored of the resource.
-    #[tactic(auto, using(crate::proofs::RoundTrips::content_whole))]
-    pub fn to_value(&self, alloc: Global) -> Result<Value, AllocError>
-        ensures value { IfOk result (λ value. view value ≡ spec.content_data self.now) }
-        ensures whole { IfOk result (λ value. has_float (view value) ≡ false) }
+    /// What is stored of the resource: the compact text of its attributes, in UTF-8.
+    #[tactic(auto, using(scim_json::proofs::Written::written_text))]
+    pub fn text(&self, alloc: Global) -> Result<Vec<u8>, AllocError>
+        ensures text { IfOk result (λ text. text.items ≡ compact_text (spec.content_data self.now)) }
+        ensures utf8 { IfOk result (λ text. IsUtf8 text.items) }
         ensures lawful { OnOk result (IsContent self.now) }
     {
-        resource_value(alloc, self, None, None)
+        let mut out = Writer::new(Vec::with_capacity(alloc, ROOM)?);
+        self.write(&mut out)?;
+        Ok(out.into_inner())
+    }
+
+    fn write(&self, out: &mut Writer) -> Result<(), AllocError>
+        ensures written { OnOk result (Writes (spec.content_data self.now) out.old out.new) }
+        ensures lawful { OnOk result (IsContent self.now) }
+    {
+        match self {
+            Content::User(user) => write_user(out, user),
+            Content::Group(group) => write_group(out, group),
+        }
     }
 }
 
@@ -43,198 +61,237 @@ impl Shown {
         location(alloc, base, self.content().kind(), self.id())
     }
 
-    /// What is shown of the resource by a service at this base.
-    #[tactic(auto, using(crate::proofs::RoundTrips::shown_whole))]
-    pub fn to_value(&self, alloc: Global, base: &Base) -> Result<Value, AllocError>
-        ensures value { IfOk result (λ value. view value ≡ spec.shown_data base.now self.now) }
-        ensures whole { IfOk result (λ value. has_float (view value) ≡ false) }
+    /// Writes what is shown of the resource by a service at this base.
+    pub fn write(&self, alloc: Global, base: &Base, out: &mut Writer) -> Result<(), AllocError>
+        ensures written { OnOk result (Writes (spec.shown_data base.now self.now) out.old out.new) }
         ensures lawful { OnOk result (IsContent self.now.content) }
         ensures shown { OnOk result (IsShown self.now) }
     {
-        let id = Value::try_from_str(alloc, self.id().as_str())?;
-        let meta = meta_value(alloc, base, self)?;
-        resource_value(alloc, self.content(), Some(id), Some(meta))
+        match self.content() {
+            Content::User(user) => write_shown_user(alloc, base, out, self, user),
+            Content::Group(group) => write_shown_group(alloc, base, out, self, group),
+        }
+    }
+
+    pub(crate) fn write_id(&self, out: &mut Writer) -> Result<(), AllocError>
+        ensures { OnOk result (WritesPart (codes "id") (Some (string self.now.id)) out.old out.new) }
+    {
+        write_text(out, "id", self.id().as_str())
+    }
+
+    pub(crate) fn write_meta(
+        &self,
+        alloc: Global,
+        base: &Base,
+        out: &mut Writer,
+    ) -> Result<(), AllocError>
+        ensures written { OnOk result
+            (WritesPart (codes "meta") (Some (spec.meta_data base.now self.now)) out.old out.new) }
+        ensures lawful { OnOk result (IsShown self.now) }
+    {
+        let place = self.location(alloc, base)?;
+        out.key("meta")?;
+        out.begin_object()?;
+        write_text(out, "location", place.as_str())?;
+        write_text(out, "resourceType", type_name(self.content().kind()))?;
+        self.write_version(out)?;
+        out.end_object()
+    }
+
+    /// The entity tag as text, where it is known.
+    fn write_version(&self, out: &mut Writer) -> Result<(), AllocError>
+        ensures written { OnOk result
+            (WritesPart (codes "version") (option_map string self.now.version) out.old out.new) }
+        ensures lawful { OnOk result (IsShown self.now) }
+    {
+        match self.version() {
+            None => Ok(()),
+            Some(tag) => write_text(out, "version", str::from_utf8(tag.text()).unwrap()),
+        }
     }
 }
 
-/// A content beside an id and `meta`.
-fn resource_value(
-    alloc: Global,
-    content: &Content,
-    id: Option<Value>,
-    meta: Option<Value>,
-) -> Result<Value, AllocError>
-    ensures value { IfOk result (λ value. view value
-        ≡ spec.resource_data (option_map view id) (option_map view meta) content.now) }
-    ensures lawful { OnOk result (IsContent content.now) }
-{
-    match content {
-        Content::User(user) => user_value(alloc, user, id, meta),
-        Content::Group(group) => group_value(alloc, group, id, meta),
-    }
-}
-
-fn user_value(
-    alloc: Global,
-    user: &User,
-    id: Option<Value>,
-    meta: Option<Value>,
-) -> Result<Value, AllocError>
-    ensures value { IfOk result (λ value. view value
-        ≡ spec.user_data (option_map view id) (option_map view meta) user.now) }
+fn write_user(out: &mut Writer, user: &User) -> Result<(), AllocError>
+    ensures written { OnOk result (Writes (spec.user_data None None user.now) out.old out.new) }
     ensures lawful { OnOk result (IsUser user.now) }
 {
-    let mut members = Map::new(alloc);
-    let name = Value::try_from_str(alloc, user.user_name().as_str())?;
-    put_if(&mut members, alloc, "userName", Some(name))?;
-    let source = source_value(alloc, user.revision())?;
-    put_if(&mut members, alloc, source_extension(), source)?;
-    let schemas = schemas_value(alloc, core_user(), user.revision())?;
-    put_if(&mut members, alloc, "schemas", Some(schemas))?;
-    let parts = name_value(alloc, user.given_name(), user.family_name())?;
-    put_if(&mut members, alloc, "name", parts)?;
-    put_if(&mut members, alloc, "meta", meta)?;
-    put_if(&mut members, alloc, "id", id)?;
-    let external_id = text_value(alloc, user.external_id())?;
-    put_if(&mut members, alloc, "externalId", external_id)?;
-    let emails = emails_value(alloc, user.emails())?;
-    put_if(&mut members, alloc, "emails", emails)?;
-    let active = Value::Bool(user.is_active());
-    put_if(&mut members, alloc, "active", Some(active))?;
-    Ok(Value::Object(members))
+    out.begin_object()?;
+    write_user_front(out, user)?;
+    write_user_back(out, user)?;
+    out.end_object()
 }
 
-pub(crate) fn text_value(alloc: Global, text: Option<&Text>) -> Result<Option<Value>, AllocError>
-    ensures { IfOk result (λ value. option_map view value
-        ≡ option_map string (option_copied text.entry)) }
+/// The user as a content beside the id and `meta` of what is shown.
+fn write_shown_user(
+    alloc: Global,
+    base: &Base,
+    out: &mut Writer,
+    shown: &Shown,
+    user: &User,
+) -> Result<(), AllocError>
+    ensures written { OnOk result
+        (Writes (spec.user_data (Some (string shown.now.id)) (Some (spec.meta_data base.now shown.now)) user.now) out.old out.new) }
+    ensures lawful { OnOk result (IsUser user.now) }
+    ensures shown { OnOk result (IsShown shown.now) }
+{
+    out.begin_object()?;
+    write_user_front(out, user)?;
+    shown.write_id(out)?;
+    shown.write_meta(alloc, base, out)?;
+    write_user_back(out, user)?;
+    out.end_object()
+}
+
+#[tactic(auto, unfolding(crate::specs::Writing::user_front))]
+fn write_user_front(out: &mut Writer, user: &User) -> Result<(), AllocError>
+    ensures { OnOk result (WritesParts (spec.user_front user.now) out.old out.new) }
+{
+    out.key("active")?;
+    out.boolean(user.is_active())?;
+    write_emails(out, user.emails())?;
+    write_text_of(out, "externalId", user.external_id())
+}
+
+#[tactic(auto, unfolding(crate::specs::Writing::user_back))]
+fn write_user_back(out: &mut Writer, user: &User) -> Result<(), AllocError>
+    ensures written { OnOk result (WritesParts (spec.user_back user.now) out.old out.new) }
+    ensures lawful { OnOk result (IsUser user.now) }
+{
+    write_name(out, user.given_name(), user.family_name())?;
+    write_schemas(out, core_user(), user.revision())?;
+    write_source(out, user.revision())?;
+    write_text(out, "userName", user.user_name().as_str())
+}
+
+/// A text of an attribute, where there is one.
+pub(crate) fn write_text_of(
+    out: &mut Writer,
+    name: &str,
+    text: Option<&Text>,
+) -> Result<(), AllocError>
+    ensures { OnOk result
+        (WritesPart name.now (option_map string (option_copied text.entry)) out.old out.new) }
 {
     match text {
-        None => Ok(None),
-        Some(text) => Ok(Some(Value::try_from_str(alloc, text.as_str())?)),
+        None => Ok(()),
+        Some(text) => write_text(out, name, text.as_str()),
     }
 }
 
 /// A name, where it has a part.
-fn name_value(
-    alloc: Global,
+#[tactic(auto, using(crate::proofs::Written::name_some))]
+fn write_name(
+    out: &mut Writer,
     given_name: Option<&Text>,
     family_name: Option<&Text>,
-) -> Result<Option<Value>, AllocError>
-    ensures { IfOk result (λ value. option_map view value
-        ≡ spec.name_data (option_copied given_name.entry) (option_copied family_name.entry)) }
+) -> Result<(), AllocError>
+    ensures { OnOk result (WritesPart (codes "name")
+        (spec.name_data (option_copied given_name.entry) (option_copied family_name.entry)) out.old out.new) }
 {
     if given_name.is_none() && family_name.is_none() {
-        return Ok(None);
+        return Ok(());
     }
-    let mut members = Map::new(alloc);
-    let given = text_value(alloc, given_name)?;
-    put_if(&mut members, alloc, "givenName", given)?;
-    let family = text_value(alloc, family_name)?;
-    put_if(&mut members, alloc, "familyName", family)?;
-    Ok(Some(Value::Object(members)))
+    out.key("name")?;
+    write_name_parts(out, given_name, family_name)
+}
+
+#[tactic(auto, using(crate::proofs::Written::name_tokens))]
+fn write_name_parts(
+    out: &mut Writer,
+    given_name: Option<&Text>,
+    family_name: Option<&Text>,
+) -> Result<(), AllocError>
+    ensures { OnOk result (Writes (object (members_from
+        (spec.name_parts (option_copied given_name.entry) (option_copied family_name.entry)))) out.old out.new) }
+{
+    out.begin_object()?;
+    write_text_of(out, "familyName", family_name)?;
+    write_text_of(out, "givenName", given_name)?;
+    out.end_object()
 }
 
 /// The emails, where there are any.
-fn emails_value(alloc: Global, emails: &[Email]) -> Result<Option<Value>, AllocError>
-    ensures { IfOk result (λ value. option_map view value ≡ spec.emails_data emails.now) }
+#[tactic(auto, using(crate::proofs::Written::emails_some))]
+fn write_emails(out: &mut Writer, emails: &[Email]) -> Result<(), AllocError>
+    ensures { OnOk result
+        (WritesPart (codes "emails") (spec.emails_data emails.now) out.old out.new) }
 {
     if emails.is_empty() {
-        return Ok(None);
+        return Ok(());
     }
-    Ok(Some(Value::Array(email_values(alloc, emails)?)))
+    out.key("emails")?;
+    write_email_list(out, emails)
 }
 
-fn email_values(alloc: Global, emails: &[Email]) -> Result<Vec<Value>, AllocError>
-    ensures { IfOk result (λ values. map view values.items ≡ map spec.email_data emails.now) }
+fn write_email_list(out: &mut Writer, emails: &[Email]) -> Result<(), AllocError>
+    ensures { OnOk result
+        (Writes (array (items_of (map spec.email_data emails.now))) out.old out.new) }
 {
-    let mut values = Vec::with_capacity(alloc, emails.len())?;
+    out.begin_array()?;
     for email in emails {
-        values.push(email_value(alloc, email)?)?;
+        write_email(out, email)?;
     }
-    Ok(values)
+    out.end_array()
 }
 
-fn email_value(alloc: Global, email: &Email) -> Result<Value, AllocError>
-    ensures { IfOk result (λ value. view value ≡ spec.email_data email.now) }
+fn write_email(out: &mut Writer, email: &Email) -> Result<(), AllocError>
+    ensures { OnOk result (Writes (spec.email_data email.now) out.old out.new) }
 {
-    let mut members = Map::new(alloc);
-    let text = Value::try_from_str(alloc, email.value.as_str())?;
-    put_if(&mut members, alloc, "value", Some(text))?;
-    let type_text = text_value(alloc, email.type_text.as_ref())?;
-    put_if(&mut members, alloc, "type", type_text)?;
-    put_if(&mut members, alloc, "primary", primary_value(email.primary))?;
-    Ok(Value::Object(members))
+    out.begin_object()?;
+    write_primary(out, email.primary)?;
+    write_text_of(out, "type", email.type_text.as_ref())?;
+    write_text(out, "value", email.value.as_str())?;
+    out.end_object()
 }
 
 /// `primary` only where it is true.
-fn primary_value(primary: bool) -> Option<Value>
-    ensures { option_map view result ≡ spec.primary_data primary }
+fn write_primary(out: &mut Writer, primary: bool) -> Result<(), AllocError>
+    ensures { OnOk result
+        (WritesPart (codes "primary") (spec.primary_data primary) out.old out.new) }
 {
-    if primary {
-        Some(Value::Bool(true))
-    } else {
-        None
+    if !primary {
+        return Ok(());
     }
+    out.key("primary")?;
+    out.boolean(true)
 }
 
 /// The source extension, where there is a revision.
-pub(crate) fn source_value(
-    alloc: Global,
-    revision: Option<Revision>,
-) -> Result<Option<Value>, AllocError>
-    ensures { IfOk result (λ value. option_map view value ≡ spec.source_data revision) }
+pub(crate) fn write_source(out: &mut Writer, revision: Option<Revision>) -> Result<(), AllocError>
+    ensures { OnOk result
+        (WritesPart urn (spec.source_data revision) out.old out.new) }
 {
     match revision {
-        None => Ok(None),
-        Some(revision) => {
-            let mut members = Map::new(alloc);
-            let number = Value::from(revision.number());
-            put_if(&mut members, alloc, "revision", Some(number))?;
-            Ok(Some(Value::Object(members)))
-        }
+        None => Ok(()),
+        Some(revision) => write_revision(out, revision),
     }
+}
+
+fn write_revision(out: &mut Writer, revision: Revision) -> Result<(), AllocError>
+    ensures { OnOk result
+        (WritesPart urn (spec.source_data (Some revision)) out.old out.new) }
+{
+    out.key(source_extension())?;
+    out.begin_object()?;
+    write_whole(out, "revision", u64::from(revision.number()))?;
+    out.end_object()
 }
 
 /// The core URN, then the source URN where there is a revision.
-pub(crate) fn schemas_value(
-    alloc: Global,
+pub(crate) fn write_schemas(
+    out: &mut Writer,
     core: &str,
     revision: Option<Revision>,
-) -> Result<Value, AllocError>
-    ensures { IfOk result (λ value. view value ≡ array (spec.schemas_data core.now revision)) }
+) -> Result<(), AllocError>
+    ensures { OnOk result
+        (WritesPart (codes "schemas") (Some (array (spec.schemas_data core.now revision))) out.old out.new) }
 {
-    let mut items = Vec::new(alloc);
-    items.push(Value::try_from_str(alloc, core)?)?;
-    if revision.is_some() {
-        items.push(Value::try_from_str(alloc, source_extension())?)?;
+    out.key("schemas")?;
+    out.begin_array()?;
+    out.string(core)?;
+    if revision.is_none() {
+        return out.end_array();
     }
-    Ok(Value::Array(items))
-}
-
-fn meta_value(alloc: Global, base: &Base, shown: &Shown) -> Result<Value, AllocError>
-    ensures value { IfOk result (λ value. view value ≡ spec.meta_data base.now shown.now) }
-    ensures lawful { OnOk result (IsShown shown.now) }
-{
-    let mut members = Map::new(alloc);
-    let version = version_value(alloc, shown)?;
-    put_if(&mut members, alloc, "version", version)?;
-    let type_name = Value::try_from_str(alloc, type_name(shown.content().kind()))?;
-    put_if(&mut members, alloc, "resourceType", Some(type_name))?;
-    let place = Value::String(shown.location(alloc, base)?);
-    put_if(&mut members, alloc, "location", Some(place))?;
-    Ok(Value::Object(members))
-}
-
-/// The entity tag as text, where it is known.
-fn version_value(alloc: Global, shown: &Shown) -> Result<Option<Value>, AllocError>
-    ensures value { IfOk result (λ value. option_map view value ≡ option_map string shown.now.version) }
-    ensures lawful { OnOk result (IsShown shown.now) }
-{
-    match shown.version() {
-        None => Ok(None),
-        Some(tag) => {
-            let text = str::from_utf8(tag.text()).unwrap();
-            Ok(Some(Value::try_from_str(alloc, text)?))
-        }
-    }
+    out.string(source_extension())?;
+    out.end_array()
 }
