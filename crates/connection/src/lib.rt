@@ -5,6 +5,7 @@ mod deadline;
 mod lingering;
 mod listening;
 mod serving;
+mod shared;
 mod sockets;
 #[cfg(test)]
 mod tests;
@@ -13,5 +14,6 @@ mod timed;
 pub use deadline::Deadline;
 pub use listening::Listen;
 pub use serving::{ConnectionFault, answered, serve_connections, serve_from_memory, serve_next};
+pub use shared::SharedStream;
 pub use sockets::Sockets;
 pub use timed::TimedStream;

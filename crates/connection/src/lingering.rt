@@ -61,6 +61,6 @@ impl<'a, S: Read + OpenStream + Drop, C: Clock> Lingering<'a, S, C> {
 }
 
 /// Drains a stream and closes it.
-fn end<'a, S: Read + OpenStream + Drop, C: Clock>(stream: TimedStream<'a, S, C>) {
+fn end<'a, S: Read + OpenStream + Drop, C: Clock>(mut stream: TimedStream<'a, S, C>) {
     stream.drain(Duration::from_secs(DRAIN_SECONDS));
 }

@@ -79,29 +79,28 @@ pub fn serve_next<R: Registry, L: Listen>(
     ensures { TakesTurn L.waiting L.Reader.remaining L.Writer.contents R.Registry base.now
         listener.old listener.new provider.old provider.new result }
 {
-    let Ok((reader, writer)) = listener.accept() else {
+    let Ok((mut reader, mut writer)) = listener.accept() else {
         return Err(ConnectionFault);
     };
-    let (served, reader, writer) = serve_opened(alloc, base, provider, reader, writer);
+    let served = serve_opened(alloc, base, provider, &mut reader, &mut writer);
     listener.end(reader, writer);
     answered(served)
 }
 
-/// Serves a connection, and gives it back.
+/// Serves a connection.
 fn serve_opened<R: Registry, I: Read, O: Write>(
     alloc: Global,
     base: &Base,
     provider: &mut Provider<R>,
-    reader: I,
-    writer: O,
-) -> (Served, I, O)
+    reader: &mut I,
+    writer: &mut O,
+) -> Served
     ensures { IsServed I.remaining O.contents R.Registry base.now provider.old provider.new
-        reader writer result.0 }
+        reader.old writer.old result }
 {
     let mut input = Input::new(reader);
     let mut output = Output::new(writer);
-    let served = serve(alloc, provider, base, &mut input, &mut output);
-    (served, input.into_inner(), output.into_inner())
+    serve(alloc, provider, base, &mut input, &mut output)
 }
 
 /// A connection is without a fault where a response was written whole.

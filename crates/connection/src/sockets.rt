@@ -2,6 +2,7 @@
 use crate::deadline::Deadline;
 use crate::lingering::Lingering;
 use crate::listening::Listen;
+use crate::shared::SharedStream;
 use crate::timed::TimedStream;
 use std::alloc::Global;
 use std::io;
@@ -16,12 +17,13 @@ pub struct Sockets<'a, L: OpenListener + Drop, C: Clock>
 where
     L::Stream: Read + OpenStream,
 {
+    alloc: Global,
     listener: L,
     clock: &'a C,
     limit: Duration,
     /// Whether the listener gives up at once where no connection waits.
     gives_up: bool,
-    served: Lingering<'a, L::Stream, C>,
+    served: Lingering<'a, SharedStream<L::Stream>, C>,
 }
 
 impl<'a, L: OpenListener + Drop, C: Clock> Sockets<'a, L, C>
@@ -30,6 +32,7 @@ where
 {
     pub fn new(alloc: Global, listener: L, clock: &'a C, limit: Duration) -> Self {
         Sockets {
+            alloc,
             listener,
             clock,
             limit,
@@ -58,23 +61,16 @@ impl<'a, L: OpenListener + Drop, C: Clock> Listen for Sockets<'a, L, C>
 where
     L::Stream: Read + Write + OpenStream,
 {
-    type Reader = TimedStream<'a, L::Stream, C>;
+    type Reader = TimedStream<'a, SharedStream<L::Stream>, C>;
 
-    type Writer = TimedStream<'a, L::Stream, C>;
+    type Writer = TimedStream<'a, SharedStream<L::Stream>, C>;
 
     fn accept(&mut self) -> io::Result<(Self::Reader, Self::Writer)> {
         let stream = self.next_stream()?;
         let deadline = Deadline::after(self.clock, self.limit)?;
-        let reader = TimedStream {
-            stream: stream.try_clone()?,
-            clock: self.clock,
-            deadline,
-        };
-        let writer = TimedStream {
-            stream,
-            clock: self.clock,
-            deadline,
-        };
+        let stream = SharedStream::new(self.alloc, stream)?;
+        let reader = TimedStream::new(stream.try_clone()?, self.clock, deadline);
+        let writer = TimedStream::new(stream, self.clock, deadline);
         Ok((reader, writer))
     }
 

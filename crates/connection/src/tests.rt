@@ -1,5 +1,7 @@
 //! The engine without a socket, and streams by a clock that a test winds.
-use crate::{ConnectionFault, Deadline, Listen, Sockets, TimedStream, serve_from_memory};
+use crate::{
+    ConnectionFault, Deadline, Listen, SharedStream, Sockets, TimedStream, serve_from_memory,
+};
 use scim_key::Base;
 use std::alloc::Global;
 use std::cell::Cell;
@@ -117,15 +119,24 @@ impl Clock for Ticks {
     }
 }
 
-/// Gives a byte at each read, so many times, and notes the seconds of each timeout as a digit.
+/// What was done last, a digit each.
+type Notes<'a> = &'a Cell<u64>;
+
+fn note(notes: Notes<'_>, what: u64) {
+    notes.set(notes.get() % 10_000_000_000 * 10 + what % 10);
+}
+
+/// Gives a byte at each read, so many times. It notes the seconds of each timeout as a digit, and each
+/// read as a 0.
 #[derive(Drop)]
 struct Trickle<'a> {
     left: u32,
-    timeouts: &'a Cell<u64>,
+    notes: Notes<'a>,
 }
 
 impl<'a> Read for Trickle<'a> {
     fn read(&mut self, buffer: &mut [u8]) -> io::Result<usize> {
+        note(self.notes, 0);
         if self.left == 0 || buffer.is_empty() {
             return Ok(0);
         }
@@ -137,9 +148,7 @@ impl<'a> Read for Trickle<'a> {
 
 impl<'a> OpenStream for Trickle<'a> {
     fn set_read_timeout(&self, limit: Option<Duration>) -> io::Result<()> {
-        let seconds = limit.map_or(0, |limit| limit.as_secs());
-        self.timeouts
-            .set(self.timeouts.get().wrapping_mul(10).wrapping_add(seconds));
+        note(self.notes, limit.map_or(0, |limit| limit.as_secs()));
         Ok(())
     }
 }
@@ -149,56 +158,101 @@ fn many_short_reads_take_no_longer(rt: HostRuntime) -> Result<(), Fail> {
     let clock = Ticks {
         seconds: Cell::new(100),
     };
-    let timeouts = Cell::new(0);
-    let mut stream = TimedStream {
-        stream: Trickle {
-            left: 1_000,
-            timeouts: &timeouts,
-        },
-        clock: &clock,
-        deadline: Deadline::after(&clock, Duration::from_secs(5))?,
+    let notes = Cell::new(0);
+    let trickle = Trickle {
+        left: 1_000,
+        notes: &notes,
     };
+    let deadline = Deadline::after(&clock, Duration::from_secs(5))?;
+    let mut stream = TimedStream::new(trickle, &clock, deadline);
     let mut buffer = [0; 16];
     for _ in 0..4 {
         assert_eq!(rt; stream.read(&mut buffer)?, 1);
     }
     let fault = stream.read(&mut buffer).map_err(|error| error.kind());
     assert_eq!(rt; fault, Err(ErrorKind::TimedOut));
-    assert_eq!(rt; timeouts.get(), 4_321);
+    // four reads of a second at most, which is set once
+    assert_eq!(rt; notes.get(), 10_000);
+    Ok(())
+}
+
+/// A stream on which nothing comes: a read waits for its limit, which winds the clock.
+#[derive(Drop)]
+struct Silent<'a> {
+    clock: &'a Ticks,
+    limit: Cell<u64>,
+}
+
+impl<'a> Read for Silent<'a> {
+    fn read(&mut self, _: &mut [u8]) -> io::Result<usize> {
+        let now = self.clock.seconds.get();
+        self.clock.seconds.set(now.wrapping_add(self.limit.get()));
+        Err(io::Error::from(ErrorKind::WouldBlock))
+    }
+}
+
+impl<'a> OpenStream for Silent<'a> {
+    fn set_read_timeout(&self, limit: Option<Duration>) -> io::Result<()> {
+        self.limit.set(limit.map_or(0, |limit| limit.as_secs()));
+        Ok(())
+    }
+}
+
+#[test]
+fn a_silent_stream_is_read_to_its_deadline(rt: HostRuntime) -> Result<(), Fail> {
+    let clock = Ticks {
+        seconds: Cell::new(0),
+    };
+    let silent = Silent {
+        clock: &clock,
+        limit: Cell::new(0),
+    };
+    let deadline = Deadline::after(&clock, Duration::from_secs(7))?;
+    let mut stream = TimedStream::new(silent, &clock, deadline);
+    let mut buffer = [0; 16];
+    // each read takes two seconds by this clock: one to look at it, and one to wait
+    for _ in 0..3 {
+        let fault = stream.read(&mut buffer).map_err(|error| error.kind());
+        assert_eq!(rt; fault, Err(ErrorKind::Interrupted));
+    }
+    let fault = stream.read(&mut buffer).map_err(|error| error.kind());
+    assert_eq!(rt; fault, Err(ErrorKind::TimedOut));
+    Ok(())
+}
+
+#[test]
+fn handles_are_on_one_stream(rt: HostRuntime) -> Result<(), Fail> {
+    let notes = Cell::new(0);
+    let mut one = SharedStream::new(rt.alloc(), Ended { notes: &notes })?;
+    let mut other = one.try_clone()?;
+    assert_eq!(rt; other.write(b"abc")?, 3);
+    assert_eq!(rt; one.read(&mut [0; 4])?, 0);
+    assert_eq!(rt; other.read(&mut [0; 4])?, 0);
+    assert_eq!(rt; notes.get(), 55);
     Ok(())
 }
 
 #[test]
 fn a_drain_is_bounded(rt: HostRuntime) -> Result<(), Fail> {
     // what its time leaves, what the connection's leaves, and the stream's end
-    for (limit, drain, bytes, wanted) in [(30, 3, 9, 21), (3, 30, 9, 1), (30, 9, 2, 876)] {
+    for (limit, drain, bytes, wanted) in [(30, 3, 9, 100), (3, 30, 9, 10), (30, 9, 2, 1_000)] {
         let clock = Ticks {
             seconds: Cell::new(0),
         };
-        let timeouts = Cell::new(0);
-        let stream = TimedStream {
-            stream: Trickle {
-                left: bytes,
-                timeouts: &timeouts,
-            },
-            clock: &clock,
-            deadline: Deadline::after(&clock, Duration::from_secs(limit))?,
+        let notes = Cell::new(0);
+        let trickle = Trickle {
+            left: bytes,
+            notes: &notes,
         };
+        let deadline = Deadline::after(&clock, Duration::from_secs(limit))?;
+        let mut stream = TimedStream::new(trickle, &clock, deadline);
         stream.drain(Duration::from_secs(drain));
-        assert_eq!(rt; timeouts.get(), wanted);
+        assert_eq!(rt; notes.get(), wanted);
     }
     Ok(())
 }
 
-/// What a listener and its streams did last, a digit each: 1 it gives up from now on, 2 it blocks
-/// again, 3 a connection was taken, 4 none waited, 5 a stream came to its end.
-type Notes<'a> = &'a Cell<u64>;
-
-fn note(notes: Notes<'_>, what: u64) {
-    notes.set(notes.get() % 10_000_000_000 * 10 + what % 10);
-}
-
-/// A stream of a peer that sends nothing more.
+/// A stream of a peer that sends nothing more, whose end is noted as a 5.
 #[derive(Drop)]
 struct Ended<'a> {
     notes: Notes<'a>,
@@ -225,13 +279,10 @@ impl<'a> OpenStream for Ended<'a> {
     fn set_read_timeout(&self, _: Option<Duration>) -> io::Result<()> {
         Ok(())
     }
-
-    fn try_clone(&self) -> io::Result<Self> {
-        Ok(Ended { notes: self.notes })
-    }
 }
 
-/// A listener for which so many connections wait. One more comes whenever it blocks.
+/// A listener for which so many connections wait. One more comes whenever it blocks. It notes that it
+/// gives up from now on (1), blocks again (2), takes a connection (3), and that none waits (4).
 #[derive(Drop)]
 struct Waiting<'a> {
     left: Cell<u32>,

@@ -1,25 +1,48 @@
 //! A stream that keeps a deadline.
-ghost use Rattle.std.specs.Prelude.{◌≡◌, IfOk};
+ghost use Rattle.std.specs.Prelude.{◌≡◌, ◌≤◌, None, IfOk, IfSome, OnOk};
+ghost use Rattle.std.specs.Duration.{as_nanos};
 ghost use Rattle.std.specs.Io.{ReadsAtMost, WritesAtMost};
 ghost use Rattle.std.specs.Io.KnownBytes.{ReadConsumes, WriteAppends};
 ghost use Rattle.connection.specs.Deadlines.{IsLeft};
 
 use crate::deadline::Deadline;
 use std::io;
-use std::io::{Read, Write};
+use std::io::{ErrorKind, Read, Write};
 use std::net::{OpenStream, Shutdown};
 use std::time::{Clock, Duration};
 
 /// How often the end of a stream is looked for at most.
-const DRAIN_LIMIT: u32 = 100_000;
+const DRAIN_LIMIT: u32 = 400_000;
 
-/// A stream that fails from a deadline on. What is left of the time is the limit of each call, so
-/// that calls which are many and short take no longer in all.
+/// For how many seconds one read waits at most.
+const WAIT_SECONDS: u64 = 1;
+
+/// A stream that fails from a deadline on. No call waits for longer than what is left of the time, so
+/// that calls which are many and short take no longer in all. A read that waited for a second is
+/// interrupted, and is to be made again.
 #[derive(Drop)]
 pub struct TimedStream<'a, S: Drop, C> {
-    pub stream: S,
-    pub clock: &'a C,
-    pub deadline: Deadline,
+    stream: S,
+    clock: &'a C,
+    deadline: Deadline,
+    /// How long a read of the stream waits, once this was set.
+    read_limit: Option<Duration>,
+}
+
+impl<'a, S: Drop, C> TimedStream<'a, S, C> {
+    /// A stream whose reads have no limit of their own yet.
+    pub fn new(stream: S, clock: &'a C, deadline: Deadline) -> Self
+        ensures stream { result.stream ≡ stream }
+        ensures deadline { result.deadline ≡ deadline }
+        ensures limit { result.read_limit ≡ None }
+    {
+        TimedStream {
+            stream,
+            clock,
+            deadline,
+            read_limit: None,
+        }
+    }
 }
 
 impl<'a, S: OpenStream + Drop, C: Clock> TimedStream<'a, S, C> {
@@ -28,6 +51,23 @@ impl<'a, S: OpenStream + Drop, C: Clock> TimedStream<'a, S, C> {
         ensures { IfOk result (IsLeft self.now.deadline) }
     {
         self.deadline.left(self.clock)
+    }
+
+    /// Lets no read wait for longer than this. A limit that is no longer stays: one that was set
+    /// serves many reads.
+    fn limit_reads(&mut self, left: Duration) -> io::Result<()>
+        ensures limit { OnOk result
+            (IfSome self.new.read_limit (λ limit. as_nanos limit ≤ as_nanos left)) }
+        ensures stream { self.new.stream ≡ self.old.stream }
+        ensures deadline { self.new.deadline ≡ self.old.deadline }
+    {
+        if self.read_limit.is_some_and(|limit| limit <= left) {
+            return Ok(());
+        }
+        let limit = left.min(Duration::from_secs(WAIT_SECONDS));
+        self.stream.set_read_timeout(Some(limit))?;
+        self.read_limit = Some(limit);
+        Ok(())
     }
 
     /// Tells the peer that no more comes.
@@ -39,23 +79,28 @@ impl<'a, S: OpenStream + Drop, C: Clock> TimedStream<'a, S, C> {
 impl<'a, S: Read + OpenStream + Drop, C: Clock> TimedStream<'a, S, C> {
     /// Reads on and drops what comes, to the stream's end, for at most this long. A stream that is
     /// closed while its peer still sends is reset, and the peer may lose what was written to it.
-    pub fn drain(self, limit: Duration) {
+    pub fn drain(&mut self, limit: Duration) {
         let Ok(deadline) = Deadline::after(self.clock, limit) else {
             return;
         };
-        let end = self.deadline.end.min(deadline.end);
-        let mut rest = TimedStream {
-            stream: self.stream,
-            clock: self.clock,
-            deadline: Deadline { end },
-        };
-        let mut buffer = [0; 4_096];
+        self.deadline.end = self.deadline.end.min(deadline.end);
+        let mut buffer = [0; 1_024];
         for _ in 0..DRAIN_LIMIT {
-            match rest.read(&mut buffer) {
-                Ok(0) | Err(_) => return,
+            match self.read(&mut buffer) {
+                Ok(0) => return,
                 Ok(_) => {}
+                Err(error) if error.kind() == ErrorKind::Interrupted => {}
+                Err(_) => return,
             }
         }
+    }
+}
+
+/// The fault of a read, where a wait that ended is an interruption.
+fn interruption(error: io::Error) -> io::Error {
+    match error.kind() {
+        ErrorKind::WouldBlock => io::Error::from(ErrorKind::Interrupted),
+        _ => error,
     }
 }
 
@@ -69,8 +114,8 @@ impl<'a, S: Read + OpenStream + Drop, C: Clock> Read for TimedStream<'a, S, C> {
         ensures deadline { self.new.deadline ≡ self.old.deadline }
     {
         let left = self.left()?;
-        self.stream.set_read_timeout(Some(left))?;
-        self.stream.read(buffer)
+        self.limit_reads(left)?;
+        self.stream.read(buffer).map_err(interruption)
     }
 }
 

@@ -7,6 +7,9 @@ ghost use Rattle.http_text.specs.Response.{phrase_of, named_value, field_line, r
 use http::StatusCode;
 use std::alloc::{AllocError, Global};
 
+/// How many bytes are kept free for a head, which most heads don't need.
+const HEAD_ROOM: usize = 512;
+
 /// A field line to be written.
 #[derive(Clone, Copy, Debug)]
 pub struct FieldLine<'a> {
@@ -49,7 +52,7 @@ pub fn write_response(
     ensures { IfOk result
         (λ text. text.items ≡ response_text status (map named_value fields.now) body.now) }
 {
-    let mut text = Vec::new(alloc);
+    let mut text = Vec::with_capacity(alloc, body.len().saturating_add(HEAD_ROOM))?;
     text.extend_from_slice(b"HTTP/1.1 ")?;
     text.extend_from_slice(status.as_str().as_bytes())?;
     text.push(b' ')?;

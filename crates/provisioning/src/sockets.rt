@@ -39,16 +39,8 @@ impl<'a, R: Net + Clock> Dial for Remote<'a, R> {
     fn dial(&mut self) -> io::Result<(Self::Reader, Self::Writer)> {
         let deadline = Deadline::after(self.runtime, self.limit)?;
         let stream = connect(self.runtime, self.address, deadline)?;
-        let reader = TimedStream {
-            stream: stream.try_clone()?,
-            clock: self.runtime,
-            deadline,
-        };
-        let writer = TimedStream {
-            stream,
-            clock: self.runtime,
-            deadline,
-        };
+        let reader = TimedStream::new(stream.try_clone()?, self.runtime, deadline);
+        let writer = TimedStream::new(stream, self.runtime, deadline);
         Ok((reader, writer))
     }
 

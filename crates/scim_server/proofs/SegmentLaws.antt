@@ -7,7 +7,7 @@ use Rattle.scim_server.specs.Laws.{SegmentsAreSpelled}
 -- ---- from the grammar
 
 -- a byte but `%` stands for itself, whatever follows
-unescaped-plain : (byte : ℕ) (rest : List ℕ) → nat_eq byte 37 ≡ false → unescaped (byte ∷ rest) ≡ put_before (Some byte) (unescaped rest)
+pub unescaped-plain : (byte : ℕ) (rest : List ℕ) → nat_eq byte 37 ≡ false → unescaped (byte ∷ rest) ≡ put_before (Some byte) (unescaped rest)
 unfolding unescaped
 unescaped-plain byte [] other = rw other refl
 unescaped-plain byte (next ∷ []) other = rw other refl

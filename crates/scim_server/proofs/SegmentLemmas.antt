@@ -1,10 +1,12 @@
 -- Reading a segment byte for byte, and an id by its two tests.
-use Rattle.std.proofs.Common.{◌≡◌, refl, sym, ap, ◌∙◌, ℕ, ◌-◌, ◌≤◌, ◌<◌, Bool, true, false, cond, List, [], ◌∷◌, ◌++◌, Option, Some, None, length, take, drop, get_or, arith, append_assoc, append-nil}
+use Rattle.std.proofs.Common.{◌≡◌, refl, sym, ap, ◌∙◌, ℕ, ◌-◌, ◌≤◌, ◌<◌, Bool, true, false, cond, List, [], ◌∷◌, ◌++◌, ◌||◌, nat_eq, Option, Some, None, length, take, drop, get_or, arith, append_assoc, append-nil}
 use Rattle.std.proofs.lemmas.List.{take_rest}
+use Rattle.std.specs.List.{list_any}
 use Rattle.std.specs.Str.{IsUtf8, is_utf8}
 use Rattle.std.proofs.lemmas.Str.{is_utf8-from_IsUtf8, IsUtf8-from_is_utf8}
 use Rattle.scim_key.specs.Identifiers.{id_fault}
-use Rattle.scim_server.specs.Segments.{unescaped, put_before, without_fault}
+use Rattle.scim_server.specs.Segments.{unescaped, put_before, without_fault, lawful_id, id_of}
+use Rattle.scim_server.proofs.SegmentLaws.{unescaped-plain}
 
 -- what is spelled where this stands in front of the rest
 abbrev pub prepended : List ℕ → Option (List ℕ) → Option (List ℕ)
@@ -61,3 +63,22 @@ some_text bytes text id same utf8 none is =
     ap (λ t. Some t) (is ∙ same)
     ∙ ap (λ fault. without_fault fault bytes) (sym (ap id_fault (sym same) ∙ none))
     ∙ text_where bytes (without_fault (id_fault bytes) bytes) utf8
+
+-- ---- a segment without `%`
+
+none_of_two : (a b : Bool) → (a || b) ≡ false → (a ≡ false) × (b ≡ false)
+none_of_two false b none = (refl, none)
+none_of_two true b none = absurd (cc)
+
+-- it spells itself
+pub spells_itself : (segment : List ℕ) → list_any (λ byte. nat_eq byte 37) segment ≡ false → unescaped segment ≡ Some segment
+unfolding unescaped
+spells_itself [] none = refl
+spells_itself (byte ∷ rest) none =
+    let each = none_of_two (nat_eq byte 37) (list_any (λ b. nat_eq b 37) rest) none in
+    unescaped-plain byte rest each.0 ∙ ap (put_before (Some byte)) (spells_itself rest each.1)
+
+-- its id
+pub id_of_itself : (segment : List ℕ) → list_any (λ byte. nat_eq byte 47) segment ≡ false → list_any (λ byte. nat_eq byte 37) segment ≡ false
+    → lawful_id (Some segment) ≡ id_of segment
+id_of_itself segment slash percent = rw (slash, spells_itself segment percent) refl

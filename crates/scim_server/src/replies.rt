@@ -16,6 +16,9 @@ use scim_resource::{Shown, location};
 use std::alloc::{AllocError, Global};
 use std::marker::Model;
 
+/// How many field lines a response has at most.
+const FIELD_LINES: usize = 6;
+
 /// A response as it is sent: its status code and its bytes.
 #[derive(Debug, Drop)]
 pub(crate) struct Reply {
@@ -130,7 +133,7 @@ fn fields_of<'a>(
 {
     let media_type = stated_type(length);
     let created_at = if created { location } else { None };
-    let mut fields = Vec::new(alloc);
+    let mut fields = Vec::with_capacity(alloc, FIELD_LINES)?;
     push_line(&mut fields, "Connection", Some(b"close"))?;
     push_line(&mut fields, "Content-Length", length)?;
     push_line(&mut fields, "Content-Location", location)?;

@@ -8,12 +8,16 @@ use scim_key::{NameFault, ResourceId};
 use std::alloc::{AllocError, Global};
 use std::str::from_utf8;
 
-/// The id that a segment without `/` spells: a text of 1 to 256 bytes.
+/// The id that a segment without `/` spells: a text of 1 to 256 bytes. One without `%` spells itself.
+#[tactic(auto, using(crate::proofs::SegmentLemmas::id_of_itself))]
 pub(crate) fn id_of(alloc: Global, segment: &[u8]) -> Result<Option<ResourceId>, AllocError>
     ensures { IfOk result (λ id. id ≡ spec.id_of segment.now) }
 {
     if has_slash(segment) {
         return Ok(None);
+    }
+    if !segment.contains(&b'%') {
+        return lawful_id(alloc, segment);
     }
     match unescaped(alloc, segment)? {
         Some(bytes) => lawful_id(alloc, &bytes),

@@ -5,7 +5,7 @@ use Rattle.connection.proofs.serving.serve_next.Goals as goal
 
 pub returns : goal.returns
 returns g c = record {
-  turn = taken c.in-Ok.reader c.in-Ok.writer c.serve_opened-served.result.0;
+  turn = taken c.in-Ok.reader c.in-Ok.writer c.serve_opened-served.result;
   takes = taken_still _ _ _ ((c.in-Ok.reader, c.in-Ok.writer) ∷ []) c.in-Ok.ensures c.end.ensures;
   served = c.serve_opened-served.ensures;
   result_is = c.answered.ensures;

@@ -16,5 +16,5 @@ returns c =
       c.as_bytes.ensures.value,
       c.as_str.ensures,
       c.in_ok-extend_from_slice.ensures.items,
-      c.new-text.ensures.items,
+      c.in_ok-text.ensures.items,
     ) (response_parts _ _ _)

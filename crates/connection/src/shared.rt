@@ -1,0 +1,68 @@
+//! Handles on one stream.
+use std::alloc::Global;
+use std::cell::RefCell;
+use std::io;
+use std::io::{ErrorKind, Read, Write};
+use std::net::{OpenStream, Shutdown};
+use std::rc::Rc;
+use std::time::Duration;
+
+/// A handle on a stream, which is closed with the last of its handles. Unlike `try_clone` of a socket,
+/// that of a handle asks nothing of the system.
+#[derive(Drop)]
+pub struct SharedStream<S: Drop> {
+    stream: Rc<RefCell<S>>,
+}
+
+fn busy<E: Drop>(_: E) -> io::Error {
+    io::Error::from(ErrorKind::ResourceBusy)
+}
+
+fn out_of_memory<E: Drop>(_: E) -> io::Error {
+    io::Error::from(ErrorKind::OutOfMemory)
+}
+
+impl<S: Drop> SharedStream<S> {
+    /// The first handle on a stream.
+    pub fn new(alloc: Global, stream: S) -> io::Result<Self> {
+        let stream = Rc::new(alloc, RefCell::new(stream)).map_err(out_of_memory)?;
+        Ok(SharedStream { stream })
+    }
+}
+
+impl<S: Read + Drop> Read for SharedStream<S> {
+    fn read(&mut self, buffer: &mut [u8]) -> io::Result<usize> {
+        self.stream.try_borrow_mut().map_err(busy)?.read(buffer)
+    }
+}
+
+impl<S: Write + Drop> Write for SharedStream<S> {
+    fn write(&mut self, bytes: &[u8]) -> io::Result<usize> {
+        self.stream.try_borrow_mut().map_err(busy)?.write(bytes)
+    }
+
+    fn flush(&mut self) -> io::Result<()> {
+        self.stream.try_borrow_mut().map_err(busy)?.flush()
+    }
+}
+
+impl<S: OpenStream + Drop> OpenStream for SharedStream<S> {
+    fn shutdown(&self, how: Shutdown) -> io::Result<()> {
+        self.stream.try_borrow().map_err(busy)?.shutdown(how)
+    }
+
+    fn set_read_timeout(&self, limit: Option<Duration>) -> io::Result<()> {
+        let stream = self.stream.try_borrow().map_err(busy)?;
+        stream.set_read_timeout(limit)
+    }
+
+    fn set_write_timeout(&self, limit: Option<Duration>) -> io::Result<()> {
+        let stream = self.stream.try_borrow().map_err(busy)?;
+        stream.set_write_timeout(limit)
+    }
+
+    fn try_clone(&self) -> io::Result<Self> {
+        let stream = self.stream.clone().map_err(out_of_memory)?;
+        Ok(SharedStream { stream })
+    }
+}
