@@ -6,11 +6,9 @@ use Rattle.std.specs.Prelude.{⊤}
 use Rattle.std.specs.Cmp.Lexicographic.{slice_cmp}
 use Rattle.std.specs.Ordering.{is_lt}
 use Rattle.std.specs.Str.{str_to_ascii_lowercase}
-use Rattle.serde_json.specs.Data.{Num, unsigned, negative, float, Data, null, boolean, number, string, array, object, Items, no_items, item, Members, no_members, member, depth, members_depth}
-use Rattle.serde_json.specs.Written.{has_float, items_have_float, members_have_float}
-use Rattle.serde_json.specs.Find.{is_float}
+use Rattle.serde_json.specs.Data.{Data, depth, members_depth}
 use Rattle.scim_json.specs.Attributes.{same_name, named, has_name, repeats}
-use Rattle.scim_json.specs.Plain.{IsWhole, IsBelow, IsPlain, ItemsArePlain, MembersArePlain}
+use Rattle.scim_json.specs.Plain.{IsBelow, IsPlain, MembersArePlain}
 use Rattle.scim_json.specs.Writing.{Part, members_from}
 
 -- ---- tests on the names of parts, which compute where the names are literals
@@ -136,25 +134,3 @@ pub members_depth-members_from : (n : ℕ) (ps : List Part) → AreWithin n ps �
 members_depth-members_from n [] h = omega arith
 members_depth-members_from n ((k, None) ∷ ps) h = members_depth-members_from n ps h.1
 members_depth-members_from n ((k, Some d) ∷ ps) h = omega (arith, h.0, members_depth-members_from n ps h.1)
-
-is_float-whole : (n : Num) → IsWhole n → is_float n ≡ false
-is_float-whole (unsigned n) h = refl
-is_float-whole (negative z) h = absurd h
-is_float-whole (float x) h = absurd h
-
-mutual
-  pub has_float-plain : (d : Data) → IsPlain d → has_float d ≡ false
-  has_float-plain null h = refl
-  has_float-plain (boolean b) h = refl
-  has_float-plain (number n) h = is_float-whole n h
-  has_float-plain (string s) h = refl
-  has_float-plain (array ds) h = items_have_float-plain ds h
-  has_float-plain (object ms) h = members_have_float-plain ms h
-
-  pub items_have_float-plain : (ds : Items) → ItemsArePlain ds → items_have_float ds ≡ false
-  items_have_float-plain no_items h = refl
-  items_have_float-plain (item d ds) h = nor (has_float d) _ (has_float-plain d h.0) (items_have_float-plain ds h.1)
-
-  pub members_have_float-plain : (ms : Members) → MembersArePlain ms → members_have_float ms ≡ false
-  members_have_float-plain no_members h = refl
-  members_have_float-plain (member k d ms) h = nor (has_float d) _ (has_float-plain d h.1) (members_have_float-plain ms h.2)

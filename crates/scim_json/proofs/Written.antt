@@ -1,5 +1,5 @@
 -- The tokens of an object are those of its parts, and the tokens of a value are its text.
-use Rattle.std.proofs.Common.{◌≡◌, ℕ, ◌≤◌, List, [], ◌∷◌, ◌++◌, None, Some, Result, Ok, Err, OnOk, map, flat_map, refl, sym, ap, ◌∙◌, append_assoc, append-nil, length, take, take_all}
+use Rattle.std.proofs.Common.{◌≡◌, ℕ, ◌≤◌, List, [], ◌∷◌, ◌++◌, None, Some, Result, Ok, Err, OnOk, map, flat_map, refl, sym, ap, ◌∙◌, append_assoc, length, take, take_all}
 use Rattle.json.specs.Token.{Token, key, begin_object, end_object, begin_array, end_array}
 use Rattle.json.specs.Tree.{items_tokens, members_tokens}
 use Rattle.json.specs.Print.{print}

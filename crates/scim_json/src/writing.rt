@@ -1,6 +1,6 @@
 //! Members of an object that is written.
 ghost use Rattle.std.specs.Prelude.{Some, OnOk, option_map};
-ghost use Rattle.serde_json.specs.Data.{array, item, no_items, number, string, unsigned};
+ghost use Rattle.serde_json.specs.Data.{number, string, unsigned};
 ghost use Rattle.scim_json.specs.Writing.{WritesPart};
 
 use json::Writer;

@@ -1,12 +1,12 @@
 -- The tokens of what is written, part by part.
-use Rattle.std.proofs.Common.{◌≡◌, ℕ, List, [], ◌∷◌, ◌++◌, Option, None, Some, Result, Ok, Err, OnOk, option_map, codes, flat_map, map, length, is_none, ◌&&◌, ◌==◌, false, refl, sym, ap, ◌∙◌, append_assoc, append-nil}
-use Rattle.json.specs.Token.{Token, key, begin_object, end_object, begin_array, end_array}
+use Rattle.std.proofs.Common.{◌≡◌, ℕ, List, [], ◌∷◌, ◌++◌, Option, None, Some, Result, OnOk, option_map, codes, map, length, is_none, ◌&&◌, ◌==◌, false, refl, ap, ◌∙◌, append_assoc, append-nil}
+use Rattle.json.specs.Token.{Token, begin_object, end_object}
 use Rattle.json.specs.Written.{Written}
 use Rattle.json.specs.Written as token
 use Rattle.serde_json.specs.Data.{Data, array, string, object}
 use Rattle.serde_json.specs.View.{items_of}
-use Rattle.scim_json.specs.Writing.{Part, members_from, data_tokens, part_tokens, parts_tokens, Adds, Writes, WritesPart, WritesParts}
-use Rattle.scim_json.proofs.Written.{object_tokens, items_written, parts_tokens-append, then, object_closed}
+use Rattle.scim_json.specs.Writing.{members_from, data_tokens, part_tokens, parts_tokens, Adds, Writes, WritesPart, WritesParts}
+use Rattle.scim_json.proofs.Written.{object_tokens, parts_tokens-append, then, object_closed}
 use Rattle.scim_resource.specs.Contents.{content_kind}
 use Rattle.scim_resource.specs.Groups.{GroupRecord}
 use Rattle.scim_resource.specs.Locations.{type_name}

@@ -1,9 +1,8 @@
-use Rattle.std.proofs.Common.{◌≡◌, ◌++◌, [], ◌∷◌, ◌+◌, suc, arith, take, take_all, subst, sym, ap, ◌∙◌}
+use Rattle.std.proofs.Common.{◌≡◌, ◌++◌, [], ◌∷◌, ◌+◌, suc, arith, take, sym, ap, ◌∙◌}
 use Rattle.std.proofs.Math.Seq.{take-suc}
 use Rattle.json.specs.Token.{begin_array}
 use Rattle.scim_json.proofs.Written.{one, list_closed}
 use Rattle.scim_resource.specs.Writing.{shown_data}
-use Rattle.scim_message.specs.Fitting.{AreLawful}
 use Rattle.scim_message.proofs.Written.{page_step, AreLawful-push}
 use Rattle.scim_message.proofs.bodies.write_page.Goals as goal
 
