@@ -1,5 +1,5 @@
 //! Streams whose peers have their answers, and may still send.
-ghost use Rattle.std.specs.Prelude.{◌≡◌, ◌≤◌, [], length};
+ghost use Rattle.std.specs.Prelude.{◌≡◌, ◌≤◌, ◌<◌, ◌↔◌, [], IsTrue, drop, length};
 
 use crate::timed::TimedStream;
 use std::alloc::Global;
@@ -12,7 +12,7 @@ use std::time::{Clock, Duration};
 const DRAIN_SECONDS: u64 = 2;
 
 /// How many streams are kept at most.
-const MOST_KEPT: usize = 32;
+pub(crate) const MOST_KEPT: usize = 32;
 
 /// Streams that were shut down for writing and are still to be drained, the longest kept first. They
 /// are drained before they are dropped.
@@ -48,6 +48,17 @@ impl<'a, S: Read + OpenStream + Drop, C: Clock> Lingering<'a, S, C> {
         if let Err(refused) = self.streams.push_back(stream) {
             end(refused.value);
         }
+    }
+
+    /// Drains the longest kept, if there is one. It tells whether more are kept.
+    pub(crate) fn drain_longest(&mut self) -> bool
+        ensures streams { self.new.streams.items ≡ drop 1 self.old.streams.items }
+        ensures more { IsTrue result ↔ (0 < length self.new.streams.items) }
+    {
+        if let Some(longest) = self.streams.pop_front() {
+            end(longest);
+        }
+        !self.streams.is_empty()
     }
 
     /// Drains all of them, in their order.

@@ -1,6 +1,6 @@
 //! The connections of a listening socket.
 use crate::deadline::Deadline;
-use crate::lingering::Lingering;
+use crate::lingering::{Lingering, MOST_KEPT};
 use crate::listening::Listen;
 use crate::shared::SharedStream;
 use crate::timed::TimedStream;
@@ -11,7 +11,7 @@ use std::net::{OpenListener, OpenStream};
 use std::time::{Clock, Duration};
 
 /// The connections of a listening socket. Each has this time in all, from when it is taken. Those
-/// that were served are drained as soon as no other one waits.
+/// that were served are drained, one after another, as long as no other one waits.
 #[derive(Drop)]
 pub struct Sockets<'a, L: OpenListener + Drop, C: Clock>
 where
@@ -45,15 +45,28 @@ where
     /// drained first.
     fn next_stream(&mut self) -> io::Result<L::Stream> {
         if self.gives_up {
-            if let Ok((stream, _)) = self.listener.accept() {
+            if let Some(stream) = self.stream_between_drains() {
                 return Ok(stream);
             }
-            self.served.drain_all();
             self.listener.set_nonblocking(false)?;
             self.gives_up = false;
         }
         let (stream, _) = self.listener.accept()?;
         Ok(stream)
+    }
+
+    /// The stream of a connection that can be taken at once. As long as there is none, a stream that was
+    /// served is drained; none where all are.
+    fn stream_between_drains(&mut self) -> Option<L::Stream> {
+        for _ in 0..MOST_KEPT {
+            if let Ok((stream, _)) = self.listener.accept() {
+                return Some(stream);
+            }
+            if !self.served.drain_longest() {
+                return None;
+            }
+        }
+        None
     }
 }
 

@@ -223,7 +223,13 @@ fn a_silent_stream_is_read_to_its_deadline(rt: HostRuntime) -> Result<(), Fail> 
 #[test]
 fn handles_are_on_one_stream(rt: HostRuntime) -> Result<(), Fail> {
     let notes = Cell::new(0);
-    let mut one = SharedStream::new(rt.alloc(), Ended { notes: &notes })?;
+    let left = Cell::new(0);
+    let ended = Ended {
+        notes: &notes,
+        left: &left,
+        brings: 0,
+    };
+    let mut one = SharedStream::new(rt.alloc(), ended)?;
     let mut other = one.try_clone()?;
     assert_eq!(rt; other.write(b"abc")?, 3);
     assert_eq!(rt; one.read(&mut [0; 4])?, 0);
@@ -252,15 +258,19 @@ fn a_drain_is_bounded(rt: HostRuntime) -> Result<(), Fail> {
     Ok(())
 }
 
-/// A stream of a peer that sends nothing more, whose end is noted as a 5.
+/// A stream of a peer that sends nothing more, whose end is noted as a 5. Then so many connections
+/// more wait.
 #[derive(Drop)]
 struct Ended<'a> {
     notes: Notes<'a>,
+    left: &'a Cell<u32>,
+    brings: u32,
 }
 
 impl<'a> Read for Ended<'a> {
     fn read(&mut self, _: &mut [u8]) -> io::Result<usize> {
         note(self.notes, 5);
+        self.left.set(self.left.get().saturating_add(self.brings));
         Ok(0)
     }
 }
@@ -285,9 +295,10 @@ impl<'a> OpenStream for Ended<'a> {
 /// gives up from now on (1), blocks again (2), takes a connection (3), and that none waits (4).
 #[derive(Drop)]
 struct Waiting<'a> {
-    left: Cell<u32>,
+    left: &'a Cell<u32>,
     gives_up: Cell<bool>,
     notes: Notes<'a>,
+    brings: u32,
 }
 
 impl<'a> OpenListener for Waiting<'a> {
@@ -301,7 +312,12 @@ impl<'a> OpenListener for Waiting<'a> {
         self.left.set(self.left.get().saturating_sub(1));
         note(self.notes, 3);
         let peer = SocketAddr::from((Ipv4Addr::LOCALHOST, 1));
-        Ok((Ended { notes: self.notes }, peer))
+        let ended = Ended {
+            notes: self.notes,
+            left: self.left,
+            brings: self.brings,
+        };
+        Ok((ended, peer))
     }
 
     fn set_nonblocking(&self, nonblocking: bool) -> io::Result<()> {
@@ -311,17 +327,18 @@ impl<'a> OpenListener for Waiting<'a> {
     }
 }
 
-/// Takes and ends so many connections of which so many wait. It tells what was done by then, and once
-/// the listener is dropped.
-fn taken(alloc: Global, waiting: u32, count: u32) -> Result<(u64, u64), Fail> {
-    let notes = Cell::new(0);
+/// Takes and ends so many connections of which so many wait, and each drain brings so many more. It
+/// tells what was done by then, and once the listener is dropped.
+fn taken(alloc: Global, waiting: u32, count: u32, brings: u32) -> Result<(u64, u64), Fail> {
+    let (notes, left) = (Cell::new(0), Cell::new(waiting));
     let clock = Ticks {
         seconds: Cell::new(0),
     };
     let listener = Waiting {
-        left: Cell::new(waiting),
+        left: &left,
         gives_up: Cell::new(false),
         notes: &notes,
+        brings,
     };
     let mut sockets = Sockets::new(alloc, listener, &clock, Duration::from_secs(1_000));
     for _ in 0..count {
@@ -336,14 +353,23 @@ fn taken(alloc: Global, waiting: u32, count: u32) -> Result<(u64, u64), Fail> {
 #[test]
 fn streams_are_drained_where_none_waits(rt: HostRuntime) -> Result<(), Fail> {
     // two wait, and the third comes later
-    assert_eq!(rt; taken(rt.alloc(), 2, 3)?, (313_455_231, 3_134_552_315));
-    assert_eq!(rt; taken(rt.alloc(), 0, 2)?, (3_145_231, 31_452_315));
+    assert_eq!(rt;
+        taken(rt.alloc(), 2, 3, 0)?,
+        (3_134_545_231, 31_345_452_315)
+    );
+    assert_eq!(rt; taken(rt.alloc(), 0, 2, 0)?, (3_145_231, 31_452_315));
+    Ok(())
+}
+
+#[test]
+fn a_connection_that_comes_waits_for_one_drain(rt: HostRuntime) -> Result<(), Fail> {
+    assert_eq!(rt; taken(rt.alloc(), 2, 3, 1)?, (313_453, 31_345_355));
     Ok(())
 }
 
 #[test]
 fn only_so_many_are_kept(rt: HostRuntime) -> Result<(), Fail> {
-    let (before, after) = taken(rt.alloc(), 100, 34)?;
+    let (before, after) = taken(rt.alloc(), 100, 34, 0)?;
     assert_eq!(rt; before, 33_333_333_535);
     assert_eq!(rt; after, 55_555_555_555);
     Ok(())
