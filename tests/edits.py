@@ -5,7 +5,8 @@ function of the crate NAME.
 tests/edits.py                    tries those of every crate
 tests/edits.py NAME..             tries those of these crates
 tests/edits.py --further NAME..   tries those of edits/NAME/further too, which the gate leaves out
-tests/edits.py --apply            says only which of them don't apply to the sources
+tests/edits.py --apply            says only which of them don't apply to the sources, and which crate's
+                                  joined file isn't the one that --join writes
 tests/edits.py --join             writes those of a crate that can be tried together into the one
                                   file that `rt ci` tries, crates/NAME/must-fail/together.edit
 
@@ -225,14 +226,30 @@ def joined(edits):
 def join(edits):
     """Writes, for each crate whose tries were seen, its edits as one."""
     for crate, own in edits.items():
-        folder = ROOT / "crates" / crate / "must-fail"
-        folder.mkdir(exist_ok=True)
-        (folder / "together.edit").write_text(joined(own), encoding="utf-8")
+        file = joined_file(crate)
+        file.parent.mkdir(exist_ok=True)
+        file.write_text(joined(own), encoding="utf-8")
+
+
+def joined_file(crate):
+    return ROOT / "crates" / crate / "must-fail/together.edit"
+
+
+def stale(every):
+    """The crates whose joined file isn't the one of their edits."""
+    edits = {}
+    for it in every:
+        if not it.is_further:
+            edits.setdefault(it.crate, []).append(it)
+    there = (it for it in edits if joined_file(it).is_file())
+    return [it for it in there if joined_file(it).read_text(encoding="utf-8") != joined(edits[it])]
 
 
 def main(names):
     every = [Edit(it) for it in sorted(ROOT.glob("edits/**/*.edit"))]
     faults = [f"{it.name}: {it.fault()}" for it in every if it.fault()]
+    if not faults and names == ["--apply"]:
+        faults = [f"{it}: the joined file is another than tests/edits.py --join {it} writes" for it in stale(every)]
     print(*faults, sep="\n", end="\n" if faults else "")
     if faults or names == ["--apply"]:
         return bool(faults)
