@@ -64,7 +64,7 @@ class Handler(http.server.BaseHTTPRequestHandler):
         if name in names:
             return self.say(409, {})
         if STORE:
-            STORE.execute(stores.INSERT, (number, 1, name, 1, text_of(user)))
+            STORE.execute(stores.Provider.insert, (number, 1, name, 1, text_of(user)))
         users[number], names[name] = (1, user), number
         self.say(201, shown(number, 1, user), 1)
 
@@ -76,7 +76,7 @@ class Handler(http.server.BaseHTTPRequestHandler):
         if self.headers["If-Match"] != f'"{version}"':
             return self.say(412, {})
         if STORE:
-            STORE.execute(stores.UPDATE, (number, version + 1, text_of(user)))
+            STORE.execute(stores.Provider.update, (number, version + 1, text_of(user)))
         users[number] = version + 1, user
         self.say(200, shown(number, version + 1, user), version + 1)
 

@@ -77,11 +77,11 @@ class Bench:
         """A store of so many users, whose names and numbers are those that clients ask for."""
         path = self.room / f"users-{users}"
         connection = stores.connect(path)
-        connection.executescript(stores.TABLES)
+        connection.executescript(stores.Provider.tables)
         body = (BODY % 1).replace("@@@@@@@@", "{0}")
         head, tail = body.split('"value":"')
         connection.execute("BEGIN")
-        connection.executemany(stores.INSERT, (
+        connection.executemany(stores.Provider.insert, (
             (n + 1, 1, f"{n:08}", 1, head + '"value":"' + tail.replace("{0}", f"{n:08}")) for n in range(users)))
         connection.execute("COMMIT")
         connection.close()
