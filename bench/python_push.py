@@ -1,8 +1,8 @@
 """The work of `push` by Python's own modules, for bench/serve.py: python_push.py USERS JOURNAL HOST:PORT.
 
-Each row is an entry of the journal before anything is sent. Then each record is looked for, created
-where it isn't there, and confirmed in the journal. Each entry is committed by itself, and each record
-is told as soon as it is done.
+All rows are entries of the journal, by one commit, before anything is sent. Then each record is looked
+for, created where it isn't there, and confirmed in the journal by a commit of its own. Each record is
+told as soon as it is done.
 """
 import csv
 import http.client
@@ -57,8 +57,9 @@ def main():
     journal.execute("CREATE TABLE entry (name TEXT PRIMARY KEY, row TEXT NOT NULL, confirmed INTEGER NOT NULL, id TEXT)")
     with open(users, encoding="utf-8", newline="") as file:
         rows = list(csv.DictReader(file))
-    for row in rows:
-        journal.execute(PUT, (row["login"], json.dumps(row), 0, None))
+    journal.execute("BEGIN")
+    journal.executemany(PUT, ((row["login"], json.dumps(row), 0, None) for row in rows))
+    journal.execute("COMMIT")
     for row in sorted(rows, key=lambda row: row["login"]):
         push(journal, to, row)
 

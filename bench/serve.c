@@ -8,6 +8,10 @@
  *       prints a port, and answers so many connections by the same bytes: what accepting, reading,
  *       writing and closing alone take. With a store, the row of a user is put or changed by SQLite
  *       before each answer, with a log and every commit on the disk. It needs -DSTORE -lsqlite3.
+ *   serve push PORT COUNT FIND CREATE JOURNAL
+ *       what a push of so many new users asks of the system and of SQLite, and nothing else: a row for
+ *       each user in one commit, and then for each a search, a creation, a commit of what came of
+ *       them, and a line. It needs -DSTORE -lsqlite3 too.
  */
 #include <arpa/inet.h>
 #include <pthread.h>
@@ -23,8 +27,12 @@
 
 enum { ROOM = 65536, MOST_CLIENTS = 64 };
 
-static char text[ROOM];
-static size_t length;
+struct text {
+    char bytes[ROOM];
+    size_t length;
+};
+
+static struct text text;
 static const char *status;
 static int port, clients, count;
 static long step, among;
@@ -34,10 +42,10 @@ static void fail(int code) {
     exit(code);
 }
 
-static void take_text(const char *name) {
+static void take_text(struct text *to, const char *name) {
     FILE *file = fopen(name, "rb");
     if (!file) fail(2);
-    length = fread(text, 1, sizeof text, file);
+    to->length = fread(to->bytes, 1, sizeof to->bytes, file);
     fclose(file);
 }
 
@@ -48,31 +56,37 @@ static double seconds(void) {
 }
 
 /* Puts a number wherever so many marks stand. */
-static void put(char *request, const char *marks, const char *form, long number) {
+static void put(const struct text *form, char *request, const char *marks, const char *digits_form, long number) {
     size_t wide = strlen(marks);
-    char *mark = text, digits[32];
-    snprintf(digits, sizeof digits, form, number);
-    for (; (mark = memmem(mark, text + length - mark, marks, wide)); mark += wide) memcpy(request + (mark - text), digits, wide);
+    const char *mark = form->bytes;
+    char digits[32];
+    snprintf(digits, sizeof digits, digits_form, number);
+    for (; (mark = memmem(mark, form->bytes + form->length - mark, marks, wide)); mark += wide) memcpy(request + (mark - form->bytes), digits, wide);
+}
+
+/* Asks on a connection of its own, and wants an answer with this status. */
+static void ask(const char *request, size_t length, char *taken, const char *wanted) {
+    struct sockaddr_in to = {.sin_family = AF_INET, .sin_port = htons(port), .sin_addr.s_addr = htonl(INADDR_LOOPBACK)};
+    int peer = socket(AF_INET, SOCK_STREAM, 0);
+    if (connect(peer, (struct sockaddr *)&to, sizeof to) || write(peer, request, length) != (ssize_t)length) fail(3);
+    size_t got = 0;
+    for (ssize_t more; (more = read(peer, taken + got, ROOM - got)) > 0;) got += more;
+    close(peer);
+    if (got < 12 || memcmp(taken + 9, wanted, 3)) {
+        fprintf(stderr, "%.*s\nis answered by %.*s\n", (int)length, request, (int)got, taken);
+        exit(4);
+    }
 }
 
 static void *client(void *place) {
-    struct sockaddr_in to = {.sin_family = AF_INET, .sin_port = htons(port), .sin_addr.s_addr = htonl(INADDR_LOOPBACK)};
     char *request = malloc(ROOM), *taken = malloc(ROOM);
     if (!request || !taken) fail(2);
-    memcpy(request, text, length);
+    memcpy(request, text.bytes, text.length);
     for (int n = (int)(long)place; n < count; n += clients) {
         long number = n * step % among;
-        put(request, "@@@@@@@@", "%08ld", number);
-        put(request, "$$$$$$$$$$$$", "%012lx", number + 1);
-        int peer = socket(AF_INET, SOCK_STREAM, 0);
-        if (connect(peer, (struct sockaddr *)&to, sizeof to) || write(peer, request, length) != (ssize_t)length) fail(3);
-        size_t got = 0;
-        for (ssize_t more; (more = read(peer, taken + got, ROOM - got)) > 0;) got += more;
-        close(peer);
-        if (got < 12 || memcmp(taken + 9, status, 3)) {
-            fprintf(stderr, "asking %d: %.*s\n", n, (int)got, taken);
-            exit(4);
-        }
+        put(&text, request, "@@@@@@@@", "%08ld", number);
+        put(&text, request, "$$$$$$$$$$$$", "%012lx", number + 1);
+        ask(request, text.length, taken, status);
     }
     return 0;
 }
@@ -89,11 +103,11 @@ static int load(void) {
 }
 
 #ifdef STORE
+static const char *modes = "PRAGMA journal_mode = WAL; PRAGMA synchronous = FULL;";
 static sqlite3_stmt *change;
 
 static void open_store(const char *path, const char *kind) {
     sqlite3 *store;
-    const char *modes = "PRAGMA journal_mode = WAL; PRAGMA synchronous = FULL;";
     const char *insert = "INSERT INTO resource (number, kind, name_key, version, content) VALUES (?1, 1, ?2, 1, ?3)";
     const char *update = "UPDATE resource SET version = version + 1, content = ?3 WHERE number = ?1";
     if (sqlite3_open(path, &store) || sqlite3_exec(store, modes, 0, 0, 0)) fail(5);
@@ -109,6 +123,54 @@ static void commit(int n, const char *content, size_t size) {
     if (sqlite3_step(change) != SQLITE_DONE) fail(6);
     sqlite3_reset(change);
 }
+
+static sqlite3 *open_journal(const char *path) {
+    sqlite3 *journal;
+    const char *table = "CREATE TABLE entry (name TEXT PRIMARY KEY, row TEXT NOT NULL, confirmed INTEGER NOT NULL, id TEXT)";
+    if (sqlite3_open(path, &journal) || sqlite3_exec(journal, modes, 0, 0, 0) || sqlite3_exec(journal, table, 0, 0, 0)) fail(5);
+    return journal;
+}
+
+/* Runs a statement on the entry of a user. */
+static void on_entry(sqlite3_stmt *statement, int n, const struct text *row) {
+    char name[32];
+    snprintf(name, sizeof name, "%08d", n);
+    sqlite3_bind_text(statement, 1, name, -1, SQLITE_TRANSIENT);
+    sqlite3_bind_text(statement, 2, row->bytes, row->length, SQLITE_STATIC);
+    if (sqlite3_step(statement) != SQLITE_DONE) fail(6);
+    sqlite3_reset(statement);
+}
+
+static void offer(sqlite3 *journal, const struct text *row) {
+    sqlite3_stmt *insert;
+    const char *sql = "INSERT INTO entry (name, row, confirmed) VALUES (?1, ?2, 0)";
+    if (sqlite3_exec(journal, "BEGIN", 0, 0, 0) || sqlite3_prepare_v2(journal, sql, -1, &insert, 0)) fail(5);
+    for (int n = 0; n < count; n++) on_entry(insert, n, row);
+    if (sqlite3_exec(journal, "COMMIT", 0, 0, 0)) fail(6);
+}
+
+static int push(const char *find_name, const char *create_name, const char *path) {
+    static struct text find, create;
+    char *request = malloc(ROOM), *taken = malloc(ROOM);
+    sqlite3_stmt *confirm;
+    const char *sql = "UPDATE entry SET confirmed = 1, id = ?2 WHERE name = ?1";
+    struct text id = {.bytes = "5c1a0000-0000-8000-8000-000000000001", .length = 36};
+    sqlite3 *journal = open_journal(path);
+    take_text(&find, find_name);
+    take_text(&create, create_name);
+    offer(journal, &create);
+    if (!request || !taken || sqlite3_prepare_v2(journal, sql, -1, &confirm, 0)) fail(5);
+    for (int n = 0; n < count; n++) {
+        memcpy(request, find.bytes, find.length), put(&find, request, "@@@@@@@@", "%08ld", n);
+        ask(request, find.length, taken, "200");
+        memcpy(request, create.bytes, create.length), put(&create, request, "@@@@@@@@", "%08ld", n);
+        ask(request, create.length, taken, "201");
+        on_entry(confirm, n, &id);
+        printf("user %08d confirmed 1\n", n);
+        fflush(stdout);
+    }
+    return 0;
+}
 #endif
 
 /* The body of a request is the row's content. */
@@ -123,7 +185,7 @@ static void answer(int peer, int n, int stores) {
     if (stores) exit(2);
 #endif
     (void)n;
-    if (write(peer, text, length) < 0) fail(4);
+    if (write(peer, text.bytes, text.length) < 0) fail(4);
 }
 
 static int limit(int stores) {
@@ -147,12 +209,18 @@ int main(int words, char **word) {
     if (words == 9 && !strcmp(word[1], "load")) {
         port = atoi(word[2]), clients = atoi(word[3]), count = atoi(word[4]);
         step = atol(word[5]), among = atol(word[6]), status = word[7];
-        take_text(word[8]);
+        take_text(&text, word[8]);
         return load();
     }
+#ifdef STORE
+    if (words == 7 && !strcmp(word[1], "push")) {
+        port = atoi(word[2]), count = atoi(word[3]);
+        return push(word[4], word[5], word[6]);
+    }
+#endif
     if (words < 4 || strcmp(word[1], "limit")) return 2;
     count = atoi(word[2]);
-    take_text(word[3]);
+    take_text(&text, word[3]);
 #ifdef STORE
     if (words == 7) {
         among = atol(word[6]);

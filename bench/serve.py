@@ -208,7 +208,8 @@ class Bench:
         journal = self.room / "journal"
         for more in ("", "-wal", "-shm"):
             pathlib.Path(f"{journal}{more}").unlink(missing_ok=True)
-        words = [{"USERS": users, "JOURNAL": journal, "TO": f"127.0.0.1:{port}"}.get(word, word) for word in words]
+        given = {"USERS": users, "JOURNAL": journal, "PORT": port, "TO": f"127.0.0.1:{port}"}
+        words = [given.get(word, word) for word in words]
         begun = time.perf_counter()
         with open(self.room / "out", "wb") as out:
             subprocess.run([str(word) for word in words], check=True, stdout=out)
@@ -224,11 +225,19 @@ class Bench:
             f"user{n:06},1,{n},Given{n},Family{n},user{n}@example.com,active\n" for n in range(self.records)))
         runs = {"push": [PROGRAM, "push", "--users", "USERS", "--journal", "JOURNAL", "--to", "TO"],
                 "Python": [sys.executable, HERE / "python_push.py", "USERS", "JOURNAL", "TO"]}
+        if self.has_sqlite:
+            texts = {"find": SEARCH, "create": POST}
+            for name, text in texts.items():
+                (self.room / name).write_bytes(text)
+            runs["limit"] = [self.tool, "push", "PORT", self.records, *(self.room / name for name in texts), "JOURNAL"]
         found = [{name: self.pushed(words, users) for name, words in runs.items()}
                  for _ in range(min(self.rounds, 3))]
         middle = {name: statistics.median(it[name] for it in found) for name in runs}
         print(f"push of {self.records:,} records, journal in {self.room.parent}: {middle['push']:.2f}s, Python {middle['Python']:.2f}s, "
               f"times Python {told(medians(found, 'Python', 'push'))}", flush=True)
+        if "limit" in runs:
+            print(f"the same by the limit: {middle['limit']:.2f}s, times Python {told(medians(found, 'Python', 'limit'))}, "
+                  f"push of the limit {told(medians(found, 'limit', 'push'))}", flush=True)
 
 
 def sync_cost(folder):

@@ -2,9 +2,10 @@
 """Tries the connector's journals of scimlink: tests/journals.py PROGRAM ROOM. Called by tests/stores.sh."""
 import socket
 import sys
+import time
 
 import files
-from ends import GROUPS_HEADER, USERS_HEADER, awaits, equal, tests_of, try_all
+from ends import GROUPS_HEADER, USERS_HEADER, equal, tests_of, try_all
 from files import Run, Server, changed, file, ran, resource_id
 
 # The statements of format 1
@@ -238,21 +239,36 @@ def test_a_locked_file_is_refused():
     shows(path, "user ann wanted=1 confirmed=0 id=-", "user bob wanted=1 confirmed=0 id=-")
 
 
+def many(path, count):
+    """A file of so many users, from the last to the first, and what a journal shows of them, by name."""
+    names = [f"u{place:05}" for place in range(count)]
+    users = source(path, USERS_HEADER, [f"{name},1,,,,,active" for name in reversed(names)])
+    return users, [f"user {name} wanted=1 confirmed=0 id=-" for name in names]
+
+
 def test_a_kill_while_rows_are_offered():
-    path = file("offered")
-    log = path.with_name(f"{path.name}-wal")
-    names = [f"u{place:03}" for place in range(300)]
-    # offered from the last to the first, and listed by name
-    users = source("offered-users", USERS_HEADER, [f"{name},1,,,,,active" for name in reversed(names)])
-    run = Run(push(path, users, "127.0.0.1:1"))
-    awaits(lambda: log.exists() and log.stat().st_size > files.SOME_MORE, "a log of some rows")
-    equal(run.kill(), "")
-    status, shown, _ = ran("show", "--journal", path)
-    shown = shown.decode().splitlines()
-    equal((status, bool(shown)), (0, True))
-    equal(shown, [f"user {name} wanted=1 confirmed=0 id=-" for name in names[-len(shown) :]])
+    users, all_rows = many("offered-users", 20_000)
+    for turn in range(12):
+        path = file(f"offered-{turn}")
+        run = Run(push(path, users, "127.0.0.1:1"))
+        time.sleep(turn * 0.02)
+        equal(run.kill(), "")
+        status, shown, _ = ran("show", "--journal", path)
+        shown = shown.decode().splitlines()
+        # it is killed before there is a journal, or the rows of a file are all there, or none of them
+        assert status or shown in ([], all_rows), f"{len(shown)} rows after {turn * 20} ms"
     equal(ran(*push(path, users, "127.0.0.1:1"))[0], 3)
-    shows(path, *[f"user {name} wanted=1 confirmed=0 id=-" for name in names])
+    shows(path, *all_rows)
+
+
+def test_rows_that_find_no_room_are_left_out_together():
+    path = with_ann("no-room")
+    users, all_rows = many("no-room-users", 20_000)
+    run = Run(push(path, users, "127.0.0.1:1"), path.stat().st_size + files.SOME_MORE)
+    run.ends(3, "journal fault J1\n")
+    shows(path, "user ann wanted=1 confirmed=0 id=-")
+    equal(ran(*push(path, users, "127.0.0.1:1"))[0], 3)
+    shows(path, "user ann wanted=1 confirmed=0 id=-", *all_rows)
 
 
 if __name__ == "__main__":

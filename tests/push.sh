@@ -153,9 +153,12 @@ lines 'a full journal' 110000
 limited=(bash -c 'trap "" XFSZ; ulimit -f "$0"; exec "$@"' 300)
 groups=
 rm -f "$room"/journal* "$room"/store*
+printf "$users_header\n$(printf 'u%04d,1,,,,,active\\n' $(seq 0 4999))" > "$room/many"
 printf "$users_header\n$(printf 'u%03d,1,,,,,active\\n' $(seq 0 199))" > "$room/users"
 push=("$program" push --users "$room/users" --journal "$room/journal")
-expect 'rows that are not kept' 3 'journal fault J1' "${limited[@]}" "${push[@]}" --to 127.0.0.1:1
+expect 'rows that are not kept' 3 'journal fault J1' "${limited[@]}" "$program" push --users "$room/many" \
+    --journal "$room/journal" --to 127.0.0.1:1
+expect 'rows that are not kept' 0 '' "$program" show --journal "$room/journal"
 lines 'rows that are not kept' 0
 expect 'rows that are kept' 3 'connection fault' "${push[@]}" --to 127.0.0.1:1
 starts 1000

@@ -1,16 +1,17 @@
 -- A call of the connector that leaves the journal as it was.
 use Rattle.std.proofs.Common.{◌≡◌, ◌∙◌, ℕ, OnOk, Result, Ok, Err, refl, sym, arith, inl, inr}
-use Rattle.source_book.specs.declared.accepting.Verdict.{Verdict}
 use Rattle.journal_core.specs.Entries.{EntryMap}
-use Rattle.journal_core.specs.Stores.{WritesOnce}
-use Rattle.connector_core.specs.Changing.{CountsChange}
+use Rattle.journal_core.specs.Stores.{CountsFault, WritesOnce}
+use Rattle.journal_core.specs.declared.journals.JournalFault.{JournalFault}
+use Rattle.journal_core.specs.declared.journals.JournalFault.TheVariants.{Store, Memory}
+use Rattle.connector_core.specs.Changing.{CountsChange, change_fault}
 use Rattle.connector_core.specs.declared.changing.ChangeFault.{ChangeFault}
 
 module _ {S : Type 0} (entries : S → EntryMap) (is_faithful is_honest : S → Type 0) (may_hold : S → EntryMap → Type 0) (faults writes : S → ℕ) where
-  abbrev pub Changes : S → S → EntryMap → Result Verdict ChangeFault → Type 0
+  abbrev pub Changes : {T : Type 0} → S → S → EntryMap → Result T ChangeFault → Type 0
   Changes old new later result = WritesOnce entries is_faithful is_honest may_hold faults writes CountsChange old new later result
 
-  pub refused : (s : S) (later : EntryMap) (fault : ChangeFault) → CountsChange (faults s) (faults s) fault → Changes s s later (Err fault)
+  pub refused : {T : Type 0} (s : S) (later : EntryMap) (fault : ChangeFault) → CountsChange (faults s) (faults s) fault → Changes {T = T} s s later (Err fault)
   refused s later fault counts = record {
     was = λ f. f;
     done = λ _. tt;
@@ -22,8 +23,8 @@ module _ {S : Type 0} (entries : S → EntryMap) (is_faithful is_honest : S → 
     unwritten = refl;
   }
 
-  pub unchanged : (s : S) (later : EntryMap) (verdict : Verdict) → later ≡ entries s → Changes s s later (Ok verdict)
-  unchanged s later verdict same = record {
+  pub unchanged : {T : Type 0} (s : S) (later : EntryMap) (said : T) → later ≡ entries s → Changes s s later (Ok said)
+  unchanged s later said same = record {
     was = λ f. f;
     done = λ _. sym same;
     same = λ _. tt;
@@ -54,3 +55,34 @@ module _ {S : Type 0} (entries : S → EntryMap) (is_faithful is_honest : S → 
       done-on : (r : Result T F) → these ≡ those → OnOk r (entries new ≡ these) → OnOk r (entries new ≡ those)
       done-on (Ok x) e is = is ∙ e
       done-on (Err fault) e is = tt
+
+  -- what the journal put is what the call says it made
+  pub put-done : {T : Type 0} (old new : S) (later : EntryMap) (said : T) → WritesOnce entries is_faithful is_honest may_hold faults writes CountsFault old new later (Ok (tt {0})) → Changes old new later (Ok said)
+  put-done old new later said w = record {
+    was = w.was;
+    done = w.done;
+    same = w.same;
+    honest = w.honest;
+    stop = w.stop;
+    counted = w.counted;
+    written = w.written;
+    unwritten = w.unwritten;
+  }
+
+  counted-so : (old new : ℕ) (fault : JournalFault) → CountsFault old new fault → CountsChange old new (change_fault fault)
+  counted-so old new Store counts = counts
+  counted-so old new Memory counts = counts
+
+  -- a fault of the journal is the call's
+  pub put-failed : {T : Type 0} (old new : S) (later : EntryMap) (fault : JournalFault) → WritesOnce {T = Unit {0}} entries is_faithful is_honest may_hold faults writes CountsFault old new later (Err fault)
+      → Changes {T = T} old new later (Err (change_fault fault))
+  put-failed old new later fault w = record {
+    was = w.was;
+    done = w.done;
+    same = w.same;
+    honest = w.honest;
+    stop = w.stop;
+    counted = counted-so (faults old) (faults new) fault w.counted;
+    written = w.written;
+    unwritten = w.unwritten;
+  }

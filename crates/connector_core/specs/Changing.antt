@@ -13,7 +13,7 @@ use Rattle.source_book.specs.declared.accepting.BookFault.{BookFault}
 use Rattle.source_book.specs.declared.accepting.BookFault.TheVariants as book
 use Rattle.source_book.specs.declared.accepting.Verdict.{Verdict}
 use Rattle.source_book.specs.declared.accepting.Verdict.TheVariants.{New, Known, Older}
-use Rattle.std.specs.FinMap.{get, insert}
+use Rattle.std.specs.FinMap.{get, insert, keys}
 use Rattle.journal_core.specs.Entries.{EntryMap, count_of, most_records, with_row as put_row}
 use Rattle.journal_core.specs.Stores.{HasRisen}
 use Rattle.journal_core.specs.declared.journals.JournalFault.{JournalFault}
@@ -122,6 +122,43 @@ accepted_entries entries row (Ok New) = put_row entries row
 accepted_entries entries row (Ok Known) = entries
 accepted_entries entries row (Ok Older) = entries
 accepted_entries entries row (Err fault) = entries
+
+-- ---- rows that are offered together
+
+-- the verdict on a row by a book
+abbrev pub judged : BookMap → Row → Result Verdict ChangeFault
+judged book row = judging (book_of book) (keys book) row
+
+-- the book that the row leaves
+abbrev pub taking : BookMap → Row → BookMap
+taking book row = accepted_map book row (judged book row)
+
+-- the verdicts on rows, each by the book that those before it left
+abbrev pub verdicts : BookMap → List Row → List (Result Verdict ChangeFault)
+verdicts book [] = []
+verdicts book (row ∷ rows) = judged book row ∷ verdicts (taking book row) rows
+
+-- the book that they leave
+abbrev pub taking_all : BookMap → List Row → BookMap
+taking_all book [] = book
+taking_all book (row ∷ rows) = taking_all (taking book row) rows
+
+-- the entries of the journal that they leave
+abbrev pub entries_all : EntryMap → BookMap → List Row → EntryMap
+entries_all entries book [] = entries
+entries_all entries book (row ∷ rows) = entries_all (accepted_entries entries row (judged book row)) (taking book row) rows
+
+-- the row, if it is new
+abbrev pub if_new : Row → Result Verdict ChangeFault → List Row
+if_new row (Ok New) = row ∷ []
+if_new row (Ok Known) = []
+if_new row (Ok Older) = []
+if_new row (Err fault) = []
+
+-- those of the rows that are new
+abbrev pub new_rows : BookMap → List Row → List Row
+new_rows book [] = []
+new_rows book (row ∷ rows) = if_new row (judged book row) ++ new_rows (taking book row) rows
 
 -- what a map becomes is what the book becomes
 abbrev pub MapsAccept : Type 0

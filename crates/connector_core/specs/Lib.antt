@@ -6,4 +6,5 @@ pub mod Asking
 pub mod Learning
 pub mod Noting
 pub mod Changing
+pub mod Offering
 pub mod Laws

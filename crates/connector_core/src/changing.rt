@@ -163,7 +163,12 @@ fn limit(
 }
 
 /// The verdict on a row by the book.
-fn judge(alloc: Global, book: &Book, name: &RecordName, row: &Row) -> Result<Verdict, ChangeFault>
+pub(crate) fn judge(
+    alloc: Global,
+    book: &Book,
+    name: &RecordName,
+    row: &Row,
+) -> Result<Verdict, ChangeFault>
     requires { name.now ≡ row_name row.now }
     ensures gives { Gives ChangeFault.Memory result (judging (book_of book.now) (keys book.now) row.now) }
     ensures counted { IfErr result (λ fault. (n : ℕ) → CountsChange n n fault) }
@@ -175,7 +180,7 @@ fn judge(alloc: Global, book: &Book, name: &RecordName, row: &Row) -> Result<Ver
 }
 
 /// What is known of a record at its first row.
-fn first_known(row: Row) -> Known
+pub(crate) fn first_known(row: Row) -> Known
     ensures { result ≡ wanting None row }
 {
     Known {

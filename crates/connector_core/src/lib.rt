@@ -11,6 +11,7 @@ mod fitting;
 mod knowledge;
 mod laws;
 mod learning;
+mod offering;
 mod opening;
 
 pub use asking::{Ask, AskFault};

@@ -1,5 +1,7 @@
 //! Rows that the source offers to the connector: what it says of them, and what it then wants.
-use crate::offers::{named, new_connector, offer, offer_group, offer_user, opened_again, users};
+use crate::offers::{
+    groups, named, new_connector, offer, offer_all, offer_group, offer_user, opened_again, users,
+};
 use connector_core::Connector;
 use journal_core::MemoryJournal;
 use scim_key::Kind;
@@ -79,19 +81,47 @@ fn each_row_has_its_verdict(rt: HostRuntime) -> Result<(), Fail> {
     let mut connector = new_connector(alloc)?;
     says_of_users(&rt, alloc, &mut connector, USERS)?;
     says_of_groups(&rt, alloc, &mut connector, GROUPS)?;
-    wants(
-        &rt,
-        alloc,
-        &connector,
-        &[
-            (Kind::User, "ann", 2_000_000_000),
-            (Kind::User, "bob", 2),
-            (Kind::Group, "crew", 2),
-            (Kind::User, "crew", 0),
-            (Kind::User, "zoe", 0),
-        ],
-    )?;
-    Ok(())
+    wants(&rt, alloc, &connector, WANTED)
+}
+
+/// What USERS and GROUPS come to.
+static WANTED: &[(Kind, &str, u32)] = &[
+    (Kind::User, "ann", 2_000_000_000),
+    (Kind::User, "bob", 2),
+    (Kind::Group, "crew", 2),
+    (Kind::User, "crew", 0),
+    (Kind::User, "zoe", 0),
+];
+
+/// The records of these offers, as a file has them.
+fn records_of(alloc: Global, offers: &[Offer]) -> Result<String, Fail> {
+    let mut text = String::new(alloc);
+    for (record, _) in offers {
+        text.push_str(record)?;
+    }
+    Ok(text)
+}
+
+/// Asserts what was said of these offers.
+fn were_said(rt: &impl Abort, offers: &[Offer], said: &[String]) {
+    assert_eq!(rt; said.len(), offers.len());
+    for ((record, expected), said) in offers.iter().zip(said) {
+        assert!(rt; said.as_str() == *expected, "{said} of {record}");
+    }
+}
+
+#[test]
+fn rows_that_are_offered_together_have_the_same_verdicts(rt: HostRuntime) -> Result<(), Fail> {
+    let alloc = rt.alloc();
+    let mut connector = new_connector(alloc)?;
+    let records = users(alloc, records_of(alloc, USERS)?.as_str())?;
+    let said = offer_all(alloc, &mut connector, &records)?;
+    were_said(&rt, USERS, said.as_slice());
+    let records = groups(alloc, records_of(alloc, GROUPS)?.as_str())?;
+    let said = offer_all(alloc, &mut connector, &records)?;
+    were_said(&rt, GROUPS, said.as_slice());
+    wants(&rt, alloc, &connector, WANTED)?;
+    wants(&rt, alloc, &opened_again(alloc, connector)?, WANTED)
 }
 
 #[test]

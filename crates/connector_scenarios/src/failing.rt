@@ -146,6 +146,13 @@ impl Journal for FailingJournal {
         }
     }
 
+    fn put_rows(&mut self, rows: &[Row]) -> Result<(), JournalFault> {
+        match self.entries.put_rows(rows) {
+            Ok(()) => Ok(()),
+            Err(_) => Err(JournalFault::Memory),
+        }
+    }
+
     fn put_learnt(
         &mut self,
         name: &RecordName,

@@ -66,6 +66,26 @@ pub fn offer(
     }
 }
 
+/// What a connector says of the rows of a file, which it is offered together.
+pub fn offer_all(
+    alloc: Global,
+    connector: &mut Connector<MemoryJournal>,
+    records: &SourceRows,
+) -> Result<Vec<String>, Fail> {
+    let mut rows = Vec::new(alloc);
+    for record in records.as_slice() {
+        match record {
+            Ok(row) => rows.push(row.clone()?)?,
+            Err(_) => return Err(Fail::from("no row")),
+        }
+    }
+    let mut lines = Vec::new(alloc);
+    for verdict in connector.change_all(rows)? {
+        lines.push(said(alloc, verdict)?)?;
+    }
+    Ok(lines)
+}
+
 /// What a connector says of the one row of a file of users.
 pub fn offer_user(
     alloc: Global,

@@ -3,8 +3,8 @@ use Rattle.std.proofs.Common.{◌≡◌, ℕ, List, [], ◌∷◌, Option, Some,
 use Rattle.std.proofs.lemmas.Bool.{cases_Bool}
 use Rattle.std.proofs.lemmas.List.Elements.{All-head, All-tail, All-map, All-weaker}
 use Rattle.std.specs.BTreeMap.{BTreeMap, Updates, IsOrdered, get as get_in, values}
-use Rattle.std.specs.FinMap.{get}
-use Rattle.std.specs.List.{All}
+use Rattle.std.specs.FinMap.{from_entries, get}
+use Rattle.std.specs.List.{All, AllZip}
 use Rattle.std.specs.Option.{option_map}
 use Rattle.std.specs.Ordering.{is_eq}
 use Rattle.scim_key.proofs.RevisionLaws.{none_first}
@@ -14,7 +14,7 @@ use Rattle.scim_key.specs.Revisions.{RevisionValue, ◌≼◌}
 use Rattle.scim_key.specs.declared.records.RecordName.{RecordName}
 use Rattle.source_csv.specs.Records.{row_name, row_revision}
 use Rattle.source_csv.specs.declared.rows.Row.{Row}
-use Rattle.journal_core.specs.Entries.{EntryMap, IsEntryOf, IsListOf, CanPutRow, CanPutLearnt, entry_learnt, entry_with, learnt_at, named, with_learnt, with_row}
+use Rattle.journal_core.specs.Entries.{EntryMap, IsEntryOf, IsListOf, CanPutRow, CanPutRows, CanPutLearnt, entry_learnt, entry_with, learnt_at, named, with_learnt, with_row, with_rows}
 use Rattle.journal_core.specs.Memory.{AreLawful, MemoryRecord, entries_in}
 use Rattle.journal_core.specs.Stores.{CountsFault, WritesOnce}
 use Rattle.journal_core.specs.contracts.memory.MemoryJournalJournal.TheImpl as impl
@@ -82,6 +82,28 @@ row-put old new row copy name lawful can is same updates =
     let entry : IsEntryOf (row_name row) (entry_with row (get (entries_in old) (row_name row))) =
     first-or-later (row_name row) row (get (entries_in old) (row_name row)) refl can.not_below in
     (lawful-put old new (row_name row) _ lawful put entry, insert-tree old new (row_name row) _ put)
+
+-- ---- rows in a copy
+
+same-pair : (e f : RecordName × Entry) → f.0.kind ≡ e.0.kind → f.0.key ≡ e.0.key → f.1 ≡ e.1 → f ≡ e
+same-pair e f kind key entry = λ i. (record { kind = kind i; key = key i }, entry i)
+
+-- a clone has the entries of what it is a clone of
+pub clone-same : (es fs : List (RecordName × Entry)) → AllZip (λ e f. ((f.0.kind ≡ e.0.kind) × (f.0.key ≡ e.0.key)) × (f.1 ≡ e.1)) es fs → fs ≡ es
+clone-same [] [] all = refl
+clone-same [] (f ∷ fs) all = absurd all
+clone-same (e ∷ es) [] all = absurd all
+clone-same (e ∷ es) (f ∷ fs) all = λ i. same-pair e f all.0.0.0 all.0.0.1 all.0.1 i ∷ clone-same es fs all.1 i
+
+-- before the first row: a clone of the entries
+pub copied : (tree copy : Tree) (rows : List Row) → AreLawful tree → CanPutRows (entries_in tree) rows → copy.entries ≡ tree.entries
+    → AreLawful copy × CanPutRows (entries_in copy) rows × (with_rows (entries_in copy) rows ≡ with_rows (entries_in tree) rows)
+copied tree copy rows lawful can same =
+    let map_is : entries_in copy ≡ entries_in tree = ap from_entries same in (
+      lawful-same tree copy lawful same,
+      subst (λ m. CanPutRows m rows) (sym map_is) can,
+      ap (λ m. with_rows m rows) map_is,
+    )
 
 -- ---- what was learnt
 

@@ -1,5 +1,5 @@
 -- The entries of a journal, and what becomes of them.
-use Rattle.std.specs.Prelude.{◌≡◌, ◌<◌, ℕ, List, Option, Some, None, map, IsSome}
+use Rattle.std.specs.Prelude.{◌≡◌, ◌<◌, ℕ, List, [], ◌∷◌, Option, Some, None, map, IsSome}
 use Rattle.std.specs.FinMap.{FinMap, entries, get, insert, keys}
 use Rattle.std.specs.List.{All, count_by}
 use Rattle.scim_key.specs.Revisions.{RevisionValue, no_revision, ◌≺◌, ◌≼◌}
@@ -26,6 +26,11 @@ entry_with row (Some entry) = record entry { row = row }
 -- the entries with this row: a new record has nothing else, one that is there keeps its id and what is confirmed
 abbrev pub with_row : EntryMap → Row → EntryMap
 with_row map row = insert map (row_name row) (entry_with row (get map (row_name row)))
+
+-- the entries with these rows, put one after another
+abbrev pub with_rows : EntryMap → List Row → EntryMap
+with_rows map [] = map
+with_rows map (row ∷ rows) = with_rows (with_row map row) rows
 
 abbrev pub entry_learnt : RevisionValue → List ℕ → Entry → Entry
 entry_learnt confirmed id entry = record entry { confirmed = confirmed; id = Some id }
@@ -68,6 +73,11 @@ pub record CanPutRow (map : EntryMap) (row : Row) : Type 0 where
   pub not_below : (entry : Entry) → get map (row_name row) ≡ Some entry → entry.confirmed ≼ row_revision row
   pub members : All (λ key. IsSome (get map (user key))) (members_of row)
   pub room : get map (row_name row) ≡ None → count_of (row_name row).kind (keys map) < most_records (row_name row).kind
+
+-- the rows may be put one after another, each into the entries with those before it
+abbrev pub CanPutRows : EntryMap → List Row → Type 0
+CanPutRows map [] = Unit {0}
+CanPutRows map (row ∷ rows) = CanPutRow map row × CanPutRows (with_row map row) rows
 
 -- a revision may be confirmed of a record that is there, where it is one, and isn't above its row's
 pub record CanPutLearnt (map : EntryMap) (name : RecordName) (confirmed : RevisionValue) : Type 0 where

@@ -1,7 +1,7 @@
 //! What a connector asks of the store of its entries.
 ghost use Rattle.std.specs.Prelude.{◌≡◌, ℕ, IfOk, OnOk};
 ghost use Rattle.scim_key.specs.Revisions.{RevisionValue};
-ghost use Rattle.journal_core.specs.Entries.{EntryMap, IsListOf, CanPutRow, CanPutLearnt, with_row, with_learnt};
+ghost use Rattle.journal_core.specs.Entries.{EntryMap, IsListOf, CanPutRow, CanPutRows, CanPutLearnt, with_row, with_rows, with_learnt};
 ghost use Rattle.journal_core.specs.Stores.{CountsFault, HasRisen, OnlyReads, WritesOnce};
 
 use crate::entries::Entry;
@@ -68,6 +68,13 @@ pub trait Journal {
     fn put_row(&mut self, row: &Row) -> Result<(), JournalFault>
         requires lawful { is_faithful self.old → CanPutRow (entries self.old) row.now }
         ensures puts { WritesOnce entries is_faithful is_honest may_hold faults writes CountsFault self.old self.new (with_row (entries self.old) row.now) result }
+        ensures open { is_honest self.new → OnOk result (is_faithful self.new) }
+        ensures counted { OnOk result (HasRisen (writes self.old) (writes self.new)) };
+
+    /// Puts these rows, one after another, by one write: all of them or none.
+    fn put_rows(&mut self, rows: &[Row]) -> Result<(), JournalFault>
+        requires lawful { is_faithful self.old → CanPutRows (entries self.old) rows.now }
+        ensures puts { WritesOnce entries is_faithful is_honest may_hold faults writes CountsFault self.old self.new (with_rows (entries self.old) rows.now) result }
         ensures open { is_honest self.new → OnOk result (is_faithful self.new) }
         ensures counted { OnOk result (HasRisen (writes self.old) (writes self.new)) };
 

@@ -1,11 +1,13 @@
 //! A journal in memory.
-ghost use Rattle.std.specs.Prelude.{◌≡◌, IfOk, OnOk, OnErr, IsSome, Some, refl};
+ghost use Rattle.std.specs.Prelude.{◌≡◌, IfErr, IfOk, OnOk, OnErr, IsSome, Some, refl};
 ghost use Rattle.std.specs.BTreeMap.{IsOrdered, Updates, get, values};
 ghost use Rattle.std.specs.FinMap.{empty};
 ghost use Rattle.std.specs.List.{All};
 ghost use Rattle.std.specs.Option.{option_map};
 ghost use Rattle.scim_key.specs.Records.{name_cmp};
-ghost use Rattle.journal_core.specs.Entries.{entry_learnt, entry_with};
+ghost use Rattle.journal_core.specs.Entries.{CanPutRow, CanPutRows, entry_learnt, entry_with, with_row, with_rows};
+ghost use Rattle.journal_core.specs.Memory.{AreLawful, entries_in};
+ghost use Rattle.journal_core.specs.declared.journals.JournalFault.TheVariants.{Memory};
 
 use crate::entries::Entry;
 use crate::journals::{Journal, JournalFault};
@@ -88,6 +90,44 @@ fn put_row(
     Ok(())
 }
 
+/// Puts a copy of a row.
+fn put_copy(
+    alloc: Global,
+    entries: &mut BTreeMap<RecordName, Entry>,
+    row: &Row,
+) -> Result<(), JournalFault>
+    requires lawful { AreLawful entries.old }
+    requires can { CanPutRow (entries_in entries.old) row.now }
+    ensures lawful { AreLawful entries.new }
+    ensures put { OnOk result (entries_in entries.new ≡ with_row (entries_in entries.old) row.now) }
+    ensures err { OnErr result (entries.new.entries ≡ entries.old.entries) }
+    ensures fault { IfErr result (λ fault. fault ≡ Memory) }
+{
+    let name = row.record_name(alloc)?;
+    let copy = row.clone()?;
+    put_row(entries, name, copy)?;
+    Ok(())
+}
+
+/// The entries with these rows, put one after another.
+fn copy_with(
+    alloc: Global,
+    entries: &BTreeMap<RecordName, Entry>,
+    rows: &[Row],
+) -> Result<BTreeMap<RecordName, Entry>, JournalFault>
+    requires lawful { AreLawful entries.now }
+    requires can { CanPutRows (entries_in entries.now) rows.now }
+    ensures lawful { IfOk result AreLawful }
+    ensures put { IfOk result (λ copy. entries_in copy ≡ with_rows (entries_in entries.now) rows.now) }
+    ensures fault { IfErr result (λ fault. fault ≡ Memory) }
+{
+    let mut copy = entries.clone()?;
+    for row in rows {
+        put_copy(alloc, &mut copy, row)?;
+    }
+    Ok(copy)
+}
+
 /// Puts what was learnt into the entry under a name, if it is there.
 fn put_learnt(
     entries: &mut BTreeMap<RecordName, Entry>,
@@ -122,9 +162,13 @@ impl Journal for MemoryJournal {
     }
 
     fn put_row(&mut self, row: &Row) -> Result<(), JournalFault> {
-        let name = row.record_name(self.alloc)?;
-        let row = row.clone()?;
-        put_row(&mut self.entries, name, row)?;
+        put_copy(self.alloc, &mut self.entries, row)?;
+        self.writes = self.writes.saturating_add(1);
+        Ok(())
+    }
+
+    fn put_rows(&mut self, rows: &[Row]) -> Result<(), JournalFault> {
+        self.entries = copy_with(self.alloc, &self.entries, rows)?;
         self.writes = self.writes.saturating_add(1);
         Ok(())
     }

@@ -2,15 +2,10 @@
 use Rattle.std.specs.Prelude.{ℕ, List, ◌++◌, Option, Some, None, codes}
 use Rattle.std.specs.List.{flat_map}
 use Rattle.scim_key.specs.Revisions.{RevisionValue, revision_text}
-use Rattle.scim_key.specs.declared.records.Kind.{Kind}
-use Rattle.scim_key.specs.declared.records.Kind.TheVariants.{User, Group}
 use Rattle.scim_key.specs.declared.records.RecordName.{RecordName}
 use Rattle.source_csv.specs.Records.{row_name, row_revision}
+use Rattle.journal_core.specs.Words.{kind_word}
 use Rattle.journal_core.specs.declared.entries.Entry.{Entry}
-
-abbrev pub kind_word : Kind → List ℕ
-kind_word User = codes "user"
-kind_word Group = codes "group"
 
 -- the id, or a hyphen where none is known
 abbrev pub id_text : Option (List ℕ) → List ℕ

@@ -1,10 +1,9 @@
 //! Entries as lines of text.
 ghost use Rattle.std.specs.Prelude.{◌≡◌, IfOk, string_bytes};
-ghost use Rattle.scim_key.specs.declared.records.Kind.{Kind};
-ghost use Rattle.journal_file.specs.Lines.{entry_line, id_text, kind_word};
+ghost use Rattle.journal_file.specs.Lines.{entry_line, id_text};
 
-use journal_core::Entry;
-use scim_key::{Kind, ResourceId};
+use journal_core::{Entry, kind_word};
+use scim_key::ResourceId;
 use std::alloc::{AllocError, Global};
 
 /// The line of an entry, with its end: `user bob wanted=1 confirmed=1 id=..`, and `-` for no id.
@@ -16,15 +15,6 @@ pub fn entry_line(alloc: Global, entry: &Entry) -> Result<String, AllocError>
     let (wanted, confirmed) = (entry.row.revision(), entry.confirmed);
     let id = id_text(&entry.id);
     format!(in alloc; "{kind} {key} wanted={wanted} confirmed={confirmed} id={id}\n")
-}
-
-fn kind_word(kind: Kind) -> &'static str
-    ensures { result.now ≡ kind_word kind }
-{
-    match kind {
-        Kind::User => "user",
-        Kind::Group => "group",
-    }
 }
 
 fn id_text(id: &Option<ResourceId>) -> &str

@@ -30,7 +30,7 @@ laid_mid old mid same laid = laid_still old mid (unchanged_keeps old mid same) s
 
 -- ---- queries
 
-query_at : (s : State) (sql : List ℕ) → IsQuery sql → IsLaid s → IsPlain (understood s.now.schema sql) × (reads_listing s.now.schema sql ≡ false)
+pub query_at : (s : State) (sql : List ℕ) → IsQuery sql → IsLaid s → IsPlain (understood s.now.schema sql) × (reads_listing s.now.schema sql ≡ false)
 query_at s sql query laid =
     subst (λ (schema : Schema). IsPlain (understood schema sql) × (reads_listing schema sql ≡ false)) (sym laid.schema) (query laid.format_checks laid.users laid.groups)
 
@@ -54,7 +54,7 @@ ask_quiet old mid new sql text params query laid same first second =
     first second
 
 -- the rows of a query are those of its answer
-shown_unchanged : (mid new : State) (sql : List ℕ) (params : Row) (rows : List Row) → IsPlain (understood mid.now.schema sql) → Shown sql params mid new rows → IsUnchanged mid new
+pub shown_unchanged : (mid new : State) (sql : List ℕ) (params : Row) (rows : List Row) → IsPlain (understood mid.now.schema sql) → Shown sql params mid new rows → IsUnchanged mid new
 unfolding Shown
 shown_unchanged mid new sql params rows plain h =
     let none : h.0.returning ≡ None = (subst IsPlain h.1.is plain).0 in
@@ -124,9 +124,13 @@ pub on_err : {X E P : Type 0} (r : Result X E) → P → OnErr r P
 on_err (Ok x) p = tt
 on_err (Err e) p = p
 
+pub on_ok_of : {X E P : Type 0} (r : Result X E) → P → OnOk r P
+on_ok_of (Ok x) p = p
+on_ok_of (Err e) p = tt
+
 -- ---- writes
 
-edit_at : (s : State) (sql : List ℕ) (c : Compiled) → IsEditText sql → IsLaid s → understood s.now.schema sql ≡ Ok c → (c.returning ≡ None) × (c.formats ≡ []) × IsEdit c.command
+pub edit_at : (s : State) (sql : List ℕ) (c : Compiled) → IsEditText sql → IsLaid s → understood s.now.schema sql ≡ Ok c → (c.returning ≡ None) × (c.formats ≡ []) × IsEdit c.command
 edit_at s sql c edit laid is = edit laid.format_checks laid.users laid.groups c (ap (λ schema. understood schema sql) (sym laid.schema) ∙ is)
 
 shows_none : (command : Command) → IsEdit command → (is_query command ≡ false) × (is_pragma command ≡ false)
@@ -139,22 +143,30 @@ writes_of old new (Insert at from) text params count edit runs = runs
 writes_of old new (Update at q) text params count edit runs = runs
 writes_of old new command text params count edit runs = absurd edit
 
-pub ran : (old mid new : State) (sql : List ℕ) (params : Row) (count : ℕ) → IsEditText sql → IsLaid old → IsUnchanged old mid → Executes sql params mid new (Ok count) → Ran sql params old new
+-- what the one write of a text does
+pub writes_by : (old new : State) (sql : List ℕ) (params : Row) (count : ℕ) → ((c : Compiled) → understood old.now.schema sql ≡ Ok c → (c.returning ≡ None) × (c.formats ≡ []) × IsEdit c.command) → Executes sql params old new (Ok count)
+    → (c : Compiled) × (understood old.now.schema sql ≡ Ok c) × Writes old new None c.command (text_of sql c) params count
 unfolding ExecutesIn
-ran old mid new sql params count edit laid same h =
+writes_by old new sql params count edit h =
     let c = h.0 in
-    let laid_now = laid_mid old mid same laid in
-    let facts = edit_at mid sql c edit laid_now h.1.is in
+    let facts = edit c h.1.is in
     let none = shows_none c.command facts.2 in
     let quiet : shows_rows false c ≡ false = rw (none.0, none.1, facts.0) refl in
-    let runs : Runs mid new c.returning c.command (text_of sql c) (timed params c.formats h.1.now) count = rw quiet at h.2 in
-    let plain : Runs mid new None c.command (text_of sql c) params count = rw (facts.0, facts.1, append-nil params) at runs in
-    let w = writes_of mid new c.command (text_of sql c) params count facts.2 plain in
+    let runs : Runs old new c.returning c.command (text_of sql c) (timed params c.formats h.1.now) count = rw quiet at h.2 in
+    let plain : Runs old new None c.command (text_of sql c) params count = rw (facts.0, facts.1, append-nil params) at runs in
+    (c, h.1.is, writes_of old new c.command (text_of sql c) params count facts.2 plain)
+
+pub ran : (old mid new : State) (sql : List ℕ) (params : Row) (count : ℕ) → IsEditText sql → IsLaid old → IsUnchanged old mid → Executes sql params mid new (Ok count) → Ran sql params old new
+ran old mid new sql params count edit laid same h =
+    let laid_now = laid_mid old mid same laid in
+    let it = writes_by mid new sql params count (λ c is. edit_at mid sql c edit laid_now is) h in
+    let c = it.0 in
+    let w = it.2 in
     record {
       was_open = same.0.was_open;
       is_open = w.shown.is_open;
       compiled = c;
-      is = ap (λ (d : Database). understood d.schema sql) (sym same.0.now_is) ∙ h.1.is;
+      is = ap (λ (d : Database). understood d.schema sql) (sym same.0.now_is) ∙ it.1;
       limit = mid.step_limit;
       tally = w.tally;
       text = text_of sql c;

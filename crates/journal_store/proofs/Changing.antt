@@ -29,6 +29,17 @@ row_lawful : (row : source.Row) → IsRow row → IsRevision (row_revision row)
 row_lawful (User u) lawful = lawful.revision
 row_lawful (Group g) lawful = lawful.revision
 
+-- an entry that is put reads back from its columns
+pub spelled : (m : EntryMap) (row : source.Row) (held : Option Entry) → get m (row_name row) ≡ held → CanPutRow m row → IsRow (entry_with row held).row
+    → entry_in (row_name (entry_with row held).row).kind (row_of (entry_with row held)) ≡ Some (entry_with row held)
+spelled m row None is can lawful = reads_back row no_revision None lawful (confirmed_back no_revision (row_revision row) (none_first (row_revision row)) (row_lawful row lawful))
+spelled m row (Some e) is can lawful = reads_back row e.confirmed e.id lawful (confirmed_back e.confirmed (row_revision row) (can.not_below e is) (row_lawful row lawful))
+
+-- and is that of the entries with its row
+pub wanted : (m : EntryMap) (row : source.Row) (held : Option Entry) → get m (row_name row) ≡ held → insert m (row_name (entry_with row held).row) (entry_with row held) ≡ with_row m row
+wanted m row None is = λ i. insert m (row_name row) (entry_with row (sym is i))
+wanted m row (Some e) is = λ i. insert m (row_name row) (entry_with row (sym is i))
+
 module _ {S : Type 0} (g : Ghosts S) where
   abbrev at : Kept S → State
   at k = state g k.conn
@@ -54,13 +65,11 @@ module _ {S : Type 0} (g : Ghosts S) where
 
     pub row_spelled : (held : Option Entry) → Finds (at mid).now.trees (row_name row) held → CanPutRow (kept_entries g old) row → IsRow (entry_with row held).row
         → entry_in (row_name (entry_with row held).row).kind (row_of (entry_with row held)) ≡ Some (entry_with row held)
-    row_spelled None finds can lawful = reads_back row no_revision None lawful (confirmed_back no_revision (row_revision row) (none_first (row_revision row)) (row_lawful row lawful))
-    row_spelled (Some e) finds can lawful = reads_back row e.confirmed e.id lawful (confirmed_back e.confirmed (row_revision row) (can.not_below e (held_is (Some e) finds)) (row_lawful row lawful))
+    row_spelled held finds can lawful = spelled (kept_entries g old) row held (held_is held finds) can lawful
 
     pub row_wanted : (held : Option Entry) → Finds (at mid).now.trees (row_name row) held
         → insert (kept_entries g mid) (row_name (entry_with row held).row) (entry_with row held) ≡ with_row (kept_entries g old) row
-    row_wanted None finds = λ i. insert (same i) (row_name row) (entry_with row (sym (held_is None finds) i))
-    row_wanted (Some e) finds = λ i. insert (same i) (row_name row) (entry_with row (sym (held_is (Some e) finds) i))
+    row_wanted held finds = ap (λ m. insert m (row_name (entry_with row held).row) (entry_with row held)) same ∙ wanted (kept_entries g old) row held (held_is held finds)
 
   -- ---- what was learnt
 
@@ -113,10 +122,10 @@ module _ {S : Type 0} (g : Ghosts S) where
     abbrev pub learnt : Entry
     learnt = record { row = row; confirmed = confirmed; id = Some copy }
 
-    abbrev wanted : Entry
-    wanted = record { row = held.row; confirmed = confirmed; id = Some id }
+    abbrev due : Entry
+    due = record { row = held.row; confirmed = confirmed; id = Some id }
 
-    its_learnt : learnt ≡ wanted
+    its_learnt : learnt ≡ due
     its_learnt = λ i. record { row = row_is i; confirmed = confirmed; id = Some (copy_is i) }
 
     pub keep_found : IsFaithful g mid → FindsIf (at mid).now.trees (row_name learnt.row) true

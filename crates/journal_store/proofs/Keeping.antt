@@ -1,13 +1,13 @@
 -- What a call leaves of a connection: it is as it was where the call only reads or fails.
-use Rattle.std.proofs.Common.{ℕ, false, List, Option, Some, None, Err, IsTrue, sym, ap, ◌∙◌, inl, inr}
-use Rattle.std.proofs.lemmas.Bool.{cases_Bool}
+use Rattle.std.proofs.Common.{◌⊎◌, ℕ, false, List, Option, Some, None, Err, IsTrue, sym, ap, ◌∙◌, inl, inr}
 use Rattle.sqlite_value.specs.Order.{Row}
 use Rattle.sqlite_resolve.specs.declared.compiled.Compiled.{Compiled}
 use Rattle.sqlite_schema.specs.declared.command.Returning.{Returning}
 use Rattle.sqlite.specs.declared.error.Error.{Error}
 use Rattle.sqlite.specs.Effect.{Database}
 use Rattle.sqlite.specs.Clock.{timed}
-use Rattle.sqlite.specs.State.{State, IsUnchanged, IsRolledBack, IsNotRun, RunsCommand, FailsToShow, FailsToQuery, Executes, ExecutesIn, shows_rows}
+use Rattle.sqlite.specs.State.{State, IsUnchanged, IsRolledBack, IsNotRun, FailsToShow, FailsToQuery, Executes}
+use Rattle.sqlite.proofs.InsideLemmas.{fails_whole}
 use Rattle.journal_store.specs.Connections.{IsLaid, Keeps}
 
 pub unchanged_keeps : (old new : State) → IsUnchanged old new → Keeps old new
@@ -44,28 +44,36 @@ keeps_then a b c first second = record {
       (two.0 ∙ one.0, two.1, two.2);
 }
 
-pub not_run_keeps : (old new : State) (sql : List ℕ) (params : Row) (e : Error) → IsNotRun old new sql params e → Keeps old new
+-- ---- a call that fails
+
+-- it did nothing, or undid the transaction
+abbrev pub Ends : (old new : State) → Type 0
+Ends old new = IsUnchanged old new ⊎ IsRolledBack old new
+
+ends_keep : (old new : State) → Ends old new → Keeps old new
+ends_keep old new (inl same) = unchanged_keeps old new same
+ends_keep old new (inr undone) = rolled_keeps old new undone
+
+pub not_run_ends : (old new : State) (sql : List ℕ) (params : Row) (e : Error) → IsNotRun old new sql params e → Ends old new
 unfolding IsNotRun
-not_run_keeps old new sql params e (inl refused) = unchanged_keeps old new refused.1
-not_run_keeps old new sql params e (inr failed) = rolled_keeps old new failed.3
+not_run_ends old new sql params e (inl refused) = inl refused.1
+not_run_ends old new sql params e (inr failed) = inr failed.3
 
-command_keeps : (old new : State) (sql : List ℕ) (c : Compiled) (params : Row) (e : Error) → RunsCommand old new sql c params (Err e) → Keeps old new
-command_keeps old new sql c params e (inl refused) = unchanged_keeps old new refused.1
-command_keeps old new sql c params e (inr failed) = rolled_keeps old new failed.3
+show_ends : (old new : State) (sql : List ℕ) (c : Compiled) (params : Row) (e : Error) (o : Option Returning) → FailsToShow old new sql c params e o → Ends old new
+show_ends old new sql c params e None it = inl it.3
+show_ends old new sql c params e (Some what) (inl refused) = inl refused.1
+show_ends old new sql c params e (Some what) (inr failed) = inr failed.3
 
-show_keeps : (old new : State) (sql : List ℕ) (c : Compiled) (params : Row) (e : Error) (o : Option Returning) → FailsToShow old new sql c params e o → Keeps old new
-show_keeps old new sql c params e None it = unchanged_keeps old new it.3
-show_keeps old new sql c params e (Some what) it = command_keeps old new sql c params e it
+pub query_ends : (old new : State) (sql : List ℕ) (params : Row) (e : Error) → FailsToQuery sql params old new e → Ends old new
+unfolding FailsToQuery
+query_ends old new sql params e (inl refused) = not_run_ends old new sql params e refused
+query_ends old new sql params e (inr failed) = show_ends old new sql failed.0 (timed params failed.0.formats failed.1.now) e failed.0.returning failed.2
+
+pub not_run_keeps : (old new : State) (sql : List ℕ) (params : Row) (e : Error) → IsNotRun old new sql params e → Keeps old new
+not_run_keeps old new sql params e it = ends_keep old new (not_run_ends old new sql params e it)
 
 pub query_keeps : (old new : State) (sql : List ℕ) (params : Row) (e : Error) → FailsToQuery sql params old new e → Keeps old new
-unfolding FailsToQuery
-query_keeps old new sql params e (inl refused) = not_run_keeps old new sql params e refused
-query_keeps old new sql params e (inr failed) = show_keeps old new sql failed.0 (timed params failed.0.formats failed.1.now) e failed.0.returning failed.2
+query_keeps old new sql params e it = ends_keep old new (query_ends old new sql params e it)
 
 pub execute_keeps : (old new : State) (sql : List ℕ) (params : Row) (e : Error) → Executes sql params old new (Err e) → Keeps old new
-unfolding ExecutesIn
-execute_keeps old new sql params e (inl refused) = not_run_keeps old new sql params e refused
-execute_keeps old new sql params e (inr failed) = elim (cases_Bool (shows_rows false failed.0)) [
-  | inl shows ↦ unchanged_keeps old new (rw shows at failed.2).1
-  | inr runs ↦ command_keeps old new sql failed.0 (timed params failed.0.formats failed.1.now) e (rw runs at failed.2)
-]
+execute_keeps old new sql params e it = ends_keep old new (fails_whole old new false sql params e it)

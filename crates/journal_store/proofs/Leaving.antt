@@ -6,12 +6,17 @@ use Rattle.sqlite.specs.State.{State, IsUnchanged, IsRolledBack, ExecutesInside}
 use Rattle.sqlite.specs.Steps.{FailsToCommit}
 use Rattle.journal_store.specs.Connections.{IsLaid, Keeps}
 use Rattle.journal_store.specs.Opening.{LeavesStore}
+use Rattle.journal_store.proofs.Keeping.{Ends}
 
 pub unchanged_leaves : (old new : State) → IsUnchanged old new → LeavesStore old new
 unchanged_leaves old new it = record { was_open = λ _. it.0.was_open; committed = λ _. it.0.committed_is }
 
 pub rolled_leaves : (old new : State) → IsRolledBack old new → LeavesStore old new
 rolled_leaves old new it = record { was_open = it.was_open; committed = λ still. (it.undone still).1 }
+
+pub ends_leaves : (old new : State) → Ends old new → LeavesStore old new
+ends_leaves old new (inl same) = unchanged_leaves old new same
+ends_leaves old new (inr undone) = rolled_leaves old new undone
 
 pub leaves_then : (a b c : State) → LeavesStore a b → LeavesStore b c → LeavesStore a c
 leaves_then a b c first second = record {

@@ -14,6 +14,8 @@ pub mod Reading
 pub mod Loading
 pub mod Calls
 pub mod Changing
+pub mod Leaving
+pub mod Batching
 pub mod Making
 pub mod Made
 pub mod Numbering
@@ -21,7 +23,6 @@ pub mod Members
 pub mod Checking
 pub mod Reopening
 pub mod Fields
-pub mod Leaving
 pub mod Refusing
 pub mod Repeating
 pub mod Holding

@@ -1,5 +1,6 @@
 -- What a call that only reads leaves of a journal.
 use Rattle.std.proofs.Common.{◌≡◌, ◌≤◌, ◌+◌, Bool, true, Some, None, false, Result, Ok, Err, IsTrue, OnOk, sym, ap, ◌∙◌, subst, inl, inr, arith, ◌⊎◌}
+use Rattle.std.specs.Prelude.{is_some}
 use Rattle.std.specs.FinMap.{insert}
 use Rattle.sqlite_trees.specs.declared.store.Store.{Ghosts}
 use Rattle.sqlite_trees.specs.Tree.{Trees}
@@ -13,7 +14,7 @@ use Rattle.journal_core.specs.Stores.{CountsFault, CountsFaults, OnlyReads, Writ
 use Rattle.journal_core.specs.declared.entries.Entry.{Entry}
 use Rattle.journal_core.specs.declared.journals.JournalFault.{JournalFault}
 use Rattle.journal_store.specs.Rows.{entries_in, entry_in, row_of}
-use Rattle.journal_store.specs.Connections.{FindsIf, HasNumbers, IsLaid, IsThere, Keeps, Makes, PutsIn}
+use Rattle.journal_store.specs.Connections.{Commits, FindsIf, HasNumbers, IsLaid, IsThere, Keeps, PutsIn}
 use Rattle.journal_store.specs.Kept.{Kept, IsFaithful, IsHonest, IsSound, IsWhole, MayHold, kept_entries}
 use Rattle.journal_store.proofs.Keeping.{laid_still}
 use Rattle.journal_store.proofs.Putting.{entry_put, numbers_still, there_of}
@@ -72,39 +73,30 @@ module _ {S : Type 0} (g : Ghosts S) where
 
   -- ---- a call that writes
 
-  module _ (old new : Kept S) (is_there : Bool) (entry : Entry) (sound : IsSound g old) (was_usable : IsTrue old.is_usable) (usable : new.is_usable ≡ old.is_usable)
-      (finds : IsFaithful g old → FindsIf (at old).now.trees (row_name entry.row) is_there) (back : IsFaithful g old → IsRow entry.row → entry_in (row_name entry.row).kind (row_of entry) ≡ Some entry)
-      (survives : Survives (at old) (at new) (λ db. IsTrue (at old).is_open × PutsIn is_there entry (at old).now.trees db)) where
-    abbrev later : EntryMap
-    later = insert (kept_entries g old) (row_name entry.row) entry
-
+  -- what makes these entries of the tables, where the journal is faithful
+  module _ (old new : Kept S) (later : EntryMap) (Changes : Trees → Trees → Type 0) (sound : IsSound g old) (was_usable : IsTrue old.is_usable) (usable : new.is_usable ≡ old.is_usable)
+      (means : IsFaithful g old → (db : Trees) → Changes (at old).now.trees db → HasNumbers db × (entries_in db ≡ later))
+      (survives : Survives (at old) (at new) (λ db. IsTrue (at old).is_open × Changes (at old).now.trees db)) where
     faithful_before : HasCleanDisk (at new) → IsTrue (at old).is_open → IsFaithful g old
     faithful_before clean still =
         let early : HasCleanDisk (at old) = omega (arith, clean, survives.clean) in
         record { clean = early; is_open = still; usable = was_usable; whole = sound early still was_usable }
 
-    put_is : (db : Trees) → IsFaithful g old → PutsIn is_there entry (at old).now.trees db → entries_in db ≡ later
-    put_is db it puts =
-        let found = finds it in
-        entry_put found.0 entry (at old).now.trees db it.whole.numbers found.2 (subst (λ b. PutsIn b entry (at old).now.trees db) found.1 puts) (back it puts.lawful) ∙ ap (λ (d : Database). insert (entries_in d.trees) (row_name entry.row) entry) (sym it.whole.laid.committed)
-
     stops : (found : EntryMap) → HasCleanDisk (at new) → MayHold g new found → MayHold g old found ⊎ (IsFaithful g old × (found ≡ later))
     stops found clean may = elim (survives.crash clean may.0 may.1) [
       | inl was ↦ inl (may.0, was, may.2)
-      | inr left ↦ let before = faithful_before clean left.0 in inr (before, may.2 ∙ put_is may.0 before left.1)
+      | inr left ↦ let before = faithful_before clean left.0 in inr (before, may.2 ∙ (means before may.0 left.1).1)
     ]
 
-    module _ (makes : HasCleanDisk (at new) → Makes is_there entry (at old) (at new)) where
+    module _ (makes : HasCleanDisk (at new) → Commits Changes (at old) (at new)) where
       pub wrote_faithful : HasCleanDisk (at new) → IsFaithful g new
       wrote_faithful clean =
           let made = makes clean in
-          let before = faithful_before clean made.was_open in
-          let found = finds before in
           record {
             clean = clean;
             is_open = made.is_open;
             usable = subst IsTrue (sym usable) was_usable;
-            whole = record { laid = made.laid; numbers = numbers_still found.0 entry (at old).now.trees (at new).now.trees before.whole.numbers found.2 (subst (λ b. PutsIn b entry (at old).now.trees (at new).now.trees) found.1 made.puts) (back before made.puts.lawful) };
+            whole = record { laid = made.laid; numbers = (means (faithful_before clean made.was_open) (at new).now.trees made.puts).0 };
           }
 
       pub wrote_sound : IsSound g new
@@ -115,7 +107,7 @@ module _ {S : Type 0} (g : Ghosts S) where
       wrote faults writes = record {
         was = λ it. faithful_before it.clean (makes it.clean).was_open;
         done = λ it. let made = makes it.clean in
-            ap (λ (d : Database). entries_in d.trees) made.laid.committed ∙ put_is (at new).now.trees (faithful_before it.clean made.was_open) made.puts;
+            ap (λ (d : Database). entries_in d.trees) made.laid.committed ∙ (means (faithful_before it.clean made.was_open) (at new).now.trees made.puts).1;
         same = λ _. tt;
         honest = λ clean. omega (arith, clean, survives.clean);
         stop = λ clean found may. stops found clean may;
@@ -142,6 +134,17 @@ module _ {S : Type 0} (g : Ghosts S) where
         written = omega (arith, writes);
         unwritten = writes;
       }
+
+  -- an entry that is put
+  pub put_means : (old : Kept S) (is_there : Bool) (entry : Entry) → (IsFaithful g old → FindsIf (at old).now.trees (row_name entry.row) is_there)
+      → (IsFaithful g old → IsRow entry.row → entry_in (row_name entry.row).kind (row_of entry) ≡ Some entry)
+      → IsFaithful g old → (db : Trees) → PutsIn is_there entry (at old).now.trees db → HasNumbers db × (entries_in db ≡ insert (kept_entries g old) (row_name entry.row) entry)
+  put_means old is_there entry finds back it db puts =
+      let found = finds it in
+      let its : PutsIn (is_some found.0) entry (at old).now.trees db = subst (λ b. PutsIn b entry (at old).now.trees db) found.1 puts in (
+        numbers_still found.0 entry (at old).now.trees db it.whole.numbers found.2 its (back it puts.lawful),
+        entry_put found.0 entry (at old).now.trees db it.whole.numbers found.2 its (back it puts.lawful) ∙ ap (λ (d : Database). insert (entries_in d.trees) (row_name entry.row) entry) (sym it.whole.laid.committed),
+      )
 
 -- the row of a name that is known to be there
 pub there_if : (db : Trees) (name : RecordName) (is_there : Bool) → HasNumbers db → FindsIf db name is_there → is_there ≡ true → IsThere db name

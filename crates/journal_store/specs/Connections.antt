@@ -215,12 +215,16 @@ pub record PutsIn (is_there : Bool) (entry : Entry) (old new : Trees) : Type 0 w
   pub users : (row_name entry.row).kind ≡ Group → new (entry_tree User) ≡ old (entry_tree User)
   pub groups : (row_name entry.row).kind ≡ User → new (entry_tree Group) ≡ old (entry_tree Group)
 
--- the entry is put, and this is committed
-pub record Makes (is_there : Bool) (entry : Entry) (old new : State) : Type 0 where
+-- the tables are changed so, and this is committed
+pub record Commits (Changes : Trees → Trees → Type 0) (old new : State) : Type 0 where
   pub was_open : IsTrue old.is_open
   pub is_open : IsTrue new.is_open
   pub laid : IsLaid new
-  pub puts : PutsIn is_there entry old.now.trees new.now.trees
+  pub puts : Changes old.now.trees new.now.trees
+
+-- the entry is put, and this is committed
+abbrev pub Makes : Bool → Entry → (old new : State) → Type 0
+Makes is_there entry = Commits (PutsIn is_there entry)
 
 -- the one row with this key is there, under a number of its own
 pub record IsThere (db : Trees) (name : RecordName) : Type 0 where

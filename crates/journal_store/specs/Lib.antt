@@ -1,6 +1,7 @@
 pub mod Format
 pub mod Rows
 pub mod Connections
+pub mod Batches
 pub mod Faults
 pub mod Opening
 pub mod Kept

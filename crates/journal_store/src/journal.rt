@@ -5,16 +5,16 @@ ghost use Rattle.std.specs.FinMap.{insert};
 ghost use Rattle.sqlite.specs.Held.{state};
 ghost use Rattle.sqlite.specs.State.{HasCleanDisk, Survives};
 ghost use Rattle.source_csv.specs.Records.{IsRow, row_name};
-ghost use Rattle.journal_core.specs.Entries.{entry_with};
 ghost use Rattle.journal_core.specs.Stores.{CountsFault, HasRisen, OnlyReads, Reopens, WritesOnce};
 ghost use Rattle.journal_store.specs.Connections.{Finds, FindsIf, ListsAll};
 ghost use Rattle.journal_store.specs.Kept.{IsFaithful, IsHonest, MayHold, kept_entries};
 ghost use Rattle.journal_store.specs.Opening.{IsCause, LeavesNone, LeavesStore, Stands, journal_fault};
 ghost use Rattle.journal_store.specs.Rows.{entry_in, row_of};
 
+use crate::batches::put_all;
 use crate::opening::{OpenFault, check_tables, open_tables};
 use crate::statements::TableFault;
-use crate::tables::{find_entry, list_entries, put_entry};
+use crate::tables::{find_entry, list_entries, put_entry, with_row};
 use journal_core::{Entry, Journal, JournalFault};
 use scim_key::{Kind, RecordName, ResourceId, Revision};
 use source_csv::Row;
@@ -60,23 +60,6 @@ fn fault_of(fault: TableFault) -> JournalFault {
         TableFault::Memory => JournalFault::Memory,
         TableFault::Store => JournalFault::Store,
         TableFault::Damaged => JournalFault::Store,
-    }
-}
-
-/// The entry with this row: a new one has nothing else.
-fn with_row(held: Option<Entry>, row: Row) -> Entry
-    ensures { result ≡ entry_with row held }
-{
-    match held {
-        Some(entry) => {
-            let (_row, confirmed, id) = entry.into_parts();
-            Entry { row, confirmed, id }
-        }
-        None => Entry {
-            row,
-            confirmed: Revision::none(),
-            id: None,
-        },
     }
 }
 
@@ -159,6 +142,19 @@ impl<S: Alter> Journal for SqlJournal<S> {
         let held = self.look_up(&name)?;
         let is_there = held.is_some();
         self.put(is_there, &with_row(held, row))
+    }
+
+    fn put_rows(&mut self, rows: &[Row]) -> Result<(), JournalFault> {
+        if !self.is_usable {
+            return Err(counted(&mut self.faults, JournalFault::Store));
+        }
+        match put_all(self.alloc, &mut self.conn, rows) {
+            Ok(()) => {
+                self.writes = self.writes.saturating_add(1);
+                Ok(())
+            }
+            Err(fault) => Err(counted(&mut self.faults, fault_of(fault))),
+        }
     }
 
     fn put_learnt(

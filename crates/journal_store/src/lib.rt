@@ -1,6 +1,7 @@
 //! The journal of a connector in SQLite.
 #![tactic(auto)]
 
+mod batches;
 mod columns;
 mod format;
 mod journal;

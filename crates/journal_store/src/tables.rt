@@ -2,7 +2,7 @@
 ghost use Rattle.std.specs.Prelude.{◌≡◌, pos, true, false, MatchOption, IfErr, IfOk, IsTrue, OnOk, OnErr, string_bytes};
 ghost use Rattle.sqlite.specs.Held.{state};
 ghost use Rattle.sqlite.specs.State.{HasCleanDisk, Survives};
-ghost use Rattle.sqlite.specs.Values.{bound_value};
+ghost use Rattle.sqlite.specs.Values.{bound, bound_value};
 ghost use Rattle.sqlite_value.specs.Value.{owned};
 ghost use Rattle.sqlite_value.specs.declared.value.Value.TheVariants.{Int, Text};
 ghost use Rattle.std.specs.Ordering.{is_lt};
@@ -11,6 +11,7 @@ ghost use Rattle.scim_key.specs.Records.{name_cmp};
 ghost use Rattle.source_csv.specs.Records.{row_name};
 ghost use Rattle.source_csv.specs.Rows.{IsGroupRow, IsUserRow};
 ghost use Rattle.source_csv.specs.declared.rows.Row.TheVariants.{User, Group};
+ghost use Rattle.journal_core.specs.Entries.{entry_with};
 ghost use Rattle.journal_store.specs.Connections.{AreShown, Finds, IsLaid, IsOnly, IsUnshown, ListsAll, ListsNone, IsThere, Keeps, Makes, MayLeave, PutsIn, Ran, IsEditText, put_text};
 ghost use Rattle.journal_store.specs.Faults.{HasCause};
 ghost use Rattle.journal_store.specs.Format.{all_text, find_text};
@@ -33,7 +34,7 @@ fn number_param(number: u32) -> ValueRef<'static>
     ValueRef::Int(i64::from(number))
 }
 
-fn text_param(text: &str) -> ValueRef<'_>
+pub(crate) fn text_param(text: &str) -> ValueRef<'_>
     ensures { bound_value (owned result) ≡ Text text.now }
 {
     ValueRef::Text(text.as_bytes())
@@ -60,7 +61,7 @@ fn active_param(active: bool) -> ValueRef<'static>
 }
 
 /// The keys, with a space between each two.
-fn members_text(alloc: Global, keys: &[Key]) -> Result<String, AllocError>
+pub(crate) fn members_text(alloc: Global, keys: &[Key]) -> Result<String, AllocError>
     ensures { IfOk result (λ text. string_bytes text ≡ members_text keys.now) }
 {
     let mut text = String::new(alloc);
@@ -76,7 +77,7 @@ fn members_text(alloc: Global, keys: &[Key]) -> Result<String, AllocError>
 // ---- one entry
 
 /// The entry that the rows of a name show.
-fn only(alloc: Global, kind: Kind, rows: &[Row]) -> Result<Option<Entry>, TableFault>
+pub(crate) fn only(alloc: Global, kind: Kind, rows: &[Row]) -> Result<Option<Entry>, TableFault>
     ensures { IfOk result (IsOnly kind rows.now) }
 {
     match rows {
@@ -86,7 +87,7 @@ fn only(alloc: Global, kind: Kind, rows: &[Row]) -> Result<Option<Entry>, TableF
     }
 }
 
-fn find_statement(kind: Kind) -> &'static str
+pub(crate) fn find_statement(kind: Kind) -> &'static str
     ensures { result.now ≡ find_text kind }
 {
     match kind {
@@ -123,7 +124,24 @@ pub(crate) fn find_entry<S: Alter>(
 
 // ---- one write
 
-fn put_statement(kind: Kind, is_there: bool) -> &'static str
+/// The entry with this row: a new one has nothing else.
+pub(crate) fn with_row(held: Option<Entry>, row: SourceRow) -> Entry
+    ensures { result ≡ entry_with row held }
+{
+    match held {
+        Some(entry) => {
+            let (_row, confirmed, id) = entry.into_parts();
+            Entry { row, confirmed, id }
+        }
+        None => Entry {
+            row,
+            confirmed: Revision::none(),
+            id: None,
+        },
+    }
+}
+
+pub(crate) fn put_statement(kind: Kind, is_there: bool) -> &'static str
     ensures { result.now ≡ put_text is_there kind }
 {
     match (kind, is_there) {
@@ -142,13 +160,64 @@ fn put_statement(kind: Kind, is_there: bool) -> &'static str
     }
 }
 
-fn kind_of(row: &SourceRow) -> Kind
+pub(crate) fn kind_of(row: &SourceRow) -> Kind
     ensures { result ≡ (row_name row.now).kind }
 {
     match row {
         SourceRow::User(_) => Kind::User,
         SourceRow::Group(_) => Kind::Group,
     }
+}
+
+/// The columns of a user's entry, under its key, with its revision.
+pub(crate) fn user_params<'a>(
+    key: &'a Key,
+    user: &'a UserRow,
+    revision: Revision,
+    confirmed: Revision,
+    id: &'a Option<ResourceId>,
+) -> [ValueRef<'a>; 10]
+    requires key { key.now ≡ (row_name (User user.now)).key }
+    requires revision { revision ≡ user.now.revision }
+    ensures { bound result ≡ row_by (User user.now) confirmed id.now }
+{
+    [
+        text_param(key.as_str()),
+        text_param(user.login().as_str()),
+        number_param(revision.number()),
+        text_param(user.number()),
+        text_param(user.given()),
+        text_param(user.family()),
+        text_param(user.mail()),
+        active_param(user.is_active()),
+        number_param(confirmed.number()),
+        id_param(id),
+    ]
+}
+
+/// The columns of a group's entry, under its key, with its revision and the text of its
+/// members.
+pub(crate) fn group_params<'a>(
+    key: &'a Key,
+    members: &'a str,
+    group: &'a GroupRow,
+    revision: Revision,
+    confirmed: Revision,
+    id: &'a Option<ResourceId>,
+) -> [ValueRef<'a>; 6]
+    requires key { key.now ≡ (row_name (Group group.now)).key }
+    requires revision { revision ≡ group.now.revision }
+    requires members { members.now ≡ members_text group.now.members }
+    ensures { bound result ≡ row_by (Group group.now) confirmed id.now }
+{
+    [
+        text_param(key.as_str()),
+        text_param(group.name().as_str()),
+        number_param(revision.number()),
+        text_param(members),
+        number_param(confirmed.number()),
+        id_param(id),
+    ]
 }
 
 /// Runs a write with the columns of a user's entry.
@@ -169,19 +238,7 @@ fn write_user<S: Alter>(
 {
     let revision = user.revision();
     let key = user.login().key(alloc)?;
-    let params = [
-        text_param(key.as_str()),
-        text_param(user.login().as_str()),
-        number_param(revision.number()),
-        text_param(user.number()),
-        text_param(user.given()),
-        text_param(user.family()),
-        text_param(user.mail()),
-        active_param(user.is_active()),
-        number_param(confirmed.number()),
-        id_param(id),
-    ];
-    match write(conn, sql, &params) {
+    match write(conn, sql, &user_params(&key, user, revision, confirmed, id)) {
         Ok(()) => Ok(()),
         Err(error) => Err(TableFault::from(error)),
     }
@@ -206,15 +263,11 @@ fn write_group<S: Alter>(
     let revision = group.revision();
     let key = group.name().key(alloc)?;
     let members = members_text(alloc, group.members())?;
-    let params = [
-        text_param(key.as_str()),
-        text_param(group.name().as_str()),
-        number_param(revision.number()),
-        text_param(members.as_str()),
-        number_param(confirmed.number()),
-        id_param(id),
-    ];
-    match write(conn, sql, &params) {
+    match write(
+        conn,
+        sql,
+        &group_params(&key, members.as_str(), group, revision, confirmed, id),
+    ) {
         Ok(()) => Ok(()),
         Err(error) => Err(TableFault::from(error)),
     }

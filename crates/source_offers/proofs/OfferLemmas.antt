@@ -1,27 +1,48 @@
 -- One record more.
-use Rattle.std.proofs.Common.{◌≡◌, ◌+◌, ◌<◌, ◌≤◌, ℕ, suc, Bool, true, List, [], ◌∷◌, ◌++◌, ◌&&◌, length, take, drop, Option, Some, None, Result, Ok, Err, refl, ap, sym, ◌∙◌, subst, append_assoc, append-nil, arith}
+use Rattle.std.proofs.Common.{◌≡◌, ◌≢◌, ◌+◌, ◌<◌, ℕ, Bool, false, List, [], ◌∷◌, ◌++◌, ◌&&◌, length, take, drop, Option, Some, None, Result, Ok, Err, refl, ap, sym, ◌∙◌, append_assoc, append-nil, add-one, drop-cons}
 use Rattle.std.proofs.Math.ListN.{get_or}
-use Rattle.std.proofs.Math.Seq.{split_at, take-suc}
-use Rattle.std.proofs.lemmas.List.{length-take-le}
+use Rattle.std.proofs.lemmas.List.{take_more}
+use Rattle.std.proofs.lemmas.List.Elements.{filter_map-append}
 use Rattle.std.proofs.lemmas.List.Folds.{list_all-append}
 use Rattle.std.specs.List.{list_all}
+use Rattle.std.specs.Result.{is_err, result_ok}
 use Rattle.scim_key.specs.declared.records.Kind.{Kind}
+use Rattle.source_book.specs.declared.accepting.Verdict.{Verdict}
 use Rattle.source_csv.specs.declared.faults.RowFault.{RowFault}
 use Rattle.source_csv.specs.declared.rows.Row.{Row}
-use Rattle.journal_core.specs.declared.journals.Journal.{Ghosts}
-use Rattle.connector_core.specs.State.{State}
-use Rattle.source_offers.specs.Offering.{AllDealt, AreDealt, Hears, IsDealt, IsHalt, OffersRecord, PartDealt, is_taken}
+use Rattle.connector_core.specs.declared.changing.ChangeFault.{ChangeFault}
+use Rattle.source_offers.specs.Faults.{IsUntold}
+use Rattle.source_offers.specs.Offering.{Hears, Tells, is_taken, judged_of, rows_in}
 use Rattle.source_offers.specs.declared.faults.OfferFault.{OfferFault}
 use Rattle.source_offers.specs.declared.offering.Judged.{Judged}
 
 abbrev Source : Type 0
 Source = Result Row RowFault
 
--- ---- telling
+abbrev Said : Type 0
+Said = Result Verdict ChangeFault
 
-pub heard_nothing : (heard : Option (List Judged)) → Hears heard heard []
-heard_nothing None = tt
-heard_nothing (Some all) = sym (append-nil all)
+-- ---- lists
+
+-- what is left at a place begins with the element there
+pub drop_here : {X : Type 0} (xs : List X) (i : ℕ) (x : X) → i < length xs → x ≡ get_or xs i x → drop i xs ≡ x ∷ drop (i + 1) xs
+drop_here xs i x less is = rw (add-one, drop-cons xs i x less, ← is) refl
+
+-- ---- rows
+
+rows_next : (records : List Source) (i : ℕ) (found : Source) → i < length records → found ≡ get_or records i found → rows_in (take (i + 1) records) ≡ rows_in (take i records) ++ rows_in (found ∷ [])
+rows_next records i found less is = ap rows_in (take_more records i found less ∙ ap (λ (x : Source). take i records ++ x ∷ []) (sym is)) ∙ filter_map-append result_ok (take i records) (found ∷ [])
+
+-- the rows so far, and one more
+pub row_next : (records : List Source) (i : ℕ) (found : Source) (row : Row) → i < length records → found ≡ get_or records i found → found ≡ Ok row → rows_in (take (i + 1) records) ≡ rows_in (take i records) ++ row ∷ []
+row_next records i found row less is here = rows_next records i found less is ∙ ap (λ (x : Source). rows_in (take i records) ++ rows_in (x ∷ [])) here
+
+-- a record that is no row is passed over
+pub none_next : (records : List Source) (i : ℕ) (found : Source) (refusal : RowFault) → i < length records → found ≡ get_or records i found → found ≡ Err refusal → rows_in (take (i + 1) records) ≡ rows_in (take i records)
+none_next records i found refusal less is here =
+    rows_next records i found less is ∙ ap (λ (x : Source). rows_in (take i records) ++ rows_in (x ∷ [])) here ∙ append-nil (rows_in (take i records))
+
+-- ---- telling
 
 pub heard_more : (old between new : Option (List Judged)) (first then : List Judged) → Hears old between first → Hears between new then → Hears old new (first ++ then)
 heard_more None between new first then a b = tt
@@ -29,57 +50,45 @@ heard_more (Some all) None new first then a b = absurd a
 heard_more (Some all) (Some more) None first then a b = absurd b
 heard_more (Some all) (Some more) (Some most) first then a b = b ∙ ap (λ xs. xs ++ then) a ∙ append_assoc all first then
 
+-- Of these rows the first were told, and those that are left are to be told
+pub record IsTold (all left : List Judged) (before now : Option (List Judged)) (taken : Bool) : Type 0 where
+  pub told : List Judged
+  pub all_are : all ≡ told ++ left
+  pub hears : Hears before now told
+  pub taken_is : taken ≡ list_all is_taken told
+
+-- one more was told
+pub told_more : (all left rest : List Judged) (judged : Judged) (before mid now : Option (List Judged)) (taken more both : Bool) → left ≡ judged ∷ rest → IsTold all left before mid taken
+    → Tells (judged ∷ []) mid now (Ok more) → both ≡ (taken && more) → IsTold all rest before now both
+told_more all left rest judged before mid now taken more both left_is so_far one both_is = record {
+  told = so_far.told ++ judged ∷ [];
+  all_are = so_far.all_are ∙ ap (λ xs. so_far.told ++ xs) left_is ∙ sym (append_assoc so_far.told (judged ∷ []) rest);
+  hears = heard_more before mid now so_far.told (judged ∷ []) so_far.hears one.0;
+  taken_is = both_is ∙ ap (λ b. b && more) so_far.taken_is ∙ ap (λ b. list_all is_taken so_far.told && b) one.1 ∙ sym (list_all-append is_taken so_far.told (judged ∷ []));
+}
+
+not_nil : (told rest : List Judged) (judged : Judged) → told ++ judged ∷ rest ≢ []
+not_nil [] rest judged none = absurd (cc none)
+not_nil (first ∷ told) rest judged none = absurd (cc none)
+
+-- one couldn't be told
+pub told_part : (all left rest : List Judged) (judged : Judged) (before mid now : Option (List Judged)) (taken : Bool) (fault : OfferFault) → left ≡ judged ∷ rest → IsTold all left before mid taken
+    → IsUntold fault → Tells all before now (Err fault)
+told_part all left rest judged before mid now taken fault left_is so_far untold =
+    (λ none. not_nil so_far.told rest judged (sym (so_far.all_are ∙ ap (λ xs. so_far.told ++ xs) left_is) ∙ none), untold)
+
 -- ---- records
 
-from_zero : (n : ℕ) → n + 0 ≡ n
-from_zero n = omega arith
+-- a row comes with the next verdict
+pub left_row : (of : Kind) (place : ℕ) (found : Source) (rest : List Source) (verdict : Said) (said : List Said) → is_err found ≡ false
+    → judged_of of place (found ∷ rest) (verdict ∷ said) ≡ record { kind = of; place = place; verdict = verdict } ∷ judged_of of (place + 1) rest said
+left_row of place (Ok row) rest verdict said is_row = refl
+left_row of place (Err refusal) rest verdict said is_row = absurd (cc is_row)
 
-one_on : (n m : ℕ) → n + suc m ≡ (n + 1) + m
-one_on n m = omega arith
-
-module _ {J : Type 0} (g : Ghosts J) (of : Kind) where
-  dealt_more : (place : ℕ) (done : List Source) (source : Source) (first more : List Judged) (old between new : State J)
-      → AreDealt g of place done first old between → IsDealt g of (place + length done) source more between new
-      → AreDealt g of place (done ++ source ∷ []) (first ++ more) old new
-  dealt_more place [] source first more old between new are one =
-      let here : IsDealt g of place source more between new = subst (λ (n : ℕ). IsDealt g of n source more between new) (from_zero place) one in
-      let from : IsDealt g of place source more old new = subst (λ (s : State J). IsDealt g of place source more s new) are.1 here in
-      (more, [], new, ap (λ xs. xs ++ more) are.0 ∙ sym (append-nil more), from, (refl, refl))
-  dealt_more place (s ∷ done) source first more old between new are one =
-      let next : IsDealt g of ((place + 1) + length done) source more between new = subst (λ (n : ℕ). IsDealt g of n source more between new) (one_on place (length done)) one in
-      (are.0, are.1 ++ more, are.2, ap (λ xs. xs ++ more) are.3 ∙ append_assoc are.0 are.1 more, are.4, dealt_more (place + 1) done source are.1 more are.2 between new are.5 next)
-
-  pub none_dealt : (state : State J) (heard : Option (List Judged)) → AllDealt g of [] state state heard heard true
-  none_dealt state heard = record { judged = []; are = (refl, refl); hears = heard_nothing heard; taken_is = refl }
-
-  -- the records so far, and one more
-  pub dealt_next : (sources : List Source) (i : ℕ) (source : Source) (old between new : State J) (before mid after : Option (List Judged)) (taken more both : Bool)
-      → i < length sources → source ≡ get_or sources i source → AllDealt g of (take i sources) old between before mid taken
-      → OffersRecord g of (i + 1) source between new mid after (Ok more) → both ≡ (taken && more)
-      → AllDealt g of (take (i + 1) sources) old new before after both
-  dealt_next sources i source old between new before mid after taken more both less is all one both_is =
-      let within : i ≤ length sources = omega arith in
-      let place : i + 1 ≡ 1 + length (take i sources) = rw (length-take-le i sources within) (omega arith) in
-      let here : IsDealt g of (1 + length (take i sources)) source one.0 between new = subst (λ (n : ℕ). IsDealt g of n source one.0 between new) place one.1 in
-      let next : suc i ≡ i + 1 = omega arith in
-      let names : take i sources ++ source ∷ [] ≡ take (i + 1) sources = ap (λ (x : Source). take i sources ++ x ∷ []) is ∙ sym (take-suc sources i source less) ∙ ap (λ n. take n sources) next in
-      subst (λ (list : List Source). AllDealt g of list old new before after both) names (record {
-        judged = all.judged ++ one.0;
-        are = dealt_more 1 (take i sources) source all.judged one.0 old between new all.are here;
-        hears = heard_more before mid after all.judged one.0 all.hears one.2;
-        taken_is = both_is ∙ ap (λ b. b && more) all.taken_is ∙ ap (λ b. list_all is_taken all.judged && b) one.3 ∙ sym (list_all-append is_taken all.judged one.0);
-      })
-
-  -- a record ended the run
-  pub halted : (sources : List Source) (i : ℕ) (source : Source) (old between new : State J) (before mid : Option (List Judged)) (taken : Bool) (fault : OfferFault)
-      → i < length sources → source ≡ get_or sources i source → AllDealt g of (take i sources) old between before mid taken
-      → IsHalt g source between new fault → PartDealt g of sources old new fault
-  halted sources i source old between new before mid taken fault less is all halt = record {
-    done = take i sources;
-    rest = source ∷ drop (suc i) sources;
-    judged = all.judged;
-    between = between;
-    sources_are = split_at sources i source less ∙ ap (λ (x : Source). take i sources ++ x ∷ drop (suc i) sources) (sym is);
-    are = all.are;
-    halts = halt;
-  }
+-- the row at this place is the first that is left
+pub left_here : (of : Kind) (records : List Source) (i : ℕ) (found : Source) (items rest : List Said) (verdict : Said) → i < length records → found ≡ get_or records i found → is_err found ≡ false
+    → items ≡ verdict ∷ rest
+    → judged_of of (i + 1) (drop i records) items ≡ record { kind = of; place = i + 1; verdict = verdict } ∷ judged_of of (i + 1 + 1) (drop (i + 1) records) rest
+left_here of records i found items rest verdict less is is_row items_are =
+    ap (λ xs. judged_of of (i + 1) xs items) (drop_here records i found less is) ∙ ap (λ said. judged_of of (i + 1) (found ∷ drop (i + 1) records) said) items_are
+    ∙ left_row of (i + 1) found (drop (i + 1) records) verdict rest is_row

@@ -1,20 +1,17 @@
 -- Rows of files that are offered to the connector, and what it says of each.
-use Rattle.std.specs.Prelude.{◌≡◌, ◌≢◌, ◌⊎◌, ◌+◌, ◌&&◌, ⊤, ℕ, Bool, true, List, [], ◌∷◌, ◌++◌, Option, Some, None, Result, Ok, Err, IfOk, OnOk, OnErr, is_ok}
-use Rattle.std.specs.FinMap.{keys}
-use Rattle.std.specs.List.{list_all}
+use Rattle.std.specs.Prelude.{◌≡◌, ◌≢◌, ◌⊎◌, ◌+◌, ◌&&◌, ⊤, ℕ, Bool, true, List, [], ◌∷◌, ◌++◌, Option, Some, None, Result, Ok, Err, is_ok}
+use Rattle.std.specs.List.{filter_map, list_all}
+use Rattle.std.specs.Result.{result_ok}
 use Rattle.scim_key.specs.declared.records.Kind.{Kind}
-use Rattle.scim_key.specs.declared.records.Kind.TheVariants as kinds
 use Rattle.source_book.specs.declared.accepting.Verdict.{Verdict}
-use Rattle.source_book.specs.declared.accepting.Verdict.TheVariants.{New}
 use Rattle.source_csv.specs.declared.faults.RowFault.{RowFault}
 use Rattle.source_csv.specs.declared.rows.Row.{Row}
 use Rattle.journal_core.specs.Stores.{WritesOnce}
 use Rattle.journal_core.specs.declared.journals.Journal.{Ghosts}
-use Rattle.connector_core.specs.Changing.{CountsChange, IsNoVerdict, accepted_entries, accepted_map, judging}
-use Rattle.connector_core.specs.Maps.{GivesUnless, book_of}
+use Rattle.connector_core.specs.Changing.{CountsChange, IsNoVerdict, entries_all, new_rows, taking_all, verdicts}
 use Rattle.connector_core.specs.State.{State}
 use Rattle.connector_core.specs.declared.changing.ChangeFault.{ChangeFault}
-use Rattle.connector_core.specs.declared.changing.ChangeFault.TheVariants.{Differs, NoSuchMember, TooMany, Store, Memory}
+use Rattle.connector_core.specs.declared.changing.ChangeFault.TheVariants.{Store}
 use Rattle.source_offers.specs.Faults.{IsUntold}
 use Rattle.source_offers.specs.Sources.{records_of}
 use Rattle.source_offers.specs.declared.faults.OfferFault.{OfferFault}
@@ -23,29 +20,18 @@ use Rattle.source_offers.specs.declared.offering.Judged.{Judged}
 use Rattle.source_offers.specs.declared.sources.Source.{Source}
 use Rattle.source_offers.specs.declared.sources.Sources.{Sources}
 
--- ---- one row
+-- ---- the rows of a file
 
--- The connector was offered a row and said this, as its book has it; a new row is the wanted one and is written once, and
--- nothing else changes
-pub record IsOffered {J : Type 0} (g : Ghosts J) (row : Row) (said : Result Verdict ChangeFault) (old new : State J) : Type 0 where
-  pub verdict : GivesUnless IsNoVerdict said (judging (book_of old.book) (keys old.book) row)
-  pub ok : OnOk said (new.book ≡ accepted_map old.book row (judging (book_of old.book) (keys old.book) row))
-  pub err : OnErr said (new.book ≡ old.book)
-  pub journal : WritesOnce g.entries g.is_faithful g.is_honest g.may_hold g.faults g.writes CountsChange old.journal new.journal (accepted_entries (g.entries old.journal) row (judging (book_of old.book) (keys old.book) row)) said
-  pub quiet : IfOk said (λ verdict. verdict ≢ New → g.writes new.journal ≡ g.writes old.journal)
+-- the rows among the records, in their order
+abbrev pub rows_in : List (Result Row RowFault) → List Row
+rows_in records = filter_map result_ok records
 
--- what ends the run where nothing is said of the row
-abbrev pub stop_of : Result Verdict ChangeFault → Option OfferFault
-stop_of (Ok verdict) = None
-stop_of (Err Differs) = None
-stop_of (Err (NoSuchMember key)) = None
-stop_of (Err TooMany) = None
-stop_of (Err Store) = Some fault_of.Journal
-stop_of (Err Memory) = Some fault_of.Memory
-
-abbrev pub Judges : {J : Type 0} → Ghosts J → Row → (old new : State J) → Result (Result Verdict ChangeFault) OfferFault → Type 0
-Judges g row old new (Ok said) = IsOffered g row said old new × (stop_of said ≡ None)
-Judges g row old new (Err fault) = ((said : Result Verdict ChangeFault) × IsOffered g row said old new × (stop_of said ≡ Some fault)) ⊎ ((new ≡ old) × (fault ≡ fault_of.Memory))
+-- the rows of the records from this place on, each with what was said of it: the n-th row with the n-th verdict
+abbrev pub judged_of : Kind → (place : ℕ) → List (Result Row RowFault) → List (Result Verdict ChangeFault) → List Judged
+judged_of of place [] said = []
+judged_of of place (Err refusal ∷ records) said = judged_of of (place + 1) records said
+judged_of of place (Ok row ∷ records) [] = []
+judged_of of place (Ok row ∷ records) (verdict ∷ said) = record { kind = of; place = place; verdict = verdict } ∷ judged_of of (place + 1) records said
 
 -- ---- telling
 
@@ -55,57 +41,47 @@ Hears None new judged = ⊤
 Hears (Some all) None judged = ⊥
 Hears (Some all) (Some more) judged = more ≡ all ++ judged
 
--- ---- one record
-
 -- the connector didn't refuse the row
 abbrev pub is_taken : Judged → Bool
 is_taken judged = is_ok judged.verdict
 
--- a record that is no row is passed over, and a row is offered
-abbrev pub IsDealt : {J : Type 0} → Ghosts J → Kind → (place : ℕ) → Result Row RowFault → List Judged → (old new : State J) → Type 0
-IsDealt g of place (Err refusal) judged old new = (judged ≡ []) × (new ≡ old)
-IsDealt g of place (Ok row) judged old new = (said : Result Verdict ChangeFault) × (judged ≡ record { kind = of; place = place; verdict = said } ∷ []) × IsOffered g row said old new × (stop_of said ≡ None)
+-- each of these rows was told, and the answer is whether none was refused; or one of them couldn't be told
+abbrev pub Tells : List Judged → (before after : Option (List Judged)) → Result Bool OfferFault → Type 0
+Tells judged before after (Ok taken) = Hears before after judged × (taken ≡ list_all is_taken judged)
+Tells judged before after (Err fault) = (judged ≢ []) × IsUntold fault
 
--- the row of this record ended the run, or telling it did
-abbrev pub IsHalt : {J : Type 0} → Ghosts J → Result Row RowFault → (old new : State J) → OfferFault → Type 0
-IsHalt g (Err refusal) old new fault = ⊥
-IsHalt g (Ok row) old new fault = Judges g row old new (Err fault) ⊎ ((said : Result Verdict ChangeFault) × IsOffered g row said old new × (stop_of said ≡ None) × IsUntold fault)
+-- ---- what the connector does with the rows of a file
 
-abbrev pub OffersRecord : {J : Type 0} → Ghosts J → Kind → (place : ℕ) → Result Row RowFault → (old new : State J) → (before after : Option (List Judged)) → Result Bool OfferFault → Type 0
-OffersRecord g of place source old new before after (Ok taken) = (judged : List Judged) × IsDealt g of place source judged old new × Hears before after judged × (taken ≡ list_all is_taken judged)
-OffersRecord g of place source old new before after (Err fault) = IsHalt g source old new fault
+-- The connector said this of the rows, each by the book that those before it left; the new ones are written by one write of
+-- the journal, which isn't touched where none is new
+pub record IsTaken {J : Type 0} (g : Ghosts J) (rows : List Row) (said : List (Result Verdict ChangeFault)) (old new : State J) : Type 0 where
+  pub verdicts_are : said ≡ verdicts old.book rows
+  pub book : new.book ≡ taking_all old.book rows
+  pub journal : WritesOnce {T = List (Result Verdict ChangeFault)} g.entries g.is_faithful g.is_honest g.may_hold g.faults g.writes CountsChange old.journal new.journal (entries_all (g.entries old.journal) old.book rows) (Ok said)
+  pub quiet : new_rows old.book rows ≡ [] → g.writes new.journal ≡ g.writes old.journal
+
+-- The journal failed at the rows, or memory ran out: none of them is taken
+pub record IsRefused {J : Type 0} (g : Ghosts J) (rows : List Row) (cause : ChangeFault) (old new : State J) : Type 0 where
+  pub says_nothing : IsNoVerdict cause
+  pub book : new.book ≡ old.book
+  pub journal : WritesOnce {T = List (Result Verdict ChangeFault)} g.entries g.is_faithful g.is_honest g.may_hold g.faults g.writes CountsChange old.journal new.journal (entries_all (g.entries old.journal) old.book rows) (Err cause)
+
+-- what ends the run where nothing is said of the rows
+abbrev pub stop_of : ChangeFault → OfferFault
+stop_of Store = fault_of.Journal
+stop_of _ = fault_of.Memory
 
 -- ---- one file
 
--- these records from this place on, one after another, each on the connector that the one before left
-abbrev pub AreDealt : {J : Type 0} → Ghosts J → Kind → (place : ℕ) → List (Result Row RowFault) → List Judged → (old new : State J) → Type 0
-AreDealt g of place [] judged old new = (judged ≡ []) × (new ≡ old)
-AreDealt {J} g of place (source ∷ sources) judged old new = (first rest : List Judged) × (between : State J) × (judged ≡ first ++ rest) × IsDealt g of place source first old between × AreDealt g of (place + 1) sources rest between new
+-- the rows were refused together, or memory ran out before they were offered
+abbrev pub IsStopped : {J : Type 0} → Ghosts J → List Row → (old new : State J) → OfferFault → Type 0
+IsStopped g rows old new fault = ((cause : ChangeFault) × IsRefused g rows cause old new × (fault ≡ stop_of cause)) ⊎ ((new ≡ old) × (fault ≡ fault_of.Memory))
 
--- each of these records was dealt with, and told
-pub record AllDealt {J : Type 0} (g : Ghosts J) (of : Kind) (sources : List (Result Row RowFault)) (old new : State J) (before after : Option (List Judged)) (taken : Bool) : Type 0 where
-  pub judged : List Judged
-  pub are : AreDealt g of 1 sources judged old new
-  pub hears : Hears before after judged
-  pub taken_is : taken ≡ list_all is_taken judged
-
-abbrev pub HaltsAt : {J : Type 0} → Ghosts J → List (Result Row RowFault) → (old new : State J) → OfferFault → Type 0
-HaltsAt g [] old new fault = ⊥
-HaltsAt g (source ∷ sources) old new fault = IsHalt g source old new fault
-
--- the first of these records were dealt with, until the next one ended the run
-pub record PartDealt {J : Type 0} (g : Ghosts J) (of : Kind) (sources : List (Result Row RowFault)) (old new : State J) (fault : OfferFault) : Type 0 where
-  pub done : List (Result Row RowFault)
-  pub rest : List (Result Row RowFault)
-  pub judged : List Judged
-  pub between : State J
-  pub sources_are : sources ≡ done ++ rest
-  pub are : AreDealt g of 1 done judged old between
-  pub halts : HaltsAt g rest between new fault
-
+-- The rows were taken together, and then told; or none of them was taken, and none told
 abbrev pub OffersFile : {J : Type 0} → Ghosts J → Kind → List (Result Row RowFault) → (old new : State J) → (before after : Option (List Judged)) → Result Bool OfferFault → Type 0
-OffersFile g of sources old new before after (Ok taken) = AllDealt g of sources old new before after taken
-OffersFile g of sources old new before after (Err fault) = PartDealt g of sources old new fault
+OffersFile g of records old new before after result =
+    ((said : List (Result Verdict ChangeFault)) × IsTaken g (rows_in records) said old new × Tells (judged_of of 1 records said) before after result)
+    ⊎ ((fault : OfferFault) × IsStopped g (rows_in records) old new fault × (after ≡ before) × (result ≡ Err fault))
 
 -- ---- the files of a run
 
@@ -118,9 +94,9 @@ abbrev pub both : Bool → Result Bool OfferFault → Result Bool OfferFault
 both users (Ok groups) = Ok (users && groups)
 both users (Err fault) = Err fault
 
--- the file of users, and then the one of groups; or one of the users ended the run
+-- the file of users, and then the one of groups; or the one of users ended the run
 abbrev pub OffersAll : {J : Type 0} → Ghosts J → Sources → (old new : State J) → (before after : Option (List Judged)) → Result Bool OfferFault → Type 0
 OffersAll {J} g sources old new before after result =
     ((between : State J) × (mid : Option (List Judged)) × (users : Bool) × (groups : Result Bool OfferFault) × OffersFile g sources.users.kind (records_of sources.users) old between before mid (Ok users)
     × OffersGroups g sources.groups between new mid after groups × (result ≡ both users groups))
-    ⊎ ((fault : OfferFault) × PartDealt g sources.users.kind (records_of sources.users) old new fault × (result ≡ Err fault))
+    ⊎ ((fault : OfferFault) × OffersFile g sources.users.kind (records_of sources.users) old new before after (Err fault) × (result ≡ Err fault))

@@ -1,6 +1,6 @@
 //! Rows of files, offered to the connector.
-ghost use Rattle.std.specs.Prelude.{◌≡◌, ◌∷◌, [], List, Option, None, OnOk};
-ghost use Rattle.source_offers.specs.Offering.{Hears, Judges, OffersRecord, OffersFile, OffersGroups, OffersAll, stop_of};
+ghost use Rattle.std.specs.Prelude.{◌≡◌, ◌∷◌, [], List, Option, None, IfOk, OnOk};
+ghost use Rattle.source_offers.specs.Offering.{Hears, Tells, OffersFile, OffersGroups, OffersAll, judged_of, rows_in, stop_of};
 ghost use Rattle.source_offers.specs.declared.offering.Judged.{Judged as JudgedRow};
 
 use crate::faults::{OfferFault, file_fault};
@@ -10,6 +10,7 @@ use journal_core::Journal;
 use scim_key::Kind;
 use source_book::Verdict;
 use source_csv::{Row, RowFault};
+use std::alloc::{AllocError, Global};
 use std::io;
 
 /// A row of a file, and what the connector says of it.
@@ -22,7 +23,7 @@ pub struct Judged {
     pub verdict: Result<Verdict, ChangeFault>,
 }
 
-/// Who is told of each row as soon as the connector has judged it.
+/// Who is told of each row of a file as soon as the connector has taken the file.
 pub trait Hear {
     /// What was told so far, where it is known.
     ghost heard: { Self → Option (List JudgedRow) } = { λ _. None };
@@ -31,61 +32,75 @@ pub trait Hear {
         ensures { OnOk result (Hears (heard self.old) (heard self.new) (judged ∷ [])) };
 }
 
-/// What ends the run where the connector says nothing of a row.
-fn stop_of(said: &Result<Verdict, ChangeFault>) -> Option<OfferFault>
-    ensures { result ≡ stop_of said.now }
+/// What ends the run where the connector says nothing of the rows.
+fn stop_of(cause: &ChangeFault) -> OfferFault
+    ensures { result ≡ stop_of cause.now }
 {
-    match said {
-        Err(ChangeFault::Store) => Some(OfferFault::Journal),
-        Err(ChangeFault::Memory) => Some(OfferFault::Memory),
-        Err(ChangeFault::Differs | ChangeFault::NoSuchMember(_) | ChangeFault::TooMany) => None,
-        Ok(_) => None,
+    match cause {
+        ChangeFault::Store => OfferFault::Journal,
+        _ => OfferFault::Memory,
     }
 }
 
-/// Offers a row. A fault of the journal and out of memory say nothing of the row.
-fn judge<J: Journal>(
-    connector: &mut Connector<J>,
-    row: &Row,
-) -> Result<Result<Verdict, ChangeFault>, OfferFault>
-    ensures { Judges J.Journal row.now connector.old connector.new result }
+/// The rows among the records.
+fn rows_in(alloc: Global, records: &[Result<Row, RowFault>]) -> Result<Vec<Row>, AllocError>
+    ensures { IfOk result (λ rows. rows.items ≡ rows_in records.now) }
 {
-    let said = connector.change(row.clone()?);
-    match stop_of(&said) {
-        Some(fault) => Err(fault),
-        None => Ok(said),
+    let mut rows = Vec::new(alloc);
+    for record in records {
+        if let Ok(row) = record {
+            rows.push(row.clone()?)?;
+        }
     }
+    Ok(rows)
 }
 
-/// Offers a record of a file, if it is a row. It tells whether the connector took it, new or not.
-fn offer_record<J: Journal, T: Hear>(
-    connector: &mut Connector<J>,
-    kind: Kind,
-    place: usize,
-    found: &Result<Row, RowFault>,
-    teller: &mut T,
-) -> Result<bool, OfferFault>
-    ensures { OffersRecord J.Journal kind place found.now connector.old connector.new
-        (T.heard teller.old) (T.heard teller.new) result }
+/// Tells a row. It tells whether the connector took it, new or not.
+fn tell<T: Hear>(judged: Judged, teller: &mut T) -> Result<bool, OfferFault>
+    ensures { Tells (judged ∷ []) (T.heard teller.old) (T.heard teller.new) result }
 {
-    let Ok(row) = found else {
-        return Ok(true);
-    };
-    let verdict = judge(connector, row)?;
-    let is_taken = verdict.is_ok();
-    let judged = Judged {
-        kind,
-        place,
-        verdict,
-    };
+    let is_taken = judged.verdict.is_ok();
     match teller.hear(judged) {
         Ok(()) => Ok(is_taken),
         Err(error) => Err(file_fault(error.kind())),
     }
 }
 
-/// Offers the rows of a file, one after another.
+/// Tells each row with its verdict.
+fn tell_all<T: Hear>(
+    kind: Kind,
+    records: &[Result<Row, RowFault>],
+    said: Vec<Result<Verdict, ChangeFault>>,
+    teller: &mut T,
+) -> Result<bool, OfferFault>
+    ensures { Tells (judged_of kind 1 records.now said.items) (T.heard teller.old) (T.heard teller.new) result }
+{
+    let mut is_taken = true;
+    let mut verdicts = said.into_iter();
+    for (index, record) in records.iter().enumerate() {
+        if record.is_err() {
+            continue;
+        }
+        let Some(verdict) = verdicts.next() else {
+            return Ok(is_taken);
+        };
+        let place = index + 1;
+        let taken = tell(
+            Judged {
+                kind,
+                place,
+                verdict,
+            },
+            teller,
+        )?;
+        is_taken = is_taken && taken;
+    }
+    Ok(is_taken)
+}
+
+/// Offers the rows of a file together, and tells each once they are taken.
 fn offer_file<J: Journal, T: Hear>(
+    alloc: Global,
     connector: &mut Connector<J>,
     kind: Kind,
     records: &[Result<Row, RowFault>],
@@ -94,16 +109,16 @@ fn offer_file<J: Journal, T: Hear>(
     ensures { OffersFile J.Journal kind records.now connector.old connector.new
         (T.heard teller.old) (T.heard teller.new) result }
 {
-    let mut is_taken = true;
-    for (index, found) in records.iter().enumerate() {
-        let taken = offer_record(connector, kind, index + 1, found, teller)?;
-        is_taken = is_taken && taken;
+    let rows = rows_in(alloc, records)?;
+    match connector.change_all(rows) {
+        Ok(said) => tell_all(kind, records, said, teller),
+        Err(cause) => Err(stop_of(&cause)),
     }
-    Ok(is_taken)
 }
 
 /// Offers the rows of the file of groups, if there is one.
 fn offer_groups<J: Journal, T: Hear>(
+    alloc: Global,
     connector: &mut Connector<J>,
     groups: &Option<Source>,
     teller: &mut T,
@@ -112,15 +127,16 @@ fn offer_groups<J: Journal, T: Hear>(
         (T.heard teller.old) (T.heard teller.new) result }
 {
     match groups {
-        Some(groups) => offer_file(connector, groups.kind, groups.records(), teller),
+        Some(groups) => offer_file(alloc, connector, groups.kind, groups.records(), teller),
         None => Ok(true),
     }
 }
 
-/// Offers the rows of the files, users first. Each is told as soon as it is judged. It tells whether
-/// the connector took every row, new or not. A fault of the journal, a row that can't be told, and out
-/// of memory end the run.
+/// Offers the rows of the files, users first, those of a file together. Each is told once its file is
+/// taken. It tells whether the connector took every row, new or not. A fault of the journal, a row that
+/// can't be told, and out of memory end the run.
 pub fn offer_all<J: Journal, T: Hear>(
+    alloc: Global,
     connector: &mut Connector<J>,
     sources: &Sources,
     teller: &mut T,
@@ -129,8 +145,8 @@ pub fn offer_all<J: Journal, T: Hear>(
         (T.heard teller.old) (T.heard teller.new) result }
 {
     let users = &sources.users;
-    let are_users_taken = offer_file(connector, users.kind, users.records(), teller)?;
-    match offer_groups(connector, &sources.groups, teller) {
+    let are_users_taken = offer_file(alloc, connector, users.kind, users.records(), teller)?;
+    match offer_groups(alloc, connector, &sources.groups, teller) {
         Ok(are_groups_taken) => Ok(are_users_taken && are_groups_taken),
         Err(fault) => Err(fault),
     }

@@ -12,7 +12,7 @@ use std::test::Fail;
 
 static RUNS: &[Run] = &[
     (
-        "Bob,1,1001,Bob,\"Ray, Jr.\",bob@example.com,active\nann,2,,,,,left\n",
+        "Bob,1,1001,Bob,\"Ray, Jr.\",bob@example.com,active\nann,1,,,,,active\nann,2,,,,,left\n",
         "Crew,1,Bob ann\n",
         true,
     ),

@@ -10,6 +10,26 @@ use std::test::Fail;
 /// The records of a file of users and of one of groups, and whether exchanges follow.
 pub type Run = (&'static str, &'static str, bool);
 
+/// Offers rows together.
+fn offers_all<J: Journal>(
+    alloc: Global,
+    connector: &mut Connector<J>,
+    records: &SourceRows,
+) -> Result<(), Fail> {
+    let mut rows = Vec::new(alloc);
+    for record in records.as_slice() {
+        match record {
+            Ok(row) => rows.push(row.clone()?)?,
+            Err(_) => return Err(Fail::from("no row")),
+        }
+    }
+    for verdict in connector.change_all(rows)? {
+        verdict?;
+    }
+    Ok(())
+}
+
+/// Offers rows one by one.
 fn offers<J: Journal>(connector: &mut Connector<J>, rows: &SourceRows) -> Result<(), Fail> {
     for row in rows.as_slice() {
         match row {
@@ -33,7 +53,7 @@ fn exchange<J: Journal>(
     Ok(())
 }
 
-/// Offers the rows of both files, and makes three exchanges for each record where they follow.
+/// Offers the users of a run together and its groups one by one, and makes three exchanges for each record where they follow.
 pub fn runs<J: Journal>(
     alloc: Global,
     connector: &mut Connector<J>,
@@ -43,7 +63,7 @@ pub fn runs<J: Journal>(
     let (users, groups, follows) = run;
     let users = format!(in alloc; "login,revision,number,given,family,mail,status\n{users}")?;
     let groups = format!(in alloc; "name,revision,members\n{groups}")?;
-    offers(connector, &read_users(alloc, users.as_bytes())?)?;
+    offers_all(alloc, connector, &read_users(alloc, users.as_bytes())?)?;
     offers(connector, &read_groups(alloc, groups.as_bytes())?)?;
     if !*follows {
         return Ok(());

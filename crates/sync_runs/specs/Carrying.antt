@@ -22,7 +22,7 @@ abbrev pub outcome_of : (taken : Bool) → Sources → Result Tally PushFault �
 outcome_of taken sources (Ok tally) = Ok (record { is_taken = taken && are_whole sources; tally = tally })
 outcome_of taken sources (Err fault) = Err fault
 
--- The rows were offered, and then the records pushed; or a row, or telling it, ended the run
+-- The rows were offered, and then the records pushed; or the rows of a file, or telling one, ended the run
 abbrev pub Carries : {I O J T : Type 0} → (I → Option (List ℕ)) → (O → Option (List ℕ)) → Ghosts J → (heard : T → Option (List Judged)) → (told : T → Option (List Done)) → List ℕ → Sources → (old new : State J) → (before after : T) → Result Outcome PushFault → Type 0
 Carries {I} {O} {J} {T} remaining contents g heard told base sources old new before after result =
     ((between : State J) × (mid : T) × (taken : Bool) × (tally : Result Tally PushFault) × OffersAll g sources old between (heard before) (heard mid) (Ok taken)

@@ -15,7 +15,7 @@ abbrev pub registry_fault : RegistryFault → RunFault
 registry_fault registry.Store = Store
 registry_fault registry.Memory = Ended push.Memory
 
--- a row that ended the run
+-- what ended the run while rows were offered
 abbrev pub push_fault : OfferFault → PushFault
 push_fault offer.Journal = push.Journal
 push_fault offer.File = push.Untold

@@ -1,13 +1,8 @@
 -- The lines of a run.
 use Rattle.std.specs.Prelude.{ℕ, List, ◌++◌, codes}
 use Rattle.std.specs.Fmt.{decimal}
-use Rattle.scim_key.specs.declared.records.Kind.{Kind}
-use Rattle.scim_key.specs.declared.records.Kind.TheVariants.{User, Group}
 use Rattle.scim_key.specs.declared.records.RecordName.{RecordName}
-
-abbrev pub kind_word : Kind → List ℕ
-kind_word User = codes "user"
-kind_word Group = codes "group"
+use Rattle.journal_core.specs.Words.{kind_word}
 
 -- of a record, how it stands
 abbrev pub record_line : RecordName → (standing : List ℕ) → List ℕ

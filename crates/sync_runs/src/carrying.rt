@@ -28,8 +28,9 @@ impl Outcome {
     }
 }
 
-/// Offers the rows of the files to the connector, then pushes each of its records: users by key, then
-/// groups by key. Each row and each record is told as soon as it is done.
+/// Offers the rows of the files to the connector, those of each file together, then pushes each of its
+/// records: users by key, then groups by key. Each row is told once its file is taken, and each record
+/// as soon as it is done.
 pub fn carry<J: Journal, D: Dial, T: Hear + Tell>(
     alloc: Global,
     service: &ScimService,
@@ -41,7 +42,7 @@ pub fn carry<J: Journal, D: Dial, T: Hear + Tell>(
     ensures { Carries D.Reader.remaining D.Writer.contents J.Journal T.heard T.told service.now
         sources.now connector.old connector.new teller.old teller.new result }
 {
-    match offer_all(connector, sources, teller) {
+    match offer_all(alloc, connector, sources, teller) {
         Ok(is_taken) => {
             let tally = push_all(alloc, service, connector, dial, teller);
             outcome_of(is_taken, sources, tally)

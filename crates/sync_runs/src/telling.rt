@@ -4,12 +4,13 @@ ghost use Rattle.std.specs.Io.KnownBytes.{Appends};
 ghost use Rattle.provisioning.specs.Lines.{standing_text};
 ghost use Rattle.provisioning.specs.Runs.{Tells};
 ghost use Rattle.source_offers.specs.Offering.{Hears};
-ghost use Rattle.sync_runs.specs.Telling.{kind_word, record_line, row_line};
+ghost use Rattle.sync_runs.specs.Telling.{record_line, row_line};
 ghost use Rattle.world_sim.specs.Lines.{report_text};
 ghost use Rattle.world_sim.specs.declared.reports.Report.TheVariants.{Judged as JudgedReport};
 
+use journal_core::kind_word;
 use provisioning::{Pushed, Tell};
-use scim_key::{Kind, RecordName};
+use scim_key::RecordName;
 use source_offers::{Hear, Judged, label};
 use std::io;
 use std::io::{Eprint, Write};
@@ -50,16 +51,7 @@ impl<'a, W: Write + Drop, E: Eprint> Tell for Lines<'a, W, E> {
     }
 }
 
-fn kind_word(kind: Kind) -> &'static str
-    ensures { result.now ≡ kind_word kind }
-{
-    match kind {
-        Kind::User => "user",
-        Kind::Group => "group",
-    }
-}
-
-/// A line for each row as soon as it is judged: its number from 1, and what the connector says of it.
+/// A line for each row once its file is taken: its number from 1, and what the connector says of it.
 /// Nothing is told of the records.
 #[derive(Drop)]
 pub(crate) struct Reports<W: Drop> {

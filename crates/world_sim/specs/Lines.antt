@@ -5,6 +5,7 @@ use Rattle.scim_key.specs.Revisions.{revision_text}
 use Rattle.scim_key.specs.declared.records.Kind.{Kind}
 use Rattle.scim_key.specs.declared.records.Kind.TheVariants.{User, Group}
 use Rattle.source_book.specs.declared.accepting.Verdict.TheVariants as verdicts
+use Rattle.journal_core.specs.Words.{kind_word}
 use Rattle.connector_core.specs.declared.learning.Learnt.TheVariants as lessons
 use Rattle.world_sim.specs.declared.reports.Report.{Report}
 use Rattle.world_sim.specs.declared.reports.Report.TheVariants as reports
@@ -35,10 +36,6 @@ report_text (reports.Taught (Err _)) = None
 report_text reports.NoMessage = Some (codes "none")
 report_text reports.CutShort = Some (codes "cut")
 report_text reports.Restarted = Some (codes "restarted")
-
-abbrev pub kind_word : Kind → List ℕ
-kind_word User = codes "user"
-kind_word Group = codes "group"
 
 abbrev pub flag_text : Bool → List ℕ
 flag_text true = codes "true"

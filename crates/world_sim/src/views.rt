@@ -6,7 +6,6 @@ ghost use Rattle.provider_core.specs.Stores.{OnlyReads};
 ghost use Rattle.world_sim.specs.Messages.{text_at, texts_of};
 ghost use Rattle.world_sim.specs.Running.{names_in};
 ghost use Rattle.world_sim.specs.Sides.{CountsWorldFault};
-ghost use Rattle.world_sim.specs.Lines.{kind_word};
 ghost use Rattle.world_sim.specs.Views.{IsBlind, IsNoName, Looks, Shows, viewed};
 
 use crate::messages::sent_at;
@@ -14,7 +13,7 @@ use crate::reports::WorldFault;
 use crate::sides::Side;
 use crate::worlds::World;
 use core::mem::replace_with;
-use journal_core::Journal;
+use journal_core::{Journal, kind_word};
 use provider_core::{Provider, Registry, RegistryFault};
 use scim_key::{Kind, RecordName, Revision};
 use scim_resource::Stored;
@@ -36,15 +35,6 @@ pub struct View {
     pub active: Option<bool>,
     /// How many members the group that the provider holds has.
     pub members: usize,
-}
-
-fn kind_word(kind: Kind) -> &'static str
-    ensures { result.now ≡ kind_word kind }
-{
-    match kind {
-        Kind::User => "user",
-        Kind::Group => "group",
-    }
 }
 
 /// The end of a view's line.

@@ -3,10 +3,10 @@ use Rattle.std.specs.FinMap.{insert}
 use Rattle.sqlite.specs.Held.{state}
 use Rattle.source_csv.specs.Records.{IsRow, row_name}
 use Rattle.journal_core.specs.Stores.{CountsFault, WritesOnce}
-use Rattle.journal_store.specs.Connections.{FindsIf}
+use Rattle.journal_store.specs.Connections.{FindsIf, PutsIn}
 use Rattle.journal_store.specs.Rows.{entry_in, row_of}
 use Rattle.journal_store.specs.Kept.{Kept, IsFaithful, IsHonest, MayHold, kept_entries}
-use Rattle.journal_store.proofs.Reading.{answered, failing, there_if, wrote, wrote_faithful, wrote_sound, failed, failed_sound}
+use Rattle.journal_store.proofs.Reading.{answered, failing, put_means, there_if, wrote, wrote_faithful, wrote_sound, failed, failed_sound}
 use Rattle.journal_store.proofs.journal.SqlJournal.put.Goals as goal
 
 pub put_entry-requires-clause-there : goal.put_entry-requires-clause-there
@@ -24,7 +24,8 @@ invariant_of-self-in-Ok g c =
     let was_usable : IsTrue c.self.inside.is_usable = search (rules, tests) in
     let finds = subst (λ (k : Kept g.row.S.Denot). IsFaithful g.S.Store k → FindsIf (state g.S.Store k.conn).now.trees (row_name c.args.entry.now.row) c.args.is_there) (sym c.self.view_is) c.requires.found in
     let back = subst (λ (k : Kept g.row.S.Denot). IsFaithful g.S.Store k → IsRow c.args.entry.now.row → entry_in (row_name c.args.entry.now.row).kind (row_of c.args.entry.now) ≡ Some c.args.entry.now) (sym c.self.view_is) c.requires.spelled in
-    wrote_sound g.S.Store old new c.args.is_there c.args.entry.now c.self.invariant was_usable refl finds back c.in-Ok.ensures.stop c.in-Ok.ensures.made
+    let means = put_means g.S.Store old c.args.is_there c.args.entry.now finds back in
+    wrote_sound g.S.Store old new (insert (kept_entries g.S.Store old) (row_name c.args.entry.now.row) c.args.entry.now) (PutsIn c.args.is_there c.args.entry.now) c.self.invariant was_usable refl means c.in-Ok.ensures.stop c.in-Ok.ensures.made
 
 pub returns-in-Ok-clause-puts : goal.returns-in-Ok-clause-puts
 returns-in-Ok-clause-puts g c =
@@ -33,8 +34,9 @@ returns-in-Ok-clause-puts g c =
     let was_usable : IsTrue c.self.inside.is_usable = search (rules, tests) in
     let finds = subst (λ (k : Kept g.row.S.Denot). IsFaithful g.S.Store k → FindsIf (state g.S.Store k.conn).now.trees (row_name c.args.entry.now.row) c.args.is_there) (sym c.self.view_is) c.requires.found in
     let back = subst (λ (k : Kept g.row.S.Denot). IsFaithful g.S.Store k → IsRow c.args.entry.now.row → entry_in (row_name c.args.entry.now.row).kind (row_of c.args.entry.now) ≡ Some c.args.entry.now) (sym c.self.view_is) c.requires.spelled in
+    let means = put_means g.S.Store old c.args.is_there c.args.entry.now finds back in
     subst (λ (k : Kept g.row.S.Denot). WritesOnce (kept_entries g.S.Store) (IsFaithful g.S.Store) (IsHonest g.S.Store) (MayHold g.S.Store) (λ j. j.faults) (λ j. j.writes) CountsFault k new (insert (kept_entries g.S.Store k) (row_name c.args.entry.now.row) c.args.entry.now) answered) c.self.view_is
-    (wrote g.S.Store old new c.args.is_there c.args.entry.now c.self.invariant was_usable refl finds back c.in-Ok.ensures.stop c.in-Ok.ensures.made refl (omega (arith, c.saturating_add-self-inside.ensures)))
+    (wrote g.S.Store old new (insert (kept_entries g.S.Store old) (row_name c.args.entry.now.row) c.args.entry.now) (PutsIn c.args.is_there c.args.entry.now) c.self.invariant was_usable refl means c.in-Ok.ensures.stop c.in-Ok.ensures.made refl (omega (arith, c.saturating_add-self-inside.ensures)))
 
 pub returns-in-Ok-clause-open : goal.returns-in-Ok-clause-open
 returns-in-Ok-clause-open g c =
@@ -43,7 +45,8 @@ returns-in-Ok-clause-open g c =
     let was_usable : IsTrue c.self.inside.is_usable = search (rules, tests) in
     let finds = subst (λ (k : Kept g.row.S.Denot). IsFaithful g.S.Store k → FindsIf (state g.S.Store k.conn).now.trees (row_name c.args.entry.now.row) c.args.is_there) (sym c.self.view_is) c.requires.found in
     let back = subst (λ (k : Kept g.row.S.Denot). IsFaithful g.S.Store k → IsRow c.args.entry.now.row → entry_in (row_name c.args.entry.now.row).kind (row_of c.args.entry.now) ≡ Some c.args.entry.now) (sym c.self.view_is) c.requires.spelled in
-    wrote_faithful g.S.Store old new c.args.is_there c.args.entry.now c.self.invariant was_usable refl finds back c.in-Ok.ensures.stop c.in-Ok.ensures.made
+    let means = put_means g.S.Store old c.args.is_there c.args.entry.now finds back in
+    wrote_faithful g.S.Store old new (insert (kept_entries g.S.Store old) (row_name c.args.entry.now.row) c.args.entry.now) (PutsIn c.args.is_there c.args.entry.now) c.self.invariant was_usable refl means c.in-Ok.ensures.stop c.in-Ok.ensures.made
 
 pub invariant_of-self-in-Err : goal.invariant_of-self-in-Err
 invariant_of-self-in-Err g c =
@@ -52,7 +55,8 @@ invariant_of-self-in-Err g c =
     let was_usable : IsTrue c.self.inside.is_usable = search (rules, tests) in
     let finds = subst (λ (k : Kept g.row.S.Denot). IsFaithful g.S.Store k → FindsIf (state g.S.Store k.conn).now.trees (row_name c.args.entry.now.row) c.args.is_there) (sym c.self.view_is) c.requires.found in
     let back = subst (λ (k : Kept g.row.S.Denot). IsFaithful g.S.Store k → IsRow c.args.entry.now.row → entry_in (row_name c.args.entry.now.row).kind (row_of c.args.entry.now) ≡ Some c.args.entry.now) (sym c.self.view_is) c.requires.spelled in
-    failed_sound g.S.Store old new c.args.is_there c.args.entry.now c.self.invariant was_usable refl finds back c.in-Err.ensures.stop c.counted-in-Err.result c.in-Err.ensures.keeps
+    let means = put_means g.S.Store old c.args.is_there c.args.entry.now finds back in
+    failed_sound g.S.Store old new (insert (kept_entries g.S.Store old) (row_name c.args.entry.now.row) c.args.entry.now) (PutsIn c.args.is_there c.args.entry.now) c.self.invariant was_usable refl means c.in-Err.ensures.stop c.counted-in-Err.result c.in-Err.ensures.keeps
 
 pub returns-in-Err-clause-puts : goal.returns-in-Err-clause-puts
 returns-in-Err-clause-puts g c =
@@ -61,5 +65,6 @@ returns-in-Err-clause-puts g c =
     let was_usable : IsTrue c.self.inside.is_usable = search (rules, tests) in
     let finds = subst (λ (k : Kept g.row.S.Denot). IsFaithful g.S.Store k → FindsIf (state g.S.Store k.conn).now.trees (row_name c.args.entry.now.row) c.args.is_there) (sym c.self.view_is) c.requires.found in
     let back = subst (λ (k : Kept g.row.S.Denot). IsFaithful g.S.Store k → IsRow c.args.entry.now.row → entry_in (row_name c.args.entry.now.row).kind (row_of c.args.entry.now) ≡ Some c.args.entry.now) (sym c.self.view_is) c.requires.spelled in
+    let means = put_means g.S.Store old c.args.is_there c.args.entry.now finds back in
     subst (λ (k : Kept g.row.S.Denot). WritesOnce (kept_entries g.S.Store) (IsFaithful g.S.Store) (IsHonest g.S.Store) (MayHold g.S.Store) (λ j. j.faults) (λ j. j.writes) CountsFault k new (insert (kept_entries g.S.Store k) (row_name c.args.entry.now.row) c.args.entry.now) (failing c.counted-in-Err.result)) c.self.view_is
-    (failed g.S.Store old new c.args.is_there c.args.entry.now c.self.invariant was_usable refl finds back c.in-Err.ensures.stop c.counted-in-Err.result c.in-Err.ensures.keeps c.counted-in-Err.ensures.counts refl)
+    (failed g.S.Store old new (insert (kept_entries g.S.Store old) (row_name c.args.entry.now.row) c.args.entry.now) (PutsIn c.args.is_there c.args.entry.now) c.self.invariant was_usable refl means c.in-Err.ensures.stop c.counted-in-Err.result c.in-Err.ensures.keeps c.counted-in-Err.ensures.counts refl)

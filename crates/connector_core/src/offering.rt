@@ -1,0 +1,233 @@
+//! Rows that the source offers together.
+ghost use Rattle.std.specs.Prelude.{◌≡◌, ◌++◌, ◌∷◌, [], IfErr, IfOk, None, OnErr, OnOk, Some};
+ghost use Rattle.std.specs.FinMap.{get, insert};
+ghost use Rattle.source_csv.specs.Records.{row_name};
+ghost use Rattle.journal_core.specs.Stores.{WritesOnce};
+ghost use Rattle.connector_core.specs.Book.{wanted_row, wanting};
+ghost use Rattle.connector_core.specs.Changing.{CountsChange, IsNoVerdict, entries_all, if_new, judged, new_rows, taking, taking_all, verdicts};
+ghost use Rattle.connector_core.specs.Maps.{book_of};
+ghost use Rattle.connector_core.specs.Offering.{AreOffered, all_back, taken_back};
+ghost use Rattle.connector_core.specs.State.{IsKept};
+
+use crate::books::Book;
+use crate::changing::{ChangeFault, first_known, judge};
+use crate::connectors::Connector;
+use journal_core::Journal;
+use scim_key::RecordName;
+use source_book::Verdict;
+use source_csv::Row;
+use std::alloc::{AllocError, Global};
+
+/// What takes a new row back: the row that was wanted before, none for a first row.
+#[derive(Debug, Drop)]
+pub(crate) struct Note {
+    name: RecordName,
+    last: Option<Row>,
+}
+
+/// What came of rows that were offered: the verdicts, the rows that are new, and what takes them
+/// back.
+#[derive(Debug, Drop)]
+pub(crate) struct Offered {
+    said: Vec<Result<Verdict, ChangeFault>>,
+    fresh: Vec<Row>,
+    notes: Vec<Note>,
+}
+
+/// Takes a row back.
+fn take_back(book: &mut Book, note: Note)
+    ensures { book.new ≡ taken_back book.old note }
+{
+    let Note { name, last } = note;
+    match last {
+        Some(row) => {
+            if book.get(&name).is_some() {
+                book.want(&name, row);
+            }
+        }
+        None => book.take_out(&name),
+    }
+}
+
+/// Takes rows back, the last one first.
+fn take_all_back(book: &mut Book, mut notes: Vec<Note>)
+    ensures { book.new ≡ all_back notes.items book.old }
+{
+    while let Some(note) = notes.pop() {
+        take_back(book, note);
+    }
+}
+
+/// Takes the first row of a record into the book.
+fn take_first(
+    book: &mut Book,
+    name: RecordName,
+    row: Row,
+    notes: &mut Vec<Note>,
+) -> Result<(), AllocError>
+    requires named { name ≡ row_name row }
+    requires free { get book.old name ≡ None }
+    ensures ok { OnOk result (book.new ≡ insert book.old (row_name row) (wanting (get book.old (row_name row)) row)) }
+    ensures back { all_back notes.new.items book.new ≡ all_back notes.old.items book.old }
+{
+    notes.push(Note {
+        name: name.clone()?,
+        last: None,
+    })?;
+    book.put(name, first_known(row))?;
+    Ok(())
+}
+
+/// Takes a new row of a record that is there into the book.
+fn take_next(
+    book: &mut Book,
+    name: RecordName,
+    last: Row,
+    row: Row,
+    notes: &mut Vec<Note>,
+) -> Result<(), AllocError>
+    requires named { name ≡ row_name row }
+    requires there { wanted_row (book_of book.old) name ≡ Some last }
+    ensures ok { OnOk result (book.new ≡ insert book.old (row_name row) (wanting (get book.old (row_name row)) row)) }
+    ensures back { all_back notes.new.items book.new ≡ all_back notes.old.items book.old }
+{
+    notes.push(Note {
+        name: name.clone()?,
+        last: Some(last),
+    })?;
+    book.want(&name, row);
+    Ok(())
+}
+
+/// Takes a new row into the book. What takes it back is noted first.
+fn take_row(
+    book: &mut Book,
+    name: RecordName,
+    row: &Row,
+    notes: &mut Vec<Note>,
+) -> Result<(), AllocError>
+    requires named { name ≡ row_name row.now }
+    ensures ok { OnOk result (book.new ≡ insert book.old (row_name row.now) (wanting (get book.old (row_name row.now)) row.now)) }
+    ensures back { all_back notes.new.items book.new ≡ all_back notes.old.items book.old }
+{
+    let last = match book.get(&name) {
+        Some(known) => Some(known.wanted.clone()?),
+        None => None,
+    };
+    match last {
+        Some(last) => take_next(book, name, last, row.clone()?, notes),
+        None => take_first(book, name, row.clone()?, notes),
+    }
+}
+
+/// The verdict on a row by the book.
+fn verdict_on(
+    alloc: Global,
+    book: &Book,
+    name: &RecordName,
+    row: &Row,
+) -> Result<Result<Verdict, ChangeFault>, AllocError>
+    requires { name.now ≡ row_name row.now }
+    ensures { IfOk result (λ verdict. verdict ≡ judged book.now row.now) }
+{
+    match judge(alloc, book, name, row) {
+        Ok(verdict) => Ok(Ok(verdict)),
+        Err(ChangeFault::Memory) => Err(AllocError),
+        Err(fault) => Ok(Err(fault)),
+    }
+}
+
+impl Offered {
+    /// What came of no rows.
+    fn new(alloc: Global) -> Offered
+        ensures said { result.said.items ≡ [] }
+        ensures fresh { result.fresh.items ≡ [] }
+        ensures notes { result.notes.items ≡ [] }
+    {
+        Offered {
+            said: Vec::new(alloc),
+            fresh: Vec::new(alloc),
+            notes: Vec::new(alloc),
+        }
+    }
+
+    /// Takes a row that is offered after these.
+    fn take(&mut self, alloc: Global, book: &mut Book, row: Row) -> Result<(), AllocError>
+        ensures said { OnOk result (self.new.said.items ≡ self.old.said.items ++ judged book.old row ∷ []) }
+        ensures fresh { OnOk result (self.new.fresh.items ≡ self.old.fresh.items ++ if_new row (judged book.old row)) }
+        ensures taken { OnOk result (book.new ≡ taking book.old row) }
+        ensures back { all_back self.new.notes.items book.new ≡ all_back self.old.notes.items book.old }
+    {
+        let name = row.record_name(alloc)?;
+        match verdict_on(alloc, book, &name, &row)? {
+            Ok(Verdict::New) => {
+                take_row(book, name, &row, &mut self.notes)?;
+                self.fresh.push(row)?;
+                self.said.push(Ok(Verdict::New))?;
+            }
+            Ok(Verdict::Known) => self.said.push(Ok(Verdict::Known))?,
+            Ok(Verdict::Older) => self.said.push(Ok(Verdict::Older))?,
+            Err(fault) => self.said.push(Err(fault))?,
+        }
+        Ok(())
+    }
+
+    /// Takes rows, one after another.
+    fn take_all(&mut self, alloc: Global, book: &mut Book, rows: Vec<Row>) -> Result<(), AllocError>
+        requires said { self.old.said.items ≡ [] }
+        requires fresh { self.old.fresh.items ≡ [] }
+        ensures ok { OnOk result (AreOffered book.old book.new rows.items self.new) }
+        ensures back { all_back self.new.notes.items book.new ≡ all_back self.old.notes.items book.old }
+    {
+        for row in rows {
+            self.take(alloc, book, row)?;
+        }
+        Ok(())
+    }
+}
+
+/// Takes rows into the book, one after another: all of them or none.
+fn offer(alloc: Global, book: &mut Book, rows: Vec<Row>) -> Result<Offered, AllocError>
+    ensures ok { IfOk result (AreOffered book.old book.new rows.items) }
+    ensures back { IfOk result (λ offered. all_back offered.notes.items book.new ≡ book.old) }
+    ensures err { OnErr result (book.new ≡ book.old) }
+{
+    let mut offered = Offered::new(alloc);
+    match offered.take_all(alloc, book, rows) {
+        Ok(()) => Ok(offered),
+        Err(fault) => {
+            take_all_back(book, offered.notes);
+            Err(fault)
+        }
+    }
+}
+
+impl<J: Journal> Connector<J> {
+    /// Takes rows that the source offers, as `change` would one after another, by one write of the
+    /// journal: all of them or none.
+    pub fn change_all(
+        &mut self,
+        rows: Vec<Row>,
+    ) -> Result<Vec<Result<Verdict, ChangeFault>>, ChangeFault>
+        ensures verdicts { IfOk result (λ said. said.items ≡ verdicts self.old.book rows.items) }
+        ensures fault { IfErr result IsNoVerdict }
+        ensures ok { OnOk result (self.new.book ≡ taking_all self.old.book rows.items) }
+        ensures err { OnErr result (self.new.book ≡ self.old.book) }
+        ensures kept { J.is_faithful self.new.journal → IsKept (J.entries self.new.journal) self.new.book }
+        ensures journal { WritesOnce J.entries J.is_faithful J.is_honest J.may_hold J.faults J.writes CountsChange self.old.journal self.new.journal (entries_all (J.entries self.old.journal) self.old.book rows.items) result }
+        ensures quiet { OnOk result (new_rows self.old.book rows.items ≡ [] → J.writes self.new.journal ≡ J.writes self.old.journal) }
+    {
+        let Offered { said, fresh, notes } = offer(self.alloc, &mut self.book, rows)?;
+        let put = fresh.as_slice();
+        if put.is_empty() {
+            return Ok(said);
+        }
+        match self.journal.put_rows(put) {
+            Ok(()) => Ok(said),
+            Err(fault) => {
+                take_all_back(&mut self.book, notes);
+                Err(ChangeFault::from(fault))
+            }
+        }
+    }
+}

@@ -1,0 +1,9 @@
+use Rattle.std.proofs.Common.{◌≡◌, drop}
+use Rattle.journal_core.specs.Entries.{CanPutRows, with_rows}
+use Rattle.journal_core.specs.Memory.{AreLawful, entries_in}
+use Rattle.journal_core.proofs.memory.copy_with.Given as goal
+
+-- the rows that are left may be put, and make of the copy what all rows make of the entries
+abbrev pub invariant-loop-row : goal.invariant-loop-row
+invariant-loop-row l =
+    AreLawful l.copy × CanPutRows (entries_in l.copy) (drop l.row-index l.rows) × (with_rows (entries_in l.copy) (drop l.row-index l.rows) ≡ with_rows (entries_in l.entries) l.rows)

@@ -1,0 +1,237 @@
+//! Rows that are put by one transaction, all of them or none.
+ghost use Rattle.std.specs.Prelude.{◌≡◌, true, IfOk, IsTrue, OnErr, OnOk};
+ghost use Rattle.sqlite.specs.Held.{state};
+ghost use Rattle.sqlite.specs.State.{HasCleanDisk, IsUnchanged, Survives};
+ghost use Rattle.sqlite.specs.Values.{bound};
+ghost use Rattle.source_csv.specs.Records.{row_name};
+ghost use Rattle.source_csv.specs.Rows.{IsGroupRow, IsUserRow};
+ghost use Rattle.source_csv.specs.declared.rows.Row.TheVariants.{User, Group};
+ghost use Rattle.journal_core.specs.Entries.{CanPutRows};
+ghost use Rattle.journal_store.specs.Rows.{entries_in, row_by};
+ghost use Rattle.journal_store.specs.Batches.{IsUnderWay, MakesRows, PutsRow, PutsRows, settled};
+ghost use Rattle.journal_store.specs.Connections.{Finds, HasNumbers, IsEditText, IsLaid, IsThere, Keeps, Makes, Ran};
+ghost use Rattle.journal_store.specs.Opening.{LeavesStore};
+
+use crate::statements::TableFault;
+use crate::tables::{
+    find_statement, group_params, kind_of, members_text, only, put_statement, text_param,
+    user_params, with_row,
+};
+use journal_core::Entry;
+use scim_key::{Kind, RecordName, ResourceId, Revision};
+use source_csv::{GroupRow, Row as SourceRow, UserRow};
+use sqlite::{Alter, Connection, Transaction};
+use sqlite_value::value::ValueRef;
+use std::alloc::Global;
+
+// ---- inside a transaction
+
+/// Tests that the store is open, which the end of an empty transaction doesn't tell.
+fn check_open<S: Alter>(tables: &mut Transaction<'_, S>) -> Result<(), TableFault>
+    ensures same_reference { tables.new.conn.ghost_name ≡ tables.old.conn.ghost_name }
+    ensures same { HasCleanDisk (state S.Store tables.new.conn.now) → OnOk result (IsUnchanged (state S.Store tables.old.conn.now) (state S.Store tables.new.conn.now)) }
+    ensures left { HasCleanDisk (state S.Store tables.new.conn.now) → LeavesStore (state S.Store tables.old.conn.now) (state S.Store tables.new.conn.now) }
+    ensures quiet { Survives (state S.Store tables.old.conn.now) (state S.Store tables.new.conn.now) (λ _. ⊥) }
+{
+    match tables.prepare(find_statement(Kind::User)) {
+        Ok(_) => Ok(()),
+        Err(error) => Err(TableFault::from(error)),
+    }
+}
+
+/// The entry of this name.
+fn find_in<S: Alter>(
+    alloc: Global,
+    tables: &mut Transaction<'_, S>,
+    name: &RecordName,
+) -> Result<Option<Entry>, TableFault>
+    requires under_way { IsUnderWay (state S.Store tables.old.conn.now) }
+    ensures same_reference { tables.new.conn.ghost_name ≡ tables.old.conn.ghost_name }
+    ensures found { HasCleanDisk (state S.Store tables.new.conn.now) → IfOk result (Finds (state S.Store tables.old.conn.now).now.trees name.now) }
+    ensures same { HasCleanDisk (state S.Store tables.new.conn.now) → OnOk result (IsUnchanged (state S.Store tables.old.conn.now) (state S.Store tables.new.conn.now)) }
+    ensures left { HasCleanDisk (state S.Store tables.new.conn.now) → LeavesStore (state S.Store tables.old.conn.now) (state S.Store tables.new.conn.now) }
+    ensures quiet { Survives (state S.Store tables.old.conn.now) (state S.Store tables.new.conn.now) (λ _. ⊥) }
+{
+    match tables.query_all(find_statement(name.kind), &[text_param(name.key.as_str())]) {
+        Ok(rows) => only(alloc, name.kind, rows.as_slice()),
+        Err(error) => Err(TableFault::from(error)),
+    }
+}
+
+/// Runs one write.
+fn write_in<S: Alter>(
+    tables: &mut Transaction<'_, S>,
+    sql: &str,
+    params: &[ValueRef<'_>],
+) -> Result<(), TableFault>
+    requires edit { IsEditText sql.now }
+    requires under_way { IsUnderWay (state S.Store tables.old.conn.now) }
+    ensures same_reference { tables.new.conn.ghost_name ≡ tables.old.conn.ghost_name }
+    ensures ran { HasCleanDisk (state S.Store tables.new.conn.now) → OnOk result (Ran sql.now (bound params.now) (settled (state S.Store tables.old.conn.now)) (settled (state S.Store tables.new.conn.now))) }
+    ensures inside { HasCleanDisk (state S.Store tables.new.conn.now) → OnOk result (IsTrue (state S.Store tables.new.conn.now).in_transaction) }
+    ensures left { HasCleanDisk (state S.Store tables.new.conn.now) → LeavesStore (state S.Store tables.old.conn.now) (state S.Store tables.new.conn.now) }
+    ensures quiet { Survives (state S.Store tables.old.conn.now) (state S.Store tables.new.conn.now) (λ _. ⊥) }
+{
+    match tables.execute(sql, params) {
+        Ok(_) => Ok(()),
+        Err(error) => Err(TableFault::from(error)),
+    }
+}
+
+/// Runs a write with the columns of a user's entry.
+fn write_user_in<S: Alter>(
+    alloc: Global,
+    tables: &mut Transaction<'_, S>,
+    sql: &str,
+    user: &UserRow,
+    confirmed: Revision,
+    id: &Option<ResourceId>,
+) -> Result<(), TableFault>
+    requires edit { IsEditText sql.now }
+    requires under_way { IsUnderWay (state S.Store tables.old.conn.now) }
+    ensures lawful { IsUserRow user.now }
+    ensures same_reference { tables.new.conn.ghost_name ≡ tables.old.conn.ghost_name }
+    ensures ran { HasCleanDisk (state S.Store tables.new.conn.now) → OnOk result (Ran sql.now (row_by (User user.now) confirmed id.now) (settled (state S.Store tables.old.conn.now)) (settled (state S.Store tables.new.conn.now))) }
+    ensures inside { HasCleanDisk (state S.Store tables.new.conn.now) → OnOk result (IsTrue (state S.Store tables.new.conn.now).in_transaction) }
+    ensures left { HasCleanDisk (state S.Store tables.new.conn.now) → LeavesStore (state S.Store tables.old.conn.now) (state S.Store tables.new.conn.now) }
+    ensures quiet { Survives (state S.Store tables.old.conn.now) (state S.Store tables.new.conn.now) (λ _. ⊥) }
+{
+    let revision = user.revision();
+    let key = user.login().key(alloc)?;
+    write_in(
+        tables,
+        sql,
+        &user_params(&key, user, revision, confirmed, id),
+    )
+}
+
+/// The same with those of a group's.
+fn write_group_in<S: Alter>(
+    alloc: Global,
+    tables: &mut Transaction<'_, S>,
+    sql: &str,
+    group: &GroupRow,
+    confirmed: Revision,
+    id: &Option<ResourceId>,
+) -> Result<(), TableFault>
+    requires edit { IsEditText sql.now }
+    requires under_way { IsUnderWay (state S.Store tables.old.conn.now) }
+    ensures lawful { IsGroupRow group.now }
+    ensures same_reference { tables.new.conn.ghost_name ≡ tables.old.conn.ghost_name }
+    ensures ran { HasCleanDisk (state S.Store tables.new.conn.now) → OnOk result (Ran sql.now (row_by (Group group.now) confirmed id.now) (settled (state S.Store tables.old.conn.now)) (settled (state S.Store tables.new.conn.now))) }
+    ensures inside { HasCleanDisk (state S.Store tables.new.conn.now) → OnOk result (IsTrue (state S.Store tables.new.conn.now).in_transaction) }
+    ensures left { HasCleanDisk (state S.Store tables.new.conn.now) → LeavesStore (state S.Store tables.old.conn.now) (state S.Store tables.new.conn.now) }
+    ensures quiet { Survives (state S.Store tables.old.conn.now) (state S.Store tables.new.conn.now) (λ _. ⊥) }
+{
+    let revision = group.revision();
+    let key = group.name().key(alloc)?;
+    let members = members_text(alloc, group.members())?;
+    write_in(
+        tables,
+        sql,
+        &group_params(&key, members.as_str(), group, revision, confirmed, id),
+    )
+}
+
+/// Puts an entry, by one statement: in the place of the row with its key where one is there, else as a
+/// new row.
+fn put_entry_in<S: Alter>(
+    alloc: Global,
+    tables: &mut Transaction<'_, S>,
+    is_there: bool,
+    entry: &Entry,
+) -> Result<(), TableFault>
+    requires under_way { IsUnderWay (state S.Store tables.old.conn.now) }
+    requires there { HasCleanDisk (state S.Store tables.old.conn.now) → IsTrue (state S.Store tables.old.conn.now).is_open → is_there ≡ true → IsThere (state S.Store tables.old.conn.now).now.trees (row_name entry.now.row) }
+    ensures same_reference { tables.new.conn.ghost_name ≡ tables.old.conn.ghost_name }
+    ensures made { HasCleanDisk (state S.Store tables.new.conn.now) → OnOk result (Makes is_there entry.now (settled (state S.Store tables.old.conn.now)) (settled (state S.Store tables.new.conn.now))) }
+    ensures inside { HasCleanDisk (state S.Store tables.new.conn.now) → OnOk result (IsTrue (state S.Store tables.new.conn.now).in_transaction) }
+    ensures left { HasCleanDisk (state S.Store tables.new.conn.now) → LeavesStore (state S.Store tables.old.conn.now) (state S.Store tables.new.conn.now) }
+    ensures quiet { Survives (state S.Store tables.old.conn.now) (state S.Store tables.new.conn.now) (λ _. ⊥) }
+{
+    let sql = put_statement(kind_of(&entry.row), is_there);
+    match &entry.row {
+        SourceRow::User(user) => write_user_in(
+            alloc,
+            tables,
+            sql,
+            user,
+            entry.confirmed,
+            &entry.id,
+        ),
+        SourceRow::Group(group) => {
+            write_group_in(alloc, tables, sql, group, entry.confirmed, &entry.id)
+        }
+    }
+}
+
+/// Puts a row: the entry of its record keeps what else it had.
+fn put_in<S: Alter>(
+    alloc: Global,
+    tables: &mut Transaction<'_, S>,
+    row: &SourceRow,
+) -> Result<(), TableFault>
+    requires under_way { IsUnderWay (state S.Store tables.old.conn.now) }
+    requires numbers { HasCleanDisk (state S.Store tables.old.conn.now) → IsTrue (state S.Store tables.old.conn.now).is_open → HasNumbers (state S.Store tables.old.conn.now).now.trees }
+    ensures same_reference { tables.new.conn.ghost_name ≡ tables.old.conn.ghost_name }
+    ensures put { HasCleanDisk (state S.Store tables.new.conn.now) → OnOk result (PutsRow row.now (state S.Store tables.old.conn.now).now.trees (state S.Store tables.new.conn.now).now.trees) }
+    ensures open { HasCleanDisk (state S.Store tables.new.conn.now) → OnOk result (IsTrue (state S.Store tables.new.conn.now).is_open) }
+    ensures under_way { OnOk result (IsUnderWay (state S.Store tables.new.conn.now)) }
+    ensures left { HasCleanDisk (state S.Store tables.new.conn.now) → LeavesStore (state S.Store tables.old.conn.now) (state S.Store tables.new.conn.now) }
+    ensures quiet { Survives (state S.Store tables.old.conn.now) (state S.Store tables.new.conn.now) (λ _. ⊥) }
+{
+    let name = row.record_name(alloc)?;
+    let row = row.clone()?;
+    let held = find_in(alloc, tables, &name)?;
+    let is_there = held.is_some();
+    put_entry_in(alloc, tables, is_there, &with_row(held, row))
+}
+
+/// Puts the rows, one after another.
+fn put_each<S: Alter>(
+    alloc: Global,
+    tables: &mut Transaction<'_, S>,
+    rows: &[SourceRow],
+) -> Result<(), TableFault>
+    requires under_way { IsUnderWay (state S.Store tables.old.conn.now) }
+    requires numbers { HasCleanDisk (state S.Store tables.old.conn.now) → IsTrue (state S.Store tables.old.conn.now).is_open → HasNumbers (state S.Store tables.old.conn.now).now.trees }
+    requires lawful { HasCleanDisk (state S.Store tables.old.conn.now) → IsTrue (state S.Store tables.old.conn.now).is_open → CanPutRows (entries_in (state S.Store tables.old.conn.now).now.trees) rows.now }
+    ensures same_reference { tables.new.conn.ghost_name ≡ tables.old.conn.ghost_name }
+    ensures put { HasCleanDisk (state S.Store tables.new.conn.now) → OnOk result (PutsRows rows.now (state S.Store tables.old.conn.now).now.trees (state S.Store tables.new.conn.now).now.trees) }
+    ensures open { HasCleanDisk (state S.Store tables.new.conn.now) → OnOk result (IsTrue (state S.Store tables.new.conn.now).is_open) }
+    ensures under_way { OnOk result (IsUnderWay (state S.Store tables.new.conn.now)) }
+    ensures left { HasCleanDisk (state S.Store tables.new.conn.now) → LeavesStore (state S.Store tables.old.conn.now) (state S.Store tables.new.conn.now) }
+    ensures quiet { Survives (state S.Store tables.old.conn.now) (state S.Store tables.new.conn.now) (λ _. ⊥) }
+{
+    check_open(tables)?;
+    for row in rows {
+        put_in(alloc, tables, row)?;
+    }
+    Ok(())
+}
+
+// ---- the transaction
+
+/// Puts the rows by one transaction.
+pub(crate) fn put_all<S: Alter>(
+    alloc: Global,
+    conn: &mut Connection<S>,
+    rows: &[SourceRow],
+) -> Result<(), TableFault>
+    requires laid { HasCleanDisk (state S.Store conn.old) → IsTrue (state S.Store conn.old).is_open → IsLaid (state S.Store conn.old) }
+    requires numbers { HasCleanDisk (state S.Store conn.old) → IsTrue (state S.Store conn.old).is_open → HasNumbers (state S.Store conn.old).now.trees }
+    requires lawful { HasCleanDisk (state S.Store conn.old) → IsTrue (state S.Store conn.old).is_open → CanPutRows (entries_in (state S.Store conn.old).now.trees) rows.now }
+    ensures made { HasCleanDisk (state S.Store conn.new) → OnOk result (MakesRows rows.now (state S.Store conn.old) (state S.Store conn.new)) }
+    ensures keeps { HasCleanDisk (state S.Store conn.new) → OnErr result (Keeps (state S.Store conn.old) (state S.Store conn.new)) }
+    ensures stop { Survives (state S.Store conn.old) (state S.Store conn.new) (λ db. IsTrue (state S.Store conn.old).is_open × PutsRows rows.now (state S.Store conn.old).now.trees db) }
+{
+    if !conn.is_autocommit() {
+        return Err(TableFault::Store);
+    }
+    let mut tables = conn.transaction();
+    put_each(alloc, &mut tables, rows)?;
+    match tables.commit() {
+        Ok(()) => Ok(()),
+        Err(error) => Err(TableFault::from(error)),
+    }
+}
