@@ -6,6 +6,9 @@ ghost use Rattle.scim_json.specs.Writing.{WritesPart};
 use json::Writer;
 use std::alloc::AllocError;
 
+/// The room that a text of JSON is given at first, in bytes.
+pub const TEXT_ROOM: usize = 512;
+
 /// Writes a member that is a text.
 pub fn write_text(out: &mut Writer, name: &str, text: &str) -> Result<(), AllocError>
     ensures { OnOk result (WritesPart name.now (Some (string text.now)) out.old out.new) }

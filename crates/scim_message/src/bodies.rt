@@ -13,13 +13,10 @@ use crate::lists::ListResponse;
 use crate::messages::Answer;
 use crate::refusals::ErrorResponse;
 use json::Writer;
-use scim_json::{write_text_if, write_whole};
+use scim_json::{TEXT_ROOM, write_text_if, write_whole};
 use scim_key::Base;
 use scim_resource::Shown;
 use std::alloc::{AllocError, Global};
-
-/// The room that a body is given at first.
-const ROOM: usize = 512;
 
 /// The body of an answer by a service at this base, in UTF-8. Where nothing was modified it is empty.
 pub fn body_of(alloc: Global, answer: &Answer, base: &Base) -> Result<Vec<u8>, AllocError>
@@ -43,7 +40,7 @@ fn shown_text(alloc: Global, shown: &Shown, base: &Base) -> Result<Vec<u8>, Allo
     ensures utf8 { IfOk result (λ text. IsUtf8 text.items) }
     ensures lawful { OnOk result (IsLawful shown.now) }
 {
-    let mut out = Writer::new(Vec::with_capacity(alloc, ROOM)?);
+    let mut out = Writer::new(Vec::with_capacity(alloc, TEXT_ROOM)?);
     shown.write(alloc, base, &mut out)?;
     Ok(out.into_inner())
 }
@@ -54,7 +51,7 @@ fn list_text(alloc: Global, list: &ListResponse, base: &Base) -> Result<Vec<u8>,
     ensures utf8 { IfOk result (λ text. IsUtf8 text.items) }
     ensures lawful { OnOk result (AreLawful list.now.resources) }
 {
-    let mut out = Writer::new(Vec::with_capacity(alloc, ROOM)?);
+    let mut out = Writer::new(Vec::with_capacity(alloc, TEXT_ROOM)?);
     write_list(alloc, list, base, &mut out)?;
     Ok(out.into_inner())
 }
@@ -64,7 +61,7 @@ fn error_text(alloc: Global, error: &ErrorResponse) -> Result<Vec<u8>, AllocErro
     ensures text { IfOk result (λ text. text.items ≡ compact_text (error_data error.now)) }
     ensures utf8 { IfOk result (λ text. IsUtf8 text.items) }
 {
-    let mut out = Writer::new(Vec::with_capacity(alloc, ROOM)?);
+    let mut out = Writer::new(Vec::with_capacity(alloc, TEXT_ROOM)?);
     write_error(error, &mut out)?;
     Ok(out.into_inner())
 }

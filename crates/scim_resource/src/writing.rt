@@ -21,13 +21,10 @@ use crate::schemas::{core_user, source_extension};
 use crate::texts::Text;
 use crate::users::User;
 use json::Writer;
-use scim_json::{write_text, write_whole};
+use scim_json::{TEXT_ROOM, write_text, write_whole};
 use scim_key::{Base, Revision};
 use std::alloc::{AllocError, Global};
 use std::str;
-
-/// The room that a content's text is given at first.
-const ROOM: usize = 512;
 
 impl Content {
     /// What is stored of the resource: the compact text of its attributes, in UTF-8.
@@ -37,7 +34,7 @@ impl Content {
         ensures utf8 { IfOk result (λ text. IsUtf8 text.items) }
         ensures lawful { OnOk result (IsContent self.now) }
     {
-        let mut out = Writer::new(Vec::with_capacity(alloc, ROOM)?);
+        let mut out = Writer::new(Vec::with_capacity(alloc, TEXT_ROOM)?);
         self.write(&mut out)?;
         Ok(out.into_inner())
     }
