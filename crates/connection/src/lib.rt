@@ -14,6 +14,6 @@ mod timed;
 pub use deadline::Deadline;
 pub use listening::Listen;
 pub use serving::{ConnectionFault, answered, serve_connections, serve_from_memory, serve_next};
-pub use shared::SharedStream;
+pub use shared::{SharedStream, TimedHandle, timed_handles};
 pub use sockets::Sockets;
 pub use timed::TimedStream;

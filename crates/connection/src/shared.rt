@@ -1,11 +1,15 @@
 //! Handles on one stream.
+ghost use Rattle.std.specs.Prelude.{◌≡◌, IfOk};
+
+use crate::deadline::Deadline;
+use crate::timed::TimedStream;
 use std::alloc::Global;
 use std::cell::RefCell;
 use std::io;
 use std::io::{ErrorKind, Read, Write};
 use std::net::{OpenStream, Shutdown};
 use std::rc::Rc;
-use std::time::Duration;
+use std::time::{Clock, Duration};
 
 /// A handle on a stream, which is closed with the last of its handles. Unlike `try_clone` of a socket,
 /// that of a handle asks nothing of the system.
@@ -65,4 +69,23 @@ impl<S: OpenStream + Drop> OpenStream for SharedStream<S> {
         let stream = self.stream.clone().map_err(out_of_memory)?;
         Ok(SharedStream { stream })
     }
+}
+
+/// A handle on a stream that keeps a deadline.
+pub type TimedHandle<'a, S, C> = TimedStream<'a, SharedStream<S>, C>;
+
+/// Two handles on a stream, which is to be done with at one moment: one to read, one to write.
+pub fn timed_handles<'a, S: OpenStream + Drop, C: Clock>(
+    alloc: Global,
+    stream: S,
+    clock: &'a C,
+    deadline: Deadline,
+) -> io::Result<(TimedHandle<'a, S, C>, TimedHandle<'a, S, C>)>
+    ensures { IfOk result
+        (λ handles. (handles.0.deadline ≡ deadline) × (handles.1.deadline ≡ deadline)) }
+{
+    let stream = SharedStream::new(alloc, stream)?;
+    let reader = TimedStream::new(stream.try_clone()?, clock, deadline);
+    let writer = TimedStream::new(stream, clock, deadline);
+    Ok((reader, writer))
 }

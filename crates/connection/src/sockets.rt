@@ -2,8 +2,7 @@
 use crate::deadline::Deadline;
 use crate::lingering::{Lingering, MOST_KEPT};
 use crate::listening::Listen;
-use crate::shared::SharedStream;
-use crate::timed::TimedStream;
+use crate::shared::{SharedStream, TimedHandle, timed_handles};
 use std::alloc::Global;
 use std::io;
 use std::io::{Read, Write};
@@ -74,17 +73,14 @@ impl<'a, L: OpenListener + Drop, C: Clock> Listen for Sockets<'a, L, C>
 where
     L::Stream: Read + Write + OpenStream,
 {
-    type Reader = TimedStream<'a, SharedStream<L::Stream>, C>;
+    type Reader = TimedHandle<'a, L::Stream, C>;
 
-    type Writer = TimedStream<'a, SharedStream<L::Stream>, C>;
+    type Writer = TimedHandle<'a, L::Stream, C>;
 
     fn accept(&mut self) -> io::Result<(Self::Reader, Self::Writer)> {
         let stream = self.next_stream()?;
         let deadline = Deadline::after(self.clock, self.limit)?;
-        let stream = SharedStream::new(self.alloc, stream)?;
-        let reader = TimedStream::new(stream.try_clone()?, self.clock, deadline);
-        let writer = TimedStream::new(stream, self.clock, deadline);
-        Ok((reader, writer))
+        timed_handles(self.alloc, stream, self.clock, deadline)
     }
 
     fn end(&mut self, reader: Self::Reader, writer: Self::Writer) {

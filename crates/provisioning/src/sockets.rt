@@ -1,14 +1,19 @@
 //! Streams to a provider over TCP.
 use crate::dialing::Dial;
-use connection::{Deadline, TimedStream};
+use connection::{Deadline, TimedHandle, timed_handles};
+use std::alloc::Global;
 use std::io;
 use std::io::ErrorKind;
-use std::net::{Net, OpenStream, TcpStream, ToSocketAddrs};
+use std::net::{Net, TcpStream, ToSocketAddrs};
 use std::time::{Clock, Duration};
+
+/// For how many seconds one address of a host is waited for at most.
+const ADDRESS_SECONDS: u64 = 10;
 
 /// A provider at an address, HOST:PORT. Each stream has this time in all, from before it is opened.
 #[derive(Drop)]
 pub struct Remote<'a, R> {
+    pub alloc: Global,
     pub runtime: &'a R,
     pub address: &'a str,
     pub limit: Duration,
@@ -22,8 +27,10 @@ fn connect<R: Net + Clock>(
 ) -> io::Result<R::Stream> {
     let mut fault = io::Error::from(ErrorKind::InvalidInput);
     for address in address.to_socket_addrs(runtime)? {
-        let left = deadline.left(runtime)?;
-        match TcpStream::connect_timeout(runtime, &address, left) {
+        let limit = deadline
+            .left(runtime)?
+            .min(Duration::from_secs(ADDRESS_SECONDS));
+        match TcpStream::connect_timeout(runtime, &address, limit) {
             Ok(stream) => return Ok(stream),
             Err(error) => fault = error,
         }
@@ -32,16 +39,14 @@ fn connect<R: Net + Clock>(
 }
 
 impl<'a, R: Net + Clock> Dial for Remote<'a, R> {
-    type Reader = TimedStream<'a, R::Stream, R>;
+    type Reader = TimedHandle<'a, R::Stream, R>;
 
-    type Writer = TimedStream<'a, R::Stream, R>;
+    type Writer = TimedHandle<'a, R::Stream, R>;
 
     fn dial(&mut self) -> io::Result<(Self::Reader, Self::Writer)> {
         let deadline = Deadline::after(self.runtime, self.limit)?;
         let stream = connect(self.runtime, self.address, deadline)?;
-        let reader = TimedStream::new(stream.try_clone()?, self.runtime, deadline);
-        let writer = TimedStream::new(stream, self.runtime, deadline);
-        Ok((reader, writer))
+        timed_handles(self.alloc, stream, self.runtime, deadline)
     }
 
     fn end(&self, _: Self::Reader, _: Self::Writer) {}

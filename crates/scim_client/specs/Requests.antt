@@ -18,6 +18,7 @@ use Rattle.scim_message.specs.declared.messages.Request.{Request}
 use Rattle.scim_message.specs.declared.messages.Request.TheVariants.{Create, Retrieve, Search, Replace}
 use Rattle.http_text.specs.Texts.{request_text}
 use Rattle.scim_server.specs.Laws.{resource_path}
+use Rattle.scim_server.specs.Media.{media_type}
 use Rattle.scim_server.specs.Replies.{Line, written_lines, stated_type}
 use Rattle.scim_server.specs.Routes.{collection_path}
 
@@ -105,7 +106,7 @@ if_none_match_of (Replace id content if_match if_none_match) = if_none_match
 abbrev pub lines_of : List ℕ → Option (List ℕ) → Option (List ℕ) → Option (List ℕ) → List Line
 lines_of host length_ if_match if_none_match =
     (codes "Host", Some host)
-    ∷ (codes "Accept", Some (codes "application/scim+json"))
+    ∷ (codes "Accept", Some media_type)
     ∷ (codes "Connection", Some (codes "close"))
     ∷ (codes "Content-Length", length_)
     ∷ (codes "Content-Type", stated_type length_)

@@ -8,7 +8,7 @@ ghost use Rattle.scim_version.specs.declared.conditions.Condition.TheVariants.{A
 ghost use Rattle.scim_version.specs.Tags.{IsEntityTag};
 ghost use Rattle.scim_filter.specs.Texts.{filter_text};
 ghost use Rattle.scim_server.specs.Laws as paths;
-ghost use Rattle.scim_server.specs.Replies.{line_with, written_lines, stated_type};
+ghost use Rattle.scim_server.specs.Replies.{line_with, written_lines};
 ghost use Rattle.scim_server.specs.Routes as routes;
 ghost use Rattle.scim_client.specs.Requests as spec;
 ghost use Rattle.scim_client.specs.Spelling.{HasEntityTags, HasLawfulTarget, IsFilterText, IsIdText, IsSentContent, IsWritable, KeepsLimits, SpellsRequest};
@@ -20,6 +20,7 @@ use scim_filter::Filter;
 use scim_key::{Base, Kind, ResourceId};
 use scim_message::Request;
 use scim_resource::{Content, location};
+use scim_server::{MEDIA_TYPE, push_line, stated_type};
 use scim_version::{Condition, EntityTag};
 use std::alloc::{AllocError, Global};
 
@@ -81,41 +82,16 @@ fn fields_of<'a>(
         ≡ written_lines (spec.lines_of host.now (option_map (λ t. t.now) length.entry) (option_map (λ t. t.now) if_match.entry)
         (option_map (λ t. t.now) if_none_match.entry))) }
 {
-    let media_type = media_type(length);
+    let media_type = stated_type(length);
     let mut fields = Vec::new(alloc);
     push_line(&mut fields, "Host", Some(host))?;
-    push_line(&mut fields, "Accept", Some(b"application/scim+json"))?;
+    push_line(&mut fields, "Accept", Some(MEDIA_TYPE))?;
     push_line(&mut fields, "Connection", Some(b"close"))?;
     push_line(&mut fields, "Content-Length", length)?;
     push_line(&mut fields, "Content-Type", media_type)?;
     push_line(&mut fields, "If-Match", if_match)?;
     push_line(&mut fields, "If-None-Match", if_none_match)?;
     Ok(fields)
-}
-
-/// Adds a field line where it has a value.
-fn push_line<'a>(
-    fields: &mut Vec<FieldLine<'a>>,
-    name: &'a str,
-    value: Option<&'a [u8]>,
-) -> Result<(), AllocError>
-    ensures { OnOk result (map named_value fields.new.items ≡ map named_value fields.old.items
-        ++ line_with name.now (option_map (λ t. t.now) value.entry)) }
-{
-    if let Some(value) = value {
-        fields.push(FieldLine { name, value })?;
-    }
-    Ok(())
-}
-
-/// The media type of a body that is there.
-fn media_type(length: Option<&[u8]>) -> Option<&'static [u8]>
-    ensures { option_map (λ t. t.now) result ≡ stated_type (option_map (λ t. t.now) length.entry) }
-{
-    match length {
-        Some(_) => Some(b"application/scim+json"),
-        None => None,
-    }
 }
 
 fn length_of<'a>(body: Option<&[u8]>, buffer: &'a mut Buffer) -> Option<&'a [u8]>

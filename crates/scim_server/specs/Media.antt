@@ -20,9 +20,13 @@ ends_type rest = begins_parameters (find (λ byte. not (is_blank byte)) rest)
 abbrev pub is_media_type : List ℕ → List ℕ → Bool
 is_media_type name text = bytes_eq (lowered (take (length name) text)) (lowered name) && ends_type (drop (length name) text)
 
--- the media types of SCIM (RFC 7644 section 3.1)
+-- the media type of SCIM (RFC 7644 section 3.1)
+abbrev pub media_type : List ℕ
+media_type = codes "application/scim+json"
+
+-- those that a body may have
 abbrev pub is_json_type : List ℕ → Bool
-is_json_type text = is_media_type (codes "application/scim+json") text || is_media_type (codes "application/json") text
+is_json_type text = is_media_type media_type text || is_media_type (codes "application/json") text
 
 -- of the values of `Content-Type` there is none, or one with such a type
 abbrev pub is_type_served : List (List ℕ) → Bool

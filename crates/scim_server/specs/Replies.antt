@@ -11,6 +11,7 @@ use Rattle.scim_message.specs.Messages.{answer_status}
 use Rattle.http_text.specs.Message.{NamedValue}
 use Rattle.http_text.specs.Response.{response_text}
 use Rattle.scim_message.specs.Bodies.{body_text}
+use Rattle.scim_server.specs.Media.{media_type}
 
 -- a field line, which is written where it has a value
 abbrev pub Line : Type 0
@@ -70,7 +71,7 @@ stated_length base answer = value_if (has_body answer) (Some (decimal (length (b
 -- the media type stands beside the length
 abbrev pub stated_type : Option (List ℕ) → Option (List ℕ)
 stated_type None = None
-stated_type (Some length_) = Some (codes "application/scim+json")
+stated_type (Some length_) = Some media_type
 
 -- the field lines of a response: the body's length, where there is a body, the URI and the tag of the resource that it
 -- shows, and whether it was created, which its URI tells once more

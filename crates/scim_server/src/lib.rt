@@ -2,6 +2,7 @@
 #![tactic(auto)]
 
 mod conditions;
+mod field_lines;
 mod laws;
 mod media;
 mod numbers;
@@ -14,6 +15,7 @@ mod searches;
 mod segments;
 mod serving;
 
+pub use field_lines::{MEDIA_TYPE, push_line, stated_type};
 pub use laws::{
     answers_are_responses, locations_are_routed, one_meaning, replies_are_lawful,
     segments_are_spelled,

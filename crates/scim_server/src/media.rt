@@ -4,6 +4,7 @@ ghost use Rattle.std.specs.Str.{bytes_eq};
 ghost use Rattle.http_text.specs.Message.{lowered, values};
 ghost use Rattle.scim_server.specs.Media as spec;
 
+use crate::field_lines::MEDIA_TYPE;
 use http_text::Incoming;
 
 /// Whether `Content-Type` is absent, or stands once with a media type that is served.
@@ -21,7 +22,7 @@ pub(crate) fn is_type_served(incoming: &Incoming) -> bool
 fn is_json_type(text: &[u8]) -> bool
     ensures { result ≡ spec.is_json_type text.now }
 {
-    is_media_type(b"application/scim+json", text) || is_media_type(b"application/json", text)
+    is_media_type(MEDIA_TYPE, text) || is_media_type(b"application/json", text)
 }
 
 /// Whether a text is this media type, letters in any case, with parameters or without.

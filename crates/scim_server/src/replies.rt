@@ -8,6 +8,7 @@ ghost use Rattle.scim_message.specs.Fitting.{ShowsLawfully};
 ghost use Rattle.scim_message.specs.Messages.{answer_status};
 ghost use Rattle.scim_server.specs.Replies as spec;
 
+use crate::field_lines::{push_line, stated_type};
 use http_text::{FieldLine, StatusCode, write_response};
 use itoa::Buffer;
 use scim_key::Base;
@@ -141,32 +142,6 @@ fn fields_of<'a>(
     push_line(&mut fields, "ETag", tag)?;
     push_line(&mut fields, "Location", created_at)?;
     Ok(fields)
-}
-
-/// The media type of a body that is there.
-fn stated_type(length: Option<&[u8]>) -> Option<&'static [u8]>
-    ensures { option_map (λ t. t.now) result
-        ≡ spec.stated_type (option_map (λ t. t.now) length.entry) }
-{
-    match length {
-        Some(_) => Some(b"application/scim+json"),
-        None => None,
-    }
-}
-
-/// Adds a field line where it has a value.
-fn push_line<'a>(
-    fields: &mut Vec<FieldLine<'a>>,
-    name: &'a str,
-    value: Option<&'a [u8]>,
-) -> Result<(), AllocError>
-    ensures { OnOk result (map named_value fields.new.items ≡ map named_value fields.old.items
-        ++ spec.line_with name.now (option_map (λ t. t.now) value.entry)) }
-{
-    if let Some(value) = value {
-        fields.push(FieldLine { name, value })?;
-    }
-    Ok(())
 }
 
 /// The URI of the one resource that an answer shows or speaks of.

@@ -14,7 +14,7 @@ use std::env;
 use std::rt::Runtime;
 
 /// How many connections one run serves at most.
-const MOST_REQUESTS: u32 = 1_000_000;
+pub(crate) const MOST_REQUESTS: u32 = 1_000_000;
 
 /// The base of a service where the words give none.
 const DEFAULT_BASE: &str = "http://localhost:8080/v2";

@@ -12,8 +12,9 @@ use provider_file::{InMemory, Storage, StoreFile};
 use provisioning::PushFault;
 use scim_client::ScimService;
 use scim_key::Base;
-use source_offers::read_sources;
+use source_offers::{Sources, read_sources};
 use std::io;
+use std::io::BufWriter;
 use std::net::Net;
 use std::rt::{HostRuntime, Runtime};
 use sync_runs::{Outcome, run_loop};
@@ -102,9 +103,23 @@ fn run_over<R: Runtime + Net + AllocGlobal, S: Storage, J: Journal>(
     base: Base,
 ) -> (Provider<S::Rows>, Result<Status, RunFault>) {
     match read_sources(rt, files.users.as_str(), files.groups.as_deref()) {
-        Ok(sources) => {
+        Ok(sources) => run_of(rt, store, provider, connector, &sources, base),
+        Err(fault) => (provider, Err(RunFault::from(fault))),
+    }
+}
+
+/// Carries the records of files to the provider.
+fn run_of<R: Runtime + Net + AllocGlobal, S: Storage, J: Journal>(
+    rt: &R,
+    store: &S,
+    provider: Provider<S::Rows>,
+    connector: &mut Connector<J>,
+    sources: &Sources,
+    base: Base,
+) -> (Provider<S::Rows>, Result<Status, RunFault>) {
+    match BufWriter::new(rt.alloc(), io::writer(rt)) {
+        Ok(mut out) => {
             let service = ScimService::new(base);
-            let mut out = io::writer(rt);
             let (provider, ended) = run_loop(
                 rt,
                 rt.alloc(),
@@ -112,12 +127,12 @@ fn run_over<R: Runtime + Net + AllocGlobal, S: Storage, J: Journal>(
                 connector,
                 store,
                 provider,
-                &sources,
+                sources,
                 &mut out,
             );
             (provider, run_status(ended))
         }
-        Err(fault) => (provider, Err(RunFault::from(fault))),
+        Err(error) => (provider, Err(RunFault::from(error))),
     }
 }
 

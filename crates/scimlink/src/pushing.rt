@@ -11,6 +11,7 @@ use scim_client::ScimService;
 use scim_key::Base;
 use source_offers::read_sources;
 use std::io;
+use std::io::BufWriter;
 use std::net::Net;
 use std::rt::Runtime;
 use sync_runs::Outcome;
@@ -56,7 +57,7 @@ fn push_from<R: Runtime + Net + AllocGlobal, J: Journal>(
 ) -> Result<Status, RunFault> {
     let sources = read_sources(rt, users, groups)?;
     let service = ScimService::new(base);
-    let mut out = io::writer(rt);
+    let mut out = BufWriter::new(rt.alloc(), io::writer(rt))?;
     let outcome = sync_runs::push(rt, rt.alloc(), &service, connector, &sources, to, &mut out)?;
     Ok(carried_status(outcome))
 }

@@ -12,9 +12,7 @@ use std::io::ErrorKind;
 use std::net::{Net, OpenListener, SocketAddr, TcpListener};
 use std::rt::{HostRuntime, Runtime};
 use std::time::Duration;
-
-/// For how many seconds a connection may take its time, in all.
-const CONNECTION_SECONDS: u64 = 30;
+use sync_runs::CONNECTION_SECONDS;
 
 /// Serves so many connections to an address, from the rows of a file, which is opened first, or from
 /// a provider in memory that is empty at first.

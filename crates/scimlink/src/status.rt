@@ -3,6 +3,7 @@ ghost use Rattle.std.specs.Prelude.{◌≡◌, ◌≢◌};
 ghost use Rattle.scimlink.specs.Statuses.{fault_status, journal_fault, lines_fault, loop_fault, offer_fault, schedule_fault, show_fault, show_journal_fault, status_code, store_fault, users_fault, world_fault};
 ghost use Rattle.scimlink.specs.declared.status.RunFault.TheVariants.{Memory};
 
+use crate::command::MOST_REQUESTS;
 use connection::ConnectionFault;
 use mapping::WriteFault;
 use provider_file::ShowFault;
@@ -55,7 +56,7 @@ pub enum RunFault {
     Base,
     #[error("error: --listen is HOST:PORT")]
     Address,
-    #[error("error: --requests is 1 to 1000000")]
+    #[error("error: --requests is 1 to {most}", most = MOST_REQUESTS)]
     Requests,
     #[error("error: show takes one of --store FILE and --journal FILE")]
     Show,

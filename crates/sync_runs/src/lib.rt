@@ -14,5 +14,5 @@ pub use carrying::{Outcome, carry};
 pub use faults::RunFault;
 pub use looping::run_loop;
 pub use own::{OwnProvider, OwnReader};
-pub use pushing::push;
+pub use pushing::{CONNECTION_SECONDS, push};
 pub use telling::Lines;

@@ -5,10 +5,10 @@ ghost use Rattle.sync_runs.specs.Carrying.{CarriesHere, CarriesSilently, IsOutco
 use crate::carrying::{Outcome, carry};
 use crate::faults::{RunFault, unopened, unwritten};
 use crate::own::{OwnProvider, OwnReader, OwnStreams, has_failed};
-use crate::pushing::{EXCHANGE_SECONDS, remote};
+use crate::pushing::{CONNECTION_SECONDS, remote};
 use crate::telling::Reports;
 use crate::views::print_views;
-use connection::{Listen, Sockets, TimedStream};
+use connection::{Listen, Sockets, TimedHandle};
 use connector_core::Connector;
 use journal_core::Journal;
 use provider_core::Provider;
@@ -39,7 +39,7 @@ pub fn run_loop<'a, N: Net + Clock, K: Storage + 'a, J: Journal, W: Write>(
     out: &mut W,
 ) -> (Provider<K::Rows>, Result<Outcome, RunFault>)
     ensures { Loops ⟦<OwnReader<'a, 'a, 'a, N, Sockets<'a, N::Listener, N>, K> as Read>⟧.remaining
-        ⟦<TimedStream<'a, N::Stream, N> as Write>⟧.contents J.Journal service.now sources.now
+        ⟦<TimedHandle<'a, N::Stream, N> as Write>⟧.contents J.Journal service.now sources.now
         connector.old connector.new result.1 }
 {
     let (provider, carried) = carry_here(
@@ -92,6 +92,7 @@ fn print_end<K: Storage, J: Journal, W: Write>(
         writeln!(out, "settled in {} exchanges", outcome.tally.exchanges).map_err(unwritten)?;
     }
     print_views(connector, provider, out)?;
+    out.flush().map_err(unwritten)?;
     Ok(outcome)
 }
 
@@ -107,7 +108,7 @@ fn carry_here<'a, N: Net + Clock, K: Storage + 'a, J: Journal, W: Write>(
     out: &mut W,
 ) -> (Provider<K::Rows>, Result<Outcome, PushFault>)
     ensures { CarriesHere ⟦<OwnReader<'a, 'a, 'a, N, Sockets<'a, N::Listener, N>, K> as Read>⟧.remaining
-        ⟦<TimedStream<'a, N::Stream, N> as Write>⟧.contents J.Journal service.now sources.now
+        ⟦<TimedHandle<'a, N::Stream, N> as Write>⟧.contents J.Journal service.now sources.now
         connector.old connector.new result.1 }
 {
     match listen(rt, alloc) {
@@ -147,11 +148,11 @@ fn carry_to<'r, 'p, 'b, N: Net + Clock, L: Listen + Drop, K: Storage, J: Journal
     out: &mut W,
 ) -> Result<Outcome, PushFault>
     ensures { CarriesSilently ⟦<OwnReader<'r, 'p, 'b, N, L, K> as Read>⟧.remaining
-        ⟦<TimedStream<'r, N::Stream, N> as Write>⟧.contents J.Journal service.now sources.now
+        ⟦<TimedHandle<'r, N::Stream, N> as Write>⟧.contents J.Journal service.now sources.now
         connector.old connector.new result }
 {
     let mut streams = OwnStreams {
-        remote: remote(rt, address),
+        remote: remote(alloc, rt, address),
         own,
     };
     let mut reports = Reports::new(&mut *out);
@@ -173,7 +174,7 @@ fn listen<'a, N: Net + Clock>(
     let listener = TcpListener::bind(rt, OWN_ADDRESS).map_err(unopened)?;
     let taken = listener.local_addr().map_err(unopened)?;
     let address = format!(in alloc; "{taken}")?;
-    let limit = Duration::from_secs(EXCHANGE_SECONDS);
+    let limit = Duration::from_secs(CONNECTION_SECONDS);
     let sockets = Sockets::new(alloc, listener, rt, limit);
     Ok((sockets, address))
 }

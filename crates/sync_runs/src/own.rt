@@ -1,5 +1,5 @@
 //! Streams to a provider in the same program: one thread asks and answers.
-use connection::{Listen, TimedStream, serve_next};
+use connection::{Listen, TimedHandle, serve_next};
 use core::mem::replace_with;
 use provider_core::Provider;
 use provider_file::Storage;
@@ -44,7 +44,7 @@ pub(crate) struct OwnStreams<'r, 'p, 'b, N: Net + Clock, L: Listen + Drop, K: St
 /// What a provider in the same program answers.
 #[derive(Drop)]
 pub struct OwnReader<'r, 'p, 'b, N: Net + Clock, L: Listen + Drop, K: Storage> {
-    stream: TimedStream<'r, N::Stream, N>,
+    stream: TimedHandle<'r, N::Stream, N>,
     own: &'p RefCell<OwnProvider<'b, L, K>>,
     is_served: bool,
 }
@@ -70,9 +70,15 @@ impl<'r, 'p, 'b, N: Net + Clock, L: Listen + Drop, K: Storage> OwnReader<'r, 'p,
 
 impl<'r, 'p, 'b, N: Net + Clock, L: Listen + Drop, K: Storage> Read
     for OwnReader<'r, 'p, 'b, N, L, K> {
+    /// Has the connection served and reads what came. Where nothing did, another one was served, which
+    /// came first: the next is served before the next read.
     fn read(&mut self, buffer: &mut [u8]) -> io::Result<usize> {
         self.be_served()?;
-        self.stream.read(buffer)
+        let came = self.stream.read(buffer);
+        if matches!(&came, Err(error) if error.kind() == ErrorKind::Interrupted) {
+            self.is_served = false;
+        }
+        came
     }
 
     fn read_exact(&mut self, buffer: &mut [u8]) -> io::Result<()> {
@@ -85,7 +91,7 @@ impl<'r, 'p, 'b, N: Net + Clock, L: Listen + Drop, K: Storage> Dial
     for OwnStreams<'r, 'p, 'b, N, L, K> {
     type Reader = OwnReader<'r, 'p, 'b, N, L, K>;
 
-    type Writer = TimedStream<'r, N::Stream, N>;
+    type Writer = TimedHandle<'r, N::Stream, N>;
 
     /// Opens a stream. A provider whose store has failed isn't asked any more.
     fn dial(&mut self) -> io::Result<(Self::Reader, Self::Writer)> {

@@ -3,7 +3,7 @@ ghost use Rattle.sync_runs.specs.Carrying.{CarriesSilently};
 
 use crate::carrying::{Outcome, carry};
 use crate::telling::Lines;
-use connection::TimedStream;
+use connection::TimedHandle;
 use connector_core::Connector;
 use journal_core::Journal;
 use provisioning::{PushFault, Remote};
@@ -14,15 +14,16 @@ use std::io::{Eprint, Read, Write};
 use std::net::Net;
 use std::time::{Clock, Duration};
 
-/// For how many seconds an exchange may take its time, in all.
-pub(crate) const EXCHANGE_SECONDS: u64 = 30;
+/// For how many seconds a connection may take its time, in all, at either end.
+pub const CONNECTION_SECONDS: u64 = 30;
 
 /// The provider at an address. Each exchange has its time.
-pub(crate) fn remote<'a, N>(runtime: &'a N, address: &'a str) -> Remote<'a, N> {
+pub(crate) fn remote<'a, N>(alloc: Global, runtime: &'a N, address: &'a str) -> Remote<'a, N> {
     Remote {
+        alloc,
         runtime,
         address,
-        limit: Duration::from_secs(EXCHANGE_SECONDS),
+        limit: Duration::from_secs(CONNECTION_SECONDS),
     }
 }
 
@@ -37,11 +38,11 @@ pub fn push<'a, N: Net + Clock + Eprint, J: Journal, W: Write>(
     address: &str,
     out: &mut W,
 ) -> Result<Outcome, PushFault>
-    ensures { CarriesSilently ⟦<TimedStream<'a, N::Stream, N> as Read>⟧.remaining
-        ⟦<TimedStream<'a, N::Stream, N> as Write>⟧.contents J.Journal service.now sources.now
+    ensures { CarriesSilently ⟦<TimedHandle<'a, N::Stream, N> as Read>⟧.remaining
+        ⟦<TimedHandle<'a, N::Stream, N> as Write>⟧.contents J.Journal service.now sources.now
         connector.old connector.new result }
 {
-    let mut remote = remote(rt, address);
+    let mut remote = remote(alloc, rt, address);
     let mut lines = Lines { out, stderr: rt };
     carry(alloc, service, connector, sources, &mut remote, &mut lines)
 }

@@ -75,7 +75,8 @@ impl<W: Write + Drop> Hear for Reports<W> {
         let Judged { verdict, .. } = judged;
         let report = Report::Judged(verdict);
         self.rows = self.rows.saturating_add(1);
-        writeln!(self.out, "{} {report}", self.rows)
+        writeln!(self.out, "{} {report}", self.rows)?;
+        self.out.flush()
     }
 }
 
