@@ -1,17 +1,22 @@
 -- Lists of members within their limits, and reading them item by item.
-use Rattle.std.proofs.Common.{◌≡◌, ℕ, ◌+◌, ◌<◌, ◌≤◌, List, [], ◌∷◌, ◌++◌, length, get_or, drop, Bool, true, false, not, cond, ◌&&◌, ◌||◌, Option, Some, None, Result, Ok, Err, refl, sym, ap, ◌∙◌}
-use Rattle.std.proofs.lemmas.Bool.{and_parts, or_parts}
-use Rattle.std.proofs.lemmas.List.{drop_all}
+use Rattle.std.proofs.Common.{◌≡◌, ℕ, ◌+◌, ◌<◌, ◌≤◌, List, [], ◌∷◌, ◌++◌, length, get_or, drop, Bool, true, false, not, cond, ◌&&◌, ◌||◌, Option, Some, None, Result, Ok, Err, refl, sym, ap, ◌∙◌, subst, arith}
+use Rattle.std.proofs.lemmas.Bool.{and_parts, or_parts, leb-false, lt-leb, le-leb}
+use Rattle.std.proofs.lemmas.List.{drop_all, length-append}
 use Rattle.std.proofs.lemmas.Slice.Eq.{bytes_eq-Decides}
 use Rattle.std.specs.List.{list_any}
 use Rattle.std.specs.Str.{bytes_eq}
 use Rattle.scim_key.specs.Outcome.{◌>>=◌}
+use Rattle.std.specs.Prelude.{codes}
+use Rattle.serde_json.specs.Data.{Data, null, boolean, number, string, array, object, Items, no_items, item}
 use Rattle.serde_json.specs.View.{view, items_view}
 use Rattle.serde_json.specs.declared.value.Value.{Value}
-use Rattle.scim_resource.specs.Groups.{AreTexts, IsMemberList, is_among, are_distinct}
-use Rattle.scim_resource.specs.Reading.{member_in, members_after, with_member}
-use Rattle.scim_resource.specs.Texts.{IsText, IsTextIf}
+use Rattle.scim_resource.specs.Groups.{AreTexts, IsMemberList, is_among, are_distinct, are_few_members}
+use Rattle.scim_resource.specs.declared.groups.TheConstants.{MEMBER_LIMIT}
+use Rattle.scim_resource.specs.Reading.{member_in, members_after, with_member, few_members, members_of, text_in}
+use Rattle.scim_resource.specs.Texts.{IsText, IsTextIf, is_short_text}
 use Rattle.scim_resource.specs.declared.faults.ReadFault.{ReadFault}
+use Rattle.scim_resource.specs.declared.faults.ReadFault.TheVariants.{InvalidValue}
+use Rattle.scim_json.specs.Attributes.{attribute}
 use Rattle.scim_resource.proofs.EmailLists.{here}
 
 pub no_values : (vs : List (List ℕ)) → vs ≡ [] → IsMemberList vs
@@ -100,6 +105,63 @@ pub members_end : (vs : List Value) (i : ℕ) (kept : List (List ℕ)) (r : Resu
 unfolding members_after
 members_end vs i kept r h so_far = sym so_far ∙ ap (λ ws. members_after kept (items_view ws)) (drop_all i vs h)
 
+-- ---- more members than a group may have
+
+many_push : (v : List ℕ) (vs : List (List ℕ)) → are_few_members vs ≡ false → are_few_members (vs ++ v ∷ []) ≡ false
+many_push v vs h =
+    let many = leb-false (length vs) MEMBER_LIMIT h in
+    lt-leb (length (vs ++ v ∷ [])) MEMBER_LIMIT (omega (arith, many, length-append vs (v ∷ [])))
+
+many_at : (b : Bool) (v : List ℕ) (vs : List (List ℕ)) → are_few_members vs ≡ false → are_few_members (cond b vs (vs ++ v ∷ [])) ≡ false
+many_at true v vs h = h
+many_at false v vs h = many_push v vs h
+
+many-with_member : (vs : List (List ℕ)) (o : Option (List ℕ)) → are_few_members vs ≡ false → are_few_members (with_member vs o) ≡ false
+many-with_member vs None h = h
+many-with_member vs (Some v) h = many_at (is_among v vs) v vs h
+
+-- it fails as an invalid value, if it fails
+abbrev IsInvalidAtMost : {X : Type 0} → Result X ReadFault → Type 0
+IsInvalidAtMost (Ok x) = Unit {0}
+IsInvalidAtMost (Err e) = e ≡ InvalidValue
+
+abbrev short : Bool → List ℕ → Result (Option (List ℕ)) ReadFault
+short b s = cond b (Ok (Some s)) (Err InvalidValue)
+
+short_at : (b : Bool) (s : List ℕ) → IsInvalidAtMost (short b s)
+short_at true s = tt
+short_at false s = refl
+
+text_at_most : (o : Option Data) → IsInvalidAtMost (text_in o)
+text_at_most None = tt
+text_at_most (Some null) = refl
+text_at_most (Some (boolean b)) = refl
+text_at_most (Some (number n)) = refl
+text_at_most (Some (string s)) = short_at (is_short_text s) s
+text_at_most (Some (array ds)) = refl
+text_at_most (Some (object ms)) = refl
+
+member_at_most : (d : Data) → IsInvalidAtMost (member_in d)
+member_at_most null = tt
+member_at_most (boolean b) = refl
+member_at_most (number n) = refl
+member_at_most (string s) = refl
+member_at_most (array ds) = refl
+member_at_most (object ms) = text_at_most (attribute (codes "value") ms)
+
+refused_either_way : {X Y Z : Type 0} (r : Result X ReadFault) (f : X → Result Y ReadFault) (g : Y → Result Z ReadFault) → IsInvalidAtMost r
+    → ((x : X) → (f x >>= g) ≡ Err InvalidValue) → ((r >>= f) >>= g) ≡ Err InvalidValue
+refused_either_way (Ok x) f g only h = h x
+refused_either_way (Err e) f g only h = ap Err only
+
+-- whatever comes after so many, the list is refused
+pub too_many : (kept : List (List ℕ)) (ds : Items) → are_few_members kept ≡ false → (members_after kept ds >>= few_members) ≡ Err InvalidValue
+unfolding members_after
+too_many kept no_items h = ap (λ b. cond b (Ok kept) (Err InvalidValue)) h
+too_many kept (item d ds) h =
+    refused_either_way (member_in d) (λ o. members_after (with_member kept o) ds) few_members (member_at_most d)
+    (λ o. too_many (with_member kept o) ds (many-with_member kept o h))
+
 -- ---- reading back what was written
 
 -- none of the values is among these
@@ -123,17 +185,26 @@ pub record Kept (vs : List Value) (i : ℕ) (kept : List (List ℕ)) : Type 0 wh
   pub so_far : members_after kept (items_view (drop i vs)) ≡ members_after [] (items_view vs)
   pub lawful : AreTexts kept
   pub distinct : are_distinct kept ≡ true
+  pub few : are_few_members kept ≡ true
 
 pub Kept-none : (vs : List Value) (kept : List (List ℕ)) → kept ≡ [] → Kept vs 0 kept
 unfolding are_distinct
-Kept-none vs kept none = rw none (record { so_far = refl; lawful = tt; distinct = refl })
+Kept-none vs kept none = rw none (record { so_far = refl; lawful = tt; distinct = refl; few = refl })
 
 pub Kept-more : (vs : List Value) (i : ℕ) (v : Value) (kept more : List (List ℕ)) (o : Option (List ℕ)) → i < length vs → v ≡ get_or vs i v
-    → member_in (view v) ≡ Ok o → IsTextIf o → more ≡ with_member kept o → Kept vs i kept → Kept vs (i + 1) more
-Kept-more vs i v kept more o h is read lawful e before =
+    → member_in (view v) ≡ Ok o → IsTextIf o → more ≡ with_member kept o → length more ≤ MEMBER_LIMIT → Kept vs i kept → Kept vs (i + 1) more
+Kept-more vs i v kept more o h is read lawful e few before =
     rw e
     (record {
       so_far = reads_member vs i v kept o _ h is read before.so_far;
       lawful = AreTexts-with_member kept o before.lawful lawful;
       distinct = are_distinct-with_member kept o before.distinct;
+      few = le-leb _ _ (subst (λ ms. length ms ≤ MEMBER_LIMIT) e few);
     })
+
+-- a list is refused at the member that is one too many
+pub one_too_many : (vs : List Value) (i : ℕ) (v : Value) (kept more : List (List ℕ)) (o : Option (List ℕ)) → i < length vs → v ≡ get_or vs i v
+    → member_in (view v) ≡ Ok o → more ≡ with_member kept o → MEMBER_LIMIT < length more → Kept vs i kept → members_of (items_view vs) ≡ Err InvalidValue
+one_too_many vs i v kept more o h is read e many before =
+    ap (λ r. r >>= few_members) (sym (reads_member vs i v kept o _ h is read before.so_far))
+    ∙ too_many (with_member kept o) (items_view (drop (i + 1) vs)) (lt-leb _ _ (subst (λ ms. MEMBER_LIMIT < length ms) e many))

@@ -169,9 +169,13 @@ members_after vs (item d ds) = member_in d >>= (λ v. members_after (with_member
 abbrev pub few_members : List (List ℕ) → Result (List (List ℕ)) ReadFault
 few_members vs = if are_few_members vs then Ok vs else Err InvalidValue
 
--- the values of a group's members, each kept once at its first place: at most 400
+-- the values of a list of members, each kept once at its first place: at most 400
+abbrev pub members_of : Items → Result (List (List ℕ)) ReadFault
+members_of ds = members_after [] ds >>= few_members
+
+-- those of a group
 abbrev pub group_members_in : Option Data → Result (List (List ℕ)) ReadFault
-group_members_in value = (checked (items_in value) >>= members_after []) >>= few_members
+group_members_in value = checked (items_in value) >>= members_of
 
 unfoldable pub user_fields : Members → Result UserRecord ReadFault
 user_fields ms =

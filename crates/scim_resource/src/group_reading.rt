@@ -8,7 +8,7 @@ ghost use Rattle.scim_resource.specs.Texts.{IsTextIf};
 ghost use Rattle.scim_resource.specs.Reading as spec;
 
 use crate::faults::ReadFault;
-use crate::groups::{Group, Members, is_among};
+use crate::groups::{Group, MEMBER_LIMIT, Members, is_among};
 use crate::reading::{lists_schema, revision_in, text_in};
 use crate::schemas::{core_group, source_extension};
 use crate::texts::Text;
@@ -80,10 +80,11 @@ fn group_members_in(alloc: Global, value: Option<&Value>) -> Result<Members, Rea
     }
 }
 
+/// No more is read once there are more than a group may have.
 #[tactic(auto, unfolding(crate::specs::Reading::members_after))]
 fn members_of(alloc: Global, items: &[Value]) -> Result<Vec<Text>, ReadFault>
     ensures given { GivesBy (λ values. values.items) ReadFault.Memory result
-        (spec.members_after [] (items_view items.now)) }
+        (spec.members_of (items_view items.now)) }
     ensures lawful { IfOk result (λ values. AreTexts values.items) }
     ensures distinct { IfOk result (λ values. are_distinct values.items ≡ true) }
 {
@@ -91,6 +92,9 @@ fn members_of(alloc: Global, items: &[Value]) -> Result<Vec<Text>, ReadFault>
     for item in items {
         let value = member_in(alloc, item)?;
         keep(&mut values, value)?;
+        if values.len() > MEMBER_LIMIT {
+            return Err(ReadFault::InvalidValue);
+        }
     }
     Ok(values)
 }
