@@ -255,8 +255,8 @@ def test_a_kill_while_rows_are_offered():
         equal(run.kill(), "")
         status, shown, _ = ran("show", "--journal", path)
         shown = shown.decode().splitlines()
-        # it is killed before there is a journal, or the rows of a file are all there, or none of them
-        assert status or shown in ([], all_rows), f"{len(shown)} rows after {turn * 20} ms"
+        # the rows of a file are all there, or none of them
+        assert status == 0 and shown in ([], all_rows), f"{status}, {len(shown)} rows after {turn * 20} ms"
     equal(ran(*push(path, users, "127.0.0.1:1"))[0], 3)
     shows(path, *all_rows)
 

@@ -168,6 +168,9 @@ wants '1 new' '2 new' '3 new'
 prints 'a store that fails' "$room/wanted"
 shows 'a store that fails' --store "$room/store" 'user bob held=2 version=2 active=false'
 
+# connections of other programs
+python3 -B tests/strays.py "$program" "$room/strays" || failed=1
+
 # files that can't be read, and lines that can't be written
 users bob,1,,,,,active
 expect 'users absent' 3 'file fault' "$program" loop --users "$room/absent"

@@ -74,7 +74,7 @@ impl<S: OpenStream + Drop> OpenStream for SharedStream<S> {
 /// A handle on a stream that keeps a deadline.
 pub type TimedHandle<'a, S, C> = TimedStream<'a, SharedStream<S>, C>;
 
-/// Two handles on a stream, which is to be done with at one moment: one to read, one to write.
+/// A reader and a writer of one stream, which both keep this deadline.
 pub fn timed_handles<'a, S: OpenStream + Drop, C: Clock>(
     alloc: Global,
     stream: S,

@@ -1,6 +1,6 @@
 //! The engine without a socket, and streams by a clock that a test winds.
 use crate::{
-    ConnectionFault, Deadline, Listen, SharedStream, Sockets, TimedStream, serve_from_memory,
+    ConnectionFault, Deadline, Listen, Sockets, TimedStream, serve_from_memory, timed_handles,
 };
 use scim_key::Base;
 use std::alloc::Global;
@@ -229,11 +229,14 @@ fn handles_are_on_one_stream(rt: HostRuntime) -> Result<(), Fail> {
         left: &left,
         brings: 0,
     };
-    let mut one = SharedStream::new(rt.alloc(), ended)?;
-    let mut other = one.try_clone()?;
-    assert_eq!(rt; other.write(b"abc")?, 3);
-    assert_eq!(rt; one.read(&mut [0; 4])?, 0);
-    assert_eq!(rt; other.read(&mut [0; 4])?, 0);
+    let clock = Ticks {
+        seconds: Cell::new(0),
+    };
+    let deadline = Deadline::after(&clock, Duration::from_secs(30))?;
+    let (mut reader, mut writer) = timed_handles(rt.alloc(), ended, &clock, deadline)?;
+    assert_eq!(rt; writer.write(b"abc")?, 3);
+    assert_eq!(rt; reader.read(&mut [0; 4])?, 0);
+    assert_eq!(rt; writer.read(&mut [0; 4])?, 0);
     assert_eq!(rt; notes.get(), 55);
     Ok(())
 }
@@ -287,6 +290,10 @@ impl<'a> Write for Ended<'a> {
 
 impl<'a> OpenStream for Ended<'a> {
     fn set_read_timeout(&self, _: Option<Duration>) -> io::Result<()> {
+        Ok(())
+    }
+
+    fn set_write_timeout(&self, _: Option<Duration>) -> io::Result<()> {
         Ok(())
     }
 }

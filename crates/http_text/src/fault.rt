@@ -1,9 +1,9 @@
-//! Why no request was read, and why bytes weren't sent whole.
+//! Why no message was read, and why bytes weren't sent whole.
 
 use thiserror::Error;
 
-/// Why no request was read. Its text is its code. `is_head` tells whether the request's method was
-/// HEAD, whose answer has no body.
+/// Why no request or response was read. Its text is its code. `is_head` tells whether the request's
+/// method was HEAD, whose answer has no body.
 #[derive(Clone, Copy, Debug, PartialEq, Eq, Error)]
 pub enum ReadFault {
     /// No bytes that follow make a head, or its `Content-Length` is repeated or isn't 1 to 18 digits.
@@ -15,7 +15,7 @@ pub enum ReadFault {
     /// A POST or PUT without `Content-Length`.
     #[error("H3")]
     LengthMissing { is_head: bool },
-    /// A `Content-Length` above 32,768.
+    /// A `Content-Length` above 32,768 in a request, or above 8,388,608 in a response.
     #[error("H4")]
     BodyTooLong { is_head: bool },
     /// 16,384 bytes hold no whole head, or there are more than 64 field lines.
@@ -27,7 +27,7 @@ pub enum ReadFault {
     /// `Expect` is there.
     #[error("H7")]
     Expectation { is_head: bool },
-    /// The bytes ended before the request did.
+    /// The bytes ended before the message did.
     #[error("H10")]
     EndedEarly,
     /// A read failed.
@@ -36,7 +36,7 @@ pub enum ReadFault {
     /// Out of memory.
     #[error("H13")]
     OutOfMemory,
-    /// 100,000 reads didn't give the whole request.
+    /// 100,000 reads didn't give the whole message.
     #[error("H14")]
     TurnsExhausted,
 }

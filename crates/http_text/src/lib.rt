@@ -1,5 +1,5 @@
-//! HTTP/1.1 texts over counted streams (RFC 9112): a request is read from a reader, a response is
-//! formed, and bytes are sent to a writer.
+//! HTTP/1.1 texts over counted streams (RFC 9112): requests and responses are read and formed, and
+//! bytes are sent to a writer.
 #![tactic(auto)]
 
 mod counts;

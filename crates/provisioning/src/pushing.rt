@@ -50,7 +50,8 @@ fn is_confirmed(standing: &Standing) -> bool
 }
 
 /// Exchanges for every record of the connector, users by key, then groups by key. Each is told as
-/// soon as it is done. What can't be opened, a fault of the journal, and out of memory end the run.
+/// soon as it is done. A stream that can't be opened, a fault of the journal, a record that can't be told,
+/// and out of memory end the run.
 pub fn push_all<J: Journal, D: Dial, T: Tell>(
     alloc: Global,
     service: &ScimService,

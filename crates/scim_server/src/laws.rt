@@ -17,7 +17,7 @@ pub fn segments_are_spelled()
     ensures { SegmentsAreSpelled }
 {}
 
-/// The location that is written for a user has a path that names that user.
+/// The location that is written for a resource has a path that names that resource.
 pub fn locations_are_routed()
     ensures { LocationsAreRouted }
 {}

@@ -160,7 +160,7 @@ fn serve_command<'a>(alloc: Global) -> Result<Command<'a>, AllocError> {
     let requests = Arg::new(alloc, "requests")
         .long("requests")
         .value_name("N")
-        .help("how many connections to serve: 1 to 1000000")
+        .help("how many connections to serve")
         .value_parser(value_parser!(u32))
         .required(true);
     Command::new(alloc, "serve")

@@ -1,4 +1,4 @@
-//! `scimlink`: a SCIM 2.0 provider, and a source of personnel records, at one's fingertips.
+//! `scimlink`: a SCIM 2.0 provider, and a connector from files of personnel records.
 #![tactic(auto)]
 
 mod answering;

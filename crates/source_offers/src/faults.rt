@@ -6,7 +6,7 @@ use std::alloc::AllocError;
 use std::io::ErrorKind;
 use thiserror::Error;
 
-/// What ends a run before its rows are offered. Its text is what standard error is told.
+/// What ends a run while its files are read and their rows offered. Its text is what standard error is told.
 #[derive(Clone, Copy, Debug, PartialEq, Eq, Error)]
 pub enum OfferFault {
     /// The journal's store failed.

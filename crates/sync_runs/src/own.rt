@@ -81,6 +81,7 @@ impl<'r, 'p, 'b, N: Net + Clock, L: Listen + Drop, K: Storage> Read
         came
     }
 
+    /// Written out: the default isn't proved by itself.
     fn read_exact(&mut self, buffer: &mut [u8]) -> io::Result<()> {
         self.be_served()?;
         self.stream.read_exact(buffer)
@@ -109,8 +110,8 @@ impl<'r, 'p, 'b, N: Net + Clock, L: Listen + Drop, K: Storage> Dial
         Ok((reader, writer))
     }
 
-    /// Ends a stream. A connection that was never read from is served too, so that none waits before
-    /// the next.
+    /// Ends a stream. A connection that was never read from is served too, so that it doesn't wait before
+    /// the next. One whose time another connection took does, and is served before that.
     fn end(&self, mut reader: Self::Reader, _: Self::Writer) {
         let _ = reader.be_served();
     }
