@@ -192,17 +192,27 @@ def tried(name, edits):
             subprocess.run(["cp", "-al", f"{own}/.", kept], check=True)
         for check in checks_of(edits):
             said = checked(check, told, kept)
-            if not re.search(r"^logic=", said, re.M):
-                said_last = said.strip().splitlines()[-1:] or ["nothing"]
-                answers += [(f"{it.name}: not tried: {said_last[0][:200]}", False) for it in check]
-                continue
             for it in check:
-                by = refusal(it, said)
-                if len(check) > 1 and (not by or ONLY_BY_NAMES in by):
+                answer = judged(it, said)
+                if len(check) > 1 and is_judged(said) and (not answer[1] or ONLY_BY_NAMES in answer[0]):
                     # a proof that isn't read beside it can keep the prover from its goals
-                    by = refusal(it, checked([it], told, kept))
-                answers.append((f"{it.name}: refused by {by}" if by else f"{it.name}: NOT REFUSED", bool(by)))
+                    answer = judged(it, checked([it], told, kept))
+                answers.append(answer)
     return answers
+
+
+def is_judged(said):
+    """Whether the prover gave a verdict."""
+    return bool(re.search(r"^logic=", said, re.M))
+
+
+def judged(edit, said):
+    """What is to be said of an edit, by what the prover said, and whether it is refused."""
+    if not is_judged(said):
+        said_last = said.strip().splitlines()[-1:] or ["nothing"]
+        return f"{edit.name}: not tried: {said_last[0][:200]}", False
+    by = refusal(edit, said)
+    return (f"{edit.name}: refused by {by}" if by else f"{edit.name}: NOT REFUSED"), bool(by)
 
 
 def joined(edits):
