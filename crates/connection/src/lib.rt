@@ -7,8 +7,6 @@ mod listening;
 mod serving;
 mod shared;
 mod sockets;
-#[cfg(test)]
-mod tests;
 mod timed;
 
 pub use deadline::Deadline;

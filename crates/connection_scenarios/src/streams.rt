@@ -1,8 +1,5 @@
-//! The engine without a socket, and streams by a clock that a test winds.
-use crate::{
-    ConnectionFault, Deadline, Listen, Sockets, TimedStream, serve_from_memory, timed_handles,
-};
-use scim_key::Base;
+//! Streams by a clock that a test winds, and their drains.
+use connection::{Deadline, Listen, Sockets, TimedStream, timed_handles};
 use std::alloc::Global;
 use std::cell::Cell;
 use std::io;
@@ -10,96 +7,6 @@ use std::io::{ErrorKind, Read, Write};
 use std::net::{Ipv4Addr, OpenListener, OpenStream, SocketAddr};
 use std::test::Fail;
 use std::time::{Clock, Duration};
-
-static CREATE_BOB: &[u8] =
-    b"POST /v2/Users HTTP/1.1\r\nHost: h\r\nContent-Length: 214\r\nContent-Type: application/scim+json\r\n\r\n{\"active\":true,\"schemas\":[\"urn:ietf:params:scim:schemas:core:2.0:User\",\"urn:example:params:scim:schemas:extension:source:1.0\"],\"urn:example:params:scim:schemas:extension:source:1.0\":{\"revision\":1},\"userName\":\"bob\"}";
-
-static FIND_BOB: &[u8] =
-    b"GET /v2/Users/5c1a0000-0000-8000-8000-000000000001 HTTP/1.1\r\nHost: h\r\n\r\n";
-
-/// Connections in memory, and the statuses of their answers: three digits each, 0 for none.
-#[derive(Drop)]
-struct Queue<'a> {
-    alloc: Global,
-    requests: &'a [&'static [u8]],
-    taken: usize,
-    statuses: &'a Cell<u64>,
-}
-
-impl<'a> Listen for Queue<'a> {
-    type Reader = &'static [u8];
-
-    type Writer = Vec<u8>;
-
-    fn accept(&mut self) -> io::Result<(&'static [u8], Vec<u8>)> {
-        let request = self.requests.get(self.taken).copied();
-        self.taken = self.taken.saturating_add(1);
-        match request {
-            Some(request) => Ok((request, Vec::new(self.alloc))),
-            None => Err(io::Error::from(ErrorKind::NotConnected)),
-        }
-    }
-
-    fn end(&mut self, _: &'static [u8], writer: Vec<u8>) {
-        let mut statuses = self.statuses.get().wrapping_mul(1_000);
-        if let Some(line) = writer.as_slice().get(..12)
-            && let Ok(text) = str::from_utf8(&line[9..])
-            && let Ok(status) = text.parse::<u64>()
-        {
-            statuses = statuses.wrapping_add(status);
-        }
-        self.statuses.set(statuses);
-    }
-}
-
-/// Serves so many of these connections: the outcome, and the statuses.
-fn served<R: Eprint>(
-    rt: &R,
-    alloc: Global,
-    requests: &[&'static [u8]],
-    count: u32,
-) -> Result<(Result<(), ConnectionFault>, u64), Fail> {
-    let base = Base::read(alloc, "http://localhost:8080/v2")?;
-    let statuses = Cell::new(0);
-    let mut queue = Queue {
-        alloc,
-        requests,
-        taken: 0,
-        statuses: &statuses,
-    };
-    let outcome = serve_from_memory(rt, alloc, &mut queue, count, &base);
-    Ok((outcome, statuses.get()))
-}
-
-#[test]
-fn one_provider_serves_all(rt: HostRuntime) -> Result<(), Fail> {
-    let requests = [CREATE_BOB, FIND_BOB, CREATE_BOB];
-    let (outcome, statuses) = served(&rt, rt.alloc(), requests.as_slice(), 3)?;
-    assert_eq!(rt; outcome, Ok(()));
-    assert_eq!(rt; statuses, 201_200_409);
-    Ok(())
-}
-
-#[test]
-fn only_so_many_are_served(rt: HostRuntime) -> Result<(), Fail> {
-    let requests = [FIND_BOB, CREATE_BOB, FIND_BOB];
-    let (outcome, statuses) = served(&rt, rt.alloc(), requests.as_slice(), 2)?;
-    assert_eq!(rt; outcome, Ok(()));
-    assert_eq!(rt; statuses, 404_201);
-    Ok(())
-}
-
-#[test]
-fn a_fault_ends_nothing(rt: HostRuntime) -> Result<(), Fail> {
-    let requests = [CREATE_BOB, &CREATE_BOB[..100], FIND_BOB];
-    let (outcome, statuses) = served(&rt, rt.alloc(), requests.as_slice(), 3)?;
-    assert_eq!(rt; outcome, Err(ConnectionFault));
-    assert_eq!(rt; statuses, 201_000_200);
-    let (outcome, statuses) = served(&rt, rt.alloc(), [CREATE_BOB].as_slice(), 2)?;
-    assert_eq!(rt; outcome, Err(ConnectionFault));
-    assert_eq!(rt; statuses, 201);
-    Ok(())
-}
 
 /// A clock that goes on by a second whenever it's read.
 #[derive(Drop)]
