@@ -1,11 +1,12 @@
 //! What the connector asks for next of a record, over exchanges with a provider in memory.
-use crate::offers::{named, new_connector, offer_group, offer_user, opened_again};
+use crate::offers::{named, new_connector, offer_rows, opened_again};
 use connector_core::{Ask, Connector};
 use journal_core::MemoryJournal;
 use provider_core::{MemoryRegistry, Provider};
-use scim_key::{Kind, RecordName};
+use scim_filter::Filter;
+use scim_key::{Kind, RecordName, ResourceId};
 use scim_message::Request;
-use scim_resource::Content;
+use scim_resource::{Content, Group};
 use scim_version::{Condition, TagList};
 use std::alloc::Global;
 use std::process::Abort;
@@ -25,20 +26,32 @@ fn sent(alloc: Global, request: &Request) -> Result<String, Fail> {
             filter: Some(filter),
             start: 1,
             count: None,
-        } => Ok(format!(in alloc; "{kind:?} {}", filter.to_text(alloc)?.as_str())?),
+        } => searched(alloc, *kind, filter),
         Request::Create { content } => content_told(alloc, "create", content),
         Request::Replace {
             id,
             content,
             if_match: Condition::Tags(tags),
             if_none_match: Condition::Always,
-        } => {
-            let number = id.number().unwrap_or(0);
-            let what = format!(in alloc; "replace {number} under {}:", only_tag(tags)?)?;
-            content_told(alloc, what.as_str(), content)
-        }
+        } => replaced(alloc, id, content, tags),
         _ => Err(Fail::from("another request")),
     }
+}
+
+fn searched(alloc: Global, kind: Kind, filter: &Filter) -> Result<String, Fail> {
+    let filter = filter.to_text(alloc)?;
+    Ok(format!(in alloc; "{kind:?} {}", filter.as_str())?)
+}
+
+fn replaced(
+    alloc: Global,
+    id: &ResourceId,
+    content: &Content,
+    tags: &TagList,
+) -> Result<String, Fail> {
+    let number = id.number().unwrap_or(0);
+    let what = format!(in alloc; "replace {number} under {}:", only_tag(tags)?)?;
+    content_told(alloc, what.as_str(), content)
 }
 
 /// The one tag of a list.
@@ -56,23 +69,35 @@ fn content_told(alloc: Global, what: &str, content: &Content) -> Result<String, 
             let revision = user.revision().ok_or("no revision")?.number();
             Ok(format!(in alloc; "{what} {} {revision}", user.user_name().as_str())?)
         }
-        Content::Group(group) => {
-            let revision = group.revision().ok_or("no revision")?.number();
-            let mut text = format!(in alloc;
-                "{what} {} {revision}",
-                group.display_name().as_str()
-            )?;
-            for member in group.members() {
-                text.push_str(" ")?;
-                text.push_str(member.as_str())?;
-            }
-            Ok(text)
-        }
+        Content::Group(group) => group_told(alloc, what, group),
     }
+}
+
+fn group_told(alloc: Global, what: &str, group: &Group) -> Result<String, Fail> {
+    let revision = group.revision().ok_or("no revision")?.number();
+    let name = group.display_name().as_str();
+    let mut text = format!(in alloc; "{what} {name} {revision}")?;
+    for member in group.members() {
+        text.push_str(" ")?;
+        text.push_str(member.as_str())?;
+    }
+    Ok(text)
 }
 
 /// A record, and what is asked for next of it.
 type Exchange<'a> = (Kind, &'a str, &'a str);
+
+/// A request is answered by the provider, and the connector learns from the answer.
+fn carry(
+    alloc: Global,
+    connector: &mut Connector<MemoryJournal>,
+    provider: &mut Provider<MemoryRegistry>,
+    request: &Request,
+) -> Result<(), Fail> {
+    let answer = provider.answer(alloc, request)?;
+    connector.learn(request, &answer)?;
+    Ok(())
+}
 
 /// What the connector asks for next of a record, as a short text. Where it is a request, the
 /// provider answers it, and the connector learns from the answer.
@@ -86,8 +111,7 @@ pub fn exchange(
         Ok(Ask::Nothing) => Ok(String::from_str(alloc, "nothing")?),
         Ok(Ask::Waits(member)) => Ok(format!(in alloc; "waits {}", member.as_str())?),
         Ok(Ask::Send(request)) => {
-            let answer = provider.answer(alloc, &request)?;
-            connector.learn(&request, &answer)?;
+            carry(alloc, connector, provider, &request)?;
             sent(alloc, &request)
         }
         Err(fault) => Ok(fault.to_string(alloc)?),
@@ -127,14 +151,33 @@ static NAMES: &[Exchange<'static>] = &[
 fn a_record_is_searched_for_by_its_name_as_it_is_spelled(rt: HostRuntime) -> Result<(), Fail> {
     let alloc = rt.alloc();
     let mut connector = new_connector(alloc)?;
-    offer_user(alloc, &mut connector, "Bob,1,,,,,active\n")?;
-    offer_user(alloc, &mut connector, "ann,1,,,,,left\n")?;
-    offer_group(alloc, &mut connector, "Night Crew,1,\n")?;
-    offer_group(alloc, &mut connector, "crew,1,Bob ann\n")?;
+    offer_rows(
+        alloc,
+        &mut connector,
+        &["Bob,1,,,,,active\n", "ann,1,,,,,left\n"],
+        &["Night Crew,1,\n", "crew,1,Bob ann\n"],
+    )?;
     exchanges(&rt, alloc, &mut connector, &mut empty(alloc), NAMES)
 }
 
-static BOB: &[Exchange<'static>] = &[
+/// Rows of users and of groups, and what is asked for once they are offered.
+type Round = (
+    &'static [&'static str],
+    &'static [&'static str],
+    &'static [Exchange<'static>],
+);
+
+static ROUNDS: &[Round] = &[
+    (
+        &["bob,1,,,,,active\n", "ann,1,,,,,active\n"],
+        &["crew,1,bob ann\n"],
+        CREATED,
+    ),
+    (&["bob,2,,,,,active\n"], &["crew,2,\n"], LATER),
+    (&["bob,3,,,,,left\n"], &[], &[]),
+];
+
+const CREATED: &[Exchange<'static>] = &[
     (Kind::Group, "crew", "waits ann"),
     (Kind::User, "bob", "User userName eq \"bob\""),
     (Kind::User, "bob", "create bob 1"),
@@ -143,9 +186,6 @@ static BOB: &[Exchange<'static>] = &[
     (Kind::User, "ann", "User userName eq \"ann\""),
     (Kind::Group, "crew", "waits ann"),
     (Kind::User, "ann", "create ann 1"),
-];
-
-static CREW: &[Exchange<'static>] = &[
     (Kind::Group, "crew", "Group displayName eq \"crew\""),
     (
         Kind::Group,
@@ -155,7 +195,7 @@ static CREW: &[Exchange<'static>] = &[
     (Kind::Group, "crew", "nothing"),
 ];
 
-static LATER: &[Exchange<'static>] = &[
+const LATER: &[Exchange<'static>] = &[
     (Kind::User, "bob", "replace 1 under \"1\": bob 2"),
     (Kind::User, "bob", "nothing"),
     (Kind::Group, "crew", "replace 3 under \"1\": crew 2"),
@@ -174,15 +214,10 @@ fn records_are_created_and_replaced(rt: HostRuntime) -> Result<(), Fail> {
     let alloc = rt.alloc();
     let mut provider = empty(alloc);
     let mut connector = new_connector(alloc)?;
-    offer_user(alloc, &mut connector, "bob,1,,,,,active\n")?;
-    offer_user(alloc, &mut connector, "ann,1,,,,,active\n")?;
-    offer_group(alloc, &mut connector, "crew,1,bob ann\n")?;
-    exchanges(&rt, alloc, &mut connector, &mut provider, BOB)?;
-    exchanges(&rt, alloc, &mut connector, &mut provider, CREW)?;
-    offer_user(alloc, &mut connector, "bob,2,,,,,active\n")?;
-    offer_group(alloc, &mut connector, "crew,2,\n")?;
-    exchanges(&rt, alloc, &mut connector, &mut provider, LATER)?;
-    offer_user(alloc, &mut connector, "bob,3,,,,,left\n")?;
+    for (users, groups, asks) in ROUNDS {
+        offer_rows(alloc, &mut connector, users, groups)?;
+        exchanges(&rt, alloc, &mut connector, &mut provider, asks)?;
+    }
     let mut connector = opened_again(alloc, connector)?;
     exchanges(&rt, alloc, &mut connector, &mut provider, REOPENED)
 }

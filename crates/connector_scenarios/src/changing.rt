@@ -1,9 +1,10 @@
 //! Rows that the source offers to the connector: what it says of them, and what it then wants.
 use crate::offers::{
-    groups, named, new_connector, offer, offer_all, offer_group, offer_user, opened_again, users,
+    groups, named, new_connector, offer, offer_all, offer_group, offer_rows, offer_user,
+    opened_again, users,
 };
 use connector_core::Connector;
-use journal_core::MemoryJournal;
+use journal_core::{MemoryJournal, kind_word};
 use scim_key::Kind;
 use std::alloc::Global;
 use std::process::Abort;
@@ -110,35 +111,60 @@ fn were_said(rt: &impl Abort, offers: &[Offer], said: &[String]) {
     }
 }
 
+/// Asserts what a connector says of the rows of a file, which it is offered together.
+fn says_of_all(
+    rt: &impl Abort,
+    alloc: Global,
+    connector: &mut Connector<MemoryJournal>,
+    kind: Kind,
+    offers: &[Offer],
+) -> Result<(), Fail> {
+    let text = records_of(alloc, offers)?;
+    let records = match kind {
+        Kind::User => users(alloc, text.as_str())?,
+        Kind::Group => groups(alloc, text.as_str())?,
+    };
+    let said = offer_all(alloc, connector, &records)?;
+    were_said(rt, offers, said.as_slice());
+    Ok(())
+}
+
 #[test]
 fn rows_that_are_offered_together_have_the_same_verdicts(rt: HostRuntime) -> Result<(), Fail> {
     let alloc = rt.alloc();
     let mut connector = new_connector(alloc)?;
-    let records = users(alloc, records_of(alloc, USERS)?.as_str())?;
-    let said = offer_all(alloc, &mut connector, &records)?;
-    were_said(&rt, USERS, said.as_slice());
-    let records = groups(alloc, records_of(alloc, GROUPS)?.as_str())?;
-    let said = offer_all(alloc, &mut connector, &records)?;
-    were_said(&rt, GROUPS, said.as_slice());
+    says_of_all(&rt, alloc, &mut connector, Kind::User, USERS)?;
+    says_of_all(&rt, alloc, &mut connector, Kind::Group, GROUPS)?;
     wants(&rt, alloc, &connector, WANTED)?;
     wants(&rt, alloc, &opened_again(alloc, connector)?, WANTED)
+}
+
+/// The names of a connector's records in its order, a line each.
+fn names_told(alloc: Global, connector: &Connector<MemoryJournal>) -> Result<String, Fail> {
+    let mut text = String::new(alloc);
+    for name in connector.names()?.as_slice() {
+        text.push_str(kind_word(name.kind))?;
+        text.push_str(" ")?;
+        text.push_str(name.key.as_str())?;
+        text.push_str("\n")?;
+    }
+    Ok(text)
 }
 
 #[test]
 fn records_are_named_in_their_order(rt: HostRuntime) -> Result<(), Fail> {
     let alloc = rt.alloc();
     let mut connector = new_connector(alloc)?;
-    offer_user(alloc, &mut connector, "Zoe,1,,,,,active\n")?;
-    offer_group(alloc, &mut connector, "Crew,1,zoe\n")?;
-    offer_group(alloc, &mut connector, "band,1,ann\n")?;
-    offer_user(alloc, &mut connector, "ann,1,,,,,active\n")?;
-    let names = connector.names()?;
-    let expected = [
-        named(alloc, Kind::User, "ann")?,
-        named(alloc, Kind::User, "zoe")?,
-        named(alloc, Kind::Group, "crew")?,
-    ];
-    assert!(&rt; names.as_slice() == expected.as_slice());
+    // a group of a user that isn't there yet is refused
+    offer_rows(
+        alloc,
+        &mut connector,
+        &["Zoe,1,,,,,active\n"],
+        &["Crew,1,zoe\n", "band,1,ann\n"],
+    )?;
+    offer_rows(alloc, &mut connector, &["ann,1,,,,,active\n"], &[])?;
+    let names = names_told(alloc, &connector)?;
+    assert_eq!(rt; names.as_str(), "user ann\nuser zoe\ngroup crew\n");
     Ok(())
 }
 
@@ -146,8 +172,12 @@ fn records_are_named_in_their_order(rt: HostRuntime) -> Result<(), Fail> {
 fn rows_stand_over_a_restart(rt: HostRuntime) -> Result<(), Fail> {
     let alloc = rt.alloc();
     let mut connector = new_connector(alloc)?;
-    offer_user(alloc, &mut connector, "ann,2,,,,,active\n")?;
-    offer_group(alloc, &mut connector, "crew,1,ann\n")?;
+    offer_rows(
+        alloc,
+        &mut connector,
+        &["ann,2,,,,,active\n"],
+        &["crew,1,ann\n"],
+    )?;
     let mut connector = opened_again(alloc, connector)?;
     wants(
         &rt,
@@ -155,11 +185,18 @@ fn rows_stand_over_a_restart(rt: HostRuntime) -> Result<(), Fail> {
         &connector,
         &[(Kind::User, "ann", 2), (Kind::Group, "crew", 1)],
     )?;
-    let said = offer_user(alloc, &mut connector, "ann,1,,,,,active\n")?;
-    assert!(&rt; said.as_str() == "older");
-    let said = offer_group(alloc, &mut connector, "crew,2,ann bob\n")?;
-    assert!(&rt; said.as_str() == "S8 bob");
-    Ok(())
+    says_of_users(
+        &rt,
+        alloc,
+        &mut connector,
+        &[("ann,1,,,,,active\n", "older")],
+    )?;
+    says_of_groups(
+        &rt,
+        alloc,
+        &mut connector,
+        &[("crew,2,ann bob\n", "S8 bob")],
+    )
 }
 
 #[test]

@@ -44,12 +44,30 @@ fn opened(alloc: Global) -> Result<Connector<MemoryJournal>, Fail> {
     }
 }
 
-/// A connector that wants bob, after these answers to these requests.
-fn after(alloc: Global, lessons: &[(&str, &str)]) -> Result<Connector<MemoryJournal>, Fail> {
+/// A connector that wants bob.
+fn wanting(alloc: Global) -> Result<Connector<MemoryJournal>, Fail> {
     let mut connector = opened(alloc)?;
     connector.change(wanted(alloc)?)?;
+    Ok(connector)
+}
+
+/// What a connector learns from an answer to a request.
+fn taught(
+    alloc: Global,
+    connector: &mut Connector<MemoryJournal>,
+    asked: &str,
+    answered: &str,
+) -> Result<Result<Learnt, LearnFault>, Fail> {
+    let request = request(alloc, asked)?;
+    let answer = answer(alloc, answered)?;
+    Ok(connector.learn(&request, &answer))
+}
+
+/// A connector that wants bob, after these answers to these requests.
+fn after(alloc: Global, lessons: &[(&str, &str)]) -> Result<Connector<MemoryJournal>, Fail> {
+    let mut connector = wanting(alloc)?;
     for (asked, answered) in lessons {
-        connector.learn(&request(alloc, asked)?, &answer(alloc, answered)?)?;
+        taught(alloc, &mut connector, asked, answered)??;
     }
     Ok(connector)
 }
@@ -131,8 +149,7 @@ fn learns_in(
     expected: &str,
 ) -> Result<(), Fail> {
     let mut connector = in_state(alloc, state)?;
-    let result = connector.learn(&request(alloc, asked)?, &answer(alloc, answered)?);
-    let learnt = learnt_text(alloc, &result)?;
+    let learnt = learnt_text(alloc, &taught(alloc, &mut connector, asked, answered)?)?;
     let known = known_text(rt, alloc, connector)?;
     let text = if STATES
         .get(state)

@@ -113,3 +113,19 @@ pub fn offer_group(
         rows.as_slice().first().ok_or("no record")?,
     )
 }
+
+/// Offers rows of users, then of groups, whatever is said of them.
+pub fn offer_rows(
+    alloc: Global,
+    connector: &mut Connector<MemoryJournal>,
+    users: &[&str],
+    groups: &[&str],
+) -> Result<(), Fail> {
+    for record in users {
+        offer_user(alloc, connector, record)?;
+    }
+    for record in groups {
+        offer_group(alloc, connector, record)?;
+    }
+    Ok(())
+}

@@ -1,5 +1,5 @@
 //! Exchanges for every record, over streams in memory: with a provider, and with answers by hand.
-use crate::offers::{new_connector, offer_group, offer_user};
+use crate::offers::{new_connector, offer_rows};
 use connector_core::Connector;
 use http_text::{Input, Output};
 use journal_core::MemoryJournal;
@@ -173,22 +173,6 @@ impl Tell for Lines {
     }
 }
 
-/// Rows of users, then of groups.
-fn offered(
-    alloc: Global,
-    connector: &mut Connector<MemoryJournal>,
-    users: &[&str],
-    groups: &[&str],
-) -> Result<(), Fail> {
-    for record in users {
-        offer_user(alloc, connector, record)?;
-    }
-    for record in groups {
-        offer_group(alloc, connector, record)?;
-    }
-    Ok(())
-}
-
 /// Asserts what becomes of the records of a connector: how the run ends, and what is told.
 fn pushes<D: Dial>(
     rt: &impl Abort,
@@ -234,69 +218,54 @@ fn new_peer(alloc: Global) -> Result<RefCell<Peer>, Fail> {
     }))
 }
 
-#[test]
-fn a_user_settles_in_two_exchanges(rt: HostRuntime) -> Result<(), Fail> {
-    let alloc = rt.alloc();
+/// Rows of users and of groups, and then after how many exchanges all is confirmed, and what is told.
+type Round = (
+    &'static [&'static str],
+    &'static [&'static str],
+    u32,
+    &'static str,
+);
+
+/// Asserts what becomes of the records of a connector once the rows of each round are offered.
+fn settles(rt: &impl Abort, alloc: Global, rounds: &[Round]) -> Result<(), Fail> {
     let peer = new_peer(alloc)?;
     let mut streams = Streams { alloc, peer: &peer };
     let mut connector = new_connector(alloc)?;
-    offered(alloc, &mut connector, &["bob,1,,,,,active\n"], &[])?;
-    pushes(
-        &rt,
-        alloc,
-        &mut connector,
-        &mut streams,
-        settled(2),
-        "user bob 2 confirmed 1\n",
-    )?;
-    pushes(
-        &rt,
-        alloc,
-        &mut connector,
-        &mut streams,
-        settled(0),
-        "user bob 0 confirmed 1\n",
-    )
+    for (users, groups, exchanges, told) in rounds {
+        offer_rows(alloc, &mut connector, users, groups)?;
+        let end = settled(*exchanges);
+        pushes(rt, alloc, &mut connector, &mut streams, end, told)?;
+    }
+    Ok(())
+}
+
+#[test]
+fn a_user_settles_in_two_exchanges(rt: HostRuntime) -> Result<(), Fail> {
+    let rounds: &[Round] = &[
+        (&["bob,1,,,,,active\n"], &[], 2, "user bob 2 confirmed 1\n"),
+        (&[], &[], 0, "user bob 0 confirmed 1\n"),
+    ];
+    settles(&rt, rt.alloc(), rounds)
 }
 
 #[test]
 fn a_group_settles_after_its_members(rt: HostRuntime) -> Result<(), Fail> {
-    let alloc = rt.alloc();
-    let peer = new_peer(alloc)?;
-    let mut streams = Streams { alloc, peer: &peer };
-    let mut connector = new_connector(alloc)?;
-    offered(alloc, &mut connector, &["bob,1,,,,,active\n"], &[])?;
-    pushes(
-        &rt,
-        alloc,
-        &mut connector,
-        &mut streams,
-        settled(2),
-        "user bob 2 confirmed 1\n",
-    )?;
-    offered(
-        alloc,
-        &mut connector,
-        &["ann,1,,,,,active\n"],
-        &["crew,1,bob ann\n"],
-    )?;
-    pushes(
-        &rt,
-        alloc,
-        &mut connector,
-        &mut streams,
-        settled(4),
-        "user ann 2 confirmed 1\nuser bob 0 confirmed 1\ngroup crew 2 confirmed 1\n",
-    )?;
-    offered(alloc, &mut connector, &[], &["crew,2,\n"])?;
-    pushes(
-        &rt,
-        alloc,
-        &mut connector,
-        &mut streams,
-        settled(1),
-        "user ann 0 confirmed 1\nuser bob 0 confirmed 1\ngroup crew 1 confirmed 2\n",
-    )
+    let rounds: &[Round] = &[
+        (&["bob,1,,,,,active\n"], &[], 2, "user bob 2 confirmed 1\n"),
+        (
+            &["ann,1,,,,,active\n"],
+            &["crew,1,bob ann\n"],
+            4,
+            "user ann 2 confirmed 1\nuser bob 0 confirmed 1\ngroup crew 2 confirmed 1\n",
+        ),
+        (
+            &[],
+            &["crew,2,\n"],
+            1,
+            "user ann 0 confirmed 1\nuser bob 0 confirmed 1\ngroup crew 1 confirmed 2\n",
+        ),
+    ];
+    settles(&rt, rt.alloc(), rounds)
 }
 
 const REFUSED: &[u8] =
@@ -382,7 +351,7 @@ fn answers_of_another_provider(rt: HostRuntime) -> Result<(), Fail> {
     let alloc = rt.alloc();
     for (answers, end, told) in GIVEN {
         let mut connector = new_connector(alloc)?;
-        offered(alloc, &mut connector, &["bob,1,,,,,active\n"], &[])?;
+        offer_rows(alloc, &mut connector, &["bob,1,,,,,active\n"], &[])?;
         let mut streams = Answers {
             alloc,
             answers,
@@ -401,7 +370,7 @@ fn answers_of_another_provider(rt: HostRuntime) -> Result<(), Fail> {
 fn a_group_waits_for_a_member(rt: HostRuntime) -> Result<(), Fail> {
     let alloc = rt.alloc();
     let mut connector = new_connector(alloc)?;
-    offered(
+    offer_rows(
         alloc,
         &mut connector,
         &["bob,1,,,,,active\n"],

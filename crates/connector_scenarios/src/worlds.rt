@@ -49,29 +49,47 @@ fn event(alloc: Global, text: &str) -> Result<Event, Fail> {
         Some(("user", record)) => offered(&users(alloc, record)?),
         Some(("group", record)) => offered(&groups(alloc, record)?),
         Some(("send", name)) => Ok(Event::Send(record(alloc, name)?)),
-        Some(("deliver", number)) => Ok(Event::Deliver(number.parse()?)),
-        Some(("cut", number)) => Ok(Event::Cut {
-            number: number.parse()?,
-            length: 10,
-        }),
         Some(("restart", "provider")) => Ok(Event::RestartProvider),
         Some(("restart", "connector")) => Ok(Event::RestartConnector),
+        Some((word, number)) => on_message(word, number.parse()?),
+        None => Err(Fail::from("no event")),
+    }
+}
+
+fn on_message(word: &str, number: usize) -> Result<Event, Fail> {
+    match word {
+        "deliver" => Ok(Event::Deliver(number)),
+        "cut" => Ok(Event::Cut { number, length: 10 }),
         _ => Err(Fail::from("no event")),
     }
 }
 
-/// Asserts the report of each event of a run, and gives the world after it.
-fn runs(rt: &impl Abort, alloc: Global, parts: &[&[Told]]) -> Result<MemoryWorld, Fail> {
-    let base = Base::read(alloc, "http://localhost:8080/v2")?;
+/// The events of a run's parts, one part after the other.
+fn events(alloc: Global, parts: &[&[Told]]) -> Result<Vec<Event>, Fail> {
     let mut events = Vec::new(alloc);
     for part in parts {
         for (text, _) in *part {
             events.push(event(alloc, text)?)?;
         }
     }
+    Ok(events)
+}
+
+/// A run from nothing: the world after it, and its reports.
+fn ran(alloc: Global, events: &[Event]) -> Result<(MemoryWorld, Vec<Report>), Fail> {
+    let base = Base::read(alloc, "http://localhost:8080/v2")?;
     let registry = MemoryRegistry::new(alloc);
     let journal = MemoryJournal::new(alloc);
-    let (world, reports) = run(alloc, registry, journal, base, events.as_slice())?;
+    Ok(run(alloc, registry, journal, base, events)?)
+}
+
+/// Asserts the report of each event.
+fn are_reported(
+    rt: &impl Abort,
+    alloc: Global,
+    parts: &[&[Told]],
+    reports: &[Report],
+) -> Result<(), Fail> {
     let mut told = reports.iter();
     for part in parts {
         for (text, expected) in *part {
@@ -79,7 +97,20 @@ fn runs(rt: &impl Abort, alloc: Global, parts: &[&[Told]]) -> Result<MemoryWorld
             assert_eq!(rt; report.as_str(), *expected, "{text}");
         }
     }
+    Ok(())
+}
+
+/// Asserts the report of each event of a run, and gives the world after it.
+fn runs(rt: &impl Abort, alloc: Global, parts: &[&[Told]]) -> Result<MemoryWorld, Fail> {
+    let events = events(alloc, parts)?;
+    let (world, reports) = ran(alloc, events.as_slice())?;
+    are_reported(rt, alloc, parts, reports.as_slice())?;
     Ok(world)
+}
+
+/// What is shown of a record.
+fn shown(alloc: Global, world: &mut MemoryWorld, name: &RecordName) -> Result<String, Fail> {
+    Ok(world.view(name)?.to_string(alloc)?)
 }
 
 /// Asserts what is shown of each record, in the order of names.
@@ -92,7 +123,7 @@ fn shows(
     let names = world.names()?;
     assert_eq!(rt; names.len(), lines.len());
     for (name, line) in names.iter().zip(lines.iter()) {
-        let shown = world.view(name)?.to_string(alloc)?;
+        let shown = shown(alloc, &mut world, name)?;
         assert_eq!(rt; shown.as_str(), *line);
     }
     Ok(())
