@@ -5,7 +5,7 @@ use std::alloc::Global;
 use std::cell::Cell;
 use std::io;
 use std::io::{Eprint, ErrorKind};
-use std::test::Fail;
+use std::process::Abort;
 
 static CREATE_BOB: &[u8] =
     b"POST /v2/Users HTTP/1.1\r\nHost: h\r\nContent-Length: 214\r\nContent-Type: application/scim+json\r\n\r\n{\"active\":true,\"schemas\":[\"urn:ietf:params:scim:schemas:core:2.0:User\",\"urn:example:params:scim:schemas:extension:source:1.0\"],\"urn:example:params:scim:schemas:extension:source:1.0\":{\"revision\":1},\"userName\":\"bob\"}";
@@ -49,13 +49,13 @@ impl<'a> Listen for Queue<'a> {
 }
 
 /// Serves so many of these connections: the outcome, and the statuses.
-fn served<R: Eprint>(
+fn served<R: Eprint + Abort>(
     rt: &R,
     alloc: Global,
     requests: &[&'static [u8]],
     count: u32,
-) -> Result<(Result<(), ConnectionFault>, u64), Fail> {
-    let base = Base::read(alloc, "http://localhost:8080/v2")?;
+) -> (Result<(), ConnectionFault>, u64) {
+    let base = Base::read(alloc, "http://localhost:8080/v2").expect(rt, "a base");
     let statuses = Cell::new(0);
     let mut queue = Queue {
         alloc,
@@ -64,35 +64,32 @@ fn served<R: Eprint>(
         statuses: &statuses,
     };
     let outcome = serve_from_memory(rt, alloc, &mut queue, count, &base);
-    Ok((outcome, statuses.get()))
+    (outcome, statuses.get())
 }
 
 #[test]
-fn one_provider_serves_all(rt: HostRuntime) -> Result<(), Fail> {
+fn one_provider_serves_all(rt: HostRuntime) {
     let requests = [CREATE_BOB, FIND_BOB, CREATE_BOB];
-    let (outcome, statuses) = served(&rt, rt.alloc(), requests.as_slice(), 3)?;
+    let (outcome, statuses) = served(&rt, rt.alloc(), requests.as_slice(), 3);
     assert_eq!(rt; outcome, Ok(()));
     assert_eq!(rt; statuses, 201_200_409);
-    Ok(())
 }
 
 #[test]
-fn only_so_many_are_served(rt: HostRuntime) -> Result<(), Fail> {
+fn only_so_many_are_served(rt: HostRuntime) {
     let requests = [FIND_BOB, CREATE_BOB, FIND_BOB];
-    let (outcome, statuses) = served(&rt, rt.alloc(), requests.as_slice(), 2)?;
+    let (outcome, statuses) = served(&rt, rt.alloc(), requests.as_slice(), 2);
     assert_eq!(rt; outcome, Ok(()));
     assert_eq!(rt; statuses, 404_201);
-    Ok(())
 }
 
 #[test]
-fn a_fault_ends_nothing(rt: HostRuntime) -> Result<(), Fail> {
+fn a_fault_ends_nothing(rt: HostRuntime) {
     let requests = [CREATE_BOB, &CREATE_BOB[..100], FIND_BOB];
-    let (outcome, statuses) = served(&rt, rt.alloc(), requests.as_slice(), 3)?;
+    let (outcome, statuses) = served(&rt, rt.alloc(), requests.as_slice(), 3);
     assert_eq!(rt; outcome, Err(ConnectionFault));
     assert_eq!(rt; statuses, 201_000_200);
-    let (outcome, statuses) = served(&rt, rt.alloc(), [CREATE_BOB].as_slice(), 2)?;
+    let (outcome, statuses) = served(&rt, rt.alloc(), [CREATE_BOB].as_slice(), 2);
     assert_eq!(rt; outcome, Err(ConnectionFault));
     assert_eq!(rt; statuses, 201);
-    Ok(())
 }

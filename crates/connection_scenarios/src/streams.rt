@@ -5,7 +5,7 @@ use std::cell::Cell;
 use std::io;
 use std::io::{ErrorKind, Read, Write};
 use std::net::{Ipv4Addr, OpenListener, OpenStream, SocketAddr};
-use std::test::Fail;
+use std::process::Abort;
 use std::time::{Clock, Duration};
 
 /// A clock that goes on by a second whenever it's read.
@@ -61,7 +61,7 @@ impl<'a> OpenStream for Trickle<'a> {
 }
 
 #[test]
-fn many_short_reads_take_no_longer(rt: HostRuntime) -> Result<(), Fail> {
+fn many_short_reads_take_no_longer(rt: HostRuntime) {
     let clock = Ticks {
         seconds: Cell::new(100),
     };
@@ -70,17 +70,16 @@ fn many_short_reads_take_no_longer(rt: HostRuntime) -> Result<(), Fail> {
         left: 1_000,
         notes: &notes,
     };
-    let deadline = Deadline::after(&clock, Duration::from_secs(5))?;
+    let deadline = Deadline::after(&clock, Duration::from_secs(5)).expect(&rt, "a deadline");
     let mut stream = TimedStream::new(trickle, &clock, deadline);
     let mut buffer = [0; 16];
     for _ in 0..4 {
-        assert_eq!(rt; stream.read(&mut buffer)?, 1);
+        assert_eq!(rt; stream.read(&mut buffer).expect(&rt, "bytes"), 1);
     }
     let fault = stream.read(&mut buffer).map_err(|error| error.kind());
     assert_eq!(rt; fault, Err(ErrorKind::TimedOut));
     // four reads of a second at most, which is set once
     assert_eq!(rt; notes.get(), 10_000);
-    Ok(())
 }
 
 /// A stream on which nothing comes: a read waits for its limit, which winds the clock.
@@ -106,7 +105,7 @@ impl<'a> OpenStream for Silent<'a> {
 }
 
 #[test]
-fn a_silent_stream_is_read_to_its_deadline(rt: HostRuntime) -> Result<(), Fail> {
+fn a_silent_stream_is_read_to_its_deadline(rt: HostRuntime) {
     let clock = Ticks {
         seconds: Cell::new(0),
     };
@@ -114,7 +113,7 @@ fn a_silent_stream_is_read_to_its_deadline(rt: HostRuntime) -> Result<(), Fail> 
         clock: &clock,
         limit: Cell::new(0),
     };
-    let deadline = Deadline::after(&clock, Duration::from_secs(7))?;
+    let deadline = Deadline::after(&clock, Duration::from_secs(7)).expect(&rt, "a deadline");
     let mut stream = TimedStream::new(silent, &clock, deadline);
     let mut buffer = [0; 16];
     // each read takes two seconds by this clock: one to look at it, and one to wait
@@ -124,11 +123,10 @@ fn a_silent_stream_is_read_to_its_deadline(rt: HostRuntime) -> Result<(), Fail> 
     }
     let fault = stream.read(&mut buffer).map_err(|error| error.kind());
     assert_eq!(rt; fault, Err(ErrorKind::TimedOut));
-    Ok(())
 }
 
 #[test]
-fn handles_are_on_one_stream(rt: HostRuntime) -> Result<(), Fail> {
+fn handles_are_on_one_stream(rt: HostRuntime) {
     let notes = Cell::new(0);
     let left = Cell::new(0);
     let ended = Ended {
@@ -139,17 +137,18 @@ fn handles_are_on_one_stream(rt: HostRuntime) -> Result<(), Fail> {
     let clock = Ticks {
         seconds: Cell::new(0),
     };
-    let deadline = Deadline::after(&clock, Duration::from_secs(30))?;
-    let (mut reader, mut writer) = timed_handles(rt.alloc(), ended, &clock, deadline)?;
-    assert_eq!(rt; writer.write(b"abc")?, 3);
-    assert_eq!(rt; reader.read(&mut [0; 4])?, 0);
-    assert_eq!(rt; writer.read(&mut [0; 4])?, 0);
+    let deadline = Deadline::after(&clock, Duration::from_secs(30)).expect(&rt, "a deadline");
+    let (mut reader, mut writer) = timed_handles(rt.alloc(), ended, &clock, deadline).expect(
+        &rt, "handles",
+    );
+    assert_eq!(rt; writer.write(b"abc").expect(&rt, "bytes"), 3);
+    assert_eq!(rt; reader.read(&mut [0; 4]).expect(&rt, "bytes"), 0);
+    assert_eq!(rt; writer.read(&mut [0; 4]).expect(&rt, "bytes"), 0);
     assert_eq!(rt; notes.get(), 55);
-    Ok(())
 }
 
 #[test]
-fn a_drain_is_bounded(rt: HostRuntime) -> Result<(), Fail> {
+fn a_drain_is_bounded(rt: HostRuntime) {
     // what its time leaves, what the connection's leaves, and the stream's end
     for (limit, drain, bytes, wanted) in [(30, 3, 9, 100), (3, 30, 9, 10), (30, 9, 2, 1_000)] {
         let clock = Ticks {
@@ -160,12 +159,14 @@ fn a_drain_is_bounded(rt: HostRuntime) -> Result<(), Fail> {
             left: bytes,
             notes: &notes,
         };
-        let deadline = Deadline::after(&clock, Duration::from_secs(limit))?;
+        let deadline = Deadline::after(&clock, Duration::from_secs(limit)).expect(
+            &rt,
+            "a deadline",
+        );
         let mut stream = TimedStream::new(trickle, &clock, deadline);
         stream.drain(Duration::from_secs(drain));
         assert_eq!(rt; notes.get(), wanted);
     }
-    Ok(())
 }
 
 /// A stream of a peer that sends nothing more, whose end is noted as a 5. Then so many connections
@@ -243,7 +244,7 @@ impl<'a> OpenListener for Waiting<'a> {
 
 /// Takes and ends so many connections of which so many wait, and each drain brings so many more. It
 /// tells what was done by then, and once the listener is dropped.
-fn taken(alloc: Global, waiting: u32, count: u32, brings: u32) -> Result<(u64, u64), Fail> {
+fn taken(rt: &impl Abort, alloc: Global, waiting: u32, count: u32, brings: u32) -> (u64, u64) {
     let (notes, left) = (Cell::new(0), Cell::new(waiting));
     let clock = Ticks {
         seconds: Cell::new(0),
@@ -256,35 +257,32 @@ fn taken(alloc: Global, waiting: u32, count: u32, brings: u32) -> Result<(u64, u
     };
     let mut sockets = Sockets::new(alloc, listener, &clock, Duration::from_secs(1_000));
     for _ in 0..count {
-        let (reader, writer) = sockets.accept()?;
+        let (reader, writer) = sockets.accept().expect(rt, "a connection");
         sockets.end(reader, writer);
     }
     let before = notes.get();
     drop(sockets);
-    Ok((before, notes.get()))
+    (before, notes.get())
 }
 
 #[test]
-fn streams_are_drained_where_none_waits(rt: HostRuntime) -> Result<(), Fail> {
+fn streams_are_drained_where_none_waits(rt: HostRuntime) {
     // two wait, and the third comes later
     assert_eq!(rt;
-        taken(rt.alloc(), 2, 3, 0)?,
+        taken(&rt, rt.alloc(), 2, 3, 0),
         (3_134_545_231, 31_345_452_315)
     );
-    assert_eq!(rt; taken(rt.alloc(), 0, 2, 0)?, (3_145_231, 31_452_315));
-    Ok(())
+    assert_eq!(rt; taken(&rt, rt.alloc(), 0, 2, 0), (3_145_231, 31_452_315));
 }
 
 #[test]
-fn a_connection_that_comes_waits_for_one_drain(rt: HostRuntime) -> Result<(), Fail> {
-    assert_eq!(rt; taken(rt.alloc(), 2, 3, 1)?, (313_453, 31_345_355));
-    Ok(())
+fn a_connection_that_comes_waits_for_one_drain(rt: HostRuntime) {
+    assert_eq!(rt; taken(&rt, rt.alloc(), 2, 3, 1), (313_453, 31_345_355));
 }
 
 #[test]
-fn only_so_many_are_kept(rt: HostRuntime) -> Result<(), Fail> {
-    let (before, after) = taken(rt.alloc(), 100, 34, 0)?;
+fn only_so_many_are_kept(rt: HostRuntime) {
+    let (before, after) = taken(&rt, rt.alloc(), 100, 34, 0);
     assert_eq!(rt; before, 33_333_333_535);
     assert_eq!(rt; after, 55_555_555_555);
-    Ok(())
 }

@@ -11,7 +11,6 @@ use scim_version::{Condition, TagList};
 use std::alloc::Global;
 use std::process::Abort;
 use std::str::from_utf8;
-use std::test::Fail;
 
 /// An empty provider in memory.
 pub fn empty(alloc: Global) -> Provider<MemoryRegistry> {
@@ -19,69 +18,74 @@ pub fn empty(alloc: Global) -> Provider<MemoryRegistry> {
 }
 
 /// A request as a short text.
-fn sent(alloc: Global, request: &Request) -> Result<String, Fail> {
+fn sent(rt: &impl Abort, alloc: Global, request: &Request) -> String {
     match request {
         Request::Search {
             kind,
             filter: Some(filter),
             start: 1,
             count: None,
-        } => searched(alloc, *kind, filter),
-        Request::Create { content } => content_told(alloc, "create", content),
+        } => searched(rt, alloc, *kind, filter),
+        Request::Create { content } => content_told(rt, alloc, "create", content),
         Request::Replace {
             id,
             content,
             if_match: Condition::Tags(tags),
             if_none_match: Condition::Always,
-        } => replaced(alloc, id, content, tags),
-        _ => Err(Fail::from("another request")),
+        } => replaced(rt, alloc, id, content, tags),
+        _ => panic!(rt; "another request"),
     }
 }
 
-fn searched(alloc: Global, kind: Kind, filter: &Filter) -> Result<String, Fail> {
-    let filter = filter.to_text(alloc)?;
-    Ok(format!(in alloc; "{kind:?} {}", filter.as_str())?)
+fn searched(rt: &impl Abort, alloc: Global, kind: Kind, filter: &Filter) -> String {
+    let filter = filter.to_text(alloc).expect(rt, "memory");
+    format!(in alloc; "{kind:?} {}", filter.as_str()).expect(rt, "memory")
 }
 
 fn replaced(
+    rt: &impl Abort,
     alloc: Global,
     id: &ResourceId,
     content: &Content,
     tags: &TagList,
-) -> Result<String, Fail> {
+) -> String {
     let number = id.number().unwrap_or(0);
-    let what = format!(in alloc; "replace {number} under {}:", only_tag(tags)?)?;
-    content_told(alloc, what.as_str(), content)
+    let what = format!(in alloc; "replace {number} under {}:", only_tag(rt, tags)).expect(
+        rt, "memory",
+    );
+    content_told(rt, alloc, what.as_str(), content)
 }
 
 /// The one tag of a list.
-fn only_tag(tags: &TagList) -> Result<&str, Fail> {
+fn only_tag<'a>(rt: &impl Abort, tags: &'a TagList) -> &'a str {
     match tags.as_slice() {
-        [tag] => from_utf8(tag.text()).map_err(|_| Fail::from("no text")),
-        _ => Err(Fail::from("not one tag")),
+        [tag] => from_utf8(tag.text()).expect(rt, "no text"),
+        _ => panic!(rt; "not one tag"),
     }
 }
 
 /// A content as its name, its revision, and the ids of a group's members.
-fn content_told(alloc: Global, what: &str, content: &Content) -> Result<String, Fail> {
+fn content_told(rt: &impl Abort, alloc: Global, what: &str, content: &Content) -> String {
     match content {
         Content::User(user) => {
-            let revision = user.revision().ok_or("no revision")?.number();
-            Ok(format!(in alloc; "{what} {} {revision}", user.user_name().as_str())?)
+            let revision = user.revision().expect(rt, "no revision").number();
+            format!(in alloc; "{what} {} {revision}", user.user_name().as_str()).expect(
+                rt, "memory",
+            )
         }
-        Content::Group(group) => group_told(alloc, what, group),
+        Content::Group(group) => group_told(rt, alloc, what, group),
     }
 }
 
-fn group_told(alloc: Global, what: &str, group: &Group) -> Result<String, Fail> {
-    let revision = group.revision().ok_or("no revision")?.number();
+fn group_told(rt: &impl Abort, alloc: Global, what: &str, group: &Group) -> String {
+    let revision = group.revision().expect(rt, "no revision").number();
     let name = group.display_name().as_str();
-    let mut text = format!(in alloc; "{what} {name} {revision}")?;
+    let mut text = format!(in alloc; "{what} {name} {revision}").expect(rt, "memory");
     for member in group.members() {
-        text.push_str(" ")?;
-        text.push_str(member.as_str())?;
+        text.push_str(" ").expect(rt, "memory");
+        text.push_str(member.as_str()).expect(rt, "memory");
     }
-    Ok(text)
+    text
 }
 
 /// A record, and what is asked for next of it.
@@ -89,32 +93,35 @@ type Exchange<'a> = (Kind, &'a str, &'a str);
 
 /// A request is answered by the provider, and the connector learns from the answer.
 fn carry(
+    rt: &impl Abort,
     alloc: Global,
     connector: &mut Connector<MemoryJournal>,
     provider: &mut Provider<MemoryRegistry>,
     request: &Request,
-) -> Result<(), Fail> {
-    let answer = provider.answer(alloc, request)?;
-    connector.learn(request, &answer)?;
-    Ok(())
+) {
+    let answer = provider.answer(alloc, request).expect(rt, "an answer");
+    connector.learn(request, &answer).expect(rt, "it is learnt");
 }
 
 /// What the connector asks for next of a record, as a short text. Where it is a request, the
 /// provider answers it, and the connector learns from the answer.
 pub fn exchange(
+    rt: &impl Abort,
     alloc: Global,
     connector: &mut Connector<MemoryJournal>,
     provider: &mut Provider<MemoryRegistry>,
     name: &RecordName,
-) -> Result<String, Fail> {
+) -> String {
     match connector.ask(name) {
-        Ok(Ask::Nothing) => Ok(String::from_str(alloc, "nothing")?),
-        Ok(Ask::Waits(member)) => Ok(format!(in alloc; "waits {}", member.as_str())?),
+        Ok(Ask::Nothing) => String::from_str(alloc, "nothing").expect(rt, "memory"),
+        Ok(Ask::Waits(member)) => format!(in alloc; "waits {}", member.as_str()).expect(
+            rt, "memory",
+        ),
         Ok(Ask::Send(request)) => {
-            carry(alloc, connector, provider, &request)?;
-            sent(alloc, &request)
+            carry(rt, alloc, connector, provider, &request);
+            sent(rt, alloc, &request)
         }
-        Err(fault) => Ok(fault.to_string(alloc)?),
+        Err(fault) => fault.to_string(alloc).expect(rt, "memory"),
     }
 }
 
@@ -125,13 +132,12 @@ fn exchanges(
     connector: &mut Connector<MemoryJournal>,
     provider: &mut Provider<MemoryRegistry>,
     asks: &[Exchange],
-) -> Result<(), Fail> {
+) {
     for (kind, key, expected) in asks {
-        let name = named(alloc, *kind, key)?;
-        let said = exchange(alloc, connector, provider, &name)?;
+        let name = named(rt, alloc, *kind, key);
+        let said = exchange(rt, alloc, connector, provider, &name);
         assert!(rt; said.as_str() == *expected, "{said} of {key}");
     }
-    Ok(())
 }
 
 static NAMES: &[Exchange<'static>] = &[
@@ -148,15 +154,16 @@ static NAMES: &[Exchange<'static>] = &[
 ];
 
 #[test]
-fn a_record_is_searched_for_by_its_name_as_it_is_spelled(rt: HostRuntime) -> Result<(), Fail> {
+fn a_record_is_searched_for_by_its_name_as_it_is_spelled(rt: HostRuntime) {
     let alloc = rt.alloc();
-    let mut connector = new_connector(alloc)?;
+    let mut connector = new_connector(&rt, alloc);
     offer_rows(
+        &rt,
         alloc,
         &mut connector,
         &["Bob,1,,,,,active\n", "ann,1,,,,,left\n"],
         &["Night Crew,1,\n", "crew,1,Bob ann\n"],
-    )?;
+    );
     exchanges(&rt, alloc, &mut connector, &mut empty(alloc), NAMES)
 }
 
@@ -210,14 +217,14 @@ static REOPENED: &[Exchange<'static>] = &[
 ];
 
 #[test]
-fn records_are_created_and_replaced(rt: HostRuntime) -> Result<(), Fail> {
+fn records_are_created_and_replaced(rt: HostRuntime) {
     let alloc = rt.alloc();
     let mut provider = empty(alloc);
-    let mut connector = new_connector(alloc)?;
+    let mut connector = new_connector(&rt, alloc);
     for (users, groups, asks) in ROUNDS {
-        offer_rows(alloc, &mut connector, users, groups)?;
-        exchanges(&rt, alloc, &mut connector, &mut provider, asks)?;
+        offer_rows(&rt, alloc, &mut connector, users, groups);
+        exchanges(&rt, alloc, &mut connector, &mut provider, asks);
     }
-    let mut connector = opened_again(alloc, connector)?;
+    let mut connector = opened_again(&rt, alloc, connector);
     exchanges(&rt, alloc, &mut connector, &mut provider, REOPENED)
 }

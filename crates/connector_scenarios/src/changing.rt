@@ -8,7 +8,6 @@ use journal_core::{MemoryJournal, kind_word};
 use scim_key::Kind;
 use std::alloc::Global;
 use std::process::Abort;
-use std::test::Fail;
 
 /// A record of a file, and what the connector says of its row.
 type Offer<'a> = (&'a str, &'a str);
@@ -39,13 +38,12 @@ fn wants(
     alloc: Global,
     connector: &Connector<MemoryJournal>,
     wanted: &[(Kind, &str, u32)],
-) -> Result<(), Fail> {
+) {
     for (kind, key, revision) in wanted {
-        let name = named(alloc, *kind, key)?;
+        let name = named(rt, alloc, *kind, key);
         assert_eq!(rt; connector.wanted(&name).number(), *revision, "of {key}");
         assert_eq!(rt; connector.confirmed(&name).number(), 0, "of {key}");
     }
-    Ok(())
 }
 
 /// Asserts what a connector says of the rows of these users.
@@ -54,12 +52,11 @@ fn says_of_users(
     alloc: Global,
     connector: &mut Connector<MemoryJournal>,
     offers: &[Offer],
-) -> Result<(), Fail> {
+) {
     for (record, expected) in offers {
-        let said = offer_user(alloc, connector, record)?;
+        let said = offer_user(rt, alloc, connector, record);
         assert!(rt; said.as_str() == *expected, "{said} of {record}");
     }
-    Ok(())
 }
 
 /// Asserts what a connector says of the rows of these groups.
@@ -68,20 +65,19 @@ fn says_of_groups(
     alloc: Global,
     connector: &mut Connector<MemoryJournal>,
     offers: &[Offer],
-) -> Result<(), Fail> {
+) {
     for (record, expected) in offers {
-        let said = offer_group(alloc, connector, record)?;
+        let said = offer_group(rt, alloc, connector, record);
         assert!(rt; said.as_str() == *expected, "{said} of {record}");
     }
-    Ok(())
 }
 
 #[test]
-fn each_row_has_its_verdict(rt: HostRuntime) -> Result<(), Fail> {
+fn each_row_has_its_verdict(rt: HostRuntime) {
     let alloc = rt.alloc();
-    let mut connector = new_connector(alloc)?;
-    says_of_users(&rt, alloc, &mut connector, USERS)?;
-    says_of_groups(&rt, alloc, &mut connector, GROUPS)?;
+    let mut connector = new_connector(&rt, alloc);
+    says_of_users(&rt, alloc, &mut connector, USERS);
+    says_of_groups(&rt, alloc, &mut connector, GROUPS);
     wants(&rt, alloc, &connector, WANTED)
 }
 
@@ -95,12 +91,12 @@ static WANTED: &[(Kind, &str, u32)] = &[
 ];
 
 /// The records of these offers, as a file has them.
-fn records_of(alloc: Global, offers: &[Offer]) -> Result<String, Fail> {
+fn records_of(rt: &impl Abort, alloc: Global, offers: &[Offer]) -> String {
     let mut text = String::new(alloc);
     for (record, _) in offers {
-        text.push_str(record)?;
+        text.push_str(record).expect(rt, "memory");
     }
-    Ok(text)
+    text
 }
 
 /// Asserts what was said of these offers.
@@ -118,79 +114,79 @@ fn says_of_all(
     connector: &mut Connector<MemoryJournal>,
     kind: Kind,
     offers: &[Offer],
-) -> Result<(), Fail> {
-    let text = records_of(alloc, offers)?;
+) {
+    let text = records_of(rt, alloc, offers);
     let records = match kind {
-        Kind::User => users(alloc, text.as_str())?,
-        Kind::Group => groups(alloc, text.as_str())?,
+        Kind::User => users(rt, alloc, text.as_str()),
+        Kind::Group => groups(rt, alloc, text.as_str()),
     };
-    let said = offer_all(alloc, connector, &records)?;
+    let said = offer_all(rt, alloc, connector, &records);
     were_said(rt, offers, said.as_slice());
-    Ok(())
 }
 
 #[test]
-fn rows_that_are_offered_together_have_the_same_verdicts(rt: HostRuntime) -> Result<(), Fail> {
+fn rows_that_are_offered_together_have_the_same_verdicts(rt: HostRuntime) {
     let alloc = rt.alloc();
-    let mut connector = new_connector(alloc)?;
-    says_of_all(&rt, alloc, &mut connector, Kind::User, USERS)?;
-    says_of_all(&rt, alloc, &mut connector, Kind::Group, GROUPS)?;
-    wants(&rt, alloc, &connector, WANTED)?;
-    wants(&rt, alloc, &opened_again(alloc, connector)?, WANTED)
+    let mut connector = new_connector(&rt, alloc);
+    says_of_all(&rt, alloc, &mut connector, Kind::User, USERS);
+    says_of_all(&rt, alloc, &mut connector, Kind::Group, GROUPS);
+    wants(&rt, alloc, &connector, WANTED);
+    wants(&rt, alloc, &opened_again(&rt, alloc, connector), WANTED)
 }
 
 /// The names of a connector's records in its order, a line each.
-fn names_told(alloc: Global, connector: &Connector<MemoryJournal>) -> Result<String, Fail> {
+fn names_told(rt: &impl Abort, alloc: Global, connector: &Connector<MemoryJournal>) -> String {
     let mut text = String::new(alloc);
-    for name in connector.names()?.as_slice() {
-        text.push_str(kind_word(name.kind))?;
-        text.push_str(" ")?;
-        text.push_str(name.key.as_str())?;
-        text.push_str("\n")?;
+    for name in connector.names().expect(rt, "memory").as_slice() {
+        text.push_str(kind_word(name.kind)).expect(rt, "memory");
+        text.push_str(" ").expect(rt, "memory");
+        text.push_str(name.key.as_str()).expect(rt, "memory");
+        text.push_str("\n").expect(rt, "memory");
     }
-    Ok(text)
+    text
 }
 
 #[test]
-fn records_are_named_in_their_order(rt: HostRuntime) -> Result<(), Fail> {
+fn records_are_named_in_their_order(rt: HostRuntime) {
     let alloc = rt.alloc();
-    let mut connector = new_connector(alloc)?;
+    let mut connector = new_connector(&rt, alloc);
     // a group of a user that isn't there yet is refused
     offer_rows(
+        &rt,
         alloc,
         &mut connector,
         &["Zoe,1,,,,,active\n"],
         &["Crew,1,zoe\n", "band,1,ann\n"],
-    )?;
-    offer_rows(alloc, &mut connector, &["ann,1,,,,,active\n"], &[])?;
-    let names = names_told(alloc, &connector)?;
+    );
+    offer_rows(&rt, alloc, &mut connector, &["ann,1,,,,,active\n"], &[]);
+    let names = names_told(&rt, alloc, &connector);
     assert_eq!(rt; names.as_str(), "user ann\nuser zoe\ngroup crew\n");
-    Ok(())
 }
 
 #[test]
-fn rows_stand_over_a_restart(rt: HostRuntime) -> Result<(), Fail> {
+fn rows_stand_over_a_restart(rt: HostRuntime) {
     let alloc = rt.alloc();
-    let mut connector = new_connector(alloc)?;
+    let mut connector = new_connector(&rt, alloc);
     offer_rows(
+        &rt,
         alloc,
         &mut connector,
         &["ann,2,,,,,active\n"],
         &["crew,1,ann\n"],
-    )?;
-    let mut connector = opened_again(alloc, connector)?;
+    );
+    let mut connector = opened_again(&rt, alloc, connector);
     wants(
         &rt,
         alloc,
         &connector,
         &[(Kind::User, "ann", 2), (Kind::Group, "crew", 1)],
-    )?;
+    );
     says_of_users(
         &rt,
         alloc,
         &mut connector,
         &[("ann,1,,,,,active\n", "older")],
-    )?;
+    );
     says_of_groups(
         &rt,
         alloc,
@@ -200,15 +196,21 @@ fn rows_stand_over_a_restart(rt: HostRuntime) -> Result<(), Fail> {
 }
 
 #[test]
-fn users_have_their_limit(rt: HostRuntime) -> Result<(), Fail> {
+fn users_have_their_limit(rt: HostRuntime) {
     let alloc = rt.alloc();
-    let mut connector = new_connector(alloc)?;
+    let mut connector = new_connector(&rt, alloc);
     let mut records = String::new(alloc);
     for number in 0..100_000 {
-        records.push_str(format!(in alloc; "user{number},1,,,,,active\n")?.as_str())?;
+        records
+            .push_str(
+                format!(in alloc; "user{number},1,,,,,active\n")
+                    .expect(&rt, "memory")
+                    .as_str(),
+            )
+            .expect(&rt, "memory");
     }
-    for record in users(alloc, records.as_str())?.as_slice() {
-        let said = offer(alloc, &mut connector, record)?;
+    for record in users(&rt, alloc, records.as_str()).as_slice() {
+        let said = offer(&rt, alloc, &mut connector, record);
         assert!(&rt; said.as_str() == "new");
     }
     let offers = [
@@ -218,15 +220,15 @@ fn users_have_their_limit(rt: HostRuntime) -> Result<(), Fail> {
         ("user7,1,,,,,active\n", "older"),
         ("user7,2,,,,,left\n", "S7"),
     ];
-    says_of_users(&rt, alloc, &mut connector, &offers)?;
+    says_of_users(&rt, alloc, &mut connector, &offers);
     says_of_groups(
         &rt,
         alloc,
         &mut connector,
         &[("crew,1,user0 user99999\n", "new")],
-    )?;
-    assert_eq!(rt; connector.names()?.len(), 100_001);
-    let mut connector = opened_again(alloc, connector)?;
+    );
+    assert_eq!(rt; connector.names().expect(&rt, "memory").len(), 100_001);
+    let mut connector = opened_again(&rt, alloc, connector);
     let offers = [
         ("ann,1,,,,,active\n", "S12"),
         ("user8,2,,,,,active\n", "new"),
@@ -235,12 +237,12 @@ fn users_have_their_limit(rt: HostRuntime) -> Result<(), Fail> {
 }
 
 #[test]
-fn groups_have_their_limit(rt: HostRuntime) -> Result<(), Fail> {
+fn groups_have_their_limit(rt: HostRuntime) {
     let alloc = rt.alloc();
-    let mut connector = new_connector(alloc)?;
+    let mut connector = new_connector(&rt, alloc);
     for number in 0..10_000 {
-        let record = format!(in alloc; "group{number},1,\n")?;
-        says_of_groups(&rt, alloc, &mut connector, &[(record.as_str(), "new")])?;
+        let record = format!(in alloc; "group{number},1,\n").expect(&rt, "memory");
+        says_of_groups(&rt, alloc, &mut connector, &[(record.as_str(), "new")]);
     }
     let offers = [
         ("crew,1,\n", "S12"),
@@ -248,6 +250,6 @@ fn groups_have_their_limit(rt: HostRuntime) -> Result<(), Fail> {
         ("group7,2,\n", "new"),
         ("group7,2,\n", "known"),
     ];
-    says_of_groups(&rt, alloc, &mut connector, &offers)?;
+    says_of_groups(&rt, alloc, &mut connector, &offers);
     says_of_users(&rt, alloc, &mut connector, &[("ann,1,,,,,active\n", "new")])
 }

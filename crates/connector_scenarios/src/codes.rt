@@ -4,19 +4,13 @@ use journal_core::JournalFault;
 use std::alloc::Global;
 use std::fmt::Display;
 use std::process::Abort;
-use std::test::Fail;
 
 /// Asserts that each of these is printed as the text beside it.
-fn are_printed<F: Display>(
-    rt: &impl Abort,
-    alloc: Global,
-    table: &[(F, &str)],
-) -> Result<(), Fail> {
+fn are_printed<F: Display>(rt: &impl Abort, alloc: Global, table: &[(F, &str)]) {
     for (fault, code) in table {
-        let text = fault.to_string(alloc)?;
+        let text = fault.to_string(alloc).expect(rt, "memory");
         assert!(rt; text.as_str() == *code, "{text} and not {code}");
     }
-    Ok(())
 }
 
 static JOURNAL_FAULTS: &[(JournalFault, &str)] = &[
@@ -41,14 +35,17 @@ static LEARN_FAULTS: &[(LearnFault, &str)] = &[
 ];
 
 #[test]
-fn codes(rt: HostRuntime) -> Result<(), Fail> {
-    are_printed(&rt, rt.alloc(), JOURNAL_FAULTS)?;
-    are_printed(&rt, rt.alloc(), OPEN_FAULTS)?;
-    are_printed(&rt, rt.alloc(), ASK_FAULTS)?;
-    are_printed(&rt, rt.alloc(), LEARN_FAULTS)?;
-    let code = ChangeFault::Store.to_string(rt.alloc())?;
+fn codes(rt: HostRuntime) {
+    are_printed(&rt, rt.alloc(), JOURNAL_FAULTS);
+    are_printed(&rt, rt.alloc(), OPEN_FAULTS);
+    are_printed(&rt, rt.alloc(), ASK_FAULTS);
+    are_printed(&rt, rt.alloc(), LEARN_FAULTS);
+    let code = ChangeFault::Store
+        .to_string(rt.alloc())
+        .expect(&rt, "memory");
     assert!(&rt; code.as_str() == "C5");
-    let code = ChangeFault::Memory.to_string(rt.alloc())?;
+    let code = ChangeFault::Memory
+        .to_string(rt.alloc())
+        .expect(&rt, "memory");
     assert!(&rt; code.as_str() == "C6");
-    Ok(())
 }

@@ -8,7 +8,6 @@ use scim_version::EntityTag;
 use source_csv::{Row, read_users};
 use std::alloc::Global;
 use std::process::Abort;
-use std::test::Fail;
 
 /// The user of all tests at revision 3, which the source wants.
 static BOB: &[u8] = b"login,revision,number,given,family,mail,status\nbob,3,,,,,active\n";
@@ -22,76 +21,83 @@ static SEARCH: &str = "users where userName eq \"bob\"";
 static REPLACE: &str = "replace bob under \"t\"";
 
 /// The name of bob's record.
-fn bob(alloc: Global) -> Result<RecordName, Fail> {
-    Ok(RecordName {
+fn bob(rt: &impl Abort, alloc: Global) -> RecordName {
+    RecordName {
         kind: Kind::User,
-        key: Key::of(alloc, "bob")?,
-    })
-}
-
-/// The row of bob that the source wants.
-fn wanted(alloc: Global) -> Result<Row, Fail> {
-    match read_users(alloc, BOB)?.as_slice().first() {
-        Some(Ok(row)) => Ok(row.clone()?),
-        _ => Err(Fail::from("no row")),
+        key: Key::of(alloc, "bob").expect(rt, "a name"),
     }
 }
 
-fn opened(alloc: Global) -> Result<Connector<MemoryJournal>, Fail> {
+/// The row of bob that the source wants.
+fn wanted(rt: &impl Abort, alloc: Global) -> Row {
+    match read_users(alloc, BOB)
+        .expect(rt, "a file")
+        .as_slice()
+        .first()
+    {
+        Some(Ok(row)) => row.clone().expect(rt, "memory"),
+        _ => panic!(rt; "no row"),
+    }
+}
+
+fn opened(rt: &impl Abort, alloc: Global) -> Connector<MemoryJournal> {
     match Connector::open(alloc, MemoryJournal::new(alloc)) {
-        Ok(connector) => Ok(connector),
-        Err((fault, _journal)) => Err(Fail::from(fault)),
+        Ok(connector) => connector,
+        Err((fault, _journal)) => panic!(rt; "{fault}"),
     }
 }
 
 /// A connector that wants bob.
-fn wanting(alloc: Global) -> Result<Connector<MemoryJournal>, Fail> {
-    let mut connector = opened(alloc)?;
-    connector.change(wanted(alloc)?)?;
-    Ok(connector)
+fn wanting(rt: &impl Abort, alloc: Global) -> Connector<MemoryJournal> {
+    let mut connector = opened(rt, alloc);
+    connector.change(wanted(rt, alloc)).expect(rt, "a verdict");
+    connector
 }
 
 /// What a connector learns from an answer to a request.
 fn taught(
+    rt: &impl Abort,
     alloc: Global,
     connector: &mut Connector<MemoryJournal>,
     asked: &str,
     answered: &str,
-) -> Result<Result<Learnt, LearnFault>, Fail> {
-    let request = request(alloc, asked)?;
-    let answer = answer(alloc, answered)?;
-    Ok(connector.learn(&request, &answer))
+) -> Result<Learnt, LearnFault> {
+    let request = request(rt, alloc, asked);
+    let answer = answer(rt, alloc, answered);
+    connector.learn(&request, &answer)
 }
 
 /// A connector that wants bob, after these answers to these requests.
-fn after(alloc: Global, lessons: &[(&str, &str)]) -> Result<Connector<MemoryJournal>, Fail> {
-    let mut connector = wanting(alloc)?;
+fn after(rt: &impl Abort, alloc: Global, lessons: &[(&str, &str)]) -> Connector<MemoryJournal> {
+    let mut connector = wanting(rt, alloc);
     for (asked, answered) in lessons {
-        taught(alloc, &mut connector, asked, answered)??;
+        taught(rt, alloc, &mut connector, asked, answered).expect(rt, "it is learnt");
     }
-    Ok(connector)
+    connector
 }
 
 /// A connector in one of the states.
-fn in_state(alloc: Global, state: usize) -> Result<Connector<MemoryJournal>, Fail> {
+fn in_state(rt: &impl Abort, alloc: Global, state: usize) -> Connector<MemoryJournal> {
     let found = (SEARCH, "list 1 bob b 2 t");
     match state {
-        0 => after(alloc, &[]),
-        1 => after(alloc, &[(SEARCH, "list 0")]),
-        2 => after(alloc, &[found, (REPLACE, "error 412")]),
-        _ => after(alloc, &[found]),
+        0 => after(rt, alloc, &[]),
+        1 => after(rt, alloc, &[(SEARCH, "list 0")]),
+        2 => after(rt, alloc, &[found, (REPLACE, "error 412")]),
+        _ => after(rt, alloc, &[found]),
     }
 }
 
 /// What was learnt, or the code of the fault.
-fn learnt_text(alloc: Global, answered: &Result<Learnt, LearnFault>) -> Result<String, Fail> {
+fn learnt_text(rt: &impl Abort, alloc: Global, answered: &Result<Learnt, LearnFault>) -> String {
     match answered {
-        Ok(Learnt::Confirmed(revision)) => Ok(format!(in alloc; "confirmed {revision}")?),
-        Ok(Learnt::Seen) => Ok(String::from_str(alloc, "seen")?),
-        Ok(Learnt::Absent) => Ok(String::from_str(alloc, "absent")?),
-        Ok(Learnt::Forgotten) => Ok(String::from_str(alloc, "forgotten")?),
-        Ok(Learnt::Nothing) => Ok(String::from_str(alloc, "nothing")?),
-        Err(fault) => Ok(format!(in alloc; "{fault}")?),
+        Ok(Learnt::Confirmed(revision)) => format!(in alloc; "confirmed {revision}").expect(
+            rt, "memory",
+        ),
+        Ok(Learnt::Seen) => String::from_str(alloc, "seen").expect(rt, "memory"),
+        Ok(Learnt::Absent) => String::from_str(alloc, "absent").expect(rt, "memory"),
+        Ok(Learnt::Forgotten) => String::from_str(alloc, "forgotten").expect(rt, "memory"),
+        Ok(Learnt::Nothing) => String::from_str(alloc, "nothing").expect(rt, "memory"),
+        Err(fault) => format!(in alloc; "{fault}").expect(rt, "memory"),
     }
 }
 
@@ -105,38 +111,34 @@ fn tag_text(tag: &EntityTag) -> &'static str {
     }
 }
 
-fn seen_text(alloc: Global, seen: Option<&Seen>) -> Result<String, Fail> {
+fn seen_text(rt: &impl Abort, alloc: Global, seen: Option<&Seen>) -> String {
     let text = match seen {
-        Some(Seen::Unknown) => String::from_str(alloc, "unknown")?,
-        Some(Seen::Absent) => String::from_str(alloc, "absent")?,
+        Some(Seen::Unknown) => String::from_str(alloc, "unknown").expect(rt, "memory"),
+        Some(Seen::Absent) => String::from_str(alloc, "absent").expect(rt, "memory"),
         Some(Seen::At { tag, revision }) => {
-            format!(in alloc; "at {} {revision}", tag_text(tag))?
+            format!(in alloc; "at {} {revision}", tag_text(tag)).expect(rt, "memory")
         }
-        None => String::from_str(alloc, "no record")?,
+        None => String::from_str(alloc, "no record").expect(rt, "memory"),
     };
-    Ok(text)
+    text
 }
 
 /// What is known of bob: what was seen, and the id and the confirmed revision of the journal.
-fn known_text(
-    rt: &impl Abort,
-    alloc: Global,
-    connector: Connector<MemoryJournal>,
-) -> Result<String, Fail> {
-    let name = bob(alloc)?;
-    let seen = seen_text(alloc, connector.seen(&name))?;
+fn known_text(rt: &impl Abort, alloc: Global, connector: Connector<MemoryJournal>) -> String {
+    let name = bob(rt, alloc);
+    let seen = seen_text(rt, alloc, connector.seen(&name));
     let confirmed = connector.confirmed(&name);
     let mut journal = connector.close();
-    let entries = journal.load()?;
+    let entries = journal.load().expect(rt, "entries");
     let Some(entry) = entries.as_slice().first() else {
-        return Err(Fail::from("no entry"));
+        panic!(rt; "no entry");
     };
     assert!(rt; entry.confirmed == confirmed);
     let id = match &entry.id {
         Some(id) => id.as_str(),
         None => "-",
     };
-    Ok(format!(in alloc; "{seen}, {id} {confirmed}")?)
+    format!(in alloc; "{seen}, {id} {confirmed}").expect(rt, "memory")
 }
 
 /// Asserts what is learnt in a state, and what is known afterwards where that is another.
@@ -147,34 +149,30 @@ fn learns_in(
     asked: &str,
     answered: &str,
     expected: &str,
-) -> Result<(), Fail> {
-    let mut connector = in_state(alloc, state)?;
-    let learnt = learnt_text(alloc, &taught(alloc, &mut connector, asked, answered)?)?;
-    let known = known_text(rt, alloc, connector)?;
+) {
+    let mut connector = in_state(rt, alloc, state);
+    let learnt = learnt_text(
+        rt,
+        alloc,
+        &taught(rt, alloc, &mut connector, asked, answered),
+    );
+    let known = known_text(rt, alloc, connector);
     let text = if STATES
         .get(state)
         .is_some_and(|before| *before == known.as_str())
     {
         learnt
     } else {
-        format!(in alloc; "{learnt}: {known}")?
+        format!(in alloc; "{learnt}: {known}").expect(rt, "memory")
     };
     assert_eq!(rt; text.as_str(), expected);
-    Ok(())
 }
 
 /// Asserts what is learnt in each state.
-fn learns(
-    rt: &impl Abort,
-    alloc: Global,
-    asked: &str,
-    answered: &str,
-    expected: &[&str; 4],
-) -> Result<(), Fail> {
+fn learns(rt: &impl Abort, alloc: Global, asked: &str, answered: &str, expected: &[&str; 4]) {
     for (state, text) in expected.iter().enumerate() {
-        learns_in(rt, alloc, state, asked, answered, text)?;
+        learns_in(rt, alloc, state, asked, answered, text);
     }
-    Ok(())
 }
 
 /// A resource that is shown, and what is learnt from it in each state.
@@ -226,20 +224,19 @@ static SHOWN: &[(&str, [&str; 4])] = &[
 ];
 
 /// Asserts what is learnt from each shown resource in answers of one form.
-fn learns_from_shown(rt: &impl Abort, alloc: Global, asked: &str, form: &str) -> Result<(), Fail> {
+fn learns_from_shown(rt: &impl Abort, alloc: Global, asked: &str, form: &str) {
     for (shown, expected) in SHOWN {
-        let answered = format!(in alloc; "{form} {shown}")?;
-        learns(rt, alloc, asked, answered.as_str(), expected)?;
+        let answered = format!(in alloc; "{form} {shown}").expect(rt, "memory");
+        learns(rt, alloc, asked, answered.as_str(), expected);
     }
-    Ok(())
 }
 
 #[test]
-fn a_shown_resource_confirms_its_own_revision(rt: HostRuntime) -> Result<(), Fail> {
+fn a_shown_resource_confirms_its_own_revision(rt: HostRuntime) {
     let alloc = rt.alloc();
-    learns_from_shown(&rt, alloc, "create bob", "created")?;
-    learns_from_shown(&rt, alloc, SEARCH, "list 1")?;
-    learns_from_shown(&rt, alloc, REPLACE, "replaced")?;
+    learns_from_shown(&rt, alloc, "create bob", "created");
+    learns_from_shown(&rt, alloc, SEARCH, "list 1");
+    learns_from_shown(&rt, alloc, REPLACE, "replaced");
     learns_from_shown(&rt, alloc, "replace bob", "replaced")
 }
 
@@ -298,28 +295,20 @@ static NONE_SHOWN: &[(&str, &str, [&str; 4])] = &[
 ];
 
 #[test]
-fn an_answer_without_a_resource_changes_what_was_seen_alone(rt: HostRuntime) -> Result<(), Fail> {
+fn an_answer_without_a_resource_changes_what_was_seen_alone(rt: HostRuntime) {
     let alloc = rt.alloc();
     for (asked, answered, expected) in NONE_SHOWN {
-        learns(&rt, alloc, asked, answered, expected)?;
+        learns(&rt, alloc, asked, answered, expected);
     }
-    Ok(())
 }
 
 /// Asserts that each of these requests meets one fault at each of these answers, in each state.
-fn all_refused(
-    rt: &impl Abort,
-    alloc: Global,
-    asked: &[&str],
-    answered: &[&str],
-    fault: &str,
-) -> Result<(), Fail> {
+fn all_refused(rt: &impl Abort, alloc: Global, asked: &[&str], answered: &[&str], fault: &str) {
     for request in asked {
         for answer in answered {
-            learns(rt, alloc, request, answer, &[fault; 4])?;
+            learns(rt, alloc, request, answer, &[fault; 4]);
         }
     }
-    Ok(())
 }
 
 static NOT_FOR_CREATE: &[&str] = &[
@@ -352,10 +341,10 @@ static NOT_FOR_REPLACE: &[&str] = &[
 ];
 
 #[test]
-fn an_answer_to_another_kind_of_request_is_unfit(rt: HostRuntime) -> Result<(), Fail> {
+fn an_answer_to_another_kind_of_request_is_unfit(rt: HostRuntime) {
     let alloc = rt.alloc();
-    all_refused(&rt, alloc, &["create bob"], NOT_FOR_CREATE, "C1")?;
-    all_refused(&rt, alloc, &[SEARCH], NOT_FOR_SEARCH, "C1")?;
+    all_refused(&rt, alloc, &["create bob"], NOT_FOR_CREATE, "C1");
+    all_refused(&rt, alloc, &[SEARCH], NOT_FOR_SEARCH, "C1");
     all_refused(&rt, alloc, &[REPLACE, "replace bob"], NOT_FOR_REPLACE, "C1")
 }
 
@@ -380,8 +369,8 @@ static OF_UNKNOWN_RECORDS: &[&str] = &[
 static ANY_ANSWERS: &[&str] = &["found bob b 3 u", "list 0", "error 502", "unmodified"];
 
 #[test]
-fn what_is_about_no_record_is_refused_before_the_answer(rt: HostRuntime) -> Result<(), Fail> {
+fn what_is_about_no_record_is_refused_before_the_answer(rt: HostRuntime) {
     let alloc = rt.alloc();
-    all_refused(&rt, alloc, OF_NO_RECORD, ANY_ANSWERS, "C1")?;
+    all_refused(&rt, alloc, OF_NO_RECORD, ANY_ANSWERS, "C1");
     all_refused(&rt, alloc, OF_UNKNOWN_RECORDS, ANY_ANSWERS, "C7")
 }

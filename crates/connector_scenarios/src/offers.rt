@@ -5,127 +5,142 @@ use scim_key::{Key, Kind, RecordName};
 use source_book::Verdict;
 use source_csv::{Row, RowFault, SourceRows, read_groups, read_users};
 use std::alloc::Global;
-use std::test::Fail;
+use std::process::Abort;
 
 /// A connector over an empty journal.
-pub fn new_connector(alloc: Global) -> Result<Connector<MemoryJournal>, Fail> {
+pub fn new_connector(rt: &impl Abort, alloc: Global) -> Connector<MemoryJournal> {
     match Connector::open(alloc, MemoryJournal::new(alloc)) {
-        Ok(connector) => Ok(connector),
-        Err(_) => Err(Fail::from("it isn't opened")),
+        Ok(connector) => connector,
+        Err(_) => panic!(rt; "it isn't opened"),
     }
 }
 
 /// A connector that is opened again on the journal of another.
 pub fn opened_again(
+    rt: &impl Abort,
     alloc: Global,
     connector: Connector<MemoryJournal>,
-) -> Result<Connector<MemoryJournal>, Fail> {
+) -> Connector<MemoryJournal> {
     match Connector::open(alloc, connector.close()) {
-        Ok(connector) => Ok(connector),
-        Err(_) => Err(Fail::from("it isn't opened")),
+        Ok(connector) => connector,
+        Err(_) => panic!(rt; "it isn't opened"),
     }
 }
 
 /// The name of a record.
-pub fn named(alloc: Global, kind: Kind, key: &str) -> Result<RecordName, Fail> {
-    let key = Key::of(alloc, key)?;
-    Ok(RecordName { kind, key })
+pub fn named(rt: &impl Abort, alloc: Global, kind: Kind, key: &str) -> RecordName {
+    let key = Key::of(alloc, key).expect(rt, "a name");
+    RecordName { kind, key }
 }
 
 /// The rows of a file of users with this text after its header.
-pub fn users(alloc: Global, records: &str) -> Result<SourceRows, Fail> {
-    let text = format!(in alloc; "login,revision,number,given,family,mail,status\n{records}")?;
-    Ok(read_users(alloc, text.as_bytes())?)
+pub fn users(rt: &impl Abort, alloc: Global, records: &str) -> SourceRows {
+    let text = format!(in alloc;
+        "login,revision,number,given,family,mail,status\n{records}"
+    ).expect(rt, "memory");
+    read_users(alloc, text.as_bytes()).expect(rt, "a file")
 }
 
 /// The rows of a file of groups with this text after its header.
-pub fn groups(alloc: Global, records: &str) -> Result<SourceRows, Fail> {
-    let text = format!(in alloc; "name,revision,members\n{records}")?;
-    Ok(read_groups(alloc, text.as_bytes())?)
+pub fn groups(rt: &impl Abort, alloc: Global, records: &str) -> SourceRows {
+    let text = format!(in alloc; "name,revision,members\n{records}").expect(rt, "memory");
+    read_groups(alloc, text.as_bytes()).expect(rt, "a file")
 }
 
 /// What a connector says of a row, as it is printed: the verdict, or the code of the refusal.
-fn said(alloc: Global, verdict: Result<Verdict, ChangeFault>) -> Result<String, Fail> {
+fn said(rt: &impl Abort, alloc: Global, verdict: Result<Verdict, ChangeFault>) -> String {
     match verdict {
-        Ok(Verdict::New) => Ok(String::from_str(alloc, "new")?),
-        Ok(Verdict::Known) => Ok(String::from_str(alloc, "known")?),
-        Ok(Verdict::Older) => Ok(String::from_str(alloc, "older")?),
-        Err(fault) => Ok(fault.to_string(alloc)?),
+        Ok(Verdict::New) => String::from_str(alloc, "new").expect(rt, "memory"),
+        Ok(Verdict::Known) => String::from_str(alloc, "known").expect(rt, "memory"),
+        Ok(Verdict::Older) => String::from_str(alloc, "older").expect(rt, "memory"),
+        Err(fault) => fault.to_string(alloc).expect(rt, "memory"),
     }
 }
 
 /// What a connector says of the row of a record.
 pub fn offer(
+    rt: &impl Abort,
     alloc: Global,
     connector: &mut Connector<MemoryJournal>,
     record: &Result<Row, RowFault>,
-) -> Result<String, Fail> {
+) -> String {
     match record {
-        Ok(row) => said(alloc, connector.change(row.clone()?)),
-        Err(_) => Err(Fail::from("no row")),
+        Ok(row) => said(
+            rt,
+            alloc,
+            connector.change(row.clone().expect(rt, "memory")),
+        ),
+        Err(_) => panic!(rt; "no row"),
     }
 }
 
 /// What a connector says of the rows of a file, which it is offered together.
 pub fn offer_all(
+    rt: &impl Abort,
     alloc: Global,
     connector: &mut Connector<MemoryJournal>,
     records: &SourceRows,
-) -> Result<Vec<String>, Fail> {
+) -> Vec<String> {
     let mut rows = Vec::new(alloc);
     for record in records.as_slice() {
         match record {
-            Ok(row) => rows.push(row.clone()?)?,
-            Err(_) => return Err(Fail::from("no row")),
+            Ok(row) => rows
+                .push(row.clone().expect(rt, "memory"))
+                .expect(rt, "memory"),
+            Err(_) => panic!(rt; "no row"),
         }
     }
     let mut lines = Vec::new(alloc);
-    for verdict in connector.change_all(rows)? {
-        lines.push(said(alloc, verdict)?)?;
+    for verdict in connector.change_all(rows).expect(rt, "verdicts") {
+        lines.push(said(rt, alloc, verdict)).expect(rt, "memory");
     }
-    Ok(lines)
+    lines
 }
 
 /// What a connector says of the one row of a file of users.
 pub fn offer_user(
+    rt: &impl Abort,
     alloc: Global,
     connector: &mut Connector<MemoryJournal>,
     record: &str,
-) -> Result<String, Fail> {
-    let rows = users(alloc, record)?;
+) -> String {
+    let rows = users(rt, alloc, record);
     offer(
+        rt,
         alloc,
         connector,
-        rows.as_slice().first().ok_or("no record")?,
+        rows.as_slice().first().expect(rt, "no record"),
     )
 }
 
 /// What a connector says of the one row of a file of groups.
 pub fn offer_group(
+    rt: &impl Abort,
     alloc: Global,
     connector: &mut Connector<MemoryJournal>,
     record: &str,
-) -> Result<String, Fail> {
-    let rows = groups(alloc, record)?;
+) -> String {
+    let rows = groups(rt, alloc, record);
     offer(
+        rt,
         alloc,
         connector,
-        rows.as_slice().first().ok_or("no record")?,
+        rows.as_slice().first().expect(rt, "no record"),
     )
 }
 
 /// Offers rows of users, then of groups, whatever is said of them.
 pub fn offer_rows(
+    rt: &impl Abort,
     alloc: Global,
     connector: &mut Connector<MemoryJournal>,
     users: &[&str],
     groups: &[&str],
-) -> Result<(), Fail> {
+) {
     for record in users {
-        offer_user(alloc, connector, record)?;
+        offer_user(rt, alloc, connector, record);
     }
     for record in groups {
-        offer_group(alloc, connector, record)?;
+        offer_group(rt, alloc, connector, record);
     }
-    Ok(())
 }

@@ -13,7 +13,6 @@ use std::cell::RefCell;
 use std::io;
 use std::io::{ErrorKind, Read, Write};
 use std::process::Abort;
-use std::test::Fail;
 
 /// A provider in memory, and what it is being asked.
 #[derive(Drop)]
@@ -181,8 +180,10 @@ fn pushes<D: Dial>(
     dial: &mut D,
     end: Result<Tally, PushFault>,
     told: &str,
-) -> Result<(), Fail> {
-    let service = ScimService::new(Base::read(alloc, "http://localhost:8080/v2")?);
+) {
+    let service = ScimService::new(Base::read(alloc, "http://localhost:8080/v2").expect(
+        rt, "a base",
+    ));
     let mut lines = Lines {
         alloc,
         text: String::new(alloc),
@@ -190,7 +191,6 @@ fn pushes<D: Dial>(
     let ended = push_all(alloc, &service, connector, dial, &mut lines);
     assert_eq!(rt; ended, end);
     assert!(rt; lines.text.as_str() == told, "{}", lines.text.as_str());
-    Ok(())
 }
 
 /// All is confirmed after so many exchanges.
@@ -210,12 +210,12 @@ fn unsettled(exchanges: u32) -> Result<Tally, PushFault> {
 }
 
 /// An empty provider.
-fn new_peer(alloc: Global) -> Result<RefCell<Peer>, Fail> {
-    Ok(RefCell::new(Peer {
-        base: Base::read(alloc, "http://localhost:8080/v2")?,
+fn new_peer(rt: &impl Abort, alloc: Global) -> RefCell<Peer> {
+    RefCell::new(Peer {
+        base: Base::read(alloc, "http://localhost:8080/v2").expect(rt, "a base"),
         provider: Provider::new(MemoryRegistry::new(alloc)),
         asked: Vec::new(alloc),
-    }))
+    })
 }
 
 /// Rows of users and of groups, and then after how many exchanges all is confirmed, and what is told.
@@ -227,20 +227,19 @@ type Round = (
 );
 
 /// Asserts what becomes of the records of a connector once the rows of each round are offered.
-fn settles(rt: &impl Abort, alloc: Global, rounds: &[Round]) -> Result<(), Fail> {
-    let peer = new_peer(alloc)?;
+fn settles(rt: &impl Abort, alloc: Global, rounds: &[Round]) {
+    let peer = new_peer(rt, alloc);
     let mut streams = Streams { alloc, peer: &peer };
-    let mut connector = new_connector(alloc)?;
+    let mut connector = new_connector(rt, alloc);
     for (users, groups, exchanges, told) in rounds {
-        offer_rows(alloc, &mut connector, users, groups)?;
+        offer_rows(rt, alloc, &mut connector, users, groups);
         let end = settled(*exchanges);
-        pushes(rt, alloc, &mut connector, &mut streams, end, told)?;
+        pushes(rt, alloc, &mut connector, &mut streams, end, told);
     }
-    Ok(())
 }
 
 #[test]
-fn a_user_settles_in_two_exchanges(rt: HostRuntime) -> Result<(), Fail> {
+fn a_user_settles_in_two_exchanges(rt: HostRuntime) {
     let rounds: &[Round] = &[
         (&["bob,1,,,,,active\n"], &[], 2, "user bob 2 confirmed 1\n"),
         (&[], &[], 0, "user bob 0 confirmed 1\n"),
@@ -249,7 +248,7 @@ fn a_user_settles_in_two_exchanges(rt: HostRuntime) -> Result<(), Fail> {
 }
 
 #[test]
-fn a_group_settles_after_its_members(rt: HostRuntime) -> Result<(), Fail> {
+fn a_group_settles_after_its_members(rt: HostRuntime) {
     let rounds: &[Round] = &[
         (&["bob,1,,,,,active\n"], &[], 2, "user bob 2 confirmed 1\n"),
         (
@@ -347,11 +346,11 @@ static GIVEN: &[Given] = &[
 ];
 
 #[test]
-fn answers_of_another_provider(rt: HostRuntime) -> Result<(), Fail> {
+fn answers_of_another_provider(rt: HostRuntime) {
     let alloc = rt.alloc();
     for (answers, end, told) in GIVEN {
-        let mut connector = new_connector(alloc)?;
-        offer_rows(alloc, &mut connector, &["bob,1,,,,,active\n"], &[])?;
+        let mut connector = new_connector(&rt, alloc);
+        offer_rows(&rt, alloc, &mut connector, &["bob,1,,,,,active\n"], &[]);
         let mut streams = Answers {
             alloc,
             answers,
@@ -361,21 +360,21 @@ fn answers_of_another_provider(rt: HostRuntime) -> Result<(), Fail> {
             exchanges,
             is_settled,
         });
-        pushes(&rt, alloc, &mut connector, &mut streams, end, told)?;
+        pushes(&rt, alloc, &mut connector, &mut streams, end, told);
     }
-    Ok(())
 }
 
 #[test]
-fn a_group_waits_for_a_member(rt: HostRuntime) -> Result<(), Fail> {
+fn a_group_waits_for_a_member(rt: HostRuntime) {
     let alloc = rt.alloc();
-    let mut connector = new_connector(alloc)?;
+    let mut connector = new_connector(&rt, alloc);
     offer_rows(
+        &rt,
         alloc,
         &mut connector,
         &["bob,1,,,,,active\n"],
         &["crew,1,bob\n"],
-    )?;
+    );
     let mut streams = Answers {
         alloc,
         answers: &[REFUSED, REFUSED, REFUSED],

@@ -8,7 +8,6 @@ use scim_key::{Base, Kind, RecordName};
 use source_csv::SourceRows;
 use std::alloc::Global;
 use std::process::Abort;
-use std::test::Fail;
 use world_sim::{Event, Report, World, WorldFault, run};
 
 type MemoryWorld = World<MemoryRegistry, MemoryJournal>;
@@ -28,109 +27,105 @@ static CREATED: &[Told] = &[
 ];
 
 /// The one row of a file.
-fn offered(rows: &SourceRows) -> Result<Event, Fail> {
+fn offered(rt: &impl Abort, rows: &SourceRows) -> Event {
     match rows.as_slice().first() {
-        Some(Ok(row)) => Ok(Event::Change(row.clone()?)),
-        _ => Err(Fail::from("no row")),
+        Some(Ok(row)) => Event::Change(row.clone().expect(rt, "memory")),
+        _ => panic!(rt; "no row"),
     }
 }
 
 /// `user bob` or `group crew`.
-fn record(alloc: Global, text: &str) -> Result<RecordName, Fail> {
+fn record(rt: &impl Abort, alloc: Global, text: &str) -> RecordName {
     match text.split_once(' ') {
-        Some(("user", key)) => named(alloc, Kind::User, key),
-        Some(("group", key)) => named(alloc, Kind::Group, key),
-        _ => Err(Fail::from("no record")),
+        Some(("user", key)) => named(rt, alloc, Kind::User, key),
+        Some(("group", key)) => named(rt, alloc, Kind::Group, key),
+        _ => panic!(rt; "no record"),
     }
 }
 
-fn event(alloc: Global, text: &str) -> Result<Event, Fail> {
+fn event(rt: &impl Abort, alloc: Global, text: &str) -> Event {
     match text.split_once(' ') {
-        Some(("user", record)) => offered(&users(alloc, record)?),
-        Some(("group", record)) => offered(&groups(alloc, record)?),
-        Some(("send", name)) => Ok(Event::Send(record(alloc, name)?)),
-        Some(("restart", "provider")) => Ok(Event::RestartProvider),
-        Some(("restart", "connector")) => Ok(Event::RestartConnector),
-        Some((word, number)) => on_message(word, number.parse()?),
-        None => Err(Fail::from("no event")),
+        Some(("user", record)) => offered(rt, &users(rt, alloc, record)),
+        Some(("group", record)) => offered(rt, &groups(rt, alloc, record)),
+        Some(("send", name)) => Event::Send(record(rt, alloc, name)),
+        Some(("restart", "provider")) => Event::RestartProvider,
+        Some(("restart", "connector")) => Event::RestartConnector,
+        Some((word, number)) => on_message(rt, word, number.parse().expect(rt, "a number")),
+        None => panic!(rt; "no event"),
     }
 }
 
-fn on_message(word: &str, number: usize) -> Result<Event, Fail> {
+fn on_message(rt: &impl Abort, word: &str, number: usize) -> Event {
     match word {
-        "deliver" => Ok(Event::Deliver(number)),
-        "cut" => Ok(Event::Cut { number, length: 10 }),
-        _ => Err(Fail::from("no event")),
+        "deliver" => Event::Deliver(number),
+        "cut" => Event::Cut { number, length: 10 },
+        _ => panic!(rt; "no event"),
     }
 }
 
 /// The events of a run's parts, one part after the other.
-fn events(alloc: Global, parts: &[&[Told]]) -> Result<Vec<Event>, Fail> {
+fn events(rt: &impl Abort, alloc: Global, parts: &[&[Told]]) -> Vec<Event> {
     let mut events = Vec::new(alloc);
     for part in parts {
         for (text, _) in *part {
-            events.push(event(alloc, text)?)?;
+            events.push(event(rt, alloc, text)).expect(rt, "memory");
         }
     }
-    Ok(events)
+    events
 }
 
 /// A run from nothing: the world after it, and its reports.
-fn ran(alloc: Global, events: &[Event]) -> Result<(MemoryWorld, Vec<Report>), Fail> {
-    let base = Base::read(alloc, "http://localhost:8080/v2")?;
+fn ran(rt: &impl Abort, alloc: Global, events: &[Event]) -> (MemoryWorld, Vec<Report>) {
+    let base = Base::read(alloc, "http://localhost:8080/v2").expect(rt, "a base");
     let registry = MemoryRegistry::new(alloc);
     let journal = MemoryJournal::new(alloc);
-    Ok(run(alloc, registry, journal, base, events)?)
+    run(alloc, registry, journal, base, events).expect(rt, "a run")
 }
 
 /// Asserts the report of each event.
-fn are_reported(
-    rt: &impl Abort,
-    alloc: Global,
-    parts: &[&[Told]],
-    reports: &[Report],
-) -> Result<(), Fail> {
+fn are_reported(rt: &impl Abort, alloc: Global, parts: &[&[Told]], reports: &[Report]) {
     let mut told = reports.iter();
     for part in parts {
         for (text, expected) in *part {
-            let report = told.next().ok_or("a report is missing")?.to_string(alloc)?;
+            let report = told
+                .next()
+                .expect(rt, "a report is missing")
+                .to_string(alloc)
+                .expect(rt, "memory");
             assert_eq!(rt; report.as_str(), *expected, "{text}");
         }
     }
-    Ok(())
 }
 
 /// Asserts the report of each event of a run, and gives the world after it.
-fn runs(rt: &impl Abort, alloc: Global, parts: &[&[Told]]) -> Result<MemoryWorld, Fail> {
-    let events = events(alloc, parts)?;
-    let (world, reports) = ran(alloc, events.as_slice())?;
-    are_reported(rt, alloc, parts, reports.as_slice())?;
-    Ok(world)
+fn runs(rt: &impl Abort, alloc: Global, parts: &[&[Told]]) -> MemoryWorld {
+    let events = events(rt, alloc, parts);
+    let (world, reports) = ran(rt, alloc, events.as_slice());
+    are_reported(rt, alloc, parts, reports.as_slice());
+    world
 }
 
 /// What is shown of a record.
-fn shown(alloc: Global, world: &mut MemoryWorld, name: &RecordName) -> Result<String, Fail> {
-    Ok(world.view(name)?.to_string(alloc)?)
+fn shown(rt: &impl Abort, alloc: Global, world: &mut MemoryWorld, name: &RecordName) -> String {
+    world
+        .view(name)
+        .expect(rt, "a view")
+        .to_string(alloc)
+        .expect(rt, "memory")
 }
 
 /// Asserts what is shown of each record, in the order of names.
-fn shows(
-    rt: &impl Abort,
-    alloc: Global,
-    mut world: MemoryWorld,
-    lines: &[&str],
-) -> Result<(), Fail> {
-    let names = world.names()?;
+fn shows(rt: &impl Abort, alloc: Global, mut world: MemoryWorld, lines: &[&str]) {
+    let names = world.names().expect(rt, "memory");
     assert_eq!(rt; names.len(), lines.len());
     for (name, line) in names.iter().zip(lines.iter()) {
-        let shown = shown(alloc, &mut world, name)?;
+        let shown = shown(rt, alloc, &mut world, name);
         assert_eq!(rt; shown.as_str(), *line);
     }
-    Ok(())
 }
 
 #[test]
-fn a_user_is_created_and_confirmed(rt: HostRuntime) -> Result<(), Fail> {
+fn a_user_is_created_and_confirmed(rt: HostRuntime) {
     let end: &[Told] = &[
         ("send user bob", "nothing"),
         ("send user zoe", "C7"),
@@ -139,7 +134,7 @@ fn a_user_is_created_and_confirmed(rt: HostRuntime) -> Result<(), Fail> {
         ("cut 4", "cut"),
         ("cut 9", "none"),
     ];
-    let world = runs(&rt, rt.alloc(), &[CREATED, end])?;
+    let world = runs(&rt, rt.alloc(), &[CREATED, end]);
     shows(
         &rt,
         rt.alloc(),
@@ -156,7 +151,7 @@ static TWO_REPLACEMENTS: &[Told] = &[
 ];
 
 #[test]
-fn an_overtaken_replacement_is_found_out(rt: HostRuntime) -> Result<(), Fail> {
+fn an_overtaken_replacement_is_found_out(rt: HostRuntime) {
     let end: &[Told] = &[
         ("deliver 5", "answer 7 200"),
         ("deliver 6", "answer 8 412"),
@@ -169,7 +164,7 @@ fn an_overtaken_replacement_is_found_out(rt: HostRuntime) -> Result<(), Fail> {
         ("deliver 12", "confirmed 3"),
         ("deliver 7", "seen"),
     ];
-    let world = runs(&rt, rt.alloc(), &[CREATED, TWO_REPLACEMENTS, end])?;
+    let world = runs(&rt, rt.alloc(), &[CREATED, TWO_REPLACEMENTS, end]);
     shows(
         &rt,
         rt.alloc(),
@@ -179,14 +174,14 @@ fn an_overtaken_replacement_is_found_out(rt: HostRuntime) -> Result<(), Fail> {
 }
 
 #[test]
-fn a_late_replacement_changes_nothing(rt: HostRuntime) -> Result<(), Fail> {
+fn a_late_replacement_changes_nothing(rt: HostRuntime) {
     let end: &[Told] = &[
         ("deliver 6", "answer 7 200"),
         ("deliver 5", "answer 8 412"),
         ("deliver 8", "forgotten"),
         ("deliver 7", "confirmed 3"),
     ];
-    let world = runs(&rt, rt.alloc(), &[CREATED, TWO_REPLACEMENTS, end])?;
+    let world = runs(&rt, rt.alloc(), &[CREATED, TWO_REPLACEMENTS, end]);
     shows(
         &rt,
         rt.alloc(),
@@ -196,7 +191,7 @@ fn a_late_replacement_changes_nothing(rt: HostRuntime) -> Result<(), Fail> {
 }
 
 #[test]
-fn a_revision_is_confirmed_by_what_was_shown(rt: HostRuntime) -> Result<(), Fail> {
+fn a_revision_is_confirmed_by_what_was_shown(rt: HostRuntime) {
     let end: &[Told] = &[
         ("deliver 5", "answer 7 200"),
         ("deliver 6", "answer 8 412"),
@@ -204,7 +199,7 @@ fn a_revision_is_confirmed_by_what_was_shown(rt: HostRuntime) -> Result<(), Fail
         ("send user bob", "replace 9"),
         ("deliver 8", "nothing"),
     ];
-    let world = runs(&rt, rt.alloc(), &[CREATED, TWO_REPLACEMENTS, end])?;
+    let world = runs(&rt, rt.alloc(), &[CREATED, TWO_REPLACEMENTS, end]);
     shows(
         &rt,
         rt.alloc(),
@@ -214,7 +209,7 @@ fn a_revision_is_confirmed_by_what_was_shown(rt: HostRuntime) -> Result<(), Fail
 }
 
 #[test]
-fn a_second_creation_is_refused(rt: HostRuntime) -> Result<(), Fail> {
+fn a_second_creation_is_refused(rt: HostRuntime) {
     let end: &[Told] = &[
         ("user bob,2,,,,,active", "new"),
         ("send user bob", "create 4"),
@@ -225,7 +220,7 @@ fn a_second_creation_is_refused(rt: HostRuntime) -> Result<(), Fail> {
         ("deliver 6", "nothing"),
         ("deliver 2", "nothing"),
     ];
-    let world = runs(&rt, rt.alloc(), &[&CREATED[..5], end])?;
+    let world = runs(&rt, rt.alloc(), &[&CREATED[..5], end]);
     shows(
         &rt,
         rt.alloc(),
@@ -235,7 +230,7 @@ fn a_second_creation_is_refused(rt: HostRuntime) -> Result<(), Fail> {
 }
 
 #[test]
-fn restarts_lose_nothing_that_was_confirmed(rt: HostRuntime) -> Result<(), Fail> {
+fn restarts_lose_nothing_that_was_confirmed(rt: HostRuntime) {
     let end: &[Told] = &[
         ("user bob,2,,,,,active", "new"),
         ("send user bob", "replace 5"),
@@ -245,7 +240,7 @@ fn restarts_lose_nothing_that_was_confirmed(rt: HostRuntime) -> Result<(), Fail>
         ("restart provider", "restarted"),
         ("deliver 7", "confirmed 2"),
     ];
-    let world = runs(&rt, rt.alloc(), &[CREATED, end])?;
+    let world = runs(&rt, rt.alloc(), &[CREATED, end]);
     shows(
         &rt,
         rt.alloc(),
@@ -255,7 +250,7 @@ fn restarts_lose_nothing_that_was_confirmed(rt: HostRuntime) -> Result<(), Fail>
 }
 
 #[test]
-fn a_leaver_stays_switched_off(rt: HostRuntime) -> Result<(), Fail> {
+fn a_leaver_stays_switched_off(rt: HostRuntime) {
     let end: &[Told] = &[
         ("user bob,4,,,,,left", "new"),
         ("send user bob", "replace 5"),
@@ -269,7 +264,7 @@ fn a_leaver_stays_switched_off(rt: HostRuntime) -> Result<(), Fail> {
         ("deliver 1", "answer 9 200"),
         ("send user bob", "nothing"),
     ];
-    let world = runs(&rt, rt.alloc(), &[CREATED, end])?;
+    let world = runs(&rt, rt.alloc(), &[CREATED, end]);
     shows(
         &rt,
         rt.alloc(),
@@ -279,14 +274,14 @@ fn a_leaver_stays_switched_off(rt: HostRuntime) -> Result<(), Fail> {
 }
 
 #[test]
-fn a_group_waits_for_its_members(rt: HostRuntime) -> Result<(), Fail> {
+fn a_group_waits_for_its_members(rt: HostRuntime) {
     let changes: &[Told] = &[
         ("user bob,1,,,,,active", "new"),
         ("user ann,1,,,,,active", "new"),
         ("group crew,1,bob ann", "new"),
     ];
     let end: &[Told] = &[("send group crew", "waits ann")];
-    let world = runs(&rt, rt.alloc(), &[changes, &CREATED[1..], end])?;
+    let world = runs(&rt, rt.alloc(), &[changes, &CREATED[1..], end]);
     let lines = [
         "user ann wanted=1 confirmed=0 held=0 version=0 active=-",
         "user bob wanted=1 confirmed=1 held=1 version=1 active=true",
@@ -296,7 +291,7 @@ fn a_group_waits_for_its_members(rt: HostRuntime) -> Result<(), Fail> {
 }
 
 #[test]
-fn rows_are_judged(rt: HostRuntime) -> Result<(), Fail> {
+fn rows_are_judged(rt: HostRuntime) {
     let changes: &[Told] = &[
         ("user ann,2000000000,,,,,active", "new"),
         ("user ann,2000000000,,,,,active", "known"),
@@ -304,7 +299,7 @@ fn rows_are_judged(rt: HostRuntime) -> Result<(), Fail> {
         ("user ann,2000000000,,,,ann@example.com,active", "S7"),
         ("group crew,1,zoe", "S8 zoe"),
     ];
-    let world = runs(&rt, rt.alloc(), &[changes])?;
+    let world = runs(&rt, rt.alloc(), &[changes]);
     let lines = ["user ann wanted=2000000000 confirmed=0 held=0 version=0 active=-"];
     shows(&rt, rt.alloc(), world, &lines)
 }
@@ -316,18 +311,17 @@ static BOB_CREATED: &str =
     "HTTP/1.1 201 Created\r\nConnection: close\r\nContent-Length: 388\r\nContent-Location: http://localhost:8080/v2/Users/5c1a0000-0000-8000-8000-000000000001\r\nContent-Type: application/scim+json\r\nETag: \"1\"\r\nLocation: http://localhost:8080/v2/Users/5c1a0000-0000-8000-8000-000000000001\r\n\r\n{\"active\":true,\"id\":\"5c1a0000-0000-8000-8000-000000000001\",\"meta\":{\"location\":\"http://localhost:8080/v2/Users/5c1a0000-0000-8000-8000-000000000001\",\"resourceType\":\"User\",\"version\":\"\\\"1\\\"\"},\"schemas\":[\"urn:ietf:params:scim:schemas:core:2.0:User\",\"urn:example:params:scim:schemas:extension:source:1.0\"],\"urn:example:params:scim:schemas:extension:source:1.0\":{\"revision\":1},\"userName\":\"bob\"}";
 
 #[test]
-fn messages_are_kept_in_their_bytes(rt: HostRuntime) -> Result<(), Fail> {
-    let world = runs(&rt, rt.alloc(), &[CREATED])?;
+fn messages_are_kept_in_their_bytes(rt: HostRuntime) {
+    let world = runs(&rt, rt.alloc(), &[CREATED]);
     assert!(rt; world.message(3) == Some(CREATE_BOB.as_bytes()));
     assert!(rt; world.message(4) == Some(BOB_CREATED.as_bytes()));
     assert!(rt; world.message(0).is_none());
     assert!(rt; world.message(5).is_none());
-    Ok(())
 }
 
 /// What a run reports of the connector's own requests is never one of these.
 #[test]
-fn refusals_are_told_by_their_codes(rt: HostRuntime) -> Result<(), Fail> {
+fn refusals_are_told_by_their_codes(rt: HostRuntime) {
     let reports = [
         (Report::Judged(Err(ChangeFault::TooMany)), "S12"),
         (Report::Taught(Err(LearnFault::Unfit)), "C1"),
@@ -339,11 +333,25 @@ fn refusals_are_told_by_their_codes(rt: HostRuntime) -> Result<(), Fail> {
         (Report::Taught(Err(LearnFault::NoSuchRecord)), "C7"),
     ];
     for (report, text) in &reports {
-        assert_eq!(rt; report.to_string(rt.alloc())?.as_str(), *text);
+        assert_eq!(rt;
+            report.to_string(rt.alloc()).expect(&rt, "memory").as_str(),
+            *text
+        );
     }
-    assert_eq!(rt; WorldFault::Memory.to_string(rt.alloc())?.as_str(), "Z1");
-    assert_eq!(rt; WorldFault::Store.to_string(rt.alloc())?.as_str(), "Z2");
-    Ok(())
+    assert_eq!(rt;
+        WorldFault::Memory
+            .to_string(rt.alloc())
+            .expect(&rt, "memory")
+            .as_str(),
+        "Z1"
+    );
+    assert_eq!(rt;
+        WorldFault::Store
+            .to_string(rt.alloc())
+            .expect(&rt, "memory")
+            .as_str(),
+        "Z2"
+    );
 }
 
 /// Asserts the report of each event, or its fault.
@@ -352,27 +360,26 @@ fn steps(
     alloc: Global,
     world: &mut World<FailingRegistry, FailingJournal>,
     events: &[Told],
-) -> Result<(), Fail> {
+) {
     for (text, expected) in events {
-        let told = match world.step(&event(alloc, text)?) {
-            Ok(report) => report.to_string(alloc)?,
-            Err(fault) => fault.to_string(alloc)?,
+        let told = match world.step(&event(rt, alloc, text)) {
+            Ok(report) => report.to_string(alloc).expect(rt, "memory"),
+            Err(fault) => fault.to_string(alloc).expect(rt, "memory"),
         };
         assert_eq!(rt; told.as_str(), *expected, "{text}");
     }
-    Ok(())
 }
 
 #[test]
-fn a_side_that_is_not_opened_again_is_shut(rt: HostRuntime) -> Result<(), Fail> {
+fn a_side_that_is_not_opened_again_is_shut(rt: HostRuntime) {
     let alloc = rt.alloc();
-    let base = Base::read(alloc, "http://localhost:8080/v2")?;
+    let base = Base::read(alloc, "http://localhost:8080/v2").expect(&rt, "a base");
     let registry = FailingRegistry::new(alloc);
     let mut world = match World::new(alloc, registry, FailingJournal::new(alloc), base) {
         Ok(world) => world,
-        Err((fault, _registry, _journal)) => return Err(Fail::from(fault)),
+        Err((fault, _registry, _journal)) => panic!(&rt; "{fault}"),
     };
-    steps(&rt, alloc, &mut world, CREATED)?;
+    steps(&rt, alloc, &mut world, CREATED);
     let connector: &[Told] = &[
         ("restart connector", "Z2"),
         ("send user bob", "Z2"),
@@ -382,7 +389,7 @@ fn a_side_that_is_not_opened_again_is_shut(rt: HostRuntime) -> Result<(), Fail> 
         ("restart connector", "restarted"),
         ("send user bob", "nothing"),
     ];
-    steps(&rt, alloc, &mut world, connector)?;
+    steps(&rt, alloc, &mut world, connector);
     let provider: &[Told] = &[
         ("restart provider", "Z2"),
         ("deliver 1", "Z2"),
@@ -390,12 +397,15 @@ fn a_side_that_is_not_opened_again_is_shut(rt: HostRuntime) -> Result<(), Fail> 
         ("restart provider", "restarted"),
         ("deliver 1", "answer 6 200"),
     ];
-    steps(&rt, alloc, &mut world, provider)?;
-    let bob = named(alloc, Kind::User, "bob")?;
-    let shown = world.view(&bob)?.to_string(alloc)?;
+    steps(&rt, alloc, &mut world, provider);
+    let bob = named(&rt, alloc, Kind::User, "bob");
+    let shown = world
+        .view(&bob)
+        .expect(&rt, "a view")
+        .to_string(alloc)
+        .expect(&rt, "memory");
     assert_eq!(rt;
         shown.as_str(),
         "user bob wanted=1 confirmed=1 held=1 version=1 active=true"
     );
-    Ok(())
 }

@@ -5,39 +5,42 @@ use scim_key::{GroupName, Kind, UserName};
 use scim_resource::ReadFault;
 use std::alloc::Global;
 use std::process::Abort;
-use std::test::Fail;
 
 /// Asserts that each text is written as the one beside it, which is written as it is.
-fn written_as(rt: &impl Abort, alloc: Global, table: &[(&str, &str)]) -> Result<(), Fail> {
+fn written_as(rt: &impl Abort, alloc: Global, table: &[(&str, &str)]) {
     for (text, wanted) in table {
-        let written = Filter::read(alloc, text)?.to_text(alloc)?;
+        let written = Filter::read(alloc, text)
+            .expect(rt, "a filter")
+            .to_text(alloc)
+            .expect(rt, "memory");
         assert!(rt; written.as_str() == *wanted, "{text} is written {written}");
-        let again = Filter::read(alloc, wanted)?.to_text(alloc)?;
+        let again = Filter::read(alloc, wanted)
+            .expect(rt, "a filter")
+            .to_text(alloc)
+            .expect(rt, "memory");
         assert!(rt; again.as_str() == *wanted, "{wanted} is written {again}");
     }
-    Ok(())
 }
 
 /// The record that a filter names, as a text.
-fn record_named(alloc: Global, filter: &Filter) -> Result<String, Fail> {
-    let Some(name) = filter.single_key(alloc)? else {
-        return Ok(String::from_str(alloc, "none")?);
+fn record_named(rt: &impl Abort, alloc: Global, filter: &Filter) -> String {
+    let Some(name) = filter.single_key(alloc).expect(rt, "memory") else {
+        return String::from_str(alloc, "none").expect(rt, "memory");
     };
     let kind = match name.kind {
         Kind::User => "user",
         Kind::Group => "group",
     };
     let key = name.key.as_str();
-    Ok(format!(in alloc; "{kind} {key}")?)
+    format!(in alloc; "{kind} {key}").expect(rt, "memory")
 }
 
 /// Asserts that each filter names the record beside it.
-fn names(rt: &impl Abort, alloc: Global, table: &[(&str, &str)]) -> Result<(), Fail> {
+fn names(rt: &impl Abort, alloc: Global, table: &[(&str, &str)]) {
     for (text, wanted) in table {
-        let named = record_named(alloc, &Filter::read(alloc, text)?)?;
+        let named = record_named(rt, alloc, &Filter::read(alloc, text).expect(rt, "a filter"));
         assert!(rt; named.as_str() == *wanted, "{text} names {named}");
     }
-    Ok(())
 }
 
 static OPERATORS_LEFT_OUT: &[&str] = &[
@@ -315,7 +318,7 @@ static SPELLINGS: &[(&str, &str)] = &[
 ];
 
 #[test]
-fn filters_are_written_with_no_more_than_they_need(rt: HostRuntime) -> Result<(), Fail> {
+fn filters_are_written_with_no_more_than_they_need(rt: HostRuntime) {
     written_as(&rt, rt.alloc(), SPELLINGS)
 }
 
@@ -356,7 +359,7 @@ static GROUPED: &[(&str, &str)] = &[
 ];
 
 #[test]
-fn joined_filters_are_grouped_to_the_left(rt: HostRuntime) -> Result<(), Fail> {
+fn joined_filters_are_grouped_to_the_left(rt: HostRuntime) {
     written_as(&rt, rt.alloc(), GROUPED)
 }
 
@@ -377,7 +380,7 @@ static WRITTEN_TEXTS: &[(&str, &str)] = &[
 ];
 
 #[test]
-fn texts_are_written_as_json(rt: HostRuntime) -> Result<(), Fail> {
+fn texts_are_written_as_json(rt: HostRuntime) {
     written_as(&rt, rt.alloc(), WRITTEN_TEXTS)
 }
 
@@ -405,59 +408,80 @@ static NAMED_RECORDS: &[(&str, &str)] = &[
 ];
 
 #[test]
-fn a_filter_names_a_record_by_one_test_of_its_name(rt: HostRuntime) -> Result<(), Fail> {
+fn a_filter_names_a_record_by_one_test_of_its_name(rt: HostRuntime) {
     names(&rt, rt.alloc(), NAMED_RECORDS)
 }
 
 #[test]
-fn a_filter_names_no_record_by_a_longer_name(rt: HostRuntime) -> Result<(), Fail> {
-    let longest = around(rt.alloc(), 128, "a", "", "")?;
-    let lawful = format!(in rt.alloc(); "userName eq \"{longest}\"")?;
-    let named = format!(in rt.alloc(); "user {longest}")?;
-    let longer = format!(in rt.alloc(); "displayName eq \"{longest}a\"")?;
+fn a_filter_names_no_record_by_a_longer_name(rt: HostRuntime) {
+    let longest = around(&rt, rt.alloc(), 128, "a", "", "");
+    let lawful = format!(in rt.alloc(); "userName eq \"{longest}\"").expect(&rt, "memory");
+    let named = format!(in rt.alloc(); "user {longest}").expect(&rt, "memory");
+    let longer = format!(in rt.alloc(); "displayName eq \"{longest}a\"").expect(&rt, "memory");
     let table = [(lawful.as_str(), named.as_str()), (longer.as_str(), "none")];
     names(&rt, rt.alloc(), &table)
 }
 
 /// Asserts how a filter is written, which record it names and which row it hits.
-fn asks(
-    rt: &impl Abort,
-    alloc: Global,
-    filter: &Filter,
-    text: &str,
-    record: &str,
-    row: &str,
-) -> Result<(), Fail> {
-    assert!(rt; filter.to_text(alloc)?.as_str() == text);
-    assert!(rt; record_named(alloc, filter)?.as_str() == record);
-    let rows = rows(alloc)?;
-    assert!(rt; hits(alloc, rows.as_slice(), filter)?.as_str() == row);
-    Ok(())
+fn asks(rt: &impl Abort, alloc: Global, filter: &Filter, text: &str, record: &str, row: &str) {
+    assert!(rt; filter.to_text(alloc).expect(rt, "memory").as_str() == text);
+    assert!(rt; record_named(rt, alloc, filter).as_str() == record);
+    let rows = rows(rt, alloc);
+    assert!(rt; hits(rt, alloc, rows.as_slice(), filter).as_str() == row);
 }
 
 #[test]
-fn a_filter_of_one_user(rt: HostRuntime) -> Result<(), Fail> {
-    let name = UserName::read(rt.alloc(), "bob")?;
-    let filter = Filter::eq_user_name(rt.alloc(), &name)?;
+fn a_filter_of_one_user(rt: HostRuntime) {
+    let name = UserName::read(rt.alloc(), "bob").expect(&rt, "a name");
+    let filter = Filter::eq_user_name(rt.alloc(), &name).expect(&rt, "memory");
     let text = "userName eq \"bob\"";
     asks(&rt, rt.alloc(), &filter, text, "user bob", "bob")
 }
 
 #[test]
-fn a_filter_of_one_group(rt: HostRuntime) -> Result<(), Fail> {
-    let name = GroupName::read(rt.alloc(), "TOUR Guides")?;
-    let filter = Filter::eq_display_name(rt.alloc(), &name)?;
+fn a_filter_of_one_group(rt: HostRuntime) {
+    let name = GroupName::read(rt.alloc(), "TOUR Guides").expect(&rt, "a name");
+    let filter = Filter::eq_display_name(rt.alloc(), &name).expect(&rt, "memory");
     let text = "displayName eq \"TOUR Guides\"";
     let record = "group tour guides";
     asks(&rt, rt.alloc(), &filter, text, record, "guides")
 }
 
 #[test]
-fn faults_are_printed_as_their_codes(rt: HostRuntime) -> Result<(), Fail> {
-    assert!(rt; FilterFault::Unsupported.to_string(rt.alloc())?.as_str() == "P3");
-    assert!(rt; FilterFault::Memory.to_string(rt.alloc())?.as_str() == "memory");
-    assert!(rt; ReadFault::InvalidSyntax.to_string(rt.alloc())?.as_str() == "P1");
-    assert!(rt; ReadFault::InvalidValue.to_string(rt.alloc())?.as_str() == "P2");
-    assert!(rt; ReadFault::Memory.to_string(rt.alloc())?.as_str() == "memory");
-    Ok(())
+fn faults_are_printed_as_their_codes(rt: HostRuntime) {
+    assert!(rt;
+        FilterFault::Unsupported
+            .to_string(rt.alloc())
+            .expect(&rt, "memory")
+            .as_str()
+            == "P3"
+    );
+    assert!(rt;
+        FilterFault::Memory
+            .to_string(rt.alloc())
+            .expect(&rt, "memory")
+            .as_str()
+            == "memory"
+    );
+    assert!(rt;
+        ReadFault::InvalidSyntax
+            .to_string(rt.alloc())
+            .expect(&rt, "memory")
+            .as_str()
+            == "P1"
+    );
+    assert!(rt;
+        ReadFault::InvalidValue
+            .to_string(rt.alloc())
+            .expect(&rt, "memory")
+            .as_str()
+            == "P2"
+    );
+    assert!(rt;
+        ReadFault::Memory
+            .to_string(rt.alloc())
+            .expect(&rt, "memory")
+            .as_str()
+            == "memory"
+    );
 }

@@ -5,7 +5,6 @@ use scim_resource::{Content, Stored};
 use serde_json::Value;
 use std::alloc::Global;
 use std::process::Abort;
-use std::test::Fail;
 
 static ANN: &str = r#"{
     "schemas": ["urn:ietf:params:scim:schemas:core:2.0:User"],
@@ -55,58 +54,83 @@ static GUIDES: &str = r#"{
     ]
 }"#;
 
-fn content(alloc: Global, body: &str, kind: Kind) -> Result<Content, Fail> {
-    Ok(Content::read(alloc, &Value::from_str(alloc, body)?, kind)?)
+fn content(rt: &impl Abort, alloc: Global, body: &str, kind: Kind) -> Content {
+    Content::read(
+        alloc,
+        &Value::from_str(alloc, body).expect(rt, "JSON"),
+        kind,
+    )
+    .expect(rt, "a content")
 }
 
 /// The rows that the tables speak of, and their words there.
-pub fn rows(alloc: Global) -> Result<Vec<(&'static str, Stored)>, Fail> {
+pub fn rows(rt: &impl Abort, alloc: Global) -> Vec<(&'static str, Stored)> {
     let mut rows = Vec::new(alloc);
-    rows.push(("ann", Stored::new(1, 1, content(alloc, ANN, Kind::User)?)))?;
-    rows.push(("bob", Stored::new(2, 12, content(alloc, BOB, Kind::User)?)))?;
-    rows.push(("babs", Stored::new(3, 2, content(alloc, BABS, Kind::User)?)))?;
+    rows.push((
+        "ann",
+        Stored::new(1, 1, content(rt, alloc, ANN, Kind::User)),
+    ))
+    .expect(rt, "memory");
+    rows.push((
+        "bob",
+        Stored::new(2, 12, content(rt, alloc, BOB, Kind::User)),
+    ))
+    .expect(rt, "memory");
+    rows.push((
+        "babs",
+        Stored::new(3, 2, content(rt, alloc, BABS, Kind::User)),
+    ))
+    .expect(rt, "memory");
     rows.push((
         "zoe",
-        Stored::new(10, 3, content(alloc, LEAVER, Kind::User)?),
-    ))?;
+        Stored::new(10, 3, content(rt, alloc, LEAVER, Kind::User)),
+    ))
+    .expect(rt, "memory");
     rows.push((
         "guides",
-        Stored::new(11, 1, content(alloc, GUIDES, Kind::Group)?),
-    ))?;
-    Ok(rows)
+        Stored::new(11, 1, content(rt, alloc, GUIDES, Kind::Group)),
+    ))
+    .expect(rt, "memory");
+    rows
 }
 
 /// The words of the rows that a filter hits.
 pub fn hits(
+    rt: &impl Abort,
     alloc: Global,
     rows: &[(&'static str, Stored)],
     filter: &Filter,
-) -> Result<String, Fail> {
+) -> String {
     let mut words = String::new(alloc);
     for (word, row) in rows {
         if filter.matches(row) {
             if !words.is_empty() {
-                words.push(' ')?;
+                words.push(' ').expect(rt, "memory");
             }
-            words.push_str(word)?;
+            words.push_str(word).expect(rt, "memory");
         }
     }
-    Ok(words)
+    words
 }
 
 /// Asserts that each filter hits the rows of which the words stand beside it, and so do its copy
 /// and the filter that its text spells.
-fn hit(rt: &impl Abort, alloc: Global, table: &[(&str, &str)]) -> Result<(), Fail> {
-    let rows = rows(alloc)?;
+fn hit(rt: &impl Abort, alloc: Global, table: &[(&str, &str)]) {
+    let rows = rows(rt, alloc);
     for (text, wanted) in table {
-        let filter = Filter::read(alloc, text)?;
-        is_hit(rt, alloc, rows.as_slice(), &filter, wanted)?;
-        is_hit(rt, alloc, rows.as_slice(), &filter.clone()?, wanted)?;
-        let written = filter.to_text(alloc)?;
-        let again = Filter::read(alloc, written.as_str())?;
-        is_hit(rt, alloc, rows.as_slice(), &again, wanted)?;
+        let filter = Filter::read(alloc, text).expect(rt, "a filter");
+        is_hit(rt, alloc, rows.as_slice(), &filter, wanted);
+        is_hit(
+            rt,
+            alloc,
+            rows.as_slice(),
+            &filter.clone().expect(rt, "memory"),
+            wanted,
+        );
+        let written = filter.to_text(alloc).expect(rt, "memory");
+        let again = Filter::read(alloc, written.as_str()).expect(rt, "a filter");
+        is_hit(rt, alloc, rows.as_slice(), &again, wanted);
     }
-    Ok(())
 }
 
 fn is_hit(
@@ -115,10 +139,9 @@ fn is_hit(
     rows: &[(&'static str, Stored)],
     filter: &Filter,
     wanted: &str,
-) -> Result<(), Fail> {
-    let hits = hits(alloc, rows, filter)?;
+) {
+    let hits = hits(rt, alloc, rows, filter);
     assert!(rt; hits.as_str() == wanted, "{hits} and not {wanted}");
-    Ok(())
 }
 
 /// Asserts that each text is refused.
@@ -131,21 +154,22 @@ pub fn refuses(rt: &impl Abort, alloc: Global, texts: &[&str]) {
 
 /// A text so many times, another, and a third so many times.
 pub fn around(
+    rt: &impl Abort,
     alloc: Global,
     count: usize,
     before: &str,
     within: &str,
     after: &str,
-) -> Result<String, Fail> {
+) -> String {
     let mut text = String::new(alloc);
     for _ in 0..count {
-        text.push_str(before)?;
+        text.push_str(before).expect(rt, "memory");
     }
-    text.push_str(within)?;
+    text.push_str(within).expect(rt, "memory");
     for _ in 0..count {
-        text.push_str(after)?;
+        text.push_str(after).expect(rt, "memory");
     }
-    Ok(text)
+    text
 }
 
 const EVERYBODY: &str = "ann bob babs zoe guides";
@@ -172,7 +196,7 @@ static FIGURES: &[(&str, &str)] = &[
 ];
 
 #[test]
-fn the_figures_of_the_standard(rt: HostRuntime) -> Result<(), Fail> {
+fn the_figures_of_the_standard(rt: HostRuntime) {
     hit(&rt, rt.alloc(), FIGURES)
 }
 
@@ -193,7 +217,7 @@ static OPERATORS: &[(&str, &str)] = &[
 ];
 
 #[test]
-fn the_operators(rt: HostRuntime) -> Result<(), Fail> {
+fn the_operators(rt: HostRuntime) {
     hit(&rt, rt.alloc(), OPERATORS)
 }
 
@@ -207,7 +231,7 @@ static EMPTY_TEXTS: &[(&str, &str)] = &[
 ];
 
 #[test]
-fn the_empty_text_is_in_each_text(rt: HostRuntime) -> Result<(), Fail> {
+fn the_empty_text_is_in_each_text(rt: HostRuntime) {
     hit(&rt, rt.alloc(), EMPTY_TEXTS)
 }
 
@@ -238,7 +262,7 @@ static LETTERS: &[(&str, &str)] = &[
 ];
 
 #[test]
-fn letters_count_in_no_name_and_in_few_values(rt: HostRuntime) -> Result<(), Fail> {
+fn letters_count_in_no_name_and_in_few_values(rt: HostRuntime) {
     hit(&rt, rt.alloc(), LETTERS)
 }
 
@@ -268,7 +292,7 @@ static BYTES: &[(&str, &str)] = &[
 ];
 
 #[test]
-fn ids_and_versions_are_compared_by_bytes(rt: HostRuntime) -> Result<(), Fail> {
+fn ids_and_versions_are_compared_by_bytes(rt: HostRuntime) {
     hit(&rt, rt.alloc(), BYTES)
 }
 
@@ -299,7 +323,7 @@ static MANY_VALUES: &[(&str, &str)] = &[
 ];
 
 #[test]
-fn some_value_of_many_is_enough(rt: HostRuntime) -> Result<(), Fail> {
+fn some_value_of_many_is_enough(rt: HostRuntime) {
     hit(&rt, rt.alloc(), MANY_VALUES)
 }
 
@@ -317,7 +341,7 @@ static BOOLEANS: &[(&str, &str)] = &[
 ];
 
 #[test]
-fn booleans_are_equal_or_not(rt: HostRuntime) -> Result<(), Fail> {
+fn booleans_are_equal_or_not(rt: HostRuntime) {
     hit(&rt, rt.alloc(), BOOLEANS)
 }
 
@@ -338,7 +362,7 @@ static ABSENT: &[(&str, &str)] = &[
 ];
 
 #[test]
-fn what_is_absent_is_equal_to_nothing(rt: HostRuntime) -> Result<(), Fail> {
+fn what_is_absent_is_equal_to_nothing(rt: HostRuntime) {
     hit(&rt, rt.alloc(), ABSENT)
 }
 
@@ -374,7 +398,7 @@ static CONNECTIVES: &[(&str, &str)] = &[
 ];
 
 #[test]
-fn and_binds_closer_than_or(rt: HostRuntime) -> Result<(), Fail> {
+fn and_binds_closer_than_or(rt: HostRuntime) {
     hit(&rt, rt.alloc(), CONNECTIVES)
 }
 
@@ -389,7 +413,7 @@ static SPACES: &[(&str, &str)] = &[
 ];
 
 #[test]
-fn spaces_may_stand_round_parentheses(rt: HostRuntime) -> Result<(), Fail> {
+fn spaces_may_stand_round_parentheses(rt: HostRuntime) {
     hit(&rt, rt.alloc(), SPACES)
 }
 
@@ -410,60 +434,52 @@ static SPELLED_TEXTS: &[(&str, &str)] = &[
 ];
 
 #[test]
-fn texts_are_spelled_as_in_json(rt: HostRuntime) -> Result<(), Fail> {
+fn texts_are_spelled_as_in_json(rt: HostRuntime) {
     hit(&rt, rt.alloc(), SPELLED_TEXTS)
 }
 
 /// Asserts that a filter in so many parentheses hits every user.
-fn hits_within(
-    rt: &impl Abort,
-    alloc: Global,
-    count: usize,
-    before: &str,
-    after: &str,
-) -> Result<(), Fail> {
-    let text = around(alloc, count, before, "userName pr", after)?;
+fn hits_within(rt: &impl Abort, alloc: Global, count: usize, before: &str, after: &str) {
+    let text = around(rt, alloc, count, before, "userName pr", after);
     hit(rt, alloc, &[(text.as_str(), "ann bob babs zoe")])
 }
 
 #[test]
-fn parentheses_are_at_most_32_deep(rt: HostRuntime) -> Result<(), Fail> {
-    hits_within(&rt, rt.alloc(), 32, "(", ")")?;
-    hits_within(&rt, rt.alloc(), 32, "not (", ")")?;
-    hits_within(&rt, rt.alloc(), 16, "( not(", ") )")?;
+fn parentheses_are_at_most_32_deep(rt: HostRuntime) {
+    hits_within(&rt, rt.alloc(), 32, "(", ")");
+    hits_within(&rt, rt.alloc(), 32, "not (", ")");
+    hits_within(&rt, rt.alloc(), 16, "( not(", ") )");
     hits_within(&rt, rt.alloc(), 40, "(active pr) and ", "")
 }
 
 #[test]
-fn deeper_parentheses_are_refused(rt: HostRuntime) -> Result<(), Fail> {
+fn deeper_parentheses_are_refused(rt: HostRuntime) {
     for before in ["(", "not (", "(active pr or "] {
-        let deeper = around(rt.alloc(), 33, before, "userName pr", ")")?;
+        let deeper = around(&rt, rt.alloc(), 33, before, "userName pr", ")");
         refuses(&rt, rt.alloc(), &[deeper.as_str()]);
     }
-    Ok(())
 }
 
 /// Asserts that a text of 2,048 bytes hits these rows, and is refused with a space more.
-fn is_longest(rt: &impl Abort, alloc: Global, text: &str, wanted: &str) -> Result<(), Fail> {
+fn is_longest(rt: &impl Abort, alloc: Global, text: &str, wanted: &str) {
     assert_eq!(rt; text.len(), 2048);
-    hit(rt, alloc, &[(text, wanted)])?;
-    let longer = around(alloc, 1, " ", text, "")?;
+    hit(rt, alloc, &[(text, wanted)]);
+    let longer = around(rt, alloc, 1, " ", text, "");
     refuses(rt, alloc, &[longer.as_str()]);
-    Ok(())
 }
 
 /// A test whose text has so many letters.
-fn with_letters(alloc: Global, count: usize, test: &str, letter: &str) -> Result<String, Fail> {
-    let open = around(alloc, count, "", test, letter)?;
-    around(alloc, 1, "", open.as_str(), "\"")
+fn with_letters(rt: &impl Abort, alloc: Global, count: usize, test: &str, letter: &str) -> String {
+    let open = around(rt, alloc, count, "", test, letter);
+    around(rt, alloc, 1, "", open.as_str(), "\"")
 }
 
 #[test]
-fn a_text_has_at_most_2048_bytes(rt: HostRuntime) -> Result<(), Fail> {
-    let spaces = around(rt.alloc(), 2037, "", "userName pr", " ")?;
-    is_longest(&rt, rt.alloc(), spaces.as_str(), "ann bob babs zoe")?;
-    let letters = with_letters(rt.alloc(), 2034, "userName sw \"", "a")?;
-    is_longest(&rt, rt.alloc(), letters.as_str(), "")?;
-    let accents = with_letters(rt.alloc(), 1017, "userName ne \"", "é")?;
+fn a_text_has_at_most_2048_bytes(rt: HostRuntime) {
+    let spaces = around(&rt, rt.alloc(), 2037, "", "userName pr", " ");
+    is_longest(&rt, rt.alloc(), spaces.as_str(), "ann bob babs zoe");
+    let letters = with_letters(&rt, rt.alloc(), 2034, "userName sw \"", "a");
+    is_longest(&rt, rt.alloc(), letters.as_str(), "");
+    let accents = with_letters(&rt, rt.alloc(), 1017, "userName ne \"", "é");
     is_longest(&rt, rt.alloc(), accents.as_str(), EVERYBODY)
 }

@@ -9,7 +9,6 @@ use scim_resource::{Content, Group};
 use source_csv::{GroupRow, Row, RowFault, SourceRows, read_groups};
 use std::alloc::{AllocError, Global};
 use std::process::Abort;
-use std::test::Fail;
 
 /// The ids of ann, if she has one, and of bob.
 #[derive(Drop)]
@@ -31,31 +30,30 @@ impl Ids for Known {
 }
 
 /// The row `crew,1,ann bob`.
-fn crew(alloc: Global) -> Result<SourceRows, Fail> {
-    Ok(read_groups(alloc, b"name,revision,members\ncrew,1,ann bob\n")?)
+fn crew(rt: &impl Abort, alloc: Global) -> SourceRows {
+    read_groups(alloc, b"name,revision,members\ncrew,1,ann bob\n").expect(rt, "a file")
 }
 
-fn row(record: Option<&Result<Row, RowFault>>) -> Result<&Row, Fail> {
+fn row<'a>(rt: &impl Abort, record: Option<&'a Result<Row, RowFault>>) -> &'a Row {
     match record {
-        Some(Ok(row)) => Ok(row),
-        _ => Err(Fail::from("no row")),
+        Some(Ok(row)) => row,
+        _ => panic!(rt; "no row"),
     }
 }
 
-fn group(row: &Row) -> Result<&GroupRow, Fail> {
+fn group<'a>(rt: &impl Abort, row: &'a Row) -> &'a GroupRow {
     match row {
-        Row::Group(group) => Ok(group),
-        Row::User(_) => Err(Fail::from("no group")),
+        Row::Group(group) => group,
+        Row::User(_) => panic!(rt; "no group"),
     }
 }
 
-fn has_members(rt: &impl Abort, group: &Group, values: &[&str]) -> Result<(), Fail> {
+fn has_members(rt: &impl Abort, group: &Group, values: &[&str]) {
     assert_eq!(rt; group.members().len(), values.len());
     for (place, value) in values.iter().enumerate() {
-        let member = group.members().get(place).ok_or("no member")?;
+        let member = group.members().get(place).expect(rt, "no member");
         assert!(rt; member.as_str() == *value);
     }
-    Ok(())
 }
 
 static FIRST: &str = "5c1a0000-0000-8000-8000-000000000001";
@@ -63,60 +61,61 @@ static FIRST: &str = "5c1a0000-0000-8000-8000-000000000001";
 static SECOND: &str = "5c1a0000-0000-8000-8000-000000000002";
 
 #[test]
-fn a_group_with_all_of_its_members_is_ready(rt: HostRuntime) -> Result<(), Fail> {
+fn a_group_with_all_of_its_members_is_ready(rt: HostRuntime) {
     let alloc = rt.alloc();
     let known = Known {
-        ann: Some(ResourceId::of_number(alloc, 2)?),
-        bob: ResourceId::of_number(alloc, 1)?,
+        ann: Some(ResourceId::of_number(alloc, 2).expect(&rt, "memory")),
+        bob: ResourceId::of_number(alloc, 1).expect(&rt, "memory"),
     };
-    let rows = crew(alloc)?;
-    let crew = row(rows.as_slice().first())?;
-    match ready(alloc, group(crew)?, &known)? {
+    let rows = crew(&rt, alloc);
+    let crew = row(&rt, rows.as_slice().first());
+    match ready(alloc, group(&rt, crew), &known).expect(&rt, "a list") {
         Ready::Ids(ids) => assert_eq!(rt; ids.as_slice().len(), 2),
-        Ready::Waits(_) => return Err(Fail::from("it waits")),
+        Ready::Waits(_) => panic!(&rt; "it waits"),
     }
-    match row_content(alloc, crew, &known)? {
+    match row_content(alloc, crew, &known).expect(&rt, "a content") {
         Content::Group(image) => {
             assert!(rt; image.display_name().as_str() == "crew");
             assert!(rt; image.revision() == Some(crew.revision()));
             has_members(&rt, &image, &[SECOND, FIRST])
         }
-        Content::User(_) => Err(Fail::from("no group")),
+        Content::User(_) => panic!(&rt; "no group"),
     }
 }
 
 #[test]
-fn a_repeated_id_is_kept_once(rt: HostRuntime) -> Result<(), Fail> {
+fn a_repeated_id_is_kept_once(rt: HostRuntime) {
     let alloc = rt.alloc();
     let known = Known {
-        ann: Some(ResourceId::of_number(alloc, 1)?),
-        bob: ResourceId::of_number(alloc, 1)?,
+        ann: Some(ResourceId::of_number(alloc, 1).expect(&rt, "memory")),
+        bob: ResourceId::of_number(alloc, 1).expect(&rt, "memory"),
     };
-    let rows = crew(alloc)?;
-    match row_content(alloc, row(rows.as_slice().first())?, &known)? {
+    let rows = crew(&rt, alloc);
+    match row_content(alloc, row(&rt, rows.as_slice().first()), &known).expect(&rt, "a content") {
         Content::Group(image) => has_members(&rt, &image, &[FIRST]),
-        Content::User(_) => Err(Fail::from("no group")),
+        Content::User(_) => panic!(&rt; "no group"),
     }
 }
 
 #[test]
-fn a_group_waits_for_its_first_member(rt: HostRuntime) -> Result<(), Fail> {
+fn a_group_waits_for_its_first_member(rt: HostRuntime) {
     let alloc = rt.alloc();
     let known = Known {
         ann: None,
-        bob: ResourceId::of_number(alloc, 1)?,
+        bob: ResourceId::of_number(alloc, 1).expect(&rt, "memory"),
     };
-    let rows = crew(alloc)?;
-    let crew = group(row(rows.as_slice().first())?)?;
-    match ready(alloc, crew, &known)? {
+    let rows = crew(&rt, alloc);
+    let crew = group(&rt, row(&rt, rows.as_slice().first()));
+    match ready(alloc, crew, &known).expect(&rt, "a list") {
         Ready::Waits(place) => assert_eq!(rt; place, 0),
-        Ready::Ids(_) => return Err(Fail::from("it is ready")),
+        Ready::Ids(_) => panic!(&rt; "it is ready"),
     }
     let fault = group_content(alloc, crew, &known).err();
     assert_eq!(rt; fault, Some(ImageFault::MemberWithoutId { place: 0 }));
-    let code = ImageFault::MemberWithoutId { place: 0 }.to_string(alloc)?;
+    let code = ImageFault::MemberWithoutId { place: 0 }
+        .to_string(alloc)
+        .expect(&rt, "memory");
     assert!(rt; code.as_str() == "M1");
-    Ok(())
 }
 
 fn name(alloc: Global, kind: Kind, key: &str) -> Result<RecordName, AllocError> {
@@ -127,20 +126,20 @@ fn name(alloc: Global, kind: Kind, key: &str) -> Result<RecordName, AllocError> 
 }
 
 #[test]
-fn users_settle_before_groups(rt: HostRuntime) -> Result<(), Fail> {
+fn users_settle_before_groups(rt: HostRuntime) {
     let alloc = rt.alloc();
     let mut names = vec![in alloc;
-        name(alloc, Kind::Group, "crew")?,
-        name(alloc, Kind::User, "bob")?,
-        name(alloc, Kind::Group, "b")?,
-        name(alloc, Kind::User, "ann")?,
-    ]?;
+        name(alloc, Kind::Group, "crew").expect(&rt, "memory"),
+        name(alloc, Kind::User, "bob").expect(&rt, "memory"),
+        name(alloc, Kind::Group, "b").expect(&rt, "memory"),
+        name(alloc, Kind::User, "ann").expect(&rt, "memory"),
+    ]
+    .expect(&rt, "memory");
     settle_order(&mut names);
     let mut keys = String::new(alloc);
     for name in &names {
-        keys.push_str(name.key.as_str())?;
-        keys.push(' ')?;
+        keys.push_str(name.key.as_str()).expect(&rt, "memory");
+        keys.push(' ').expect(&rt, "memory");
     }
     assert!(rt; keys.as_str() == "ann bob b crew ");
-    Ok(())
 }

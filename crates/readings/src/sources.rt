@@ -7,7 +7,6 @@ use source_csv::{
 };
 use std::alloc::Global;
 use std::process::Abort;
-use std::test::Fail;
 
 static USERS: &str = "login,revision,number,given,family,mail,status\n";
 
@@ -36,10 +35,10 @@ fn groups(alloc: Global, records: &str) -> Result<SourceRows, SourceFault> {
 }
 
 /// The row of a record.
-fn row(record: Option<&Result<Row, RowFault>>) -> Result<&Row, Fail> {
+fn row<'a>(rt: &impl Abort, record: Option<&'a Result<Row, RowFault>>) -> &'a Row {
     match record {
-        Some(Ok(row)) => Ok(row),
-        _ => Err(Fail::from("no row")),
+        Some(Ok(row)) => row,
+        _ => panic!(rt; "no row"),
     }
 }
 
@@ -64,18 +63,18 @@ fn are_refused(rt: &impl Abort, records: &[Result<Row, RowFault>], codes: &[(usi
 }
 
 /// The user of a record.
-fn user(record: Option<&Result<Row, RowFault>>) -> Result<&UserRow, Fail> {
-    match row(record)? {
-        Row::User(user) => Ok(user),
-        Row::Group(_) => Err(Fail::from("no user")),
+fn user<'a>(rt: &impl Abort, record: Option<&'a Result<Row, RowFault>>) -> &'a UserRow {
+    match row(rt, record) {
+        Row::User(user) => user,
+        Row::Group(_) => panic!(rt; "no user"),
     }
 }
 
 /// The group of a record.
-fn group(record: Option<&Result<Row, RowFault>>) -> Result<&GroupRow, Fail> {
-    match row(record)? {
-        Row::Group(group) => Ok(group),
-        Row::User(_) => Err(Fail::from("no group")),
+fn group<'a>(rt: &impl Abort, record: Option<&'a Result<Row, RowFault>>) -> &'a GroupRow {
+    match row(rt, record) {
+        Row::Group(group) => group,
+        Row::User(_) => panic!(rt; "no group"),
     }
 }
 
@@ -88,16 +87,15 @@ static REVISIONS: &[(usize, RowCode)] = &[
 ];
 
 #[test]
-fn revisions_have_their_range(rt: HostRuntime) -> Result<(), Fail> {
+fn revisions_have_their_range(rt: HostRuntime) {
     let records =
         "ann,0,,,,,active\nann,2000000001,,,,,active\nann,07x,,,,,active\nann,2000000000,,,,,active\nann,000000000000000007,,,,,active\nann,0000000000000000007,,,,,active\nann,,,,,,active\n";
-    let rows = users(rt.alloc(), records)?;
+    let rows = users(rt.alloc(), records).expect(&rt, "a file");
     let rows = rows.as_slice();
     assert_eq!(rt; rows.len(), 7);
     are_refused(&rt, rows, REVISIONS);
-    assert_eq!(rt; row(rows.get(3))?.revision().number(), 2_000_000_000);
-    assert_eq!(rt; row(rows.get(4))?.revision().number(), 7);
-    Ok(())
+    assert_eq!(rt; row(&rt, rows.get(3)).revision().number(), 2_000_000_000);
+    assert_eq!(rt; row(&rt, rows.get(4)).revision().number(), 7);
 }
 
 /// Asserts what becomes of each row after the first of them.
@@ -105,13 +103,12 @@ fn become_of(
     rt: &impl Abort,
     records: &[Result<Row, RowFault>],
     verdicts: &[Result<Verdict, BookFault>],
-) -> Result<(), Fail> {
-    let first = row(records.first())?;
+) {
+    let first = row(rt, records.first());
     for (place, verdict) in verdicts.iter().enumerate() {
-        let next = row(records.get(place))?;
+        let next = row(rt, records.get(place));
         assert_eq!(rt; accept(Some(first), next, None), *verdict);
     }
-    Ok(())
 }
 
 static VERDICTS: &[Result<Verdict, BookFault>] = &[
@@ -123,24 +120,23 @@ static VERDICTS: &[Result<Verdict, BookFault>] = &[
 ];
 
 #[test]
-fn rows_count_by_the_last_of_their_record(rt: HostRuntime) -> Result<(), Fail> {
+fn rows_count_by_the_last_of_their_record(rt: HostRuntime) {
     let records =
         "ann,2000000000,,,,,active\nann,2000000000,,,,,active\nann,1,,,,,active\nann,2000000000,,,,ann@example.com,active\nANN,2000000000,,,,,active\n";
-    let rows = users(rt.alloc(), records)?;
+    let rows = users(rt.alloc(), records).expect(&rt, "a file");
     become_of(&rt, rows.as_slice(), VERDICTS)
 }
 
 #[test]
-fn a_higher_revision_is_new(rt: HostRuntime) -> Result<(), Fail> {
-    let rows = users(rt.alloc(), "ann,1,,,,,active\nann,2,,,,,active\n")?;
+fn a_higher_revision_is_new(rt: HostRuntime) {
+    let rows = users(rt.alloc(), "ann,1,,,,,active\nann,2,,,,,active\n").expect(&rt, "a file");
     become_of(
         &rt,
         rows.as_slice(),
         &[Ok(Verdict::Known), Ok(Verdict::New)],
-    )?;
-    let first = row(rows.as_slice().first())?;
+    );
+    let first = row(&rt, rows.as_slice().first());
     assert_eq!(rt; accept(None, first, None), Ok(Verdict::New));
-    Ok(())
 }
 
 static FIRST_CODES: &[(usize, RowCode)] = &[
@@ -151,45 +147,55 @@ static FIRST_CODES: &[(usize, RowCode)] = &[
 ];
 
 #[test]
-fn records_are_refused_by_the_first_code(rt: HostRuntime) -> Result<(), Fail> {
+fn records_are_refused_by_the_first_code(rt: HostRuntime) {
     let records =
         "a b,0,,,,,active,\na b,0,,,,,gone\nbob,0,,,,,gone\nbob,1,,,,,gone\nbob,1,,,,,left\n";
-    let rows = users(rt.alloc(), records)?;
+    let rows = users(rt.alloc(), records).expect(&rt, "a file");
     let rows = rows.as_slice();
     assert_eq!(rt; rows.len(), 5);
     are_refused(&rt, rows, FIRST_CODES);
-    assert!(rt; !user(rows.get(4))?.is_active());
-    Ok(())
+    assert!(rt; !user(&rt, rows.get(4)).is_active());
 }
 
 #[test]
-fn records_are_in_utf_8(rt: HostRuntime) -> Result<(), Fail> {
-    let mut bytes = format!(in rt.alloc(); "{USERS}a b,0,,,,")?.into_bytes();
-    bytes.push(0xff)?;
-    bytes.extend_from_slice(b",active\n")?;
-    let rows = read_users(rt.alloc(), bytes.as_slice())?;
+fn records_are_in_utf_8(rt: HostRuntime) {
+    let mut bytes = format!(in rt.alloc(); "{USERS}a b,0,,,,")
+        .expect(&rt, "memory")
+        .into_bytes();
+    bytes.push(0xff).expect(&rt, "memory");
+    bytes.extend_from_slice(b",active\n").expect(&rt, "memory");
+    let rows = read_users(rt.alloc(), bytes.as_slice()).expect(&rt, "a file");
     are_refused(&rt, rows.as_slice(), &[(1, RowCode::NotUtf8)]);
-    Ok(())
 }
 
 #[test]
-fn values_have_at_most_256_bytes(rt: HostRuntime) -> Result<(), Fail> {
+fn values_have_at_most_256_bytes(rt: HostRuntime) {
     let mut text = String::new(rt.alloc());
     for _ in 0..256 {
-        text.push('m')?;
+        text.push('m').expect(&rt, "memory");
     }
-    let records = format!(in rt.alloc(); "ann,1,{text},,,,active\nann,1,,,,{text}m,active\n")?;
-    let rows = users(rt.alloc(), records.as_str())?;
-    row(rows.as_slice().first())?;
+    let records = format!(in rt.alloc();
+        "ann,1,{text},,,,active\nann,1,,,,{text}m,active\n"
+    ).expect(&rt, "memory");
+    let rows = users(rt.alloc(), records.as_str()).expect(&rt, "a file");
+    row(&rt, rows.as_slice().first());
     are_refused(&rt, rows.as_slice(), &[(2, RowCode::Value)]);
-    Ok(())
 }
 
 #[test]
-fn headers_are_asked(rt: HostRuntime) -> Result<(), Fail> {
-    assert_eq!(rt; users(rt.alloc(), "")?.as_slice().len(), 0);
+fn headers_are_asked(rt: HostRuntime) {
+    assert_eq!(rt;
+        users(rt.alloc(), "").expect(&rt, "a file").as_slice().len(),
+        0
+    );
     let quoted = b"\"login\",revision,number,given,family,mail,\"status\"";
-    assert_eq!(rt; read_users(rt.alloc(), quoted)?.as_slice().len(), 0);
+    assert_eq!(rt;
+        read_users(rt.alloc(), quoted)
+            .expect(&rt, "a file")
+            .as_slice()
+            .len(),
+        0
+    );
     for text in [
         "",
         "\n\n",
@@ -204,31 +210,28 @@ fn headers_are_asked(rt: HostRuntime) -> Result<(), Fail> {
         read_groups(rt.alloc(), USERS.as_bytes()).err(),
         Some(SourceFault::Header)
     );
-    Ok(())
 }
 
-fn is_named(rt: &impl Abort, alloc: Global, row: &Row, key: &str) -> Result<(), Fail> {
-    let name = row.record_name(alloc)?;
+fn is_named(rt: &impl Abort, alloc: Global, row: &Row, key: &str) {
+    let name = row.record_name(alloc).expect(rt, "memory");
     assert_eq!(rt; name.kind, Kind::User);
     assert!(rt; name.key.as_str() == key);
-    Ok(())
 }
 
 #[test]
-fn records_are_those_of_csv(rt: HostRuntime) -> Result<(), Fail> {
+fn records_are_those_of_csv(rt: HostRuntime) {
     let text =
         b"\xef\xbb\xbflogin,revision,number,given,family,mail,status\r\n\r\nann,1,,\"Ann, \"\"A\"\"\",\"Lee\nfield\",,active\rbob,2,,,,,left\n\n\r\ncid,3,,,,,active";
-    let rows = read_users(rt.alloc(), text)?;
+    let rows = read_users(rt.alloc(), text).expect(&rt, "a file");
     let rows = rows.as_slice();
     assert_eq!(rt; rows.len(), 3);
-    let ann = user(rows.first())?;
+    let ann = user(&rt, rows.first());
     assert!(rt; ann.given() == "Ann, \"A\"");
     assert!(rt; ann.family() == "Lee\nfield");
     assert!(rt; ann.mail() == "");
     for (place, key) in ["ann", "bob", "cid"].iter().enumerate() {
-        is_named(&rt, rt.alloc(), row(rows.get(place))?, key)?;
+        is_named(&rt, rt.alloc(), row(&rt, rows.get(place)), key);
     }
-    Ok(())
 }
 
 static GROUP_CODES: &[(usize, RowCode)] = &[
@@ -238,85 +241,93 @@ static GROUP_CODES: &[(usize, RowCode)] = &[
     (6, RowCode::Revision),
 ];
 
-fn has_members(rt: &impl Abort, group: &GroupRow, keys: &[&str]) -> Result<(), Fail> {
+fn has_members(rt: &impl Abort, group: &GroupRow, keys: &[&str]) {
     assert_eq!(rt; group.members().len(), keys.len());
     for (place, key) in keys.iter().enumerate() {
-        let member = group.members().get(place).ok_or("no member")?;
+        let member = group.members().get(place).expect(rt, "no member");
         assert!(rt; member.as_str() == *key);
     }
-    Ok(())
 }
 
 #[test]
-fn members_are_keys_in_byte_order(rt: HostRuntime) -> Result<(), Fail> {
+fn members_are_keys_in_byte_order(rt: HostRuntime) {
     let records =
         "crew,1,ann Ann\ncrew,1,ann  bob\ncrew,1,zoe\ncrew,1,bob ANN\n crew,1,ann\ncrew,0,ann ann\ncrew,2,\n";
-    let rows = groups(rt.alloc(), records)?;
+    let rows = groups(rt.alloc(), records).expect(&rt, "a file");
     let rows = rows.as_slice();
     are_refused(&rt, rows, GROUP_CODES);
-    let missing = accept(None, row(rows.get(2))?, Some(0));
+    let missing = accept(None, row(&rt, rows.get(2)), Some(0));
     assert_eq!(rt; missing, Err(BookFault::NoSuchMember { place: 0 }));
-    has_members(&rt, group(rows.get(3))?, &["ann", "bob"])?;
-    has_members(&rt, group(rows.get(6))?, &[])
+    has_members(&rt, group(&rt, rows.get(3)), &["ann", "bob"]);
+    has_members(&rt, group(&rt, rows.get(6)), &[])
 }
 
 #[test]
-fn groups_have_at_most_400_members(rt: HostRuntime) -> Result<(), Fail> {
-    let mut members = String::from_str(rt.alloc(), "m1")?;
+fn groups_have_at_most_400_members(rt: HostRuntime) {
+    let mut members = String::from_str(rt.alloc(), "m1").expect(&rt, "memory");
     for number in 2..401 {
-        members.push_str(format!(in rt.alloc(); " m{number}")?.as_str())?;
+        members
+            .push_str(
+                format!(in rt.alloc(); " m{number}")
+                    .expect(&rt, "memory")
+                    .as_str(),
+            )
+            .expect(&rt, "memory");
     }
-    let records = format!(in rt.alloc(); "crew,1,{members}\ncrew,1,{members} m401\n")?;
-    let rows = groups(rt.alloc(), records.as_str())?;
-    row(rows.as_slice().first())?;
+    let records = format!(in rt.alloc(); "crew,1,{members}\ncrew,1,{members} m401\n").expect(
+        &rt, "memory",
+    );
+    let rows = groups(rt.alloc(), records.as_str()).expect(&rt, "a file");
+    row(&rt, rows.as_slice().first());
     are_refused(&rt, rows.as_slice(), &[(2, RowCode::TooManyMembers)]);
-    Ok(())
 }
 
 #[test]
-fn rows_have_their_images(rt: HostRuntime) -> Result<(), Fail> {
-    let records = format!(in rt.alloc(); "{ANN}cid,0,,,,,active\nbob,1,,,,,left\n")?;
-    let rows = users(rt.alloc(), records.as_str())?;
+fn rows_have_their_images(rt: HostRuntime) {
+    let records = format!(in rt.alloc(); "{ANN}cid,0,,,,,active\nbob,1,,,,,left\n").expect(
+        &rt, "memory",
+    );
+    let rows = users(rt.alloc(), records.as_str()).expect(&rt, "a file");
     let mut out = Vec::new(rt.alloc());
-    write_images(rt.alloc(), rows.as_slice(), &mut out)?;
+    write_images(rt.alloc(), rows.as_slice(), &mut out).expect(&rt, "images");
     assert!(rt; out.as_slice().starts_with(ANN_LINE));
     assert!(rt; out.as_slice().ends_with(BOB_LINE));
     assert_eq!(rt; out.len(), ANN_LINE.len() + BOB_LINE.len());
     are_refused(&rt, rows.as_slice(), &[(2, RowCode::Revision)]);
-    Ok(())
 }
 
 #[test]
-fn a_row_has_its_image(rt: HostRuntime) -> Result<(), Fail> {
-    let rows = users(rt.alloc(), ANN)?;
-    let ann = user(rows.as_slice().first())?;
-    assert!(rt; row_line(rt.alloc(), ann)?.as_slice() == ANN_LINE);
-    let name = user_content(rt.alloc(), ann)?.name(rt.alloc())?;
+fn a_row_has_its_image(rt: HostRuntime) {
+    let rows = users(rt.alloc(), ANN).expect(&rt, "a file");
+    let ann = user(&rt, rows.as_slice().first());
+    assert!(rt; row_line(rt.alloc(), ann).expect(&rt, "a line").as_slice() == ANN_LINE);
+    let name = user_content(rt.alloc(), ann)
+        .expect(&rt, "a content")
+        .name(rt.alloc())
+        .expect(&rt, "memory");
     assert!(rt; name.key.as_str() == "ann");
-    Ok(())
 }
 
-fn repeated(alloc: Global, piece: &str, count: usize) -> Result<String, Fail> {
+fn repeated(rt: &impl Abort, alloc: Global, piece: &str, count: usize) -> String {
     let mut text = String::new(alloc);
     for _ in 0..count {
-        text.push_str(piece)?;
+        text.push_str(piece).expect(rt, "memory");
     }
-    Ok(text)
+    text
 }
 
 #[test]
-fn the_longest_line(rt: HostRuntime) -> Result<(), Fail> {
-    let login = repeated(rt.alloc(), "a", 128)?;
-    let field = repeated(rt.alloc(), "\x01", 256)?;
+fn the_longest_line(rt: HostRuntime) {
+    let login = repeated(&rt, rt.alloc(), "a", 128);
+    let field = repeated(&rt, rt.alloc(), "\x01", 256);
     let records = format!(in rt.alloc();
         "{login},2000000000,{field},{field},{field},{field},active\n"
-    )?;
-    let rows = users(rt.alloc(), records.as_str())?;
-    let written = repeated(rt.alloc(), "\\u0001", 256)?;
+    ).expect(&rt, "memory");
+    let rows = users(rt.alloc(), records.as_str()).expect(&rt, "a file");
+    let written = repeated(&rt, rt.alloc(), "\\u0001", 256);
     let line = format!(in rt.alloc();
         "{{\"active\":true,\"emails\":[{{\"primary\":true,\"type\":\"work\",\"value\":\"{written}\"}}],\"externalId\":\"{written}\",\"name\":{{\"familyName\":\"{written}\",\"givenName\":\"{written}\"}},\"schemas\":[\"urn:ietf:params:scim:schemas:core:2.0:User\",\"urn:example:params:scim:schemas:extension:source:1.0\"],\"urn:example:params:scim:schemas:extension:source:1.0\":{{\"revision\":2000000000}},\"userName\":\"{login}\"}}\n"
-    )?;
-    let longest = row_line(rt.alloc(), user(rows.as_slice().first())?)?;
+    ).expect(&rt, "memory");
+    let longest = row_line(rt.alloc(), user(&rt, rows.as_slice().first())).expect(&rt, "a line");
     assert!(rt; longest.as_slice() == line.as_bytes());
-    Ok(())
 }

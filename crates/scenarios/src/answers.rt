@@ -9,7 +9,6 @@ use scim_version::Condition;
 use serde_json::Value;
 use std::alloc::Global;
 use std::process::Abort;
-use std::test::Fail;
 
 static BOB_ID: &str = "5c1a0000-0000-8000-8000-000000000001";
 
@@ -48,35 +47,46 @@ static CREW_LISTED: &[u8] =
 static NO_SUCH_RESOURCE: &[u8] =
     b"HTTP/1.1 404 Not Found\r\nConnection: close\r\nContent-Length: 102\r\nContent-Type: application/scim+json\r\n\r\n{\"detail\":\"no such resource\",\"schemas\":[\"urn:ietf:params:scim:api:messages:2.0:Error\"],\"status\":\"404\"}";
 
-fn content(alloc: Global, text: &str, kind: Kind) -> Result<Content, Fail> {
-    Ok(Content::read(alloc, &Value::from_str(alloc, text)?, kind)?)
+fn content(rt: &impl Abort, alloc: Global, text: &str, kind: Kind) -> Content {
+    Content::read(
+        alloc,
+        &Value::from_str(alloc, text).expect(rt, "JSON"),
+        kind,
+    )
+    .expect(rt, "a content")
 }
 
 /// A creation of this content.
-pub fn creation(alloc: Global, text: &str, kind: Kind) -> Result<Request, Fail> {
-    Ok(Request::Create {
-        content: content(alloc, text, kind)?,
-    })
+pub fn creation(rt: &impl Abort, alloc: Global, text: &str, kind: Kind) -> Request {
+    Request::Create {
+        content: content(rt, alloc, text, kind),
+    }
 }
 
 /// A replacement by this content, under no condition.
-pub fn replacement(alloc: Global, id: &str, text: &str, kind: Kind) -> Result<Request, Fail> {
-    Ok(Request::Replace {
-        id: ResourceId::read(alloc, id)?,
-        content: content(alloc, text, kind)?,
+pub fn replacement(rt: &impl Abort, alloc: Global, id: &str, text: &str, kind: Kind) -> Request {
+    Request::Replace {
+        id: ResourceId::read(alloc, id).expect(rt, "an id"),
+        content: content(rt, alloc, text, kind),
         if_match: Condition::Always,
         if_none_match: Condition::Always,
-    })
+    }
 }
 
 /// A retrieval, where its version isn't one of these.
-pub fn retrieval(alloc: Global, id: &str, kind: Kind, known: Condition) -> Result<Request, Fail> {
-    Ok(Request::Retrieve {
+pub fn retrieval(
+    rt: &impl Abort,
+    alloc: Global,
+    id: &str,
+    kind: Kind,
+    known: Condition,
+) -> Request {
+    Request::Retrieve {
         kind,
-        id: ResourceId::read(alloc, id)?,
+        id: ResourceId::read(alloc, id).expect(rt, "an id"),
         if_match: Condition::Always,
         if_none_match: known,
-    })
+    }
 }
 
 /// A search for all resources of a type that a filter hits.
@@ -96,54 +106,53 @@ fn answers(
     provider: &mut Provider<MemoryRegistry>,
     request: Request,
     expected: &[u8],
-) -> Result<(), Fail> {
-    let answer = provider.answer(alloc, &request)?;
-    let response = response_of(alloc, &answer, &base(alloc)?)?;
+) {
+    let answer = provider.answer(alloc, &request).expect(rt, "an answer");
+    let response = response_of(alloc, &answer, &base(rt, alloc)).expect(rt, "a response");
     assert!(rt; response.as_slice() == expected);
-    Ok(())
 }
 
 /// A provider with bob and the crew.
-fn with_both(rt: &impl Abort, alloc: Global) -> Result<Provider<MemoryRegistry>, Fail> {
+fn with_both(rt: &impl Abort, alloc: Global) -> Provider<MemoryRegistry> {
     let mut provider = empty(alloc);
-    let bob = creation(alloc, BOB, Kind::User)?;
-    answers(rt, alloc, &mut provider, bob, BOB_CREATED)?;
-    let crew = creation(alloc, CREW, Kind::Group)?;
-    answers(rt, alloc, &mut provider, crew, CREW_CREATED)?;
-    Ok(provider)
+    let bob = creation(rt, alloc, BOB, Kind::User);
+    answers(rt, alloc, &mut provider, bob, BOB_CREATED);
+    let crew = creation(rt, alloc, CREW, Kind::Group);
+    answers(rt, alloc, &mut provider, crew, CREW_CREATED);
+    provider
 }
 
 #[test]
-fn resources_are_retrieved(rt: HostRuntime) -> Result<(), Fail> {
+fn resources_are_retrieved(rt: HostRuntime) {
     let alloc = rt.alloc();
-    let mut provider = with_both(&rt, alloc)?;
-    let bob = retrieval(alloc, BOB_ID, Kind::User, Condition::Always)?;
-    answers(&rt, alloc, &mut provider, bob, BOB_FOUND)?;
-    let known = Condition::read_list(alloc, b"\"1\"")?;
-    let crew = retrieval(alloc, CREW_ID, Kind::Group, known)?;
-    answers(&rt, alloc, &mut provider, crew, CREW_NOT_MODIFIED)?;
-    let nobody = retrieval(alloc, "x", Kind::User, Condition::Always)?;
+    let mut provider = with_both(&rt, alloc);
+    let bob = retrieval(&rt, alloc, BOB_ID, Kind::User, Condition::Always);
+    answers(&rt, alloc, &mut provider, bob, BOB_FOUND);
+    let known = Condition::read_list(alloc, b"\"1\"").expect(&rt, "a condition");
+    let crew = retrieval(&rt, alloc, CREW_ID, Kind::Group, known);
+    answers(&rt, alloc, &mut provider, crew, CREW_NOT_MODIFIED);
+    let nobody = retrieval(&rt, alloc, "x", Kind::User, Condition::Always);
     answers(&rt, alloc, &mut provider, nobody, NO_SUCH_RESOURCE)
 }
 
 #[test]
-fn resources_are_replaced(rt: HostRuntime) -> Result<(), Fail> {
+fn resources_are_replaced(rt: HostRuntime) {
     let alloc = rt.alloc();
-    let mut provider = with_both(&rt, alloc)?;
-    let bob = replacement(alloc, BOB_ID, BOB_LATER, Kind::User)?;
-    answers(&rt, alloc, &mut provider, bob, BOB_REPLACED)?;
-    let crew = replacement(alloc, CREW_ID, CREW_LATER, Kind::Group)?;
+    let mut provider = with_both(&rt, alloc);
+    let bob = replacement(&rt, alloc, BOB_ID, BOB_LATER, Kind::User);
+    answers(&rt, alloc, &mut provider, bob, BOB_REPLACED);
+    let crew = replacement(&rt, alloc, CREW_ID, CREW_LATER, Kind::Group);
     answers(&rt, alloc, &mut provider, crew, CREW_REPLACED)
 }
 
 #[test]
-fn resources_are_listed(rt: HostRuntime) -> Result<(), Fail> {
+fn resources_are_listed(rt: HostRuntime) {
     let alloc = rt.alloc();
-    let mut provider = with_both(&rt, alloc)?;
+    let mut provider = with_both(&rt, alloc);
     let all = search(Kind::Group, None);
-    answers(&rt, alloc, &mut provider, all, CREW_LISTED)?;
-    let name = GroupName::read(alloc, "CREW")?;
-    let filter = Filter::eq_display_name(alloc, &name)?;
+    answers(&rt, alloc, &mut provider, all, CREW_LISTED);
+    let name = GroupName::read(alloc, "CREW").expect(&rt, "a name");
+    let filter = Filter::eq_display_name(alloc, &name).expect(&rt, "memory");
     let named = search(Kind::Group, Some(filter));
     answers(&rt, alloc, &mut provider, named, CREW_LISTED)
 }

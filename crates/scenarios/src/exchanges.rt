@@ -11,13 +11,12 @@ use scim_message::Answer;
 use std::alloc::Global;
 use std::io::ErrorKind;
 use std::process::Abort;
-use std::test::Fail;
 
 /// An answer in a line, or the code of a fault.
-fn told(alloc: Global, outcome: &Result<Answer, ExchangeFault>) -> Result<String, Fail> {
+fn told(rt: &impl Abort, alloc: Global, outcome: &Result<Answer, ExchangeFault>) -> String {
     match outcome {
-        Ok(answer) => line(alloc, answer),
-        Err(fault) => Ok(fault.to_string(alloc)?),
+        Ok(answer) => line(rt, alloc, answer),
+        Err(fault) => fault.to_string(alloc).expect(rt, "memory"),
     }
 }
 
@@ -31,22 +30,15 @@ const BROKEN: Turn = Turn::Fails(ErrorKind::BrokenPipe);
 
 /// Asserts what comes where bob's creation is asked for and these bytes are read by a script. The
 /// request is written whole.
-fn is_read(
-    rt: &impl Abort,
-    alloc: Global,
-    bytes: &[u8],
-    script: Script<'_>,
-    expected: &str,
-) -> Result<(), Fail> {
-    let service = ScimService::new(base(alloc)?);
-    let request = creation(alloc, BOB, Kind::User)?;
+fn is_read(rt: &impl Abort, alloc: Global, bytes: &[u8], script: Script<'_>, expected: &str) {
+    let service = ScimService::new(base(rt, alloc));
+    let request = creation(rt, alloc, BOB, Kind::User);
     let mut reader = Input::new(ScriptedReader { bytes, script });
     let mut writer = Output::new(Vec::new(alloc));
     let outcome = service.exchange(alloc, &request, &mut reader, &mut writer);
-    let text = told(alloc, &outcome)?;
+    let text = told(rt, alloc, &outcome);
     assert!(rt; text.as_str() == expected, "{text} and not {expected}");
     assert!(rt; writer.into_inner().as_slice() == CREATE_BOB);
-    Ok(())
 }
 
 /// At most how many bytes a read gives, what happens at which byte, and what comes.
@@ -84,31 +76,28 @@ static READINGS: &[Reading] = &[
 ];
 
 #[test]
-fn readers_that_follow_a_script(rt: HostRuntime) -> Result<(), Fail> {
+fn readers_that_follow_a_script(rt: HostRuntime) {
     for (step, events, expected) in READINGS {
         let script = Script::new(*step, events);
-        is_read(&rt, rt.alloc(), BOB_CREATED, script, expected)?;
+        is_read(&rt, rt.alloc(), BOB_CREATED, script, expected);
     }
-    Ok(())
 }
 
 #[test]
-fn a_read_that_fails_once_at_each_place(rt: HostRuntime) -> Result<(), Fail> {
+fn a_read_that_fails_once_at_each_place(rt: HostRuntime) {
     for place in 0..BOB_CREATED.len() {
         let events = [(place, 1, BROKEN)];
         let script = Script::new(1, &events);
-        is_read(&rt, rt.alloc(), BOB_CREATED, script, "H11")?;
+        is_read(&rt, rt.alloc(), BOB_CREATED, script, "H11");
     }
-    Ok(())
 }
 
 #[test]
-fn a_part_of_a_response_is_no_answer(rt: HostRuntime) -> Result<(), Fail> {
+fn a_part_of_a_response_is_no_answer(rt: HostRuntime) {
     for count in 0..BOB_CREATED.len() {
-        let part = BOB_CREATED.get(..count).ok_or("too long")?;
-        is_read(&rt, rt.alloc(), part, Script::new(1_000, &[]), "H10")?;
+        let part = BOB_CREATED.get(..count).expect(&rt, "too long");
+        is_read(&rt, rt.alloc(), part, Script::new(1_000, &[]), "H10");
     }
-    Ok(())
 }
 
 // ---- writers
@@ -134,15 +123,10 @@ fn sent(outcome: &Result<Answer, ExchangeFault>) -> Option<usize> {
 
 /// Asserts what comes where bob's creation is asked for through a writer that follows a script. The
 /// answer is read only where the request was sent.
-fn is_written(
-    rt: &impl Abort,
-    alloc: Global,
-    writing: &Writing,
-    events: &[Event],
-) -> Result<(), Fail> {
+fn is_written(rt: &impl Abort, alloc: Global, writing: &Writing, events: &[Event]) {
     let (step, _, flush_faults, expected, bytes) = writing;
-    let service = ScimService::new(base(alloc)?);
-    let request = creation(alloc, BOB, Kind::User)?;
+    let service = ScimService::new(base(rt, alloc));
+    let request = creation(rt, alloc, BOB, Kind::User);
     let mut reader = Input::new(BOB_CREATED);
     let mut writer = Output::new(ScriptedWriter {
         taken: Vec::new(alloc),
@@ -151,7 +135,7 @@ fn is_written(
         flushes: 0,
     });
     let outcome = service.exchange(alloc, &request, &mut reader, &mut writer);
-    let text = told(alloc, &outcome)?;
+    let text = told(rt, alloc, &outcome);
     assert!(rt; text.as_str() == *expected, "{text} and not {expected}");
     let ScriptedWriter { taken, .. } = writer.into_inner();
     assert!(rt; Some(taken.as_slice()) == CREATE_BOB.get(..*bytes));
@@ -159,7 +143,6 @@ fn is_written(
         assert_eq!(rt; sent(&outcome), Some(*bytes));
         assert_eq!(rt; reader.calls(), 0);
     }
-    Ok(())
 }
 
 /// A request that is taken whole by one write takes two turns of 100,000.
@@ -196,46 +179,37 @@ static WRITINGS: &[Writing] = &[
 ];
 
 #[test]
-fn writers_that_follow_a_script(rt: HostRuntime) -> Result<(), Fail> {
+fn writers_that_follow_a_script(rt: HostRuntime) {
     for writing in WRITINGS {
         let (_, events, _, _, _) = writing;
-        is_written(&rt, rt.alloc(), writing, events)?;
+        is_written(&rt, rt.alloc(), writing, events);
     }
-    Ok(())
 }
 
 #[test]
-fn a_write_that_fails_once_at_each_place(rt: HostRuntime) -> Result<(), Fail> {
+fn a_write_that_fails_once_at_each_place(rt: HostRuntime) {
     for place in 0..371usize {
         let events = [(place, 1, BROKEN)];
         let writing = (1, &[] as &[Event], &[] as &[ErrorKind], "H12", place);
-        is_written(&rt, rt.alloc(), &writing, &events)?;
+        is_written(&rt, rt.alloc(), &writing, &events);
     }
-    Ok(())
 }
 
 // ---- responses of other providers
 
 /// Asserts what comes where these bytes are read, and what is left of them.
-fn comes(
-    rt: &impl Abort,
-    alloc: Global,
-    ask: Ask,
-    bytes: &[u8],
-    expected: &str,
-    left: &[u8],
-) -> Result<(), Fail> {
-    let service = ScimService::new(base(alloc)?);
-    let request = request_for(alloc, ask)?;
+fn comes(rt: &impl Abort, alloc: Global, ask: Ask, bytes: &[u8], expected: &str, left: &[u8]) {
+    let service = ScimService::new(base(rt, alloc));
+    let request = request_for(rt, alloc, ask);
     let mut reader = Input::new(bytes);
     let mut writer = Output::new(Vec::new(alloc));
     let outcome = service.exchange(alloc, &request, &mut reader, &mut writer);
-    let text = told(alloc, &outcome)?;
+    let text = told(rt, alloc, &outcome);
     assert!(rt; text.as_str() == expected, "{text} and not {expected}");
-    let mut rest = Vec::from_slice(alloc, reader.ahead())?;
-    rest.extend_from_slice(reader.into_inner())?;
+    let mut rest = Vec::from_slice(alloc, reader.ahead()).expect(rt, "memory");
+    rest.extend_from_slice(reader.into_inner())
+        .expect(rt, "memory");
     assert!(rt; rest.as_slice() == left);
-    Ok(())
 }
 
 /// What is asked for, the bytes that are read, what comes, and what is left.
@@ -307,17 +281,16 @@ static COMINGS: &[Coming] = &[
 ];
 
 #[test]
-fn responses_of_other_providers(rt: HostRuntime) -> Result<(), Fail> {
+fn responses_of_other_providers(rt: HostRuntime) {
     for (ask, bytes, expected, left) in COMINGS {
-        comes(&rt, rt.alloc(), *ask, bytes, expected, left)?;
+        comes(&rt, rt.alloc(), *ask, bytes, expected, left);
     }
-    Ok(())
 }
 
 #[test]
-fn a_body_at_its_limit_is_read(rt: HostRuntime) -> Result<(), Fail> {
-    let body = padded(rt.alloc(), 8_388_608)?;
-    let bytes = response(rt.alloc(), "200 OK", "", body.as_str())?;
+fn a_body_at_its_limit_is_read(rt: HostRuntime) {
+    let body = padded(&rt, rt.alloc(), 8_388_608);
+    let bytes = response(&rt, rt.alloc(), "200 OK", "", body.as_str());
     comes(
         &rt,
         rt.alloc(),
@@ -329,10 +302,13 @@ fn a_body_at_its_limit_is_read(rt: HostRuntime) -> Result<(), Fail> {
 }
 
 #[test]
-fn a_head_past_its_limit_is_no_answer(rt: HostRuntime) -> Result<(), Fail> {
-    let mut bytes = Vec::from_slice(rt.alloc(), b"HTTP/1.1 200 OK\r\nContent-Length: 2\r\nF: ")?;
+fn a_head_past_its_limit_is_no_answer(rt: HostRuntime) {
+    let mut bytes = Vec::from_slice(
+        rt.alloc(),
+        b"HTTP/1.1 200 OK\r\nContent-Length: 2\r\nF: ",
+    ).expect(&rt, "memory");
     for _ in bytes.len()..16_400 {
-        bytes.push(b'f')?;
+        bytes.push(b'f').expect(&rt, "memory");
     }
     let left = [b'f'; 16];
     comes(&rt, rt.alloc(), Ask::Search, bytes.as_slice(), "K1", &left)

@@ -4,15 +4,14 @@ use crate::support::{CREATE_BOB, empty, ends, tells};
 use provider_core::Provider;
 use std::alloc::Global;
 use std::process::Abort;
-use std::test::Fail;
 
 /// A piece so many times.
-fn repeated(alloc: Global, piece: &str, count: usize) -> Result<String, Fail> {
+fn repeated(rt: &impl Abort, alloc: Global, piece: &str, count: usize) -> String {
     let mut text = String::new(alloc);
     for _ in 0..count {
-        text.push_str(piece)?;
+        text.push_str(piece).expect(rt, "memory");
     }
-    Ok(text)
+    text
 }
 
 /// A text whose piece may stand so many times between two others, and what is told of both sides of
@@ -28,23 +27,23 @@ type Limit = (
 type Told = (u16, &'static str);
 
 /// Asserts what an empty provider tells of a request.
-fn is_told(rt: &impl Abort, alloc: Global, request: &str, told: Told) -> Result<(), Fail> {
+fn is_told(rt: &impl Abort, alloc: Global, request: &str, told: Told) {
     let (status, part) = told;
     let mut provider = empty(alloc);
     tells(rt, alloc, &mut provider, request.as_bytes(), status, part)
 }
 
 /// A POST of this body, to the collection that its schema says.
-fn post_of(alloc: Global, body: &str) -> Result<String, Fail> {
+fn post_of(rt: &impl Abort, alloc: Global, body: &str) -> String {
     let length = body.len();
     let path = if body.starts_with(GROUP) {
         "/v2/Groups"
     } else {
         "/v2/Users"
     };
-    Ok(format!(in alloc;
+    format!(in alloc;
         "POST {path} HTTP/1.1\r\nHost: h\r\nContent-Length: {length}\r\n\r\n{body}"
-    )?)
+    ).expect(rt, "memory")
 }
 
 static GROUP: &str = "{\"schemas\":[\"urn:ietf:params:scim:schemas:core:2.0:Group\"]";
@@ -137,16 +136,15 @@ static BODIES: &[Limit] = &[
 ];
 
 #[test]
-fn parts_of_bodies(rt: HostRuntime) -> Result<(), Fail> {
+fn parts_of_bodies(rt: HostRuntime) {
     for (before, (piece, most), after, met, passed) in BODIES {
         for (count, told) in [(*most, *met), (most.saturating_add(1), *passed)] {
-            let pieces = repeated(rt.alloc(), piece, count)?;
-            let body = format!(in rt.alloc(); "{before}{pieces}{after}")?;
-            let request = post_of(rt.alloc(), body.as_str())?;
-            is_told(&rt, rt.alloc(), request.as_str(), told)?;
+            let pieces = repeated(&rt, rt.alloc(), piece, count);
+            let body = format!(in rt.alloc(); "{before}{pieces}{after}").expect(&rt, "memory");
+            let request = post_of(&rt, rt.alloc(), body.as_str());
+            is_told(&rt, rt.alloc(), request.as_str(), told);
         }
     }
-    Ok(())
 }
 
 /// Whole requests, of which a part may be so long, or stand so many times.
@@ -217,87 +215,83 @@ static REQUESTS: &[Limit] = &[
 ];
 
 #[test]
-fn parts_of_requests(rt: HostRuntime) -> Result<(), Fail> {
+fn parts_of_requests(rt: HostRuntime) {
     for (before, (piece, most), after, met, passed) in REQUESTS {
         for (count, told) in [(*most, *met), (most.saturating_add(1), *passed)] {
-            let pieces = repeated(rt.alloc(), piece, count)?;
-            let request = format!(in rt.alloc(); "{before}{pieces}{after}")?;
-            is_told(&rt, rt.alloc(), request.as_str(), told)?;
+            let pieces = repeated(&rt, rt.alloc(), piece, count);
+            let request = format!(in rt.alloc(); "{before}{pieces}{after}").expect(&rt, "memory");
+            is_told(&rt, rt.alloc(), request.as_str(), told);
         }
     }
-    Ok(())
 }
 
 /// A body of so many bytes, with an attribute that is disregarded.
-fn body_of_length(alloc: Global, length: usize) -> Result<String, Fail> {
+fn body_of_length(rt: &impl Abort, alloc: Global, length: usize) -> String {
     let before =
         "{\"schemas\":[\"urn:ietf:params:scim:schemas:core:2.0:User\"],\"userName\":\"a\",\"x\":\"";
-    let letters = repeated(alloc, "x", length.saturating_sub(before.len() + 2))?;
-    Ok(format!(in alloc; "{before}{letters}\"}}")?)
+    let letters = repeated(rt, alloc, "x", length.saturating_sub(before.len() + 2));
+    format!(in alloc; "{before}{letters}\"}}").expect(rt, "memory")
 }
 
 #[test]
-fn bodies_have_at_most_32768_bytes(rt: HostRuntime) -> Result<(), Fail> {
+fn bodies_have_at_most_32768_bytes(rt: HostRuntime) {
     for (length, told) in [
         (16_384, CREATED),
         (16_385, CREATED),
         (32_768, CREATED),
         (32_769, (413, "the body is too long")),
     ] {
-        let body = body_of_length(rt.alloc(), length)?;
+        let body = body_of_length(&rt, rt.alloc(), length);
         assert_eq!(rt; body.len(), length);
-        let request = post_of(rt.alloc(), body.as_str())?;
-        is_told(&rt, rt.alloc(), request.as_str(), told)?;
+        let request = post_of(&rt, rt.alloc(), body.as_str());
+        is_told(&rt, rt.alloc(), request.as_str(), told);
     }
-    Ok(())
 }
 
 #[test]
-fn json_is_at_most_127_deep(rt: HostRuntime) -> Result<(), Fail> {
+fn json_is_at_most_127_deep(rt: HostRuntime) {
     for (count, told) in [(126, CREATED), (127, SYNTAX)] {
-        let open = repeated(rt.alloc(), "[", count)?;
-        let close = repeated(rt.alloc(), "]", count)?;
+        let open = repeated(&rt, rt.alloc(), "[", count);
+        let close = repeated(&rt, rt.alloc(), "]", count);
         let body = format!(in rt.alloc();
             "{{\"schemas\":[\"urn:ietf:params:scim:schemas:core:2.0:User\"],\"userName\":\"a\",\"x\":{open}{close}}}"
-        )?;
-        let request = post_of(rt.alloc(), body.as_str())?;
-        is_told(&rt, rt.alloc(), request.as_str(), told)?;
+        ).expect(&rt, "memory");
+        let request = post_of(&rt, rt.alloc(), body.as_str());
+        is_told(&rt, rt.alloc(), request.as_str(), told);
     }
-    Ok(())
 }
 
 /// Members from 1 to this number.
-fn members(alloc: Global, last: usize) -> Result<String, Fail> {
-    let mut text = String::from_str(alloc, "{\"value\":\"m1\"}")?;
+fn members(rt: &impl Abort, alloc: Global, last: usize) -> String {
+    let mut text = String::from_str(alloc, "{\"value\":\"m1\"}").expect(rt, "memory");
     for number in 2..=last {
-        let member = format!(in alloc; ",{{\"value\":\"m{number}\"}}")?;
-        text.push_str(member.as_str())?;
+        let member = format!(in alloc; ",{{\"value\":\"m{number}\"}}").expect(rt, "memory");
+        text.push_str(member.as_str()).expect(rt, "memory");
     }
-    Ok(text)
+    text
 }
 
 #[test]
-fn groups_have_at_most_400_members(rt: HostRuntime) -> Result<(), Fail> {
+fn groups_have_at_most_400_members(rt: HostRuntime) {
     let kept = (201, "{\"value\":\"m400\"}],");
     for (last, told) in [(400, kept), (401, VALUE)] {
-        let members = members(rt.alloc(), last)?;
+        let members = members(&rt, rt.alloc(), last);
         let body = format!(in rt.alloc();
             "{GROUP},\"displayName\":\"a\",\"members\":[{members},{{\"value\":\"m1\"}}]}}"
-        )?;
-        let request = post_of(rt.alloc(), body.as_str())?;
-        is_told(&rt, rt.alloc(), request.as_str(), told)?;
+        ).expect(&rt, "memory");
+        let request = post_of(&rt, rt.alloc(), body.as_str());
+        is_told(&rt, rt.alloc(), request.as_str(), told);
     }
-    Ok(())
 }
 
 #[test]
-fn a_provider_has_at_most_a_million_resources(rt: HostRuntime) -> Result<(), Fail> {
+fn a_provider_has_at_most_a_million_resources(rt: HostRuntime) {
     let mut provider = Provider::new(FullRegistry {
         inserts: 0,
         room: 1,
     });
     let last = "\"id\":\"5c1a0000-0000-8000-8000-0000000f4240\"";
-    tells(&rt, rt.alloc(), &mut provider, CREATE_BOB, 201, last)?;
+    tells(&rt, rt.alloc(), &mut provider, CREATE_BOB, 201, last);
     let body =
         "{\"detail\":\"a limit of the provider is reached\",\"schemas\":[\"urn:ietf:params:scim:api:messages:2.0:Error\"],\"status\":\"500\"}";
     ends(&rt, rt.alloc(), &mut provider, CREATE_BOB, 500, body)

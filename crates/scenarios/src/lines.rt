@@ -5,7 +5,6 @@ use source_csv::read_users;
 use std::alloc::Global;
 use std::io::{BufWriter, ErrorKind};
 use std::process::Abort;
-use std::test::Fail;
 
 static USERS: &[u8] =
     b"login,revision,number,given,family,mail,status\nann,7,1001,Ann,Lee,ann@example.com,active\nbob,1,,,,,left\n";
@@ -63,30 +62,27 @@ static WRITINGS: &[Writing] = &[
     (1_000, &[], &[ErrorKind::OutOfMemory], 565, NO_MEMORY),
 ];
 
-fn writes(rt: &impl Abort, alloc: Global, writing: &Writing) -> Result<(), Fail> {
+fn writes(rt: &impl Abort, alloc: Global, writing: &Writing) {
     let (step, events, flush_faults, bytes, wanted) = writing;
-    let rows = read_users(alloc, USERS)?;
+    let rows = read_users(alloc, USERS).expect(rt, "a file");
     let mut out = writer(alloc, *step, events, flush_faults);
     let written = write_images(alloc, rows.as_slice(), &mut out);
     assert_eq!(rt; written, *wanted);
     assert!(rt; Some(out.taken.as_slice()) == LINES.get(..*bytes));
-    Ok(())
 }
 
 #[test]
-fn writers_that_follow_a_script(rt: HostRuntime) -> Result<(), Fail> {
+fn writers_that_follow_a_script(rt: HostRuntime) {
     for writing in WRITINGS {
-        writes(&rt, rt.alloc(), writing)?;
+        writes(&rt, rt.alloc(), writing);
     }
-    Ok(())
 }
 
 #[test]
-fn a_buffer_that_cannot_be_flushed(rt: HostRuntime) -> Result<(), Fail> {
-    let rows = read_users(rt.alloc(), USERS)?;
+fn a_buffer_that_cannot_be_flushed(rt: HostRuntime) {
+    let rows = read_users(rt.alloc(), USERS).expect(&rt, "a file");
     let unflushed = writer(rt.alloc(), 1_000, &[], &[ErrorKind::BrokenPipe]);
-    let mut buffer = BufWriter::new(rt.alloc(), unflushed)?;
+    let mut buffer = BufWriter::new(rt.alloc(), unflushed).expect(&rt, "memory");
     let written = write_images(rt.alloc(), rows.as_slice(), &mut buffer);
     assert_eq!(rt; written, FAILED);
-    Ok(())
 }

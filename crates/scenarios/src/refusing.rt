@@ -3,33 +3,24 @@ use crate::support::{asked, post};
 use scim_server::Served;
 use std::alloc::Global;
 use std::process::Abort;
-use std::test::Fail;
 
 /// Asserts that an empty provider answers a request with this status line and this body, and stores nothing.
-fn refuses(
-    rt: &impl Abort,
-    alloc: Global,
-    request: &[u8],
-    status: u16,
-    line: &str,
-    body: &str,
-) -> Result<(), Fail> {
-    let (served, written, rows) = asked(alloc, request)?;
+fn refuses(rt: &impl Abort, alloc: Global, request: &[u8], status: u16, line: &str, body: &str) {
+    let (served, written, rows) = asked(rt, alloc, request);
     assert_eq!(rt; served, Served::Answered { status });
     let length = body.len();
     let expected = format!(in alloc;
         "HTTP/1.1 {line}\r\nConnection: close\r\nContent-Length: {length}\r\nContent-Type: application/scim+json\r\n\r\n{body}"
-    )?;
+    ).expect(rt, "memory");
     assert!(rt; written.as_slice() == expected.as_bytes());
     assert_eq!(rt; rows, 0);
-    Ok(())
 }
 
 /// The body of an error message without a scimType.
-fn message(alloc: Global, detail: &str, status: u16) -> Result<String, Fail> {
-    Ok(format!(in alloc;
+fn message(rt: &impl Abort, alloc: Global, detail: &str, status: u16) -> String {
+    format!(in alloc;
         "{{\"detail\":\"{detail}\",\"schemas\":[\"urn:ietf:params:scim:api:messages:2.0:Error\"],\"status\":\"{status}\"}}"
-    )?)
+    ).expect(rt, "memory")
 }
 
 static VALUE: &str =
@@ -49,35 +40,28 @@ static BAD_SYNTAX: &[&str] = &[
 ];
 
 /// Asserts that a POST of each of these bodies is refused so.
-fn refuses_bodies(
-    rt: &impl Abort,
-    alloc: Global,
-    bodies: &[&str],
-    refusal: &str,
-) -> Result<(), Fail> {
+fn refuses_bodies(rt: &impl Abort, alloc: Global, bodies: &[&str], refusal: &str) {
     for body in bodies {
-        let request = post(alloc, body)?;
+        let request = post(rt, alloc, body);
         let asked = request.as_slice();
-        refuses(rt, alloc, asked, 400, "400 Bad Request", refusal)?;
+        refuses(rt, alloc, asked, 400, "400 Bad Request", refusal);
     }
-    Ok(())
 }
 
 #[test]
-fn bodies(rt: HostRuntime) -> Result<(), Fail> {
-    refuses_bodies(&rt, rt.alloc(), BAD_VALUES, VALUE)?;
+fn bodies(rt: HostRuntime) {
+    refuses_bodies(&rt, rt.alloc(), BAD_VALUES, VALUE);
     refuses_bodies(&rt, rt.alloc(), BAD_SYNTAX, SYNTAX)
 }
 
 /// A request, and the status line and the detail that it is refused with.
 type Refused = (&'static str, u16, &'static str, &'static str);
 
-fn refuses_all(rt: &impl Abort, alloc: Global, table: &[Refused]) -> Result<(), Fail> {
+fn refuses_all(rt: &impl Abort, alloc: Global, table: &[Refused]) {
     for (request, status, line, detail) in table {
-        let body = message(alloc, detail, *status)?;
-        refuses(rt, alloc, request.as_bytes(), *status, line, body.as_str())?;
+        let body = message(rt, alloc, detail, *status);
+        refuses(rt, alloc, request.as_bytes(), *status, line, body.as_str());
     }
-    Ok(())
 }
 
 static PATHS_AND_METHODS: &[Refused] = &[
@@ -126,20 +110,23 @@ static PATHS_AND_METHODS: &[Refused] = &[
 ];
 
 #[test]
-fn paths_and_methods(rt: HostRuntime) -> Result<(), Fail> {
+fn paths_and_methods(rt: HostRuntime) {
     refuses_all(&rt, rt.alloc(), PATHS_AND_METHODS)
 }
 
 #[test]
-fn a_head_request_gets_the_head_alone(rt: HostRuntime) -> Result<(), Fail> {
-    let (served, written, rows) = asked(rt.alloc(), b"HEAD /v2/Users HTTP/1.1\r\nHost: h\r\n\r\n")?;
+fn a_head_request_gets_the_head_alone(rt: HostRuntime) {
+    let (served, written, rows) = asked(
+        &rt,
+        rt.alloc(),
+        b"HEAD /v2/Users HTTP/1.1\r\nHost: h\r\n\r\n",
+    );
     assert_eq!(rt; served, Served::Answered { status: 501 });
     assert!(rt;
         written.as_slice()
             == b"HTTP/1.1 501 Not Implemented\r\nConnection: close\r\nContent-Length: 113\r\nContent-Type: application/scim+json\r\n\r\n".as_slice()
     );
     assert_eq!(rt; rows, 0);
-    Ok(())
 }
 
 static MEDIA_TYPES: &[Refused] = &[
@@ -158,7 +145,7 @@ static MEDIA_TYPES: &[Refused] = &[
 ];
 
 #[test]
-fn media_types(rt: HostRuntime) -> Result<(), Fail> {
+fn media_types(rt: HostRuntime) {
     refuses_all(&rt, rt.alloc(), MEDIA_TYPES)
 }
 
@@ -168,12 +155,11 @@ static LAWFUL_TYPES: &[&str] = &[
 ];
 
 #[test]
-fn a_lawful_type_or_none_leads_to_the_body(rt: HostRuntime) -> Result<(), Fail> {
+fn a_lawful_type_or_none_leads_to_the_body(rt: HostRuntime) {
     for request in LAWFUL_TYPES {
         let asked = request.as_bytes();
-        refuses(&rt, rt.alloc(), asked, 400, "400 Bad Request", VALUE)?;
+        refuses(&rt, rt.alloc(), asked, 400, "400 Bad Request", VALUE);
     }
-    Ok(())
 }
 
 static HEADS: &[Refused] = &[
@@ -234,14 +220,14 @@ static HEADS: &[Refused] = &[
 ];
 
 #[test]
-fn heads(rt: HostRuntime) -> Result<(), Fail> {
+fn heads(rt: HostRuntime) {
     refuses_all(&rt, rt.alloc(), HEADS)
 }
 
 #[test]
-fn long_heads(rt: HostRuntime) -> Result<(), Fail> {
-    let long = message(rt.alloc(), "the head is too long", 431)?;
-    let letters = vec![in rt.alloc(); b'a'; 16_384]?;
+fn long_heads(rt: HostRuntime) {
+    let long = message(&rt, rt.alloc(), "the head is too long", 431);
+    let letters = vec![in rt.alloc(); b'a'; 16_384].expect(&rt, "memory");
     refuses(
         &rt,
         rt.alloc(),
@@ -249,12 +235,14 @@ fn long_heads(rt: HostRuntime) -> Result<(), Fail> {
         431,
         "431 Request Header Fields Too Large",
         long.as_str(),
-    )?;
-    let mut many = String::from_str(rt.alloc(), "GET /v2/Users HTTP/1.1\r\nHost: h\r\n")?;
+    );
+    let mut many = String::from_str(rt.alloc(), "GET /v2/Users HTTP/1.1\r\nHost: h\r\n").expect(
+        &rt, "memory",
+    );
     for _ in 0..64 {
-        many.push_str("X: y\r\n")?;
+        many.push_str("X: y\r\n").expect(&rt, "memory");
     }
-    many.push_str("\r\n")?;
+    many.push_str("\r\n").expect(&rt, "memory");
     refuses(
         &rt,
         rt.alloc(),

@@ -4,34 +4,25 @@ use crate::support::BOB_CREATED;
 use scim_client::read_answer;
 use std::alloc::Global;
 use std::process::Abort;
-use std::test::Fail;
 
 /// Asserts that these bytes are this answer, or are refused by this code.
-fn says(
-    rt: &impl Abort,
-    alloc: Global,
-    ask: Ask,
-    bytes: &[u8],
-    expected: &str,
-) -> Result<(), Fail> {
-    let request = request_for(alloc, ask)?;
+fn says(rt: &impl Abort, alloc: Global, ask: Ask, bytes: &[u8], expected: &str) {
+    let request = request_for(rt, alloc, ask);
     let text = match read_answer(alloc, &request, bytes) {
-        Ok(answer) => line(alloc, &answer)?,
-        Err(fault) => fault.to_string(alloc)?,
+        Ok(answer) => line(rt, alloc, &answer),
+        Err(fault) => fault.to_string(alloc).expect(rt, "memory"),
     };
     assert!(rt; text.as_str() == expected, "{text} and not {expected}");
-    Ok(())
 }
 
 /// What is asked for, a status, a body, and what they say.
 type Said = (Ask, &'static str, &'static str, &'static str);
 
-fn say(rt: &impl Abort, alloc: Global, table: &[Said]) -> Result<(), Fail> {
+fn say(rt: &impl Abort, alloc: Global, table: &[Said]) {
     for (ask, status, body, expected) in table {
-        let bytes = response(alloc, status, "", body)?;
-        says(rt, alloc, *ask, bytes.as_slice(), expected)?;
+        let bytes = response(rt, alloc, status, "", body);
+        says(rt, alloc, *ask, bytes.as_slice(), expected);
     }
-    Ok(())
 }
 
 // ---- resources
@@ -123,7 +114,7 @@ static RESOURCES: &[Said] = &[
 ];
 
 #[test]
-fn resources(rt: HostRuntime) -> Result<(), Fail> {
+fn resources(rt: HostRuntime) {
     say(&rt, rt.alloc(), RESOURCES)
 }
 
@@ -150,7 +141,7 @@ static STATUSES: &[Said] = &[
 ];
 
 #[test]
-fn statuses(rt: HostRuntime) -> Result<(), Fail> {
+fn statuses(rt: HostRuntime) {
     say(&rt, rt.alloc(), STATUSES)
 }
 
@@ -196,7 +187,7 @@ static ERRORS: &[Said] = &[
 ];
 
 #[test]
-fn errors(rt: HostRuntime) -> Result<(), Fail> {
+fn errors(rt: HostRuntime) {
     say(&rt, rt.alloc(), ERRORS)
 }
 
@@ -250,32 +241,33 @@ static LISTS: &[(&str, &str)] = &[
 ];
 
 #[test]
-fn lists(rt: HostRuntime) -> Result<(), Fail> {
+fn lists(rt: HostRuntime) {
     for (body, expected) in LISTS {
-        let bytes = response(rt.alloc(), "200 OK", "", body)?;
-        says(&rt, rt.alloc(), Ask::Search, bytes.as_slice(), expected)?;
+        let bytes = response(&rt, rt.alloc(), "200 OK", "", body);
+        says(&rt, rt.alloc(), Ask::Search, bytes.as_slice(), expected);
     }
-    Ok(())
 }
 
 #[test]
-fn a_list_of_200_resources(rt: HostRuntime) -> Result<(), Fail> {
+fn a_list_of_200_resources(rt: HostRuntime) {
     let alloc = rt.alloc();
-    let mut body = String::from_str(alloc, "{\"totalResults\":201,\"Resources\":[")?;
-    let mut expected = String::from_str(alloc, "list 201 1")?;
+    let mut body = String::from_str(alloc, "{\"totalResults\":201,\"Resources\":[").expect(
+        &rt, "memory",
+    );
+    let mut expected = String::from_str(alloc, "list 201 1").expect(&rt, "memory");
     for n in 0..200u32 {
         if n > 0 {
-            body.push_str(",")?;
+            body.push_str(",").expect(&rt, "memory");
         }
         let resource = format!(in alloc;
             "{{\"id\":\"{n}\",\"schemas\":[\"urn:ietf:params:scim:schemas:core:2.0:User\"],\"userName\":\"u{n}\"}}"
-        )?;
-        body.push_str(resource.as_str())?;
-        let shown = format!(in alloc; ", {n} - u{n}")?;
-        expected.push_str(shown.as_str())?;
+        ).expect(&rt, "memory");
+        body.push_str(resource.as_str()).expect(&rt, "memory");
+        let shown = format!(in alloc; ", {n} - u{n}").expect(&rt, "memory");
+        expected.push_str(shown.as_str()).expect(&rt, "memory");
     }
-    body.push_str("]}")?;
-    let bytes = response(alloc, "200 OK", "", body.as_str())?;
+    body.push_str("]}").expect(&rt, "memory");
+    let bytes = response(&rt, alloc, "200 OK", "", body.as_str());
     says(&rt, alloc, Ask::Search, bytes.as_slice(), expected.as_str())
 }
 
@@ -405,18 +397,17 @@ static BYTES: &[Bytes] = &[
 ];
 
 #[test]
-fn whole_bytes(rt: HostRuntime) -> Result<(), Fail> {
+fn whole_bytes(rt: HostRuntime) {
     for (ask, bytes, expected) in BYTES {
-        says(&rt, rt.alloc(), *ask, bytes, expected)?;
+        says(&rt, rt.alloc(), *ask, bytes, expected);
     }
-    Ok(())
 }
 
 #[test]
-fn no_part_of_a_response_is_one(rt: HostRuntime) -> Result<(), Fail> {
+fn no_part_of_a_response_is_one(rt: HostRuntime) {
     for count in 0..BOB_CREATED.len() {
-        let part = BOB_CREATED.get(..count).ok_or("too long")?;
-        says(&rt, rt.alloc(), Ask::Create, part, "K1")?;
+        let part = BOB_CREATED.get(..count).expect(&rt, "too long");
+        says(&rt, rt.alloc(), Ask::Create, part, "K1");
     }
     let expected = "created 5c1a0000-0000-8000-8000-000000000001 \"1\" bob";
     says(&rt, rt.alloc(), Ask::Create, BOB_CREATED, expected)
@@ -425,40 +416,39 @@ fn no_part_of_a_response_is_one(rt: HostRuntime) -> Result<(), Fail> {
 // ---- limits
 
 /// A list message, with white space up to so many bytes.
-pub fn padded(alloc: Global, length: usize) -> Result<String, Fail> {
-    let mut body = String::from_str(alloc, "{\"totalResults\":0}")?;
+pub fn padded(rt: &impl Abort, alloc: Global, length: usize) -> String {
+    let mut body = String::from_str(alloc, "{\"totalResults\":0}").expect(rt, "memory");
     for _ in body.len()..length {
-        body.push_str(" ")?;
+        body.push_str(" ").expect(rt, "memory");
     }
-    Ok(body)
+    body
 }
 
 #[test]
-fn a_body_at_its_limit(rt: HostRuntime) -> Result<(), Fail> {
+fn a_body_at_its_limit(rt: HostRuntime) {
     for (length, expected) in [(8_388_608usize, "list 0 1"), (8_388_609, "K1")] {
-        let body = padded(rt.alloc(), length)?;
-        let bytes = response(rt.alloc(), "200 OK", "", body.as_str())?;
-        says(&rt, rt.alloc(), Ask::Search, bytes.as_slice(), expected)?;
+        let body = padded(&rt, rt.alloc(), length);
+        let bytes = response(&rt, rt.alloc(), "200 OK", "", body.as_str());
+        says(&rt, rt.alloc(), Ask::Search, bytes.as_slice(), expected);
     }
-    Ok(())
 }
 
 /// A response with so many field lines more than its length, of which one has so long a value.
-fn headed(alloc: Global, lines: usize, value_length: usize) -> Result<Vec<u8>, Fail> {
-    let mut fields = String::from_str(alloc, "F: ")?;
+fn headed(rt: &impl Abort, alloc: Global, lines: usize, value_length: usize) -> Vec<u8> {
+    let mut fields = String::from_str(alloc, "F: ").expect(rt, "memory");
     for _ in 0..value_length {
-        fields.push_str("f")?;
+        fields.push_str("f").expect(rt, "memory");
     }
-    fields.push_str("\r\n")?;
+    fields.push_str("\r\n").expect(rt, "memory");
     for _ in 1..lines {
-        fields.push_str("A: b\r\n")?;
+        fields.push_str("A: b\r\n").expect(rt, "memory");
     }
-    response(alloc, "200 OK", fields.as_str(), "{\"totalResults\":0}")
+    response(rt, alloc, "200 OK", fields.as_str(), "{\"totalResults\":0}")
 }
 
 /// A head has 44 bytes beside the value, and its body 18.
 #[test]
-fn heads_at_their_limits(rt: HostRuntime) -> Result<(), Fail> {
+fn heads_at_their_limits(rt: HostRuntime) {
     let table = [
         (63usize, 1usize, 435usize, "list 0 1"),
         (64, 1, 441, "K1"),
@@ -466,9 +456,8 @@ fn heads_at_their_limits(rt: HostRuntime) -> Result<(), Fail> {
         (1, 16_341, 16_403, "K1"),
     ];
     for (lines, value_length, length, expected) in table {
-        let bytes = headed(rt.alloc(), lines, value_length)?;
+        let bytes = headed(&rt, rt.alloc(), lines, value_length);
         assert_eq!(rt; bytes.len(), length);
-        says(&rt, rt.alloc(), Ask::Search, bytes.as_slice(), expected)?;
+        says(&rt, rt.alloc(), Ask::Search, bytes.as_slice(), expected);
     }
-    Ok(())
 }

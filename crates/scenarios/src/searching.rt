@@ -3,7 +3,6 @@ use crate::support::{CREATE_BOB, answers, empty, ends, exchange, post, tells};
 use provider_core::{MemoryRegistry, Provider};
 use std::alloc::Global;
 use std::process::Abort;
-use std::test::Fail;
 
 /// A user of the tests: its place in the order of creation, and its name.
 type Named = (u32, &'static str);
@@ -15,41 +14,49 @@ const BOB: Named = (2, "bob");
 const CID: Named = (3, "cid");
 
 /// A provider with these users, who are active and have nothing but their names.
-fn with_users(alloc: Global, users: &[Named]) -> Result<Provider<MemoryRegistry>, Fail> {
+fn with_users(rt: &impl Abort, alloc: Global, users: &[Named]) -> Provider<MemoryRegistry> {
     let mut provider = empty(alloc);
     for (_, name) in users {
         let body = format!(in alloc;
             "{{\"schemas\":[\"urn:ietf:params:scim:schemas:core:2.0:User\"],\"userName\":\"{name}\"}}"
-        )?;
-        exchange(alloc, &mut provider, post(alloc, body.as_str())?.as_slice())?;
+        ).expect(rt, "memory");
+        exchange(
+            rt,
+            alloc,
+            &mut provider,
+            post(rt, alloc, body.as_str()).as_slice(),
+        );
     }
-    Ok(provider)
+    provider
 }
 
 /// A request without a body.
-fn request(alloc: Global, method: &str, target: &str) -> Result<String, Fail> {
-    Ok(format!(in alloc; "{method} {target} HTTP/1.1\r\nHost: localhost:8080\r\n\r\n")?)
+fn request(rt: &impl Abort, alloc: Global, method: &str, target: &str) -> String {
+    format!(in alloc; "{method} {target} HTTP/1.1\r\nHost: localhost:8080\r\n\r\n").expect(
+        rt, "memory",
+    )
 }
 
 /// A whole response with a body.
-fn response(alloc: Global, line: &str, body: &str) -> Result<String, Fail> {
+fn response(rt: &impl Abort, alloc: Global, line: &str, body: &str) -> String {
     let length = body.len();
-    Ok(format!(in alloc;
+    format!(in alloc;
         "HTTP/1.1 {line}\r\nConnection: close\r\nContent-Length: {length}\r\nContent-Type: application/scim+json\r\n\r\n{body}"
-    )?)
+    ).expect(rt, "memory")
 }
 
 /// A list message with these resources.
 fn list(
+    rt: &impl Abort,
     alloc: Global,
     resources: &str,
     on_page: usize,
     start: u64,
     total: u64,
-) -> Result<String, Fail> {
-    Ok(format!(in alloc;
+) -> String {
+    format!(in alloc;
         "{{\"Resources\":[{resources}],\"itemsPerPage\":{on_page},\"schemas\":[\"urn:ietf:params:scim:api:messages:2.0:ListResponse\"],\"startIndex\":{start},\"totalResults\":{total}}}"
-    )?)
+    ).expect(rt, "memory")
 }
 
 /// Asserts that GET of a target is answered by this body.
@@ -59,9 +66,9 @@ fn is_answered(
     provider: &mut Provider<MemoryRegistry>,
     target: &str,
     body: &str,
-) -> Result<(), Fail> {
-    let asked = request(alloc, "GET", target)?;
-    let expected = response(alloc, "200 OK", body)?;
+) {
+    let asked = request(rt, alloc, "GET", target);
+    let expected = response(rt, alloc, "200 OK", body);
     answers(
         rt,
         alloc,
@@ -73,63 +80,55 @@ fn is_answered(
 }
 
 /// A resource of a list, and a comma where one stands before it.
-fn shown(alloc: Global, user: &Named, is_first: bool) -> Result<String, Fail> {
+fn shown(rt: &impl Abort, alloc: Global, user: &Named, is_first: bool) -> String {
     let (number, name) = user;
     let comma = if is_first { "" } else { "," };
-    Ok(format!(in alloc;
+    format!(in alloc;
         "{comma}{{\"active\":true,\"id\":\"5c1a0000-0000-8000-8000-00000000000{number}\",\"meta\":{{\"location\":\"http://localhost:8080/v2/Users/5c1a0000-0000-8000-8000-00000000000{number}\",\"resourceType\":\"User\",\"version\":\"\\\"1\\\"\"}},\"schemas\":[\"urn:ietf:params:scim:schemas:core:2.0:User\"],\"userName\":\"{name}\"}}"
-    )?)
+    ).expect(rt, "memory")
 }
 
 /// The resources of a page.
-fn page_of(alloc: Global, page: &[Named]) -> Result<String, Fail> {
+fn page_of(rt: &impl Abort, alloc: Global, page: &[Named]) -> String {
     let mut resources = String::new(alloc);
     for user in page {
-        resources.push_str(shown(alloc, user, resources.is_empty())?.as_str())?;
+        resources
+            .push_str(shown(rt, alloc, user, resources.is_empty()).as_str())
+            .expect(rt, "memory");
     }
-    Ok(resources)
+    resources
 }
 
 /// What GET of the users with a query finds: a page, its start, and how many there are in all.
 type Found = (&'static str, &'static [Named], u64, u64);
 
-fn finds(
-    rt: &impl Abort,
-    alloc: Global,
-    provider: &mut Provider<MemoryRegistry>,
-    found: &Found,
-) -> Result<(), Fail> {
+fn finds(rt: &impl Abort, alloc: Global, provider: &mut Provider<MemoryRegistry>, found: &Found) {
     let (query, page, start, total) = found;
-    let resources = page_of(alloc, page)?;
-    let body = list(alloc, resources.as_str(), page.len(), *start, *total)?;
-    let target = format!(in alloc; "/v2/Users{query}")?;
+    let resources = page_of(rt, alloc, page);
+    let body = list(rt, alloc, resources.as_str(), page.len(), *start, *total);
+    let target = format!(in alloc; "/v2/Users{query}").expect(rt, "memory");
     is_answered(rt, alloc, provider, target.as_str(), body.as_str())
 }
 
 /// Asserts that a provider with these users finds all this.
-fn finds_all(rt: &impl Abort, alloc: Global, users: &[Named], table: &[Found]) -> Result<(), Fail> {
-    let mut provider = with_users(alloc, users)?;
+fn finds_all(rt: &impl Abort, alloc: Global, users: &[Named], table: &[Found]) {
+    let mut provider = with_users(rt, alloc, users);
     for found in table {
-        finds(rt, alloc, &mut provider, found)?;
+        finds(rt, alloc, &mut provider, found);
     }
-    Ok(())
 }
 
 /// Asserts that GET of the users with these queries is refused.
-fn refuses_all(
-    rt: &impl Abort,
-    alloc: Global,
-    scim_type: &str,
-    detail: &str,
-    queries: &[&str],
-) -> Result<(), Fail> {
+fn refuses_all(rt: &impl Abort, alloc: Global, scim_type: &str, detail: &str, queries: &[&str]) {
     let body = format!(in alloc;
         "{{\"detail\":\"{detail}\",\"schemas\":[\"urn:ietf:params:scim:api:messages:2.0:Error\"],\"scimType\":\"{scim_type}\",\"status\":\"400\"}}"
-    )?;
-    let expected = response(alloc, "400 Bad Request", body.as_str())?;
+    ).expect(rt, "memory");
+    let expected = response(rt, alloc, "400 Bad Request", body.as_str());
     let mut provider = empty(alloc);
     for query in queries {
-        let asked = format!(in alloc; "GET /v2/Users{query} HTTP/1.1\r\nHost: h\r\n\r\n")?;
+        let asked = format!(in alloc; "GET /v2/Users{query} HTTP/1.1\r\nHost: h\r\n\r\n").expect(
+            rt, "memory",
+        );
         answers(
             rt,
             alloc,
@@ -137,17 +136,16 @@ fn refuses_all(
             asked.as_bytes(),
             400,
             expected.as_bytes(),
-        )?;
+        );
     }
-    Ok(())
 }
 
-fn refuses_values(rt: &impl Abort, alloc: Global, queries: &[&str]) -> Result<(), Fail> {
+fn refuses_values(rt: &impl Abort, alloc: Global, queries: &[&str]) {
     let detail = "a value is missing or not allowed";
     refuses_all(rt, alloc, "invalidValue", detail, queries)
 }
 
-fn refuses_filters(rt: &impl Abort, alloc: Global, queries: &[&str]) -> Result<(), Fail> {
+fn refuses_filters(rt: &impl Abort, alloc: Global, queries: &[&str]) {
     let detail = "the filter is not supported";
     refuses_all(rt, alloc, "invalidFilter", detail, queries)
 }
@@ -161,23 +159,22 @@ static FILTERS_OF_BOB: &[&str] = &[
 ];
 
 #[test]
-fn a_name_is_found_in_any_case(rt: HostRuntime) -> Result<(), Fail> {
+fn a_name_is_found_in_any_case(rt: HostRuntime) {
     let alloc = rt.alloc();
     let mut provider = empty(alloc);
-    exchange(alloc, &mut provider, CREATE_BOB)?;
-    let body = list(alloc, BOB_SHOWN, 1, 1, 1)?;
+    exchange(&rt, alloc, &mut provider, CREATE_BOB);
+    let body = list(&rt, alloc, BOB_SHOWN, 1, 1, 1);
     for target in FILTERS_OF_BOB {
-        is_answered(&rt, alloc, &mut provider, target, body.as_str())?;
+        is_answered(&rt, alloc, &mut provider, target, body.as_str());
     }
     let nobody = ("?filter=userName+eq+%22zed%22", &[] as &[Named], 1, 0);
     finds(&rt, alloc, &mut provider, &nobody)
 }
 
 #[test]
-fn lists_have_their_lengths(rt: HostRuntime) -> Result<(), Fail> {
-    assert_eq!(rt; list(rt.alloc(), BOB_SHOWN, 1, 1, 1)?.len(), 518);
-    assert_eq!(rt; list(rt.alloc(), "", 0, 1, 0)?.len(), 130);
-    Ok(())
+fn lists_have_their_lengths(rt: HostRuntime) {
+    assert_eq!(rt; list(&rt, rt.alloc(), BOB_SHOWN, 1, 1, 1).len(), 518);
+    assert_eq!(rt; list(&rt, rt.alloc(), "", 0, 1, 0).len(), 130);
 }
 
 static PAGES: &[Found] = &[
@@ -191,7 +188,7 @@ static PAGES: &[Found] = &[
 ];
 
 #[test]
-fn pages_of_a_list(rt: HostRuntime) -> Result<(), Fail> {
+fn pages_of_a_list(rt: HostRuntime) {
     finds_all(&rt, rt.alloc(), &[ANN, BOB, CID], PAGES)
 }
 
@@ -205,7 +202,7 @@ static NO_PAGES: &[&str] = &[
 ];
 
 #[test]
-fn pages_that_are_none(rt: HostRuntime) -> Result<(), Fail> {
+fn pages_that_are_none(rt: HostRuntime) {
     refuses_values(&rt, rt.alloc(), NO_PAGES)
 }
 
@@ -228,7 +225,7 @@ static PARAMETERS: &[Found] = &[
 ];
 
 #[test]
-fn parameters_of_a_query(rt: HostRuntime) -> Result<(), Fail> {
+fn parameters_of_a_query(rt: HostRuntime) {
     finds_all(&rt, rt.alloc(), &[ANN, BOB, CID], PARAMETERS)
 }
 
@@ -245,7 +242,7 @@ static FILTERS: &[Found] = &[
 ];
 
 #[test]
-fn filters_of_a_search(rt: HostRuntime) -> Result<(), Fail> {
+fn filters_of_a_search(rt: HostRuntime) {
     finds_all(&rt, rt.alloc(), &[ANN, BOB], FILTERS)
 }
 
@@ -259,7 +256,7 @@ static NO_FILTERS: &[&str] = &[
 ];
 
 #[test]
-fn filters_that_are_none(rt: HostRuntime) -> Result<(), Fail> {
+fn filters_that_are_none(rt: HostRuntime) {
     refuses_filters(&rt, rt.alloc(), NO_FILTERS)
 }
 
@@ -270,12 +267,12 @@ static CREW_SHOWN: &str =
     "{\"displayName\":\"crew two\",\"id\":\"5c1a0000-0000-8000-8000-000000000002\",\"meta\":{\"location\":\"http://localhost:8080/v2/Groups/5c1a0000-0000-8000-8000-000000000002\",\"resourceType\":\"Group\",\"version\":\"\\\"1\\\"\"},\"schemas\":[\"urn:ietf:params:scim:schemas:core:2.0:Group\"]}";
 
 #[test]
-fn each_type_has_its_collection(rt: HostRuntime) -> Result<(), Fail> {
+fn each_type_has_its_collection(rt: HostRuntime) {
     let alloc = rt.alloc();
-    let mut provider = with_users(alloc, &[ANN])?;
-    exchange(alloc, &mut provider, CREATE_CREW)?;
-    finds(&rt, alloc, &mut provider, &("", &[ANN] as &[Named], 1, 1))?;
-    let body = list(alloc, CREW_SHOWN, 1, 1, 1)?;
+    let mut provider = with_users(&rt, alloc, &[ANN]);
+    exchange(&rt, alloc, &mut provider, CREATE_CREW);
+    finds(&rt, alloc, &mut provider, &("", &[ANN] as &[Named], 1, 1));
+    let body = list(&rt, alloc, CREW_SHOWN, 1, 1, 1);
     let named = "/v2/Groups?filter=displayName+eq+%22CREW%20two%22";
     is_answered(&rt, alloc, &mut provider, named, body.as_str())
 }
@@ -284,34 +281,38 @@ static HEAD_REFUSED: &[u8] =
     b"HTTP/1.1 501 Not Implemented\r\nConnection: close\r\nContent-Length: 113\r\nContent-Type: application/scim+json\r\n\r\n";
 
 #[test]
-fn a_collection_has_no_head(rt: HostRuntime) -> Result<(), Fail> {
+fn a_collection_has_no_head(rt: HostRuntime) {
     let mut provider = empty(rt.alloc());
     let asked = b"HEAD /v2/Groups?count=1 HTTP/1.1\r\nHost: h\r\n\r\n";
     answers(&rt, rt.alloc(), &mut provider, asked, 501, HEAD_REFUSED)
 }
 
 /// A provider with 201 users.
-fn with_many(alloc: Global) -> Result<Provider<MemoryRegistry>, Fail> {
+fn with_many(rt: &impl Abort, alloc: Global) -> Provider<MemoryRegistry> {
     let mut provider = empty(alloc);
     for number in 1..=201 {
         let body = format!(in alloc;
             "{{\"schemas\":[\"urn:ietf:params:scim:schemas:core:2.0:User\"],\"userName\":\"u{number}\"}}"
-        )?;
-        exchange(alloc, &mut provider, post(alloc, body.as_str())?.as_slice())?;
+        ).expect(rt, "memory");
+        exchange(
+            rt,
+            alloc,
+            &mut provider,
+            post(rt, alloc, body.as_str()).as_slice(),
+        );
     }
-    Ok(provider)
+    provider
 }
 
 #[test]
-fn a_page_has_200_resources_at_most(rt: HostRuntime) -> Result<(), Fail> {
+fn a_page_has_200_resources_at_most(rt: HostRuntime) {
     let alloc = rt.alloc();
-    let mut provider = with_many(alloc)?;
+    let mut provider = with_many(&rt, alloc);
     for target in ["/v2/Users", "/v2/Users?count=500"] {
-        let asked = request(alloc, "GET", target)?;
+        let asked = request(&rt, alloc, "GET", target);
         let last = "\"userName\":\"u200\"}],\"itemsPerPage\":200,";
-        tells(&rt, alloc, &mut provider, asked.as_bytes(), 200, last)?;
+        tells(&rt, alloc, &mut provider, asked.as_bytes(), 200, last);
         let end = "\"startIndex\":1,\"totalResults\":201}";
-        ends(&rt, alloc, &mut provider, asked.as_bytes(), 200, end)?;
+        ends(&rt, alloc, &mut provider, asked.as_bytes(), 200, end);
     }
-    Ok(())
 }

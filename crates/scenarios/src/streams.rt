@@ -8,24 +8,28 @@ use scim_server::{Served, serve};
 use std::alloc::Global;
 use std::io::ErrorKind;
 use std::process::Abort;
-use std::test::Fail;
 
 /// Creates bob with a reader that follows a script: what became of it, what was written, and how
 /// many rows there are.
 fn created_from(
+    rt: &impl Abort,
     alloc: Global,
     step: usize,
     events: &[Event],
-) -> Result<(Served, Vec<u8>, u32), Fail> {
+) -> (Served, Vec<u8>, u32) {
     let mut provider = empty(alloc);
-    let base = base(alloc)?;
+    let base = base(rt, alloc);
     let mut reader = Input::new(ScriptedReader {
         bytes: CREATE_BOB,
         script: Script::new(step, events),
     });
     let mut writer = Output::new(Vec::new(alloc));
     let served = serve(alloc, &mut provider, &base, &mut reader, &mut writer);
-    Ok((served, writer.into_inner(), provider.close().count()?))
+    (
+        served,
+        writer.into_inner(),
+        provider.close().count().expect(rt, "a count"),
+    )
 }
 
 /// Asserts that bob is created, or that nothing is, by a fault.
@@ -35,8 +39,8 @@ fn is_read(
     step: usize,
     events: &[Event],
     fault: Option<ReadFault>,
-) -> Result<(), Fail> {
-    let (served, written, rows) = created_from(alloc, step, events)?;
+) {
+    let (served, written, rows) = created_from(rt, alloc, step, events);
     let (wanted, bytes, count) = match fault {
         None => (Served::Answered { status: 201 }, BOB_CREATED, 1),
         Some(fault) => (Served::NoRequest(fault), &[] as &[u8], 0),
@@ -44,7 +48,6 @@ fn is_read(
     assert_eq!(rt; served, wanted);
     assert!(rt; written.as_slice() == bytes);
     assert_eq!(rt; rows, count);
-    Ok(())
 }
 
 /// At most how many bytes a read gives, what happens at which byte, and the fault that it leads to.
@@ -119,60 +122,51 @@ static READINGS: &[Reading] = &[
 ];
 
 #[test]
-fn readers_that_follow_a_script(rt: HostRuntime) -> Result<(), Fail> {
+fn readers_that_follow_a_script(rt: HostRuntime) {
     for (step, events, fault) in READINGS {
-        is_read(&rt, rt.alloc(), *step, events, *fault)?;
+        is_read(&rt, rt.alloc(), *step, events, *fault);
     }
-    Ok(())
 }
 
 #[test]
-fn a_read_that_fails_once_at_each_place(rt: HostRuntime) -> Result<(), Fail> {
+fn a_read_that_fails_once_at_each_place(rt: HostRuntime) {
     for place in 0..CREATE_BOB.len() {
         let events = [(place, 1, BROKEN)];
         let fault = Some(ReadFault::ReadFailed);
-        is_read(&rt, rt.alloc(), 1, &events, fault)?;
+        is_read(&rt, rt.alloc(), 1, &events, fault);
     }
-    Ok(())
 }
 
 #[test]
-fn no_part_of_a_request_is_one(rt: HostRuntime) -> Result<(), Fail> {
+fn no_part_of_a_request_is_one(rt: HostRuntime) {
     for count in 0..CREATE_BOB.len() {
-        let part = CREATE_BOB.get(..count).ok_or("too long")?;
-        let (served, written, rows) = asked(rt.alloc(), part)?;
+        let part = CREATE_BOB.get(..count).expect(&rt, "too long");
+        let (served, written, rows) = asked(&rt, rt.alloc(), part);
         assert_eq!(rt; served, Served::NoRequest(ReadFault::EndedEarly));
         assert!(rt; written.is_empty());
         assert_eq!(rt; rows, 0);
     }
-    Ok(())
 }
 
 #[test]
-fn what_follows_a_request_stays_unread(rt: HostRuntime) -> Result<(), Fail> {
-    let mut both = Vec::from_slice(rt.alloc(), CREATE_BOB)?;
-    both.extend_from_slice(b"GET")?;
+fn what_follows_a_request_stays_unread(rt: HostRuntime) {
+    let mut both = Vec::from_slice(rt.alloc(), CREATE_BOB).expect(&rt, "memory");
+    both.extend_from_slice(b"GET").expect(&rt, "memory");
     let mut provider = empty(rt.alloc());
-    let base = base(rt.alloc())?;
+    let base = base(&rt, rt.alloc());
     let mut reader = Input::new(both.as_slice());
     let mut writer = Output::new(Vec::new(rt.alloc()));
     let served = serve(rt.alloc(), &mut provider, &base, &mut reader, &mut writer);
     assert_eq!(rt; served, Served::Answered { status: 201 });
     assert!(rt; reader.ahead() == b"GET".as_slice());
-    Ok(())
 }
 
 /// Asserts that bob is created with a writer that follows a script, and that so many bytes of the
 /// answer are written and so many flushes made: all 666 and one, or the answer is lost.
-fn is_written(
-    rt: &impl Abort,
-    alloc: Global,
-    writing: &Writing,
-    events: &[Event],
-) -> Result<(), Fail> {
+fn is_written(rt: &impl Abort, alloc: Global, writing: &Writing, events: &[Event]) {
     let (step, _, flush_faults, is_whole, bytes, flush_count) = writing;
     let mut provider = empty(alloc);
-    let base = base(alloc)?;
+    let base = base(rt, alloc);
     let mut reader = Input::new(CREATE_BOB);
     let mut writer = Output::new(ScriptedWriter {
         taken: Vec::new(alloc),
@@ -190,8 +184,7 @@ fn is_written(
     assert_eq!(rt; served, wanted);
     assert!(rt; Some(taken.as_slice()) == BOB_CREATED.get(..*bytes));
     assert_eq!(rt; flushes, *flush_count);
-    assert_eq!(rt; provider.close().count()?, 1);
-    Ok(())
+    assert_eq!(rt; provider.close().count().expect(rt, "a count"), 1);
 }
 
 /// At most how many bytes a write takes, what happens at which byte, with what the first flushes
@@ -245,21 +238,20 @@ static WRITINGS: &[Writing] = &[
 ];
 
 #[test]
-fn writers_that_follow_a_script(rt: HostRuntime) -> Result<(), Fail> {
+fn writers_that_follow_a_script(rt: HostRuntime) {
     for writing in WRITINGS {
         let (_, events, _, _, _, _) = writing;
-        is_written(&rt, rt.alloc(), writing, events)?;
+        is_written(&rt, rt.alloc(), writing, events);
     }
-    Ok(())
 }
 
 /// Reads and writes that are interrupted twice at the first byte, and three times at the next one.
 #[test]
-fn interruptions_are_calls_and_no_failures(rt: HostRuntime) -> Result<(), Fail> {
+fn interruptions_are_calls_and_no_failures(rt: HostRuntime) {
     let alloc = rt.alloc();
     let events = [(0, 2, INTERRUPTED), (1, 3, INTERRUPTED)];
     let mut provider = empty(alloc);
-    let base = base(alloc)?;
+    let base = base(&rt, alloc);
     let mut reader = Input::new(ScriptedReader {
         bytes: CREATE_BOB,
         script: Script::new(1_000, &events),
@@ -276,26 +268,23 @@ fn interruptions_are_calls_and_no_failures(rt: HostRuntime) -> Result<(), Fail> 
     assert_eq!(rt; reader.failures(), 0);
     assert_eq!(rt; writer.calls(), 8);
     assert_eq!(rt; writer.failures(), 0);
-    Ok(())
 }
 
 #[test]
-fn a_write_that_fails_once_at_each_place(rt: HostRuntime) -> Result<(), Fail> {
+fn a_write_that_fails_once_at_each_place(rt: HostRuntime) {
     for place in 0..666usize {
         let events = [(place, 1, BROKEN)];
         let writing = (1, &[] as &[Event], &[] as &[ErrorKind], false, place, 0);
-        is_written(&rt, rt.alloc(), &writing, &events)?;
+        is_written(&rt, rt.alloc(), &writing, &events);
     }
-    Ok(())
 }
 
 #[test]
-fn a_store_that_fails(rt: HostRuntime) -> Result<(), Fail> {
+fn a_store_that_fails(rt: HostRuntime) {
     let mut provider = Provider::new(FaultyRegistry { faults: 0 });
-    let (served, written) = exchange(rt.alloc(), &mut provider, CREATE_BOB)?;
+    let (served, written) = exchange(&rt, rt.alloc(), &mut provider, CREATE_BOB);
     assert_eq!(rt; served, Served::Answered { status: 500 });
     assert!(rt; written.as_slice() == GIVEN_UP);
     let FaultyRegistry { faults } = provider.close();
     assert_eq!(rt; faults, 1);
-    Ok(())
 }

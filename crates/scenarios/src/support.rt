@@ -5,7 +5,6 @@ use scim_key::Base;
 use scim_server::{Served, serve};
 use std::alloc::Global;
 use std::process::Abort;
-use std::test::Fail;
 
 /// The request that creates the user `bob` at revision 1, as the connector writes it.
 pub static CREATE_BOB: &[u8] =
@@ -29,21 +28,22 @@ pub fn empty(alloc: Global) -> Provider<MemoryRegistry> {
 }
 
 /// The base of all tests.
-pub fn base(alloc: Global) -> Result<Base, Fail> {
-    Ok(Base::read(alloc, "http://localhost:8080/v2")?)
+pub fn base(rt: &impl Abort, alloc: Global) -> Base {
+    Base::read(alloc, "http://localhost:8080/v2").expect(rt, "a base")
 }
 
 /// What a provider answers to these bytes.
 pub fn exchange<R: Registry>(
+    rt: &impl Abort,
     alloc: Global,
     provider: &mut Provider<R>,
     request: &[u8],
-) -> Result<(Served, Vec<u8>), Fail> {
-    let base = base(alloc)?;
+) -> (Served, Vec<u8>) {
+    let base = base(rt, alloc);
     let mut reader = Input::new(request);
     let mut writer = Output::new(Vec::new(alloc));
     let served = serve(alloc, provider, &base, &mut reader, &mut writer);
-    Ok((served, writer.into_inner()))
+    (served, writer.into_inner())
 }
 
 /// Asserts that a request is answered with this status, by these bytes.
@@ -54,11 +54,10 @@ pub fn answers<R: Registry>(
     request: &[u8],
     status: u16,
     expected: &[u8],
-) -> Result<(), Fail> {
-    let (served, written) = exchange(alloc, provider, request)?;
+) {
+    let (served, written) = exchange(rt, alloc, provider, request);
     assert_eq!(rt; served, Served::Answered { status });
     assert!(rt; written.as_slice() == expected);
-    Ok(())
 }
 
 /// Asserts that a request is answered with this status, by bytes that end so.
@@ -69,11 +68,10 @@ pub fn ends<R: Registry>(
     request: &[u8],
     status: u16,
     end: &str,
-) -> Result<(), Fail> {
-    let (served, written) = exchange(alloc, provider, request)?;
+) {
+    let (served, written) = exchange(rt, alloc, provider, request);
     assert_eq!(rt; served, Served::Answered { status });
     assert!(rt; written.as_slice().ends_with(end.as_bytes()));
-    Ok(())
 }
 
 /// Asserts that a request is answered with this status, by a text in which this stands.
@@ -84,27 +82,28 @@ pub fn tells<R: Registry>(
     request: &[u8],
     status: u16,
     part: &str,
-) -> Result<(), Fail> {
-    let (served, written) = exchange(alloc, provider, request)?;
+) {
+    let (served, written) = exchange(rt, alloc, provider, request);
     assert_eq!(rt; served, Served::Answered { status });
-    let text = String::from_utf8(written).map_err(|_| "not a text")?;
+    let text = String::from_utf8(written)
+        .map_err(|_| "not a text")
+        .expect(rt, "memory");
     assert!(rt; text.as_str().contains(part));
-    Ok(())
 }
 
 /// What an empty provider answers to these bytes, and how many rows it then has.
-pub fn asked(alloc: Global, request: &[u8]) -> Result<(Served, Vec<u8>, u32), Fail> {
+pub fn asked(rt: &impl Abort, alloc: Global, request: &[u8]) -> (Served, Vec<u8>, u32) {
     let mut provider = empty(alloc);
-    let (served, written) = exchange(alloc, &mut provider, request)?;
-    let rows = provider.close().count()?;
-    Ok((served, written, rows))
+    let (served, written) = exchange(rt, alloc, &mut provider, request);
+    let rows = provider.close().count().expect(rt, "a count");
+    (served, written, rows)
 }
 
 /// A POST of this body to `/v2/Users`.
-pub fn post(alloc: Global, body: &str) -> Result<Vec<u8>, Fail> {
+pub fn post(rt: &impl Abort, alloc: Global, body: &str) -> Vec<u8> {
     let length = body.len();
     let text = format!(in alloc;
         "POST /v2/Users HTTP/1.1\r\nHost: localhost:8080\r\nContent-Length: {length}\r\nContent-Type: application/scim+json\r\n\r\n{body}"
-    )?;
-    Ok(text.into_bytes())
+    ).expect(rt, "memory");
+    text.into_bytes()
 }

@@ -2,7 +2,7 @@
 //! they keep.
 use sqlite::{Alter, Connection, Error, Row};
 use std::alloc::Global;
-use std::test::Fail;
+use std::process::Abort;
 
 /// Runs statements in turn.
 pub fn run<S: Alter>(conn: &mut Connection<S>, sql: &str) -> Result<(), Error> {
@@ -14,14 +14,19 @@ fn asked<S: Alter>(conn: &mut Connection<S>, sql: &str) -> Result<Vec<Row>, Erro
 }
 
 /// The texts that a query shows, each in a line.
-pub fn shown<S: Alter>(alloc: Global, conn: &mut Connection<S>, sql: &str) -> Result<String, Fail> {
+pub fn shown<S: Alter>(
+    rt: &impl Abort,
+    alloc: Global,
+    conn: &mut Connection<S>,
+    sql: &str,
+) -> String {
     let mut lines = String::new(alloc);
-    for row in asked(conn, sql)? {
-        let text: String = row.get(0)?;
-        lines.push_str(text.as_str())?;
-        lines.push_str("\n")?;
+    for row in asked(conn, sql).expect(rt, "memory") {
+        let text: String = row.get(0).expect(rt, "a row");
+        lines.push_str(text.as_str()).expect(rt, "memory");
+        lines.push_str("\n").expect(rt, "memory");
     }
-    Ok(lines)
+    lines
 }
 
 /// Lets each statement take so many steps.

@@ -8,7 +8,6 @@ use provider_core::{MemoryRegistry, Provider};
 use sqlite::{Alter, Connection, MemStore};
 use std::alloc::Global;
 use std::process::Abort;
-use std::test::Fail;
 
 static RUNS: &[Run] = &[
     (
@@ -35,10 +34,12 @@ static GROUPS: &str =
     "SELECT name_key || '|' || name || '|' || revision || '|' || members || '|' || confirmed || '|' || ifnull(id, '-') FROM group_entry ORDER BY name_key";
 
 /// The rows of both tables, each in a line.
-fn rows<S: Alter>(alloc: Global, conn: &mut Connection<S>) -> Result<String, Fail> {
-    let mut lines = shown(alloc, conn, USERS)?;
-    lines.push_str(shown(alloc, conn, GROUPS)?.as_str())?;
-    Ok(lines)
+fn rows<S: Alter>(rt: &impl Abort, alloc: Global, conn: &mut Connection<S>) -> String {
+    let mut lines = shown(rt, alloc, conn, USERS);
+    lines
+        .push_str(shown(rt, alloc, conn, GROUPS).as_str())
+        .expect(rt, "memory");
+    lines
 }
 
 /// Opens a journal.
@@ -50,10 +51,10 @@ fn open<S: Alter>(
 }
 
 /// Opens a journal that isn't refused.
-fn opened<S: Alter + Drop>(alloc: Global, conn: Connection<S>) -> Result<SqlJournal<S>, Fail> {
+fn opened<S: Alter + Drop>(rt: &impl Abort, alloc: Global, conn: Connection<S>) -> SqlJournal<S> {
     match open(alloc, conn) {
-        Ok(journal) => Ok(journal),
-        Err((fault, _conn)) => Err(Fail::from(fault)),
+        Ok(journal) => journal,
+        Err((fault, _conn)) => panic!(rt; "{fault}"),
     }
 }
 
@@ -64,102 +65,90 @@ fn close<S: Alter>(journal: SqlJournal<S>) -> Connection<S> {
 
 /// Runs a connector over a journal, which comes back.
 fn carried<J: Journal>(
+    rt: &impl Abort,
     alloc: Global,
     journal: J,
     provider: &mut Provider<MemoryRegistry>,
     run: &Run,
-) -> (J, Result<(), Fail>) {
+) -> J {
     match Connector::open(alloc, journal) {
         Ok(mut connector) => {
-            let ran = runs(alloc, &mut connector, provider, run);
-            (connector.close(), ran)
+            runs(rt, alloc, &mut connector, provider, run);
+            connector.close()
         }
-        Err((fault, journal)) => (journal, Err(Fail::from(fault))),
+        Err((fault, _journal)) => panic!(rt; "{fault}"),
     }
 }
 
 /// Runs a connector over the journal of a connection, which is opened for it and closed after it.
 fn turn<S: Alter + Drop>(
+    rt: &impl Abort,
     alloc: Global,
     conn: Connection<S>,
     provider: &mut Provider<MemoryRegistry>,
     run: &Run,
-) -> Result<Connection<S>, Fail> {
-    let (journal, ran) = carried(alloc, opened(alloc, conn)?, provider, run);
-    let conn = close(journal);
-    ran?;
-    Ok(conn)
+) -> Connection<S> {
+    close(carried(rt, alloc, opened(rt, alloc, conn), provider, run))
 }
 
 /// A connection to a journal after all runs, each of which closed it.
-fn with_entries(alloc: Global) -> Result<Connection<MemStore>, Fail> {
+fn with_entries(rt: &impl Abort, alloc: Global) -> Connection<MemStore> {
     let mut provider = Provider::new(MemoryRegistry::new(alloc));
-    let mut conn = Connection::open_in_memory(alloc)?;
+    let mut conn = Connection::open_in_memory(alloc).expect(rt, "a connection");
     for run in RUNS {
-        conn = turn(alloc, conn, &mut provider, run)?;
+        conn = turn(rt, alloc, conn, &mut provider, run);
     }
-    Ok(conn)
+    conn
 }
 
 #[test]
-fn entries_are_kept_where_a_journal_is_closed(rt: HostRuntime) -> Result<(), Fail> {
-    let mut conn = with_entries(rt.alloc())?;
-    let rows = rows(rt.alloc(), &mut conn)?;
+fn entries_are_kept_where_a_journal_is_closed(rt: HostRuntime) {
+    let mut conn = with_entries(&rt, rt.alloc());
+    let rows = rows(&rt, rt.alloc(), &mut conn);
     assert_eq!(rt; rows.as_str(), KEPT);
-    Ok(())
 }
 
 /// The entries of a journal in memory after all runs.
-fn in_memory(alloc: Global) -> Result<String, Fail> {
+fn in_memory(rt: &impl Abort, alloc: Global) -> String {
     let mut provider = Provider::new(MemoryRegistry::new(alloc));
     let mut journal = MemoryJournal::new(alloc);
     for run in RUNS {
-        let (after, ran) = carried(alloc, journal, &mut provider, run);
-        journal = after;
-        ran?;
+        journal = carried(rt, alloc, journal, &mut provider, run);
     }
-    entries(alloc, &mut journal)
+    entries(rt, alloc, &mut journal)
 }
 
 #[test]
-fn entries_are_loaded_as_from_memory(rt: HostRuntime) -> Result<(), Fail> {
-    let expected = in_memory(rt.alloc())?;
-    let mut journal = opened(rt.alloc(), with_entries(rt.alloc())?)?;
-    let loaded = entries(rt.alloc(), &mut journal);
+fn entries_are_loaded_as_from_memory(rt: HostRuntime) {
+    let expected = in_memory(&rt, rt.alloc());
+    let mut journal = opened(&rt, rt.alloc(), with_entries(&rt, rt.alloc()));
+    let loaded = entries(&rt, rt.alloc(), &mut journal);
     let _conn = close(journal);
-    assert_eq!(rt; loaded?.as_str(), expected.as_str());
-    Ok(())
+    assert_eq!(rt; loaded.as_str(), expected.as_str());
 }
 
 /// All runs over one journal, which is tested again after each.
 fn reopens<S: Alter + Drop>(
+    rt: &impl Abort,
     alloc: Global,
     mut journal: SqlJournal<S>,
     provider: &mut Provider<MemoryRegistry>,
-) -> (SqlJournal<S>, Result<(), Fail>) {
+) -> SqlJournal<S> {
     for run in RUNS {
-        let (mut after, ran) = carried(alloc, journal, provider, run);
-        let reopened = after.reopen();
-        journal = after;
-        match (ran, reopened) {
-            (Ok(()), Ok(())) => {}
-            (Err(fault), _) => return (journal, Err(fault)),
-            (Ok(()), Err(fault)) => return (journal, Err(Fail::from(fault))),
-        }
+        journal = carried(rt, alloc, journal, provider, run);
+        journal.reopen().expect(rt, "it is opened");
     }
-    (journal, Ok(()))
+    journal
 }
 
 #[test]
-fn entries_are_kept_where_a_journal_is_reopened(rt: HostRuntime) -> Result<(), Fail> {
+fn entries_are_kept_where_a_journal_is_reopened(rt: HostRuntime) {
     let mut provider = Provider::new(MemoryRegistry::new(rt.alloc()));
-    let conn = Connection::open_in_memory(rt.alloc())?;
-    let (journal, ran) = reopens(rt.alloc(), opened(rt.alloc(), conn)?, &mut provider);
-    let mut conn = close(journal);
-    ran?;
-    let rows = rows(rt.alloc(), &mut conn)?;
+    let conn = Connection::open_in_memory(rt.alloc()).expect(&rt, "a connection");
+    let journal = opened(&rt, rt.alloc(), conn);
+    let mut conn = close(reopens(&rt, rt.alloc(), journal, &mut provider));
+    let rows = rows(&rt, rt.alloc(), &mut conn);
     assert_eq!(rt; rows.as_str(), KEPT);
-    Ok(())
 }
 
 /// What spoils the journal with those entries, and the fault of its opening.
@@ -183,46 +172,43 @@ fn refused(
     alloc: Global,
     conn: Connection<MemStore>,
     expected: OpenFault,
-) -> Result<Connection<MemStore>, Fail> {
+) -> Connection<MemStore> {
     match open(alloc, conn) {
         Ok(journal) => {
             let _conn = close(journal);
-            Err(Fail::from("opened"))
+            panic!(rt; "opened")
         }
         Err((fault, conn)) => {
             assert_eq!(rt; fault, expected);
-            Ok(conn)
+            conn
         }
     }
 }
 
 /// Asserts that the spoilt journal is refused, and has the rows that it had.
-fn refuses(rt: &impl Abort, alloc: Global, spoils: &str, expected: OpenFault) -> Result<(), Fail> {
-    let mut conn = with_entries(alloc)?;
-    run(&mut conn, spoils)?;
-    let before = rows(alloc, &mut conn)?;
-    let mut conn = refused(rt, alloc, conn, expected)?;
-    let after = rows(alloc, &mut conn)?;
+fn refuses(rt: &impl Abort, alloc: Global, spoils: &str, expected: OpenFault) {
+    let mut conn = with_entries(rt, alloc);
+    run(&mut conn, spoils).expect(rt, "a run");
+    let before = rows(rt, alloc, &mut conn);
+    let mut conn = refused(rt, alloc, conn, expected);
+    let after = rows(rt, alloc, &mut conn);
     assert_eq!(rt; after.as_str(), before.as_str(), "{spoils}");
-    Ok(())
 }
 
 #[test]
-fn a_refused_journal_is_handed_back(rt: HostRuntime) -> Result<(), Fail> {
+fn a_refused_journal_is_handed_back(rt: HostRuntime) {
     for (spoils, expected) in SPOILS {
-        refuses(&rt, rt.alloc(), spoils, *expected)?;
+        refuses(&rt, rt.alloc(), spoils, *expected);
     }
-    Ok(())
 }
 
 #[test]
-fn a_journal_that_failed_once_is_opened(rt: HostRuntime) -> Result<(), Fail> {
-    let mut conn = with_entries(rt.alloc())?;
+fn a_journal_that_failed_once_is_opened(rt: HostRuntime) {
+    let mut conn = with_entries(&rt, rt.alloc());
     limit(&mut conn, Some(1));
-    let mut conn = refused(&rt, rt.alloc(), conn, OpenFault::Store)?;
+    let mut conn = refused(&rt, rt.alloc(), conn, OpenFault::Store);
     limit(&mut conn, None);
-    let mut conn = close(opened(rt.alloc(), conn)?);
-    let rows = rows(rt.alloc(), &mut conn)?;
+    let mut conn = close(opened(&rt, rt.alloc(), conn));
+    let rows = rows(&rt, rt.alloc(), &mut conn);
     assert_eq!(rt; rows.as_str(), KEPT);
-    Ok(())
 }

@@ -5,82 +5,104 @@ use provider_core::{MemoryRegistry, Provider};
 use scim_key::RecordName;
 use source_csv::{SourceRows, read_groups, read_users};
 use std::alloc::Global;
-use std::test::Fail;
+use std::process::Abort;
 
 /// The records of a file of users and of one of groups, and whether exchanges follow.
 pub type Run = (&'static str, &'static str, bool);
 
 /// Offers rows together.
 fn offers_all<J: Journal>(
+    rt: &impl Abort,
     alloc: Global,
     connector: &mut Connector<J>,
     records: &SourceRows,
-) -> Result<(), Fail> {
+) {
     let mut rows = Vec::new(alloc);
     for record in records.as_slice() {
         match record {
-            Ok(row) => rows.push(row.clone()?)?,
-            Err(_) => return Err(Fail::from("no row")),
+            Ok(row) => rows
+                .push(row.clone().expect(rt, "memory"))
+                .expect(rt, "memory"),
+            Err(_) => panic!(rt; "no row"),
         }
     }
-    for verdict in connector.change_all(rows)? {
-        verdict?;
+    for verdict in connector.change_all(rows).expect(rt, "verdicts") {
+        verdict.expect(rt, "a verdict");
     }
-    Ok(())
 }
 
 /// Offers rows one by one.
-fn offers<J: Journal>(connector: &mut Connector<J>, rows: &SourceRows) -> Result<(), Fail> {
+fn offers<J: Journal>(rt: &impl Abort, connector: &mut Connector<J>, rows: &SourceRows) {
     for row in rows.as_slice() {
         match row {
-            Ok(row) => connector.change(row.clone()?)?,
-            Err(_) => return Err(Fail::from("no row")),
+            Ok(row) => connector
+                .change(row.clone().expect(rt, "memory"))
+                .expect(rt, "a verdict"),
+            Err(_) => panic!(rt; "no row"),
         };
     }
-    Ok(())
 }
 
 fn exchange<J: Journal>(
+    rt: &impl Abort,
     alloc: Global,
     connector: &mut Connector<J>,
     provider: &mut Provider<MemoryRegistry>,
     name: &RecordName,
-) -> Result<(), Fail> {
-    if let Ask::Send(request) = connector.ask(name)? {
-        let answer = provider.answer(alloc, &request)?;
-        connector.learn(&request, &answer)?;
+) {
+    if let Ask::Send(request) = connector.ask(name).expect(rt, "a request") {
+        let answer = provider.answer(alloc, &request).expect(rt, "an answer");
+        connector
+            .learn(&request, &answer)
+            .expect(rt, "it is learnt");
     }
-    Ok(())
 }
 
 /// Offers the users of a run together and its groups one by one, and makes three exchanges for each record where they follow.
 pub fn runs<J: Journal>(
+    rt: &impl Abort,
     alloc: Global,
     connector: &mut Connector<J>,
     provider: &mut Provider<MemoryRegistry>,
     run: &Run,
-) -> Result<(), Fail> {
+) {
     let (users, groups, follows) = run;
-    let users = format!(in alloc; "login,revision,number,given,family,mail,status\n{users}")?;
-    let groups = format!(in alloc; "name,revision,members\n{groups}")?;
-    offers_all(alloc, connector, &read_users(alloc, users.as_bytes())?)?;
-    offers(connector, &read_groups(alloc, groups.as_bytes())?)?;
+    let users = format!(in alloc; "login,revision,number,given,family,mail,status\n{users}").expect(
+        rt, "memory",
+    );
+    let groups = format!(in alloc; "name,revision,members\n{groups}").expect(rt, "memory");
+    offers_all(
+        rt,
+        alloc,
+        connector,
+        &read_users(alloc, users.as_bytes()).expect(rt, "a file"),
+    );
+    offers(
+        rt,
+        connector,
+        &read_groups(alloc, groups.as_bytes()).expect(rt, "a file"),
+    );
     if !*follows {
-        return Ok(());
+        return;
     }
-    for name in connector.names()?.as_slice() {
+    for name in connector.names().expect(rt, "memory").as_slice() {
         for _ in 0..3 {
-            exchange(alloc, connector, provider, name)?;
+            exchange(rt, alloc, connector, provider, name);
         }
     }
-    Ok(())
 }
 
 /// The entries of a journal, each in a line.
-pub fn entries<J: Journal>(alloc: Global, journal: &mut J) -> Result<String, Fail> {
+pub fn entries<J: Journal>(rt: &impl Abort, alloc: Global, journal: &mut J) -> String {
     let mut lines = String::new(alloc);
-    for entry in journal.load()?.as_slice() {
-        lines.push_str(format!(in alloc; "{entry:?}\n")?.as_str())?;
+    for entry in journal.load().expect(rt, "entries").as_slice() {
+        lines
+            .push_str(
+                format!(in alloc; "{entry:?}\n")
+                    .expect(rt, "memory")
+                    .as_str(),
+            )
+            .expect(rt, "memory");
     }
-    Ok(lines)
+    lines
 }

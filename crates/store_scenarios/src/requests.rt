@@ -5,7 +5,6 @@ use scim_key::Base;
 use scim_server::{Served, serve};
 use std::alloc::Global;
 use std::process::Abort;
-use std::test::Fail;
 
 /// The first lines of a request, and its body.
 pub type Request = (&'static str, &'static str);
@@ -40,21 +39,24 @@ pub const LIST_GROUPS: Request = ("GET /v2/Groups HTTP/1.1", "");
 
 /// The status of an answer, or none, and its text.
 pub fn answer<R: Registry>(
+    rt: &impl Abort,
     alloc: Global,
     provider: &mut Provider<R>,
     request: &Request,
-) -> Result<(Served, String), Fail> {
+) -> (Served, String) {
     let (lines, body) = request;
     let length = body.len();
     let text = format!(in alloc;
         "{lines}\r\nHost: localhost:8080\r\nContent-Length: {length}\r\n\r\n{body}"
-    )?;
-    let base = Base::read(alloc, "http://localhost:8080/v2")?;
+    ).expect(rt, "memory");
+    let base = Base::read(alloc, "http://localhost:8080/v2").expect(rt, "a base");
     let mut reader = Input::new(text.as_bytes());
     let mut writer = Output::new(Vec::new(alloc));
     let served = serve(alloc, provider, &base, &mut reader, &mut writer);
-    let written = String::from_utf8(writer.into_inner()).map_err(|_| "not a text")?;
-    Ok((served, written))
+    let written = String::from_utf8(writer.into_inner())
+        .map_err(|_| "not a text")
+        .expect(rt, "memory");
+    (served, written)
 }
 
 /// Asserts what a provider answers.
@@ -63,10 +65,9 @@ pub fn answers<R: Registry>(
     alloc: Global,
     provider: &mut Provider<R>,
     asked: &Asked,
-) -> Result<(), Fail> {
+) {
     let (request, status, part) = asked;
-    let (served, text) = answer(alloc, provider, request)?;
+    let (served, text) = answer(rt, alloc, provider, request);
     assert_eq!(rt; served, Served::Answered { status: *status });
     assert!(rt; text.as_str().contains(*part), "{part}");
-    Ok(())
 }

@@ -8,7 +8,6 @@ use provider_store::{OpenFault, SqlRegistry};
 use sqlite::{Alter, Connection, MemStore};
 use std::alloc::Global;
 use std::process::Abort;
-use std::test::Fail;
 
 static ASKED: &[Asked] = &[
     (FIND_BOB, 200, "\"totalResults\":0}"),
@@ -47,10 +46,10 @@ fn open<S: Alter>(
 }
 
 /// Opens a store that isn't refused.
-fn opened<S: Alter + Drop>(alloc: Global, conn: Connection<S>) -> Result<SqlRegistry<S>, Fail> {
+fn opened<S: Alter + Drop>(rt: &impl Abort, alloc: Global, conn: Connection<S>) -> SqlRegistry<S> {
     match open(alloc, conn) {
-        Ok(registry) => Ok(registry),
-        Err((fault, _conn)) => Err(Fail::from(fault)),
+        Ok(registry) => registry,
+        Err((fault, _conn)) => panic!(rt; "{fault}"),
     }
 }
 
@@ -60,8 +59,9 @@ fn close<S: Alter>(registry: SqlRegistry<S>) -> Connection<S> {
 }
 
 /// The rows of a store, each in a line.
-fn rows<S: Alter>(alloc: Global, conn: &mut Connection<S>) -> Result<String, Fail> {
+fn rows<S: Alter>(rt: &impl Abort, alloc: Global, conn: &mut Connection<S>) -> String {
     shown(
+        rt,
         alloc,
         conn,
         "SELECT number || ' ' || kind || ' ' || name_key || ' ' || version || ' ' || content FROM resource ORDER BY number",
@@ -74,48 +74,38 @@ fn turn<S: Alter + Drop>(
     alloc: Global,
     conn: Connection<S>,
     asked: &Asked,
-) -> Result<Connection<S>, Fail> {
-    let mut provider = Provider::new(opened(alloc, conn)?);
-    let told = answers(rt, alloc, &mut provider, asked);
-    let conn = close(provider.close());
-    told?;
-    Ok(conn)
+) -> Connection<S> {
+    let mut provider = Provider::new(opened(rt, alloc, conn));
+    answers(rt, alloc, &mut provider, asked);
+    close(provider.close())
 }
 
 #[test]
-fn rows_are_kept_where_a_store_is_closed(rt: HostRuntime) -> Result<(), Fail> {
-    let mut conn = Connection::open_in_memory(rt.alloc())?;
+fn rows_are_kept_where_a_store_is_closed(rt: HostRuntime) {
+    let mut conn = Connection::open_in_memory(rt.alloc()).expect(&rt, "a connection");
     for asked in ASKED {
-        conn = turn(&rt, rt.alloc(), conn, asked)?;
+        conn = turn(&rt, rt.alloc(), conn, asked);
     }
-    let rows = rows(rt.alloc(), &mut conn)?;
+    let rows = rows(&rt, rt.alloc(), &mut conn);
     assert_eq!(rt; rows.as_str(), KEPT);
-    Ok(())
 }
 
 /// Requests to a provider whose store is tested again after each.
-fn asks_and_reopens<R: Reopen>(
-    rt: &impl Abort,
-    alloc: Global,
-    provider: &mut Provider<R>,
-) -> Result<(), Fail> {
+fn asks_and_reopens<R: Reopen>(rt: &impl Abort, alloc: Global, provider: &mut Provider<R>) {
     for asked in ASKED {
-        answers(rt, alloc, provider, asked)?;
-        provider.reopen()?;
+        answers(rt, alloc, provider, asked);
+        provider.reopen().expect(rt, "it is opened");
     }
-    Ok(())
 }
 
 #[test]
-fn rows_are_kept_where_a_store_is_reopened(rt: HostRuntime) -> Result<(), Fail> {
-    let conn = Connection::open_in_memory(rt.alloc())?;
-    let mut provider = Provider::new(opened(rt.alloc(), conn)?);
-    let told = asks_and_reopens(&rt, rt.alloc(), &mut provider);
+fn rows_are_kept_where_a_store_is_reopened(rt: HostRuntime) {
+    let conn = Connection::open_in_memory(rt.alloc()).expect(&rt, "a connection");
+    let mut provider = Provider::new(opened(&rt, rt.alloc(), conn));
+    asks_and_reopens(&rt, rt.alloc(), &mut provider);
     let mut conn = close(provider.close());
-    told?;
-    let rows = rows(rt.alloc(), &mut conn)?;
+    let rows = rows(&rt, rt.alloc(), &mut conn);
     assert_eq!(rt; rows.as_str(), KEPT);
-    Ok(())
 }
 
 /// What spoils the store with those rows, and the fault of its opening, with the number of a row.
@@ -138,12 +128,12 @@ static SPOILS: &[(&str, OpenFault)] = &[
 ];
 
 /// A connection to a store with those rows.
-fn with_rows(rt: &impl Abort, alloc: Global) -> Result<Connection<MemStore>, Fail> {
-    let mut conn = Connection::open_in_memory(alloc)?;
+fn with_rows(rt: &impl Abort, alloc: Global) -> Connection<MemStore> {
+    let mut conn = Connection::open_in_memory(alloc).expect(rt, "a connection");
     for asked in ASKED {
-        conn = turn(rt, alloc, conn, asked)?;
+        conn = turn(rt, alloc, conn, asked);
     }
-    Ok(conn)
+    conn
 }
 
 /// Asserts that an opening is refused with this fault.
@@ -152,46 +142,43 @@ fn refused(
     alloc: Global,
     conn: Connection<MemStore>,
     expected: OpenFault,
-) -> Result<Connection<MemStore>, Fail> {
+) -> Connection<MemStore> {
     match open(alloc, conn) {
         Ok(registry) => {
             let _conn = close(registry);
-            Err(Fail::from("opened"))
+            panic!(rt; "opened")
         }
         Err((fault, conn)) => {
             assert_eq!(rt; fault, expected);
-            Ok(conn)
+            conn
         }
     }
 }
 
 /// Asserts that the spoilt store is refused, and has the rows that it had.
-fn refuses(rt: &impl Abort, alloc: Global, spoils: &str, expected: OpenFault) -> Result<(), Fail> {
-    let mut conn = with_rows(rt, alloc)?;
-    run(&mut conn, spoils)?;
-    let before = rows(alloc, &mut conn)?;
-    let mut conn = refused(rt, alloc, conn, expected)?;
-    let after = rows(alloc, &mut conn)?;
+fn refuses(rt: &impl Abort, alloc: Global, spoils: &str, expected: OpenFault) {
+    let mut conn = with_rows(rt, alloc);
+    run(&mut conn, spoils).expect(rt, "a run");
+    let before = rows(rt, alloc, &mut conn);
+    let mut conn = refused(rt, alloc, conn, expected);
+    let after = rows(rt, alloc, &mut conn);
     assert_eq!(rt; after.as_str(), before.as_str(), "{spoils}");
-    Ok(())
 }
 
 #[test]
-fn a_refused_store_is_handed_back(rt: HostRuntime) -> Result<(), Fail> {
+fn a_refused_store_is_handed_back(rt: HostRuntime) {
     for (spoils, expected) in SPOILS {
-        refuses(&rt, rt.alloc(), spoils, *expected)?;
+        refuses(&rt, rt.alloc(), spoils, *expected);
     }
-    Ok(())
 }
 
 #[test]
-fn a_store_that_failed_once_is_opened(rt: HostRuntime) -> Result<(), Fail> {
-    let mut conn = with_rows(&rt, rt.alloc())?;
+fn a_store_that_failed_once_is_opened(rt: HostRuntime) {
+    let mut conn = with_rows(&rt, rt.alloc());
     limit(&mut conn, Some(1));
-    let mut conn = refused(&rt, rt.alloc(), conn, OpenFault::Store)?;
+    let mut conn = refused(&rt, rt.alloc(), conn, OpenFault::Store);
     limit(&mut conn, None);
-    let mut conn = close(opened(rt.alloc(), conn)?);
-    let rows = rows(rt.alloc(), &mut conn)?;
+    let mut conn = close(opened(&rt, rt.alloc(), conn));
+    let rows = rows(&rt, rt.alloc(), &mut conn);
     assert_eq!(rt; rows.as_str(), KEPT);
-    Ok(())
 }
