@@ -5,17 +5,22 @@ function of the crate NAME.
 tests/edits.py                    tries those of every crate
 tests/edits.py NAME..             tries those of these crates
 tests/edits.py --further NAME..   tries those of edits/NAME/further too, which the gate leaves out
-tests/edits.py --apply            says only which of them don't apply to the sources, and which crate's
+tests/edits.py --apply            tries none: says which of them don't apply to the sources, which
+                                  crate's weren't all refused since its sources changed, and which
                                   joined file isn't the one that --join writes
-tests/edits.py --join             writes those of a crate that can be tried together into the one
+tests/edits.py --join NAME..      writes those of a crate that can be tried together into the one
                                   file that `rt ci` tries, crates/NAME/must-fail/together.edit
 
 It needs the libraries that `rt ci`, or `rt all check`, has built. The edits of a crate are tried
 together, as long as no two of them touch one function: each must be refused by a goal of its own
 function, so none is refused by another's fault. An edit that touches no function (a constant, a
 definition) is tried alone, and anything of the crate may refuse it.
+
+Where all of a crate's are refused, edits/refused.txt is given a sum over them and over the code,
+the definitions and the proofs that they were tried with, comments left out.
 """
 import concurrent.futures
+import hashlib
 import os
 import pathlib
 import re
@@ -26,6 +31,9 @@ import tempfile
 
 ROOT = pathlib.Path(__file__).resolve().parent.parent
 PARTS = ("src", "specs", "proofs")
+REFUSED = ROOT / "edits/refused.txt"
+HEAD_OF_REFUSED = "# of each crate: a sum over its texts and its edits, all of which the prover refused; tests/edits.py writes it"
+COMMENT = re.compile(r"^\s*(//|--( |$)).*\n|^\s*\n", re.M)
 # what says that a goal of a function isn't proved: a place in its code, or in its own proofs
 IN_CODE = re.compile(r"^note: (?:\./)?(src/\S+\.rt):(\d+):\d+: it is not proved", re.M)
 IN_PROOF = re.compile(r"^(?:\./)?proofs/(\S+)/[A-Z]\w*\.antt:\d+:\d+: error(.*)", re.M)
@@ -194,7 +202,7 @@ def tried(name, edits):
             said = checked(check, told, kept)
             for it in check:
                 answer = judged(it, said)
-                if len(check) > 1 and is_judged(said) and (not answer[1] or ONLY_BY_NAMES in answer[0]):
+                if len(check) > 1 and is_judged(said) and not answer[1]:
                     # a proof that isn't read beside it can keep the prover from its goals
                     answer = judged(it, checked([it], told, kept))
                 answers.append(answer)
@@ -212,7 +220,7 @@ def judged(edit, said):
         said_last = said.strip().splitlines()[-1:] or ["nothing"]
         return f"{edit.name}: not tried: {said_last[0][:200]}", False
     by = refusal(edit, said)
-    return (f"{edit.name}: refused by {by}" if by else f"{edit.name}: NOT REFUSED"), bool(by)
+    return f"{edit.name}: refused by {by}" if by else f"{edit.name}: NOT REFUSED", bool(by) and ONLY_BY_NAMES not in by
 
 
 def joined(edits):
@@ -245,40 +253,82 @@ def joined_file(crate):
     return ROOT / "crates" / crate / "must-fail/together.edit"
 
 
-def stale(every):
+def stale(edits):
     """The crates whose joined file isn't the one of their edits."""
+    there = (it for it in edits if joined_file(it).is_file())
+    return [it for it in there if joined_file(it).read_text(encoding="utf-8") != joined(edits[it])]
+
+
+def sum_of(crate, edits):
+    """A sum over a crate's texts, without their comments, and over its edits."""
+    files = [it for part in PARTS for it in sorted((ROOT / "crates" / crate / part).rglob("*")) if it.is_file()]
+    texts = [(it.relative_to(ROOT), COMMENT.sub("", it.read_text(encoding="utf-8"))) for it in files]
+    texts += [(it.path.relative_to(ROOT), it.path.read_text(encoding="utf-8")) for it in edits]
+    told = hashlib.sha256()
+    for name, text in texts:
+        told.update(f"{name} {len(text)}\n{text}".encode())
+    return told.hexdigest()[:32]
+
+
+def refused_sums():
+    """The sums of the crates whose edits were all refused."""
+    lines = REFUSED.read_text(encoding="utf-8").splitlines() if REFUSED.is_file() else []
+    return dict(it.split() for it in lines if it and not it.startswith("#"))
+
+
+def keep_refused(edits, crate, told):
+    """Keeps that the edits of a crate were refused over the texts with this sum."""
+    sums = refused_sums() | {crate: told}
+    lines = [HEAD_OF_REFUSED, *(f"{it} {sums[it]}" for it in sorted(sums) if it in edits)]
+    REFUSED.write_text("".join(f"{it}\n" for it in lines), encoding="utf-8")
+
+
+def by_crate(every):
+    """The edits of each crate, but for the further ones."""
     edits = {}
     for it in every:
         if not it.is_further:
             edits.setdefault(it.crate, []).append(it)
-    there = (it for it in edits if joined_file(it).is_file())
-    return [it for it in there if joined_file(it).read_text(encoding="utf-8") != joined(edits[it])]
+    return edits
+
+
+def untried(edits):
+    """The crates whose edits weren't all refused with the texts that stand there."""
+    sums = refused_sums()
+    return [it for it in edits if sums.get(it) != sum_of(it, edits[it])]
 
 
 def main(names):
     every = [Edit(it) for it in sorted(ROOT.glob("edits/**/*.edit"))]
     faults = [f"{it.name}: {it.fault()}" for it in every if it.fault()]
+    edits = by_crate(every)
     if not faults and names == ["--apply"]:
-        faults = [f"{it}: the joined file is another than tests/edits.py --join {it} writes" for it in stale(every)]
+        faults = [f"{it}: the joined file is another than tests/edits.py --join {it} writes" for it in stale(edits)]
+        faults += [f"{it}: not all of its wrong programs were tried as it stands: tests/edits.py {it}" for it in untried(edits)]
     print(*faults, sep="\n", end="\n" if faults else "")
     if faults or names == ["--apply"]:
         return bool(faults)
-    edits, has_further = {}, "--further" in names
-    for it in every:
-        if has_further or not it.is_further:
-            edits.setdefault(it.crate, []).append(it)
     if "--join" in names:
         return join({it: edits[it] for it in names if it in edits})
-    names = [it for it in names if it != "--further"]
-    chosen = [it for it in edits if it in names or not names]
+    chosen = [it for it in edits if it in names or not {*names} - {"--further"}]
+    tries = {it: [edit for edit in every if edit.crate == it and (not edit.is_further or "--further" in names)] for it in chosen}
+    return try_all(edits, tries)
+
+
+def try_all(edits, tries):
+    """Tries these edits of each crate, several crates at once."""
     size = lambda it: sum(file.stat().st_size for file in (ROOT / "crates" / it).rglob("*.[ra]*t*") if "out" not in file.parts)
+    sums = {it: sum_of(it, edits[it]) for it in tries}
     failed = total = 0
     with concurrent.futures.ThreadPoolExecutor(len(os.sched_getaffinity(0))) as pool:
-        runs = [pool.submit(tried, it, edits[it]) for it in sorted(chosen, key=size, reverse=True)]
+        runs = {pool.submit(tried, it, tries[it]): it for it in sorted(tries, key=size, reverse=True)}
         for run in concurrent.futures.as_completed(runs):
-            for line, is_refused in run.result():
-                print(line, flush=True)
-                failed, total = failed + (not is_refused), total + 1
+            answers = run.result()
+            print(*(line for line, _ in answers), sep="\n", flush=True)
+            left = sum(not is_refused for _, is_refused in answers)
+            failed, total = failed + left, total + len(answers)
+            if not left:
+                keep_refused(edits, runs[run], sums[runs[run]])
     print(f"{total - failed} of {total} wrong programs refused, each by its own function")
     return bool(failed)
 
