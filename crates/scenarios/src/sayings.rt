@@ -44,9 +44,7 @@ fn tag_line(rt: &impl Abort, alloc: Global, tag: Option<&EntityTag>) -> String {
     match tag {
         Some(tag) => {
             let text = Vec::from_slice(alloc, tag.text()).expect(rt, "memory");
-            String::from_utf8(text)
-                .map_err(|_| "not a text")
-                .expect(rt, "memory")
+            String::from_utf8(text).ok().expect(rt, "a text")
         }
         None => String::from_str(alloc, "-").expect(rt, "memory"),
     }

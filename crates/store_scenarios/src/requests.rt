@@ -54,8 +54,8 @@ pub fn answer<R: Registry>(
     let mut writer = Output::new(Vec::new(alloc));
     let served = serve(alloc, provider, &base, &mut reader, &mut writer);
     let written = String::from_utf8(writer.into_inner())
-        .map_err(|_| "not a text")
-        .expect(rt, "memory");
+        .ok()
+        .expect(rt, "a text");
     (served, written)
 }
 
