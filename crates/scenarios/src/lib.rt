@@ -1,4 +1,4 @@
-//! The worked examples, as tests over whole connections.
+//! The worked examples, as tests over texts, whole connections, the connector's calls, stores and streams.
 #![tactic(auto)]
 
 #[cfg(test)]
@@ -7,6 +7,10 @@ mod answers;
 mod client;
 #[cfg(test)]
 mod codes;
+#[cfg(test)]
+mod connections;
+#[cfg(test)]
+mod connector;
 #[cfg(test)]
 mod creating;
 #[cfg(test)]
@@ -19,6 +23,8 @@ mod index;
 mod limits;
 #[cfg(test)]
 mod lines;
+#[cfg(test)]
+mod readings;
 #[cfg(test)]
 mod refusing;
 #[cfg(test)]
@@ -33,6 +39,8 @@ mod sayings;
 mod scripts;
 #[cfg(test)]
 mod searching;
+#[cfg(test)]
+mod stores;
 #[cfg(test)]
 mod streams;
 #[cfg(test)]

@@ -1,0 +1,175 @@
+-- The exit status of a run, and what leads to it.
+use Rattle.std.specs.Prelude.{ℕ, Bool, true, false, List, Result, Ok, Err, is_ok, if◌then◌else◌, ◌&&◌}
+use Rattle.std.specs.List.{list_all}
+use Rattle.clap.specs.declared.error.kind.ErrorKind.{ErrorKind}
+use Rattle.clap.specs.declared.error.kind.ErrorKind.TheVariants as kind
+use Rattle.scim_key.specs.declared.names.NameFault.{NameFault}
+use Rattle.scim_key.specs.declared.names.NameFault.TheVariants as name
+use Rattle.scim_server.specs.declared.serving.Served.{Served}
+use Rattle.scim_server.specs.declared.serving.Served.TheVariants.{Answered, NoRequest, Lost}
+use Rattle.connection.specs.declared.serving.ConnectionFault.{ConnectionFault}
+use Rattle.provider_store.specs.declared.opening.OpenFault.{OpenFault}
+use Rattle.provider_store.specs.declared.opening.OpenFault.TheVariants as opening
+use Rattle.journal_store.specs.declared.opening.OpenFault.{OpenFault as JournalOpenFault}
+use Rattle.journal_store.specs.declared.opening.OpenFault.TheVariants as journal
+use Rattle.journal_file.specs.declared.showing.ShowFault.{ShowFault as ShowJournalFault}
+use Rattle.journal_file.specs.declared.showing.ShowFault.TheVariants as show_journal
+use Rattle.provider_file.specs.declared.showing.ShowFault.{ShowFault}
+use Rattle.provider_file.specs.declared.showing.ShowFault.TheVariants as show
+use Rattle.source_csv.specs.declared.faults.RowFault.{RowFault}
+use Rattle.source_csv.specs.declared.faults.SourceFault.{SourceFault}
+use Rattle.source_csv.specs.declared.faults.SourceFault.TheVariants as source
+use Rattle.source_csv.specs.declared.rows.Row.{Row}
+use Rattle.mapping.specs.declared.lines.WriteFault.{WriteFault}
+use Rattle.mapping.specs.declared.lines.WriteFault.TheVariants as write
+use Rattle.scim_key.specs.Revisions.{same_revision}
+use Rattle.world_sim.specs.declared.reports.Report.{Report}
+use Rattle.world_sim.specs.declared.reports.Report.TheVariants as report
+use Rattle.world_sim.specs.declared.reports.WorldFault.{WorldFault}
+use Rattle.world_sim.specs.declared.reports.WorldFault.TheVariants as world
+use Rattle.world_sim.specs.declared.schedules.ScheduleFault.{ScheduleFault}
+use Rattle.world_sim.specs.declared.schedules.ScheduleFault.TheVariants as schedule
+use Rattle.world_sim.specs.declared.views.View.{View}
+use Rattle.provisioning.specs.declared.faults.PushFault.TheVariants as push
+use Rattle.source_offers.specs.declared.faults.OfferFault.{OfferFault}
+use Rattle.source_offers.specs.declared.faults.OfferFault.TheVariants as offer
+use Rattle.sync_runs.specs.Carrying.{is_done}
+use Rattle.sync_runs.specs.declared.carrying.Outcome.{Outcome}
+use Rattle.sync_runs.specs.declared.faults.RunFault.{RunFault as LoopFault}
+use Rattle.sync_runs.specs.declared.faults.RunFault.TheVariants as looping
+use Rattle.commands.specs.declared.status.RunFault.{RunFault}
+use Rattle.commands.specs.declared.status.RunFault.TheVariants as fault
+use Rattle.commands.specs.declared.status.Status.{Status}
+use Rattle.commands.specs.declared.status.Status.TheVariants.{Done, Refused, Usage, Fault}
+
+abbrev pub status_code : Status → ℕ
+status_code Done = 0
+status_code Refused = 1
+status_code Usage = 2
+status_code Fault = 3
+
+-- a run that a fault ended
+abbrev pub fault_status : RunFault → Status
+fault_status fault.Words = Usage
+fault_status fault.Subcommand = Usage
+fault_status fault.Base = Usage
+fault_status fault.Address = Usage
+fault_status fault.Requests = Usage
+fault_status fault.Show = Usage
+fault_status (fault.Users source.Header) = Refused
+fault_status (fault.Users source.Memory) = Fault
+fault_status (fault.Schedule (schedule.Line number)) = Refused
+fault_status (fault.Schedule schedule.Memory) = Fault
+fault_status fault.Store = Fault
+fault_status (fault.StoreFile why) = Fault
+fault_status (fault.JournalFile why) = Fault
+fault_status fault.File = Fault
+fault_status (fault.Connection why) = Fault
+fault_status (fault.Push why) = Fault
+fault_status fault.Memory = Fault
+
+-- What the parser of the command line told in place of a choice: help and the version are no fault, but where they
+-- couldn't be printed
+abbrev pub words_status : ErrorKind → (is_printed : Bool) → Status
+words_status kind.OutOfMemory printed = Fault
+words_status kind.DisplayHelp true = Done
+words_status kind.DisplayHelp false = Fault
+words_status kind.DisplayVersion true = Done
+words_status kind.DisplayVersion false = Fault
+words_status other printed = Usage
+
+-- a base that isn't read
+abbrev pub base_fault : NameFault → RunFault
+base_fault name.Memory = fault.Memory
+base_fault other = fault.Base
+
+-- a connection is done where a response was written whole
+abbrev pub served_status : Served → Result Status RunFault
+served_status (Answered status) = Ok Done
+served_status (NoRequest why) = Err (fault.Connection (record {}))
+served_status (Lost status) = Err (fault.Connection (record {}))
+
+-- a file of rows that isn't opened, or failed
+abbrev pub store_fault : OpenFault → RunFault
+store_fault opening.Memory = fault.Memory
+store_fault why = fault.StoreFile why
+
+-- rows that weren't shown whole
+abbrev pub show_fault : ShowFault → RunFault
+show_fault (show.Store why) = store_fault why
+show_fault show.Output = fault.File
+
+-- the file of a journal that isn't opened, or failed
+abbrev pub journal_fault : JournalOpenFault → RunFault
+journal_fault journal.Memory = fault.Memory
+journal_fault why = fault.JournalFile why
+
+-- entries that weren't shown whole
+abbrev pub show_journal_fault : ShowJournalFault → RunFault
+show_journal_fault (show_journal.Journal why) = journal_fault why
+show_journal_fault show_journal.Output = fault.File
+
+-- each fault of these connections was told when it came
+abbrev pub outcome_status : Result (Unit {0}) ConnectionFault → Status
+outcome_status (Ok done) = Done
+outcome_status (Err why) = Fault
+
+-- a file of users that gives no rows
+abbrev pub users_fault : SourceFault → RunFault
+users_fault source.Header = fault.Users source.Header
+users_fault source.Memory = fault.Memory
+
+-- lines that weren't written whole
+abbrev pub lines_fault : WriteFault → RunFault
+lines_fault write.Memory = fault.Memory
+lines_fault write.Output = fault.File
+
+-- every record was read as a row
+abbrev pub are_rows : List (Result Row RowFault) → Bool
+are_rows records = list_all is_ok records
+
+-- all is done where no record of a file is refused
+abbrev pub records_status : List (Result Row RowFault) → Status
+records_status records = if are_rows records then Done else Refused
+
+-- a schedule that gives no events
+abbrev pub schedule_fault : ScheduleFault → RunFault
+schedule_fault (schedule.Line number) = fault.Schedule (schedule.Line number)
+schedule_fault schedule.Memory = fault.Memory
+
+-- a world that came to an end
+abbrev pub world_fault : WorldFault → RunFault
+world_fault world.Memory = fault.Memory
+world_fault world.Store = fault.Store
+
+-- an event that isn't a row which the connector refuses
+abbrev pub is_taken : Report → Bool
+is_taken (report.Judged (Err why)) = false
+is_taken other = true
+
+-- a record whose wanted revision is confirmed
+abbrev pub is_confirmed : View → Bool
+is_confirmed view = same_revision view.confirmed view.wanted
+
+-- all is done where no row was refused and every record is confirmed in the end
+abbrev pub simulated_status : List Report → List View → Status
+simulated_status reports views = if list_all is_taken reports && list_all is_confirmed views then Done else Refused
+
+-- what ended a run while its rows were read and offered
+abbrev pub offer_fault : OfferFault → RunFault
+offer_fault offer.Journal = fault.Push push.Journal
+offer_fault offer.File = fault.File
+offer_fault offer.Memory = fault.Memory
+
+-- what ended a run with a provider of its own
+abbrev pub loop_fault : LoopFault → RunFault
+loop_fault (looping.Ended why) = fault.Push why
+loop_fault looping.Store = fault.StoreFile opening.Store
+
+-- a run of the connector is done where nothing was refused and every record is confirmed
+abbrev pub carried_status : Outcome → Status
+carried_status outcome = if is_done outcome then Done else Refused
+
+abbrev pub run_status : Result Outcome LoopFault → Result Status RunFault
+run_status (Ok outcome) = Ok (carried_status outcome)
+run_status (Err why) = Err (loop_fault why)

@@ -1,0 +1,68 @@
+//! `answer`: one request from standard input, answered on standard output.
+ghost use Rattle.std.specs.Prelude.{◌≡◌, IfOk};
+ghost use Rattle.commands.specs.Connections.{AnswersOne, AnswersStored};
+ghost use Rattle.commands.specs.Statuses.{served_status};
+
+use crate::status::{RunFault, Status};
+use connection::answered;
+use http_text::{Input, Output};
+use provider_core::{MemoryRegistry, Provider};
+use provider_file::{Storage, serve_one};
+use scim_key::Base;
+use scim_server::{Served, serve};
+use std::alloc::Global;
+use std::io;
+use std::io::{Read, Write};
+use std::rt::Runtime;
+
+/// Answers one request from standard input, over the rows of a file or an empty provider in memory.
+pub fn answer<R: Runtime + AllocGlobal, K: Storage>(
+    rt: &R,
+    base: &Base,
+    store: Option<&K>,
+) -> Result<Status, RunFault> {
+    let mut reader = Input::new(rt.reader());
+    let mut writer = Output::new(io::writer(rt));
+    match store {
+        Some(storage) => answer_stored(rt.alloc(), storage, base, &mut reader, &mut writer),
+        None => answer_one(rt.alloc(), base, &mut reader, &mut writer),
+    }
+}
+
+/// Answers one request over rows that are opened before it is read.
+fn answer_stored<K: Storage, I: Read, O: Write>(
+    alloc: Global,
+    storage: &K,
+    base: &Base,
+    reader: &mut Input<I>,
+    writer: &mut Output<O>,
+) -> Result<Status, RunFault>
+    ensures { AnswersStored K.Rows.Registry base.now reader.old reader.new writer.old writer.new result }
+{
+    let served = serve_one(alloc, storage, base, reader, writer)?;
+    served_status(served)
+}
+
+/// Answers one request over an empty provider in memory.
+fn answer_one<I: Read, O: Write>(
+    alloc: Global,
+    base: &Base,
+    reader: &mut Input<I>,
+    writer: &mut Output<O>,
+) -> Result<Status, RunFault>
+    ensures { AnswersOne base.now reader.old reader.new writer.old writer.new result }
+{
+    let mut provider = Provider::new(MemoryRegistry::new(alloc));
+    let served = serve(alloc, &mut provider, base, reader, writer);
+    served_status(served)
+}
+
+/// How a run ends after a connection.
+fn served_status(served: Served) -> Result<Status, RunFault>
+    ensures { result ≡ served_status served }
+{
+    match answered(served) {
+        Ok(()) => Ok(Status::Done),
+        Err(fault) => Err(RunFault::Connection(fault)),
+    }
+}

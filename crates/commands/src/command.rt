@@ -1,0 +1,475 @@
+//! The command line.
+ghost use Rattle.std.specs.Prelude.{◌≡◌, ◌<◌, ◌≤◌, IfOk, Some, codes, string_bytes};
+ghost use Rattle.std.specs.Option.{option_map};
+ghost use Rattle.clap.specs.Matches.{first_value, found_of};
+ghost use Rattle.commands.specs.Statuses.{base_fault, words_status};
+
+use crate::status::{RunFault, Status};
+use clap::error::ErrorKind;
+use clap::{Arg, ArgMatches, Command, Error, value_parser};
+use scim_key::{Base, NameFault};
+use std::alloc::{AllocError, Global};
+use std::env;
+use std::rt::Runtime;
+
+/// How many connections one run serves at most.
+pub(crate) const MOST_REQUESTS: u32 = 1_000_000;
+
+/// The base of a service where the words give none.
+const DEFAULT_BASE: &str = "http://localhost:8080/v2";
+
+/// What the command line asks for: a command, and the files that it keeps its rows in.
+#[derive(Debug, Drop)]
+pub struct Chosen {
+    pub choice: Choice,
+    /// The provider's rows. They are in memory, and none at first, where there is no such file.
+    pub store: Option<String>,
+    /// The connector's journal, likewise.
+    pub journal: Option<String>,
+}
+
+#[derive(Debug, Drop)]
+pub enum Choice {
+    /// One request from standard input is answered on standard output.
+    Answer {
+        base: Base,
+    },
+    /// The records of files are carried to a provider in the same program.
+    Loop {
+        files: SourceFiles,
+        base: Base,
+    },
+    /// The image of each row of a users file is printed.
+    Map {
+        file: String,
+    },
+    /// So many connections to an address are served.
+    Serve {
+        address: String,
+        requests: u32,
+        base: Base,
+    },
+    /// The records of files are carried to the provider at an address.
+    Push {
+        files: SourceFiles,
+        to: String,
+        base: Base,
+    },
+    /// The rows of a provider's store are printed, or the entries of a connector's journal.
+    Show,
+    /// The events of a schedule are run over both sides in memory.
+    Simulate {
+        file: String,
+        base: Base,
+    },
+    /// Help, the version or what is wrong with the words was told, and so the run ends.
+    Told(Status),
+}
+
+/// The files of a source.
+#[derive(Debug, Drop)]
+pub struct SourceFiles {
+    pub users: String,
+    pub groups: Option<String>,
+}
+
+/// The words of the command line. A word that isn't UTF-8 is no lawful one.
+pub fn words<R: Runtime + AllocGlobal>(rt: &R) -> Result<Vec<String>, RunFault> {
+    let words = env::args(rt).map_err(|_| RunFault::Words)?;
+    words.collect(rt.alloc()).map_err(|_| RunFault::Memory)
+}
+
+/// What these words ask for.
+pub fn choose<R: Runtime + AllocGlobal>(rt: &R, words: &[String]) -> Result<Chosen, RunFault> {
+    let command = command(rt.alloc())?;
+    match command.try_get_matches_from(words) {
+        Ok(matches) => chosen_by(rt.alloc(), &matches),
+        Err(error) => tell(rt, error),
+    }
+}
+
+/// The option of the commands that answer requests.
+fn base_option<'a>(alloc: Global) -> Arg<'a> {
+    Arg::new(alloc, "base")
+        .long("base")
+        .value_name("URL")
+        .help("the base of the service: http://HOST/v2")
+        .default_value(DEFAULT_BASE)
+}
+
+/// The option of the commands that keep their rows in a file.
+fn store_option<'a>(alloc: Global) -> Arg<'a> {
+    Arg::new(alloc, "store")
+        .long("store")
+        .value_name("FILE")
+        .help("the file of the provider's rows, made where it isn't there")
+}
+
+/// The option of the commands that keep the connector's journal in a file.
+fn journal_option<'a>(alloc: Global) -> Arg<'a> {
+    Arg::new(alloc, "journal")
+        .long("journal")
+        .value_name("FILE")
+        .help("the file of the connector's journal, made where it isn't there")
+}
+
+fn users_option<'a>(alloc: Global) -> Arg<'a> {
+    Arg::new(alloc, "users")
+        .long("users")
+        .value_name("FILE")
+        .help("the file of users: login,revision,number,given,family,mail,status")
+        .required(true)
+}
+
+fn groups_option<'a>(alloc: Global) -> Arg<'a> {
+    Arg::new(alloc, "groups")
+        .long("groups")
+        .value_name("FILE")
+        .help("the file of groups: name,revision,members")
+}
+
+fn answer_command<'a>(alloc: Global) -> Result<Command<'a>, AllocError> {
+    Command::new(alloc, "answer")
+        .about("answers one HTTP request from standard input on standard output")
+        .arg(base_option(alloc))?
+        .arg(store_option(alloc))
+}
+
+fn loop_command<'a>(alloc: Global) -> Result<Command<'a>, AllocError> {
+    Command::new(alloc, "loop")
+        .about(
+            "carries the records of files to a provider in the same program, over TCP, and prints how each stands",
+        )
+        .arg(users_option(alloc))?
+        .arg(groups_option(alloc))?
+        .arg(base_option(alloc))?
+        .arg(store_option(alloc))?
+        .arg(journal_option(alloc))
+}
+
+fn map_command<'a>(alloc: Global) -> Result<Command<'a>, AllocError> {
+    let file = Arg::new(alloc, "FILE")
+        .help("a users file: login,revision,number,given,family,mail,status")
+        .required(true);
+    Command::new(alloc, "map")
+        .about("prints the SCIM user that each row of a users file asks for, a line each")
+        .arg(file)
+}
+
+fn listen_option<'a>(alloc: Global) -> Arg<'a> {
+    Arg::new(alloc, "listen")
+        .long("listen")
+        .value_name("ADDR")
+        .help("the address to listen on: HOST:PORT, where port 0 takes a free one")
+        .required(true)
+}
+
+fn requests_option<'a>(alloc: Global) -> Arg<'a> {
+    Arg::new(alloc, "requests")
+        .long("requests")
+        .value_name("N")
+        .help("how many connections to serve")
+        .value_parser(value_parser!(u32))
+        .required(true)
+}
+
+fn serve_command<'a>(alloc: Global) -> Result<Command<'a>, AllocError> {
+    Command::new(alloc, "serve")
+        .about("serves HTTP connections to an address, one after another")
+        .arg(listen_option(alloc))?
+        .arg(requests_option(alloc))?
+        .arg(base_option(alloc))?
+        .arg(store_option(alloc))
+}
+
+fn to_option<'a>(alloc: Global) -> Arg<'a> {
+    Arg::new(alloc, "to")
+        .long("to")
+        .value_name("HOST:PORT")
+        .help("the provider's address")
+        .required(true)
+}
+
+fn push_command<'a>(alloc: Global) -> Result<Command<'a>, AllocError> {
+    Command::new(alloc, "push")
+        .about(
+            "carries the records of files to the provider at an address, and prints how each stands",
+        )
+        .arg(users_option(alloc))?
+        .arg(groups_option(alloc))?
+        .arg(journal_option(alloc).required(true))?
+        .arg(to_option(alloc))?
+        .arg(base_option(alloc))
+}
+
+fn show_command<'a>(alloc: Global) -> Result<Command<'a>, AllocError> {
+    Command::new(alloc, "show")
+        .about(
+            "prints the rows of a provider's store, or the entries of a connector's journal, a line each",
+        )
+        .arg(store_option(alloc))?
+        .arg(journal_option(alloc))
+}
+
+fn simulate_command<'a>(alloc: Global) -> Result<Command<'a>, AllocError> {
+    let file = Arg::new(alloc, "FILE")
+        .help(
+            "a schedule: an event a line, as `user bob,1,,,,,active`, `send user bob` or `deliver 1`",
+        )
+        .required(true);
+    Command::new(alloc, "simulate")
+        .about("runs a schedule over both sides in memory: each event's report, then each record")
+        .arg(file)
+}
+
+fn program<'a>(alloc: Global) -> Command<'a> {
+    Command::new(alloc, "scimlink")
+        .version("0.1.0")
+        .about("SCIM 2.0 provisioning, proved")
+        .subcommand_required(true)
+}
+
+fn command<'a>(alloc: Global) -> Result<Command<'a>, AllocError> {
+    let answering = with_subcommand(program(alloc), answer_command(alloc))?;
+    let looping = with_subcommand(answering, loop_command(alloc))?;
+    let mapping = with_subcommand(looping, map_command(alloc))?;
+    let pushing = with_subcommand(mapping, push_command(alloc))?;
+    let serving = with_subcommand(pushing, serve_command(alloc))?;
+    let showing = with_subcommand(serving, show_command(alloc))?;
+    with_subcommand(showing, simulate_command(alloc))
+}
+
+fn with_subcommand<'a>(
+    program: Command<'a>,
+    subcommand: Result<Command<'a>, AllocError>,
+) -> Result<Command<'a>, AllocError> {
+    match subcommand {
+        Ok(subcommand) => program.subcommand(subcommand),
+        Err(fault) => {
+            drop(program);
+            Err(fault)
+        }
+    }
+}
+
+fn chosen_by(alloc: Global, matches: &ArgMatches<'_>) -> Result<Chosen, RunFault> {
+    match matches.subcommand() {
+        Some(("answer", words)) => to_answer(alloc, words),
+        Some(("loop", words)) => to_loop(alloc, words),
+        Some(("map", words)) => without_files(Choice::Map {
+            file: file(alloc, words)?,
+        }),
+        Some(("serve", words)) => to_serve(alloc, words),
+        Some(("push", words)) => to_push(alloc, words),
+        Some(("show", words)) => to_show(alloc, words),
+        Some(("simulate", words)) => to_simulate(alloc, words),
+        _ => Err(RunFault::Subcommand),
+    }
+}
+
+fn to_answer(alloc: Global, words: &ArgMatches<'_>) -> Result<Chosen, RunFault> {
+    Ok(Chosen {
+        store: store(alloc, words)?,
+        journal: None,
+        choice: Choice::Answer {
+            base: base(alloc, words)?,
+        },
+    })
+}
+
+fn to_loop(alloc: Global, words: &ArgMatches<'_>) -> Result<Chosen, RunFault> {
+    Ok(Chosen {
+        store: store(alloc, words)?,
+        journal: journal(alloc, words)?,
+        choice: Choice::Loop {
+            files: source_files(alloc, words)?,
+            base: base(alloc, words)?,
+        },
+    })
+}
+
+fn to_serve(alloc: Global, words: &ArgMatches<'_>) -> Result<Chosen, RunFault> {
+    Ok(Chosen {
+        store: store(alloc, words)?,
+        journal: None,
+        choice: Choice::Serve {
+            address: address(alloc, words)?,
+            requests: requests(words)?,
+            base: base(alloc, words)?,
+        },
+    })
+}
+
+fn to_push(alloc: Global, words: &ArgMatches<'_>) -> Result<Chosen, RunFault> {
+    Ok(Chosen {
+        store: None,
+        journal: journal(alloc, words)?,
+        choice: Choice::Push {
+            files: source_files(alloc, words)?,
+            to: to(alloc, words)?,
+            base: base(alloc, words)?,
+        },
+    })
+}
+
+fn to_show(alloc: Global, words: &ArgMatches<'_>) -> Result<Chosen, RunFault> {
+    Ok(Chosen {
+        store: store(alloc, words)?,
+        journal: journal(alloc, words)?,
+        choice: Choice::Show,
+    })
+}
+
+fn to_simulate(alloc: Global, words: &ArgMatches<'_>) -> Result<Chosen, RunFault> {
+    let base = Base::read(alloc, DEFAULT_BASE).map_err(base_fault)?;
+    without_files(Choice::Simulate {
+        file: file(alloc, words)?,
+        base,
+    })
+}
+
+/// A command that keeps no rows in files.
+fn without_files(choice: Choice) -> Result<Chosen, RunFault> {
+    Ok(Chosen {
+        choice,
+        store: None,
+        journal: None,
+    })
+}
+
+/// The base that the words give, or the one by default.
+fn base(alloc: Global, matches: &ArgMatches<'_>) -> Result<Base, RunFault>
+    ensures { IfOk result
+        (λ base. first_value (found_of matches.now) (codes "base") ≡ Some base) }
+{
+    match matches.get_str("base") {
+        Some(text) => Base::read(alloc, text).map_err(base_fault),
+        None => Err(RunFault::Base),
+    }
+}
+
+/// Why a base isn't read.
+fn base_fault(fault: NameFault) -> RunFault
+    ensures { result ≡ base_fault fault }
+{
+    match fault {
+        NameFault::Memory => RunFault::Memory,
+        _ => RunFault::Base,
+    }
+}
+
+/// The file that the words name.
+fn file(alloc: Global, matches: &ArgMatches<'_>) -> Result<String, RunFault>
+    ensures { IfOk result
+        (λ file. first_value (found_of matches.now) (codes "FILE") ≡ Some (string_bytes file)) }
+{
+    match matches.get_str("FILE") {
+        Some(text) => Ok(String::from_str(alloc, text)?),
+        None => Err(RunFault::File),
+    }
+}
+
+/// The file of users that the words name.
+fn users(alloc: Global, matches: &ArgMatches<'_>) -> Result<String, RunFault>
+    ensures { IfOk result
+        (λ file. first_value (found_of matches.now) (codes "users") ≡ Some (string_bytes file)) }
+{
+    match matches.get_str("users") {
+        Some(text) => Ok(String::from_str(alloc, text)?),
+        None => Err(RunFault::File),
+    }
+}
+
+/// The file of groups that the words name, if they do.
+fn groups(alloc: Global, matches: &ArgMatches<'_>) -> Result<Option<String>, RunFault>
+    ensures { IfOk result
+        (λ file. first_value (found_of matches.now) (codes "groups") ≡ option_map string_bytes file) }
+{
+    match matches.get_str("groups") {
+        Some(text) => Ok(Some(String::from_str(alloc, text)?)),
+        None => Ok(None),
+    }
+}
+
+/// The address that the words name.
+fn address(alloc: Global, matches: &ArgMatches<'_>) -> Result<String, RunFault>
+    ensures { IfOk result
+        (λ address. first_value (found_of matches.now) (codes "listen") ≡ Some (string_bytes address)) }
+{
+    match matches.get_str("listen") {
+        Some(text) => Ok(String::from_str(alloc, text)?),
+        None => Err(RunFault::Address),
+    }
+}
+
+/// The file of rows that the words name, if they do.
+fn store(alloc: Global, matches: &ArgMatches<'_>) -> Result<Option<String>, RunFault>
+    ensures { IfOk result
+        (λ store. first_value (found_of matches.now) (codes "store") ≡ option_map string_bytes store) }
+{
+    match matches.get_str("store") {
+        Some(text) => Ok(Some(String::from_str(alloc, text)?)),
+        None => Ok(None),
+    }
+}
+
+/// The file of the journal that the words name, if they do.
+fn journal(alloc: Global, matches: &ArgMatches<'_>) -> Result<Option<String>, RunFault>
+    ensures { IfOk result
+        (λ journal. first_value (found_of matches.now) (codes "journal") ≡ option_map string_bytes journal) }
+{
+    match matches.get_str("journal") {
+        Some(text) => Ok(Some(String::from_str(alloc, text)?)),
+        None => Ok(None),
+    }
+}
+
+/// The provider's address that the words name.
+fn to(alloc: Global, matches: &ArgMatches<'_>) -> Result<String, RunFault>
+    ensures { IfOk result
+        (λ to. first_value (found_of matches.now) (codes "to") ≡ Some (string_bytes to)) }
+{
+    match matches.get_str("to") {
+        Some(text) => Ok(String::from_str(alloc, text)?),
+        None => Err(RunFault::Address),
+    }
+}
+
+fn source_files(alloc: Global, matches: &ArgMatches<'_>) -> Result<SourceFiles, RunFault> {
+    Ok(SourceFiles {
+        users: users(alloc, matches)?,
+        groups: groups(alloc, matches)?,
+    })
+}
+
+/// How many connections the words ask for.
+fn requests(matches: &ArgMatches<'_>) -> Result<u32, RunFault>
+    ensures { IfOk result (λ count. (0 < count) × (count ≤ MOST_REQUESTS)) }
+{
+    match matches.get_one("requests") {
+        Some(count) if (1..=MOST_REQUESTS).contains(&count) => Ok(count),
+        _ => Err(RunFault::Requests),
+    }
+}
+
+/// Tells what clap has to say.
+fn tell(rt: &impl Runtime, error: Error) -> Result<Chosen, RunFault> {
+    let kind = error.kind();
+    if kind == ErrorKind::OutOfMemory {
+        return Err(RunFault::Memory);
+    }
+    let is_printed = error.print(rt).is_ok();
+    without_files(Choice::Told(words_status(kind, is_printed)))
+}
+
+/// How a run ends that gave help, the version, or told what is wrong with the words.
+fn words_status(kind: ErrorKind, is_printed: bool) -> Status
+    ensures { result ≡ words_status kind is_printed }
+{
+    match kind {
+        ErrorKind::OutOfMemory => Status::Fault,
+        ErrorKind::DisplayHelp | ErrorKind::DisplayVersion if is_printed => Status::Done,
+        ErrorKind::DisplayHelp | ErrorKind::DisplayVersion => Status::Fault,
+        _ => Status::Usage,
+    }
+}

@@ -1,0 +1,142 @@
+//! `loop`: the connector against a provider in the same program, over TCP.
+ghost use Rattle.std.specs.Prelude.{◌≡◌};
+ghost use Rattle.commands.specs.Statuses.{run_status};
+
+use crate::command::SourceFiles;
+use crate::pushing::{carried_status, open_connector};
+use crate::status::{RunFault, Status};
+use connector_core::Connector;
+use journal_core::{Journal, MemoryJournal};
+use provider_core::Provider;
+use provider_file::{InMemory, Storage};
+use provisioning::PushFault;
+use scim_client::ScimService;
+use scim_key::Base;
+use source_offers::{Sources, read_sources};
+use std::io;
+use std::io::BufWriter;
+use std::net::Net;
+use std::rt::Runtime;
+use sync_runs::{Outcome, run_loop};
+
+/// Opens the provider's rows, then the connector's journal, carries the records of the files from the
+/// one to the other, and closes both.
+pub fn run<R: Runtime + Net + AllocGlobal, K: Storage, J: journal_file::Storage>(
+    rt: &R,
+    files: &SourceFiles,
+    base: Base,
+    store: Option<&K>,
+    journal: Option<&J>,
+) -> Result<Status, RunFault> {
+    match store {
+        Some(store) => run_stored(rt, store, journal, files, base),
+        None => {
+            let memory = InMemory { alloc: rt.alloc() };
+            run_stored(rt, &memory, journal, files, base)
+        }
+    }
+}
+
+/// A run over rows that are opened first.
+fn run_stored<R: Runtime + Net + AllocGlobal, K: Storage, J: journal_file::Storage>(
+    rt: &R,
+    storage: &K,
+    journal: Option<&J>,
+    files: &SourceFiles,
+    base: Base,
+) -> Result<Status, RunFault> {
+    let provider = Provider::new(storage.open()?);
+    let (provider, ended) = run_from(rt, storage, provider, journal, files, base);
+    storage.close(provider.close());
+    ended
+}
+
+/// A run to a provider, from a journal in a file, or one in memory.
+fn run_from<R: Runtime + Net + AllocGlobal, S: Storage, J: journal_file::Storage>(
+    rt: &R,
+    store: &S,
+    provider: Provider<S::Rows>,
+    journal: Option<&J>,
+    files: &SourceFiles,
+    base: Base,
+) -> (Provider<S::Rows>, Result<Status, RunFault>) {
+    match journal {
+        Some(journal) => run_journaled(rt, store, provider, journal, files, base),
+        None => match Connector::open(rt.alloc(), MemoryJournal::new(rt.alloc())) {
+            Ok(mut connector) => run_over(rt, store, provider, &mut connector, files, base),
+            Err((fault, _journal)) => (provider, Err(RunFault::from(PushFault::from(fault)))),
+        },
+    }
+}
+
+/// A run from a journal that is opened first.
+fn run_journaled<R: Runtime + Net + AllocGlobal, S: Storage, K: journal_file::Storage>(
+    rt: &R,
+    store: &S,
+    provider: Provider<S::Rows>,
+    storage: &K,
+    files: &SourceFiles,
+    base: Base,
+) -> (Provider<S::Rows>, Result<Status, RunFault>) {
+    match open_connector(rt, storage) {
+        Ok(mut connector) => {
+            let (provider, ended) = run_over(rt, store, provider, &mut connector, files, base);
+            storage.close(connector.close());
+            (provider, ended)
+        }
+        Err(fault) => (provider, Err(fault)),
+    }
+}
+
+/// Reads the files, and carries their records to the provider.
+fn run_over<R: Runtime + Net + AllocGlobal, S: Storage, J: Journal>(
+    rt: &R,
+    store: &S,
+    provider: Provider<S::Rows>,
+    connector: &mut Connector<J>,
+    files: &SourceFiles,
+    base: Base,
+) -> (Provider<S::Rows>, Result<Status, RunFault>) {
+    match read_sources(rt, files.users.as_str(), files.groups.as_deref()) {
+        Ok(sources) => run_of(rt, store, provider, connector, &sources, base),
+        Err(fault) => (provider, Err(RunFault::from(fault))),
+    }
+}
+
+/// Carries the records of files to the provider.
+fn run_of<R: Runtime + Net + AllocGlobal, S: Storage, J: Journal>(
+    rt: &R,
+    store: &S,
+    provider: Provider<S::Rows>,
+    connector: &mut Connector<J>,
+    sources: &Sources,
+    base: Base,
+) -> (Provider<S::Rows>, Result<Status, RunFault>) {
+    match BufWriter::new(rt.alloc(), io::writer(rt)) {
+        Ok(mut out) => {
+            let service = ScimService::new(base);
+            let (provider, ended) = run_loop(
+                rt,
+                rt.alloc(),
+                &service,
+                connector,
+                store,
+                provider,
+                sources,
+                &mut out,
+            );
+            (provider, run_status(ended))
+        }
+        Err(error) => (provider, Err(RunFault::from(error))),
+    }
+}
+
+/// How a run ends that came to this.
+fn run_status(ended: Result<Outcome, sync_runs::RunFault>) -> Result<Status, RunFault>
+    ensures { result ≡ run_status ended }
+{
+    match ended {
+        Ok(outcome) => Ok(carried_status(outcome)),
+        Err(fault) => Err(RunFault::from(fault)),
+    }
+}

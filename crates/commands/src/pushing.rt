@@ -1,0 +1,84 @@
+//! `push`: the connector against the provider at an address.
+ghost use Rattle.std.specs.Prelude.{◌≡◌};
+ghost use Rattle.commands.specs.Statuses.{carried_status};
+
+use crate::command::SourceFiles;
+use crate::status::{RunFault, Status};
+use connector_core::Connector;
+use journal_core::Journal;
+use journal_file::Storage;
+use provisioning::PushFault;
+use scim_client::ScimService;
+use scim_key::Base;
+use source_offers::{Sources, read_sources};
+use std::io;
+use std::io::BufWriter;
+use std::net::Net;
+use std::rt::Runtime;
+use sync_runs::Outcome;
+
+/// Opens the journal, carries the records of files to the provider at an address, and closes the
+/// journal. What was confirmed stands in it, however the run ends.
+pub fn push<R: Runtime + Net + AllocGlobal, K: Storage>(
+    rt: &R,
+    storage: &K,
+    files: &SourceFiles,
+    to: &str,
+    base: Base,
+) -> Result<Status, RunFault> {
+    let mut connector = open_connector(rt, storage)?;
+    let ended = push_from(rt, &mut connector, files, to, base);
+    storage.close(connector.close());
+    ended
+}
+
+/// The connector over a journal. One that it refuses is closed.
+pub fn open_connector<R: Runtime + AllocGlobal, K: Storage>(
+    rt: &R,
+    storage: &K,
+) -> Result<Connector<K::Entries>, RunFault> {
+    match Connector::open(rt.alloc(), storage.open()?) {
+        Ok(connector) => Ok(connector),
+        Err((fault, entries)) => {
+            storage.close(entries);
+            Err(RunFault::from(PushFault::from(fault)))
+        }
+    }
+}
+
+/// Reads the files, and carries their records.
+fn push_from<R: Runtime + Net + AllocGlobal, J: Journal>(
+    rt: &R,
+    connector: &mut Connector<J>,
+    files: &SourceFiles,
+    to: &str,
+    base: Base,
+) -> Result<Status, RunFault> {
+    let service = ScimService::new(base);
+    let sources = read_sources(rt, files.users.as_str(), files.groups.as_deref())?;
+    push_of(rt, connector, &service, &sources, to)
+}
+
+/// Carries the records of files.
+fn push_of<R: Runtime + Net + AllocGlobal, J: Journal>(
+    rt: &R,
+    connector: &mut Connector<J>,
+    service: &ScimService,
+    sources: &Sources,
+    to: &str,
+) -> Result<Status, RunFault> {
+    let mut out = BufWriter::new(rt.alloc(), io::writer(rt))?;
+    let outcome = sync_runs::push(rt, rt.alloc(), service, connector, sources, to, &mut out)?;
+    Ok(carried_status(outcome))
+}
+
+/// How a run of the connector ends.
+pub fn carried_status(outcome: Outcome) -> Status
+    ensures { result ≡ carried_status outcome }
+{
+    if outcome.is_done() {
+        Status::Done
+    } else {
+        Status::Refused
+    }
+}

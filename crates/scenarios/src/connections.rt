@@ -1,0 +1,3 @@
+//! The connections of a provider, as tests over memory.
+mod serving;
+mod streams;

@@ -1,0 +1,11 @@
+//! The worked examples of the connector, as tests over its calls.
+mod asking;
+mod changing;
+mod codes;
+mod failing;
+mod learning;
+mod longest;
+mod messages;
+mod offers;
+mod pushing;
+mod worlds;

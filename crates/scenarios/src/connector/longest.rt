@@ -1,0 +1,110 @@
+//! Rows that meet every limit of a row, from the source to the provider and over a restart.
+use crate::connector::asking::{empty, exchange};
+use crate::connector::offers::{named, new_connector, offer_group, offer_user, opened_again};
+use connector_core::Connector;
+use journal_core::MemoryJournal;
+use provider_core::{MemoryRegistry, Provider};
+use scim_key::{Kind, RecordName};
+use std::alloc::Global;
+use std::process::Abort;
+
+/// A piece so many times.
+fn repeated(rt: &impl Abort, alloc: Global, piece: &str, count: usize) -> String {
+    let mut text = String::new(alloc);
+    for _ in 0..count {
+        text.push_str(piece).expect(rt, "memory");
+    }
+    text
+}
+
+/// What is asked for by the second exchange of a record that was offered: its creation.
+fn created(
+    rt: &impl Abort,
+    alloc: Global,
+    connector: &mut Connector<MemoryJournal>,
+    provider: &mut Provider<MemoryRegistry>,
+    name: &RecordName,
+) -> String {
+    exchange(rt, alloc, connector, provider, name);
+    exchange(rt, alloc, connector, provider, name)
+}
+
+/// Asserts that a connector that is opened again has confirmed a record.
+fn is_settled(
+    rt: &impl Abort,
+    alloc: Global,
+    connector: Connector<MemoryJournal>,
+    provider: &mut Provider<MemoryRegistry>,
+    name: &RecordName,
+) {
+    let mut connector = opened_again(rt, alloc, connector);
+    let said = exchange(rt, alloc, &mut connector, provider, name);
+    assert!(rt; said.as_str() == "nothing", "{said}");
+}
+
+#[test]
+fn a_user_with_the_longest_fields(rt: HostRuntime) {
+    let alloc = rt.alloc();
+    let mut provider = empty(alloc);
+    let mut connector = new_connector(&rt, alloc);
+    let login = repeated(&rt, alloc, "A", 128);
+    let field = repeated(&rt, alloc, "f", 256);
+    let record = format!(in alloc;
+        "{login},2000000000,{field},{field},{field},{field},active\n"
+    ).expect(&rt, "memory");
+    let said = offer_user(&rt, alloc, &mut connector, record.as_str());
+    assert!(&rt; said.as_str() == "new", "{said}");
+    let name = named(&rt, alloc, Kind::User, login.as_str());
+    let said = created(&rt, alloc, &mut connector, &mut provider, &name);
+    let expected = format!(in alloc; "create {login} 2000000000").expect(&rt, "memory");
+    assert!(&rt; said.as_str() == expected.as_str(), "{said}");
+    is_settled(&rt, alloc, connector, &mut provider, &name)
+}
+
+/// Offers 400 users and creates them: their names, in their order, with a space between any two.
+fn with_400_users(
+    rt: &impl Abort,
+    alloc: Global,
+    connector: &mut Connector<MemoryJournal>,
+    provider: &mut Provider<MemoryRegistry>,
+) -> String {
+    let mut names = String::new(alloc);
+    for number in 100..500u32 {
+        let login = format!(in alloc; "user{number}").expect(rt, "memory");
+        let record = format!(in alloc; "{login},1,,,,,active\n").expect(rt, "memory");
+        offer_user(rt, alloc, connector, record.as_str());
+        let name = named(rt, alloc, Kind::User, login.as_str());
+        created(rt, alloc, connector, provider, &name);
+        if !names.is_empty() {
+            names.push_str(" ").expect(rt, "memory");
+        }
+        names.push_str(login.as_str()).expect(rt, "memory");
+    }
+    names
+}
+
+/// The text of the creation has the group's name and revision, and each id after a space.
+#[test]
+fn a_group_with_the_longest_name_and_400_members(rt: HostRuntime) {
+    let alloc = rt.alloc();
+    let mut provider = empty(alloc);
+    let mut connector = new_connector(&rt, alloc);
+    let members = with_400_users(&rt, alloc, &mut connector, &mut provider);
+    let crew = repeated(&rt, alloc, "C", 128);
+    let record = format!(in alloc; "{crew},1,{members}\n").expect(&rt, "memory");
+    let said = offer_group(&rt, alloc, &mut connector, record.as_str());
+    assert!(&rt; said.as_str() == "new", "{said}");
+    let name = named(&rt, alloc, Kind::Group, crew.as_str());
+    let said = created(&rt, alloc, &mut connector, &mut provider, &name);
+    let first = format!(in alloc; "create {crew} 1 5c1a0000-0000-8000-8000-000000000001 ").expect(
+        &rt, "memory",
+    );
+    assert!(&rt; said.as_str().starts_with(first.as_str()), "{said}");
+    assert!(&rt;
+        said.as_str()
+            .ends_with(" 5c1a0000-0000-8000-8000-000000000190"),
+        "{said}"
+    );
+    assert_eq!(&rt; said.len(), 137 + 400 * 37);
+    is_settled(&rt, alloc, connector, &mut provider, &name)
+}

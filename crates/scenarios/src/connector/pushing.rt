@@ -1,0 +1,391 @@
+//! Exchanges for every record, over streams in memory: with a provider, and with answers by hand.
+use crate::connector::offers::{new_connector, offer_rows};
+use connector_core::Connector;
+use http_text::{Input, Output};
+use journal_core::MemoryJournal;
+use provider_core::{MemoryRegistry, Provider};
+use provisioning::{Dial, PushFault, Pushed, Standing, Tally, Tell, push_all};
+use scim_client::ScimService;
+use scim_key::{Base, Kind, RecordName};
+use scim_server::serve;
+use std::alloc::{AllocError, Global};
+use std::cell::RefCell;
+use std::io;
+use std::io::{ErrorKind, Read, Write};
+use std::process::Abort;
+
+/// A provider in memory, and what it is being asked.
+#[derive(Drop)]
+struct Peer {
+    base: Base,
+    provider: Provider<MemoryRegistry>,
+    asked: Vec<u8>,
+}
+
+/// Streams to a provider in memory. It answers once it is read from.
+#[derive(Drop)]
+struct Streams<'a> {
+    alloc: Global,
+    peer: &'a RefCell<Peer>,
+}
+
+#[derive(Drop)]
+struct Question<'a> {
+    peer: &'a RefCell<Peer>,
+}
+
+#[derive(Drop)]
+struct Reply<'a> {
+    alloc: Global,
+    peer: &'a RefCell<Peer>,
+    answer: Option<Vec<u8>>,
+    taken: usize,
+}
+
+fn busy() -> io::Error {
+    io::Error::from(ErrorKind::ResourceBusy)
+}
+
+/// What the provider answers to what it was asked.
+fn answer_of(alloc: Global, peer: &RefCell<Peer>) -> io::Result<Vec<u8>> {
+    let mut guard = peer.try_borrow_mut().map_err(|_| busy())?;
+    let peer = &mut *guard;
+    let mut reader = Input::new(peer.asked.as_slice());
+    let mut writer = Output::new(Vec::new(alloc));
+    let _ = serve(
+        alloc,
+        &mut peer.provider,
+        &peer.base,
+        &mut reader,
+        &mut writer,
+    );
+    Ok(writer.into_inner())
+}
+
+impl<'a> Read for Reply<'a> {
+    fn read(&mut self, buffer: &mut [u8]) -> io::Result<usize> {
+        let answer = match self.answer.take() {
+            Some(answer) => answer,
+            None => answer_of(self.alloc, self.peer)?,
+        };
+        let mut rest = answer.get(self.taken..).unwrap_or(&[]);
+        let count = rest.read(buffer)?;
+        self.taken = self.taken.saturating_add(count);
+        self.answer = Some(answer);
+        Ok(count)
+    }
+}
+
+impl<'a> Write for Question<'a> {
+    fn write(&mut self, bytes: &[u8]) -> io::Result<usize> {
+        let mut guard = self.peer.try_borrow_mut().map_err(|_| busy())?;
+        let peer = &mut *guard;
+        peer.asked.write(bytes)
+    }
+
+    fn flush(&mut self) -> io::Result<()> {
+        Ok(())
+    }
+}
+
+impl<'a> Dial for Streams<'a> {
+    type Reader = Reply<'a>;
+
+    type Writer = Question<'a>;
+
+    fn dial(&mut self) -> io::Result<(Reply<'a>, Question<'a>)> {
+        let mut guard = self.peer.try_borrow_mut().map_err(|_| busy())?;
+        let peer = &mut *guard;
+        peer.asked.clear();
+        let reply = Reply {
+            alloc: self.alloc,
+            peer: self.peer,
+            answer: None,
+            taken: 0,
+        };
+        Ok((reply, Question { peer: self.peer }))
+    }
+
+    fn end(&self, _: Reply<'a>, _: Question<'a>) {}
+}
+
+/// Streams whose answers were written by hand, one after another. There is no stream after the last.
+#[derive(Drop)]
+struct Answers {
+    alloc: Global,
+    answers: &'static [&'static [u8]],
+    taken: usize,
+}
+
+impl Dial for Answers {
+    type Reader = &'static [u8];
+
+    type Writer = Vec<u8>;
+
+    fn dial(&mut self) -> io::Result<(&'static [u8], Vec<u8>)> {
+        match self.answers.get(self.taken) {
+            Some(answer) => {
+                self.taken = self.taken.saturating_add(1);
+                Ok((*answer, Vec::new(self.alloc)))
+            }
+            None => Err(io::Error::from(ErrorKind::ConnectionRefused)),
+        }
+    }
+
+    fn end(&self, _: &'static [u8], _: Vec<u8>) {}
+}
+
+/// What was told of each record, a line each.
+#[derive(Drop)]
+struct Lines {
+    alloc: Global,
+    text: String,
+}
+
+/// What is told of a record, in a line.
+fn line(alloc: Global, name: &RecordName, pushed: &Pushed) -> Result<String, AllocError> {
+    let kind = match name.kind {
+        Kind::User => "user",
+        Kind::Group => "group",
+    };
+    let key = name.key.as_str();
+    let count = pushed.exchanges;
+    match &pushed.standing {
+        Standing::Confirmed(revision) => {
+            format!(in alloc; "{kind} {key} {count} confirmed {revision}\n")
+        }
+        Standing::Waits(member) => {
+            format!(in alloc; "{kind} {key} {count} waits {}\n", member.as_str())
+        }
+        Standing::Unconfirmed(Some(fault)) => {
+            format!(in alloc; "{kind} {key} {count} unconfirmed {fault}\n")
+        }
+        Standing::Unconfirmed(None) => format!(in alloc; "{kind} {key} {count} unconfirmed -\n"),
+    }
+}
+
+impl Tell for Lines {
+    fn tell(&mut self, name: &RecordName, pushed: &Pushed) -> io::Result<()> {
+        let line = line(self.alloc, name, pushed)?;
+        self.text.push_str(line.as_str())?;
+        Ok(())
+    }
+}
+
+/// Asserts what becomes of the records of a connector: how the run ends, and what is told.
+fn pushes<D: Dial>(
+    rt: &impl Abort,
+    alloc: Global,
+    connector: &mut Connector<MemoryJournal>,
+    dial: &mut D,
+    end: Result<Tally, PushFault>,
+    told: &str,
+) {
+    let service = ScimService::new(Base::read(alloc, "http://localhost:8080/v2").expect(
+        rt, "a base",
+    ));
+    let mut lines = Lines {
+        alloc,
+        text: String::new(alloc),
+    };
+    let ended = push_all(alloc, &service, connector, dial, &mut lines);
+    assert_eq!(rt; ended, end);
+    assert!(rt; lines.text.as_str() == told, "{}", lines.text.as_str());
+}
+
+/// All is confirmed after so many exchanges.
+fn settled(exchanges: u32) -> Result<Tally, PushFault> {
+    Ok(Tally {
+        exchanges,
+        is_settled: true,
+    })
+}
+
+/// Some record isn't confirmed after so many exchanges.
+fn unsettled(exchanges: u32) -> Result<Tally, PushFault> {
+    Ok(Tally {
+        exchanges,
+        is_settled: false,
+    })
+}
+
+/// An empty provider.
+fn new_peer(rt: &impl Abort, alloc: Global) -> RefCell<Peer> {
+    RefCell::new(Peer {
+        base: Base::read(alloc, "http://localhost:8080/v2").expect(rt, "a base"),
+        provider: Provider::new(MemoryRegistry::new(alloc)),
+        asked: Vec::new(alloc),
+    })
+}
+
+/// Rows of users and of groups, and then after how many exchanges all is confirmed, and what is told.
+type Round = (
+    &'static [&'static str],
+    &'static [&'static str],
+    u32,
+    &'static str,
+);
+
+/// Asserts what becomes of the records of a connector once the rows of each round are offered.
+fn settles(rt: &impl Abort, alloc: Global, rounds: &[Round]) {
+    let peer = new_peer(rt, alloc);
+    let mut streams = Streams { alloc, peer: &peer };
+    let mut connector = new_connector(rt, alloc);
+    for (users, groups, exchanges, told) in rounds {
+        offer_rows(rt, alloc, &mut connector, users, groups);
+        let end = settled(*exchanges);
+        pushes(rt, alloc, &mut connector, &mut streams, end, told);
+    }
+}
+
+#[test]
+fn a_user_settles_in_two_exchanges(rt: HostRuntime) {
+    let rounds: &[Round] = &[
+        (&["bob,1,,,,,active\n"], &[], 2, "user bob 2 confirmed 1\n"),
+        (&[], &[], 0, "user bob 0 confirmed 1\n"),
+    ];
+    settles(&rt, rt.alloc(), rounds)
+}
+
+#[test]
+fn a_group_settles_after_its_members(rt: HostRuntime) {
+    let rounds: &[Round] = &[
+        (&["bob,1,,,,,active\n"], &[], 2, "user bob 2 confirmed 1\n"),
+        (
+            &["ann,1,,,,,active\n"],
+            &["crew,1,bob ann\n"],
+            4,
+            "user ann 2 confirmed 1\nuser bob 0 confirmed 1\ngroup crew 2 confirmed 1\n",
+        ),
+        (
+            &[],
+            &["crew,2,\n"],
+            1,
+            "user ann 0 confirmed 1\nuser bob 0 confirmed 1\ngroup crew 1 confirmed 2\n",
+        ),
+    ];
+    settles(&rt, rt.alloc(), rounds)
+}
+
+const REFUSED: &[u8] =
+    b"HTTP/1.1 502 Bad Gateway\r\nContent-Length: 6\r\nContent-Type: text/html\r\n\r\n<html>";
+
+const UNMEASURED: &[u8] = b"HTTP/1.1 200 OK\r\nConnection: close\r\n\r\n{}";
+
+const TWO: &[u8] =
+    b"HTTP/1.1 200 OK\r\nContent-Length: 130\r\n\r\n{\"Resources\":[],\"itemsPerPage\":0,\"schemas\":[\"urn:ietf:params:scim:api:messages:2.0:ListResponse\"],\"startIndex\":1,\"totalResults\":2}";
+
+const NONE: &[u8] =
+    b"HTTP/1.1 200 OK\r\nContent-Length: 130\r\n\r\n{\"Resources\":[],\"itemsPerPage\":0,\"schemas\":[\"urn:ietf:params:scim:api:messages:2.0:ListResponse\"],\"startIndex\":1,\"totalResults\":0}";
+
+const CREATED: &[u8] =
+    b"HTTP/1.1 201 Created\r\nContent-Length: 154\r\n\r\n{\"id\":\"7\",\"schemas\":[\"urn:ietf:params:scim:schemas:core:2.0:User\"],\"urn:example:params:scim:schemas:extension:source:1.0\":{\"revision\":1},\"userName\":\"bob\"}";
+
+const CUT_SHORT: &[u8] = b"HTTP/1.1 200 OK\r\nContent-Length: 130\r\n\r\n{\"Resources\"";
+
+const NO_JSON: &[u8] = b"HTTP/1.1 200 OK\r\nContent-Length: 6\r\n\r\n<html>";
+
+const TAKEN: &[u8] = b"HTTP/1.1 409 Conflict\r\nContent-Length: 0\r\n\r\n";
+
+/// Answers by hand, how the run ends, and what is told.
+type Given = (
+    &'static [&'static [u8]],
+    Result<(u32, bool), PushFault>,
+    &'static str,
+);
+
+static GIVEN: &[Given] = &[
+    (
+        &[REFUSED, REFUSED, REFUSED],
+        Ok((3, false)),
+        "user bob 3 unconfirmed C4\n",
+    ),
+    (
+        &[UNMEASURED, UNMEASURED, UNMEASURED],
+        Ok((3, false)),
+        "user bob 3 unconfirmed K1\n",
+    ),
+    (
+        &[TWO, NO_JSON, TWO],
+        Ok((3, false)),
+        "user bob 3 unconfirmed C1\n",
+    ),
+    (
+        &[TWO, TWO, NO_JSON],
+        Ok((3, false)),
+        "user bob 3 unconfirmed K2\n",
+    ),
+    (
+        &[NONE, CREATED, CREATED],
+        Ok((3, false)),
+        "user bob 3 unconfirmed C2\n",
+    ),
+    (
+        &[NONE, CREATED, NONE],
+        Ok((3, false)),
+        "user bob 3 unconfirmed K3\n",
+    ),
+    (
+        &[REFUSED, CUT_SHORT, CUT_SHORT],
+        Ok((3, false)),
+        "user bob 3 unconfirmed H10\n",
+    ),
+    // a fault stays though what follows is clean
+    (
+        &[CUT_SHORT, NONE, TAKEN],
+        Ok((3, false)),
+        "user bob 3 unconfirmed H10\n",
+    ),
+    (
+        &[NONE, TAKEN, NONE],
+        Ok((3, false)),
+        "user bob 3 unconfirmed -\n",
+    ),
+    (&[], Err(PushFault::Connection), ""),
+    (&[REFUSED, NONE], Err(PushFault::Connection), ""),
+];
+
+#[test]
+fn answers_of_another_provider(rt: HostRuntime) {
+    let alloc = rt.alloc();
+    for (answers, end, told) in GIVEN {
+        let mut connector = new_connector(&rt, alloc);
+        offer_rows(&rt, alloc, &mut connector, &["bob,1,,,,,active\n"], &[]);
+        let mut streams = Answers {
+            alloc,
+            answers,
+            taken: 0,
+        };
+        let end = end.map(|(exchanges, is_settled)| Tally {
+            exchanges,
+            is_settled,
+        });
+        pushes(&rt, alloc, &mut connector, &mut streams, end, told);
+    }
+}
+
+#[test]
+fn a_group_waits_for_a_member(rt: HostRuntime) {
+    let alloc = rt.alloc();
+    let mut connector = new_connector(&rt, alloc);
+    offer_rows(
+        &rt,
+        alloc,
+        &mut connector,
+        &["bob,1,,,,,active\n"],
+        &["crew,1,bob\n"],
+    );
+    let mut streams = Answers {
+        alloc,
+        answers: &[REFUSED, REFUSED, REFUSED],
+        taken: 0,
+    };
+    pushes(
+        &rt,
+        alloc,
+        &mut connector,
+        &mut streams,
+        unsettled(3),
+        "user bob 3 unconfirmed C4\ngroup crew 0 waits bob\n",
+    )
+}

@@ -1,0 +1,11 @@
+//! What texts are read as, and how it is written again: tests by tables.
+mod answers_back;
+mod codes;
+mod copies;
+mod filter_texts;
+mod filters;
+mod groups;
+mod names;
+mod reading_back;
+mod sources;
+mod tags;

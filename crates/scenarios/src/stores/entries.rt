@@ -1,0 +1,214 @@
+//! The connector's journal: its entries are kept, and a refused opening leaves them.
+use crate::stores::connections::{limit, run, shown};
+use crate::stores::exchanges::{Run, entries, runs};
+use connector_core::Connector;
+use journal_core::{Journal, MemoryJournal};
+use journal_store::{OpenFault, SqlJournal};
+use provider_core::{MemoryRegistry, Provider};
+use sqlite::{Alter, Connection, MemStore};
+use std::alloc::Global;
+use std::process::Abort;
+
+static RUNS: &[Run] = &[
+    (
+        "Bob,1,1001,Bob,\"Ray, Jr.\",bob@example.com,active\nann,1,,,,,active\nann,2,,,,,left\n",
+        "Crew,1,Bob ann\n",
+        true,
+    ),
+    ("bob,2,,,,,left\n", "crew,3,\n", true),
+    (
+        "Zoe,2000000000,1003,,,,active\nann,3,,Ann,Lee,ann@example.com,active\n",
+        "band,7,zoe ann\n",
+        false,
+    ),
+];
+
+/// The entries that stand then, of which the last run confirmed none.
+static KEPT: &str =
+    "ann|ann|3||Ann|Lee|ann@example.com|1|2|5c1a0000-0000-8000-8000-000000000001\nbob|bob|2|||||0|2|5c1a0000-0000-8000-8000-000000000002\nzoe|Zoe|2000000000|1003||||1|0|-\nband|band|7|ann zoe|0|-\ncrew|crew|3||3|5c1a0000-0000-8000-8000-000000000003\n";
+
+static USERS: &str =
+    "SELECT name_key || '|' || login || '|' || revision || '|' || number || '|' || given || '|' || family || '|' || mail || '|' || active || '|' || confirmed || '|' || ifnull(id, '-') FROM user_entry ORDER BY name_key";
+
+static GROUPS: &str =
+    "SELECT name_key || '|' || name || '|' || revision || '|' || members || '|' || confirmed || '|' || ifnull(id, '-') FROM group_entry ORDER BY name_key";
+
+/// The rows of both tables, each in a line.
+fn rows<S: Alter>(rt: &impl Abort, alloc: Global, conn: &mut Connection<S>) -> String {
+    let mut lines = shown(rt, alloc, conn, USERS);
+    lines
+        .push_str(shown(rt, alloc, conn, GROUPS).as_str())
+        .expect(rt, "memory");
+    lines
+}
+
+/// Opens a journal.
+fn open<S: Alter>(
+    alloc: Global,
+    conn: Connection<S>,
+) -> Result<SqlJournal<S>, (OpenFault, Connection<S>)> {
+    SqlJournal::open(alloc, conn)
+}
+
+/// Opens a journal that isn't refused.
+fn opened<S: Alter + Drop>(rt: &impl Abort, alloc: Global, conn: Connection<S>) -> SqlJournal<S> {
+    match open(alloc, conn) {
+        Ok(journal) => journal,
+        Err((fault, _conn)) => panic!(rt; "{fault}"),
+    }
+}
+
+/// Closes a journal.
+fn close<S: Alter>(journal: SqlJournal<S>) -> Connection<S> {
+    journal.close()
+}
+
+/// Runs a connector over a journal, which comes back.
+fn carried<J: Journal>(
+    rt: &impl Abort,
+    alloc: Global,
+    journal: J,
+    provider: &mut Provider<MemoryRegistry>,
+    run: &Run,
+) -> J {
+    match Connector::open(alloc, journal) {
+        Ok(mut connector) => {
+            runs(rt, alloc, &mut connector, provider, run);
+            connector.close()
+        }
+        Err((fault, _journal)) => panic!(rt; "{fault}"),
+    }
+}
+
+/// Runs a connector over the journal of a connection, which is opened for it and closed after it.
+fn turn<S: Alter + Drop>(
+    rt: &impl Abort,
+    alloc: Global,
+    conn: Connection<S>,
+    provider: &mut Provider<MemoryRegistry>,
+    run: &Run,
+) -> Connection<S> {
+    close(carried(rt, alloc, opened(rt, alloc, conn), provider, run))
+}
+
+/// A connection to a journal after all runs, each of which closed it.
+fn with_entries(rt: &impl Abort, alloc: Global) -> Connection<MemStore> {
+    let mut provider = Provider::new(MemoryRegistry::new(alloc));
+    let mut conn = Connection::open_in_memory(alloc).expect(rt, "a connection");
+    for run in RUNS {
+        conn = turn(rt, alloc, conn, &mut provider, run);
+    }
+    conn
+}
+
+#[test]
+fn entries_are_kept_where_a_journal_is_closed(rt: HostRuntime) {
+    let mut conn = with_entries(&rt, rt.alloc());
+    let rows = rows(&rt, rt.alloc(), &mut conn);
+    assert_eq!(rt; rows.as_str(), KEPT);
+}
+
+/// The entries of a journal in memory after all runs.
+fn in_memory(rt: &impl Abort, alloc: Global) -> String {
+    let mut provider = Provider::new(MemoryRegistry::new(alloc));
+    let mut journal = MemoryJournal::new(alloc);
+    for run in RUNS {
+        journal = carried(rt, alloc, journal, &mut provider, run);
+    }
+    entries(rt, alloc, &mut journal)
+}
+
+#[test]
+fn entries_are_loaded_as_from_memory(rt: HostRuntime) {
+    let expected = in_memory(&rt, rt.alloc());
+    let mut journal = opened(&rt, rt.alloc(), with_entries(&rt, rt.alloc()));
+    let loaded = entries(&rt, rt.alloc(), &mut journal);
+    let _conn = close(journal);
+    assert_eq!(rt; loaded.as_str(), expected.as_str());
+}
+
+/// All runs over one journal, which is tested again after each.
+fn reopens<S: Alter + Drop>(
+    rt: &impl Abort,
+    alloc: Global,
+    mut journal: SqlJournal<S>,
+    provider: &mut Provider<MemoryRegistry>,
+) -> SqlJournal<S> {
+    for run in RUNS {
+        journal = carried(rt, alloc, journal, provider, run);
+        journal.reopen().expect(rt, "it is opened");
+    }
+    journal
+}
+
+#[test]
+fn entries_are_kept_where_a_journal_is_reopened(rt: HostRuntime) {
+    let mut provider = Provider::new(MemoryRegistry::new(rt.alloc()));
+    let conn = Connection::open_in_memory(rt.alloc()).expect(&rt, "a connection");
+    let journal = opened(&rt, rt.alloc(), conn);
+    let mut conn = close(reopens(&rt, rt.alloc(), journal, &mut provider));
+    let rows = rows(&rt, rt.alloc(), &mut conn);
+    assert_eq!(rt; rows.as_str(), KEPT);
+}
+
+/// What spoils the journal with those entries, and the fault of its opening.
+static SPOILS: &[(&str, OpenFault)] = &[
+    (
+        "UPDATE user_entry SET confirmed = 4 WHERE name_key = 'ann'",
+        OpenFault::Damaged,
+    ),
+    (
+        "UPDATE group_entry SET members = 'zoe ann' WHERE name_key = 'band'",
+        OpenFault::Damaged,
+    ),
+    ("DELETE FROM journal_format", OpenFault::Damaged),
+    ("UPDATE journal_format SET number = 2", OpenFault::Newer),
+    ("BEGIN", OpenFault::Store),
+];
+
+/// Asserts that an opening is refused with this fault.
+fn refused(
+    rt: &impl Abort,
+    alloc: Global,
+    conn: Connection<MemStore>,
+    expected: OpenFault,
+) -> Connection<MemStore> {
+    match open(alloc, conn) {
+        Ok(journal) => {
+            let _conn = close(journal);
+            panic!(rt; "opened")
+        }
+        Err((fault, conn)) => {
+            assert_eq!(rt; fault, expected);
+            conn
+        }
+    }
+}
+
+/// Asserts that the spoilt journal is refused, and has the rows that it had.
+fn refuses(rt: &impl Abort, alloc: Global, spoils: &str, expected: OpenFault) {
+    let mut conn = with_entries(rt, alloc);
+    run(&mut conn, spoils).expect(rt, "a run");
+    let before = rows(rt, alloc, &mut conn);
+    let mut conn = refused(rt, alloc, conn, expected);
+    let after = rows(rt, alloc, &mut conn);
+    assert_eq!(rt; after.as_str(), before.as_str(), "{spoils}");
+}
+
+#[test]
+fn a_refused_journal_is_handed_back(rt: HostRuntime) {
+    for (spoils, expected) in SPOILS {
+        refuses(&rt, rt.alloc(), spoils, *expected);
+    }
+}
+
+#[test]
+fn a_journal_that_failed_once_is_opened(rt: HostRuntime) {
+    let mut conn = with_entries(&rt, rt.alloc());
+    limit(&mut conn, Some(1));
+    let mut conn = refused(&rt, rt.alloc(), conn, OpenFault::Store);
+    limit(&mut conn, None);
+    let mut conn = close(opened(&rt, rt.alloc(), conn));
+    let rows = rows(&rt, rt.alloc(), &mut conn);
+    assert_eq!(rt; rows.as_str(), KEPT);
+}
