@@ -28,6 +28,7 @@ pub struct Chosen {
     pub journal: Option<String>,
 }
 
+/// What is to be done.
 #[derive(Debug, Drop)]
 pub enum Choice {
     /// One request from standard input is answered on standard output.
