@@ -7,8 +7,9 @@ use crate::pushing::{carried_status, open_connector};
 use crate::status::{RunFault, Status};
 use connector_core::Connector;
 use journal_core::{Journal, MemoryJournal};
+use journal_file::StoredEntries;
 use provider_core::Provider;
-use provider_file::{InMemory, Storage};
+use provider_file::{InMemory, Storage, StoredRows};
 use provisioning::PushFault;
 use scim_client::ScimService;
 use scim_key::Base;
@@ -46,42 +47,40 @@ fn run_stored<R: Runtime + Net + AllocGlobal, K: Storage, J: journal_file::Stora
     base: Base,
 ) -> Result<Status, RunFault> {
     let provider = Provider::new(storage.open()?);
-    let (provider, ended) = run_from(rt, storage, provider, journal, files, base);
-    storage.close(provider.close());
+    let (provider, ended) = run_from(rt, provider, journal, files, base);
+    provider.close().close();
     ended
 }
 
 /// A run to a provider, from a journal in a file, or one in memory.
-fn run_from<R: Runtime + Net + AllocGlobal, S: Storage, J: journal_file::Storage>(
+fn run_from<R: Runtime + Net + AllocGlobal, S: StoredRows, J: journal_file::Storage>(
     rt: &R,
-    store: &S,
-    provider: Provider<S::Rows>,
+    provider: Provider<S>,
     journal: Option<&J>,
     files: &SourceFiles,
     base: Base,
-) -> (Provider<S::Rows>, Result<Status, RunFault>) {
+) -> (Provider<S>, Result<Status, RunFault>) {
     match journal {
-        Some(journal) => run_journaled(rt, store, provider, journal, files, base),
+        Some(journal) => run_journaled(rt, provider, journal, files, base),
         None => match Connector::open(rt.alloc(), MemoryJournal::new(rt.alloc())) {
-            Ok(mut connector) => run_over(rt, store, provider, &mut connector, files, base),
+            Ok(mut connector) => run_over(rt, provider, &mut connector, files, base),
             Err((fault, _journal)) => (provider, Err(RunFault::from(PushFault::from(fault)))),
         },
     }
 }
 
 /// A run from a journal that is opened first.
-fn run_journaled<R: Runtime + Net + AllocGlobal, S: Storage, K: journal_file::Storage>(
+fn run_journaled<R: Runtime + Net + AllocGlobal, S: StoredRows, K: journal_file::Storage>(
     rt: &R,
-    store: &S,
-    provider: Provider<S::Rows>,
+    provider: Provider<S>,
     storage: &K,
     files: &SourceFiles,
     base: Base,
-) -> (Provider<S::Rows>, Result<Status, RunFault>) {
+) -> (Provider<S>, Result<Status, RunFault>) {
     match open_connector(rt, storage) {
         Ok(mut connector) => {
-            let (provider, ended) = run_over(rt, store, provider, &mut connector, files, base);
-            storage.close(connector.close());
+            let (provider, ended) = run_over(rt, provider, &mut connector, files, base);
+            connector.close().close();
             (provider, ended)
         }
         Err(fault) => (provider, Err(fault)),
@@ -89,29 +88,27 @@ fn run_journaled<R: Runtime + Net + AllocGlobal, S: Storage, K: journal_file::St
 }
 
 /// Reads the files, and carries their records to the provider.
-fn run_over<R: Runtime + Net + AllocGlobal, S: Storage, J: Journal>(
+fn run_over<R: Runtime + Net + AllocGlobal, S: StoredRows, J: Journal>(
     rt: &R,
-    store: &S,
-    provider: Provider<S::Rows>,
+    provider: Provider<S>,
     connector: &mut Connector<J>,
     files: &SourceFiles,
     base: Base,
-) -> (Provider<S::Rows>, Result<Status, RunFault>) {
+) -> (Provider<S>, Result<Status, RunFault>) {
     match read_sources(rt, files.users.as_str(), files.groups.as_deref()) {
-        Ok(sources) => run_of(rt, store, provider, connector, &sources, base),
+        Ok(sources) => run_of(rt, provider, connector, &sources, base),
         Err(fault) => (provider, Err(RunFault::from(fault))),
     }
 }
 
 /// Carries the records of files to the provider.
-fn run_of<R: Runtime + Net + AllocGlobal, S: Storage, J: Journal>(
+fn run_of<R: Runtime + Net + AllocGlobal, S: StoredRows, J: Journal>(
     rt: &R,
-    store: &S,
-    provider: Provider<S::Rows>,
+    provider: Provider<S>,
     connector: &mut Connector<J>,
     sources: &Sources,
     base: Base,
-) -> (Provider<S::Rows>, Result<Status, RunFault>) {
+) -> (Provider<S>, Result<Status, RunFault>) {
     match BufWriter::new(rt.alloc(), io::writer(rt)) {
         Ok(mut out) => {
             let service = ScimService::new(base);
@@ -120,7 +117,6 @@ fn run_of<R: Runtime + Net + AllocGlobal, S: Storage, J: Journal>(
                 rt.alloc(),
                 &service,
                 connector,
-                store,
                 provider,
                 sources,
                 &mut out,

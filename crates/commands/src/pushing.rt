@@ -6,7 +6,7 @@ use crate::command::SourceFiles;
 use crate::status::{RunFault, Status};
 use connector_core::Connector;
 use journal_core::Journal;
-use journal_file::Storage;
+use journal_file::{Storage, StoredEntries};
 use provisioning::PushFault;
 use scim_client::ScimService;
 use scim_key::Base;
@@ -28,7 +28,7 @@ pub fn push<R: Runtime + Net + AllocGlobal, K: Storage>(
 ) -> Result<Status, RunFault> {
     let mut connector = open_connector(rt, storage)?;
     let ended = push_from(rt, &mut connector, files, to, base);
-    storage.close(connector.close());
+    connector.close().close();
     ended
 }
 
@@ -40,7 +40,7 @@ pub fn open_connector<R: Runtime + AllocGlobal, K: Storage>(
     match Connector::open(rt.alloc(), storage.open()?) {
         Ok(connector) => Ok(connector),
         Err((fault, entries)) => {
-            storage.close(entries);
+            entries.close();
             Err(RunFault::from(PushFault::from(fault)))
         }
     }

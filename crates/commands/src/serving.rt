@@ -5,7 +5,7 @@ ghost use Rattle.commands.specs.declared.status.RunFault.TheVariants.{Memory};
 
 use crate::status::{RunFault, Status};
 use connection::{ConnectionFault, Sockets, serve_from_memory};
-use provider_file::{Storage, serve_stored};
+use provider_file::{Storage, StoredRows, serve_stored};
 use scim_key::Base;
 use std::io;
 use std::io::ErrorKind;
@@ -56,7 +56,7 @@ fn serve_from_file<R: Runtime + Net + AllocGlobal, K: Storage>(
             Ok(outcome_status(outcome))
         }
         Err(fault) => {
-            storage.close(rows);
+            rows.close();
             Err(fault)
         }
     }

@@ -3,10 +3,11 @@ ghost use Rattle.std.specs.Prelude.{◌≡◌, IfOk};
 ghost use Rattle.journal_file.specs.Opened.{IsOpened};
 ghost use Rattle.journal_file.specs.Files.{file_fault};
 
-use crate::storage::Storage;
+use crate::storage::{Storage, StoredEntries};
 use journal_core::Journal;
 use journal_store::{OpenFault, SqlJournal};
-use sqlite::{Alter, Connection, Error, ErrorCode, File, FileFrom, FileStore, Start, Unknown};
+use sqlite::{Alter, Connection, Error, ErrorCode, File, FileStore, Unknown};
+use sqlite_disk::Disk;
 use std::alloc::Global;
 use std::rt::HostRuntime;
 
@@ -20,27 +21,18 @@ pub struct JournalFile<'a> {
 impl<'a> Storage for JournalFile<'a> {
     type Entries = SqlJournal<FileStore<File>>;
 
+    /// A file that is refused is closed as it stands, and what it holds is as it was.
     fn open(&self) -> Result<Self::Entries, OpenFault> {
-        open_file(self.rt, self.path, Unknown)
-    }
-
-    fn close(&self, entries: Self::Entries) {
-        let _ = entries.close().close();
+        match Connection::open_from(self.rt, self.path, false, Unknown) {
+            Ok(conn) => entries_over(self.rt.alloc(), conn),
+            Err((error, _left)) => Err(file_fault(error)),
+        }
     }
 }
 
-/// Opens a file as a journal. One that is refused is closed as it stands, and what it holds is as
-/// it was.
-pub fn open_file<S: Start>(
-    rt: &HostRuntime,
-    path: &str,
-    start: S,
-) -> Result<SqlJournal<FileStore<FileFrom<S>>>, OpenFault>
-    ensures opened { IfOk result (IsOpened ⟦<SqlJournal<FileStore<FileFrom<S>>> as Journal>⟧) }
-{
-    match Connection::open_from(rt, path, false, start) {
-        Ok(conn) => entries_over(rt.alloc(), conn),
-        Err((error, _left)) => Err(file_fault(error)),
+impl<D: Disk + Drop> StoredEntries for SqlJournal<FileStore<D>> {
+    fn close(self) {
+        let _ = SqlJournal::close(self).close();
     }
 }
 

@@ -6,7 +6,7 @@ mod lines;
 mod showing;
 mod storage;
 
-pub use file::{JournalFile, open_file};
+pub use file::JournalFile;
 pub use lines::entry_line;
 pub use showing::{ShowFault, show_entries, write_entries};
-pub use storage::Storage;
+pub use storage::{Storage, StoredEntries};

@@ -7,7 +7,7 @@ ghost use Rattle.journal_file.specs.declared.showing.ShowFault.TheVariants.{Outp
 ghost use Rattle.journal_store.specs.declared.opening.OpenFault.TheVariants.{Memory};
 
 use crate::lines::entry_line;
-use crate::storage::Storage;
+use crate::storage::{Storage, StoredEntries};
 use journal_core::{Entry, Journal, JournalFault};
 use journal_store::OpenFault;
 use std::alloc::{AllocError, Global};
@@ -84,7 +84,7 @@ pub fn show_entries<K: Storage, W: Write>(
 {
     let mut entries = storage.open()?;
     let shown = write_entries(alloc, &mut entries, out);
-    storage.close(entries);
+    entries.close();
     shown
 }
 

@@ -3,10 +3,11 @@ ghost use Rattle.std.specs.Prelude.{◌≡◌, IfOk};
 ghost use Rattle.provider_file.specs.Opened.{IsOpened};
 ghost use Rattle.provider_file.specs.Files.{file_fault};
 
-use crate::storage::Storage;
+use crate::storage::{Storage, StoredRows};
 use provider_core::Registry;
 use provider_store::{OpenFault, SqlRegistry};
-use sqlite::{Alter, Connection, Error, ErrorCode, File, FileFrom, FileStore, Start, Unknown};
+use sqlite::{Alter, Connection, Error, ErrorCode, File, FileStore, Unknown};
+use sqlite_disk::Disk;
 use std::alloc::Global;
 use std::rt::HostRuntime;
 
@@ -23,31 +24,22 @@ impl<'a> Storage for StoreFile<'a> {
     /// What a file holds that was there before isn't known.
     ghost refuses = { λ _ _. Unit {0} };
 
+    /// A file that is refused is closed as it stands, and what it holds is as it was.
     fn open(&self) -> Result<Self::Rows, OpenFault> {
-        open_file(self.rt, self.path, Unknown)
-    }
-
-    fn has_failed(&self, rows: &Self::Rows) -> bool {
-        rows.has_failed()
-    }
-
-    fn close(&self, rows: Self::Rows) {
-        let _ = rows.close().close();
+        match Connection::open_from(self.rt, self.path, false, Unknown) {
+            Ok(conn) => rows_over(self.rt.alloc(), conn),
+            Err((error, _left)) => Err(file_fault(error)),
+        }
     }
 }
 
-/// Opens a file as a registry. One that is refused is closed as it stands, and what it holds is as
-/// it was.
-pub fn open_file<S: Start>(
-    rt: &HostRuntime,
-    path: &str,
-    start: S,
-) -> Result<SqlRegistry<FileStore<FileFrom<S>>>, OpenFault>
-    ensures opened { IfOk result (IsOpened ⟦<SqlRegistry<FileStore<FileFrom<S>>> as Registry>⟧) }
-{
-    match Connection::open_from(rt, path, false, start) {
-        Ok(conn) => rows_over(rt.alloc(), conn),
-        Err((error, _left)) => Err(file_fault(error)),
+impl<D: Disk + Drop> StoredRows for SqlRegistry<FileStore<D>> {
+    fn has_failed(&self) -> bool {
+        SqlRegistry::has_failed(self)
+    }
+
+    fn close(self) {
+        let _ = SqlRegistry::close(self).close();
     }
 }
 

@@ -8,9 +8,9 @@ mod serving;
 mod showing;
 mod storage;
 
-pub use file::{StoreFile, open_file};
+pub use file::StoreFile;
 pub use lines::row_line;
 pub use memory::InMemory;
 pub use serving::{serve_one, serve_stored};
 pub use showing::{ShowFault, show_rows, write_rows};
-pub use storage::Storage;
+pub use storage::{Storage, StoredRows};

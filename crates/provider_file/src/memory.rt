@@ -1,5 +1,5 @@
 //! Memory as the place of the rows.
-use crate::storage::Storage;
+use crate::storage::{Storage, StoredRows};
 use provider_core::MemoryRegistry;
 use provider_store::OpenFault;
 use std::alloc::Global;
@@ -19,10 +19,12 @@ impl Storage for InMemory {
     fn open(&self) -> Result<MemoryRegistry, OpenFault> {
         Ok(MemoryRegistry::new(self.alloc))
     }
+}
 
-    fn has_failed(&self, _: &MemoryRegistry) -> bool {
+impl StoredRows for MemoryRegistry {
+    fn has_failed(&self) -> bool {
         false
     }
 
-    fn close(&self, _: MemoryRegistry) {}
+    fn close(self) {}
 }

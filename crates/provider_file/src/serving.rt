@@ -3,7 +3,7 @@ ghost use Rattle.std.specs.Prelude.{◌≡◌, ◌<◌, IfErr, IfOk, OnErr};
 ghost use Rattle.provider_file.specs.Opened.{IsMended};
 ghost use Rattle.provider_file.specs.Serving.{AnswersFrom, IsRefused, ServesEach, ServesFrom, ServesNext};
 
-use crate::storage::Storage;
+use crate::storage::{Storage, StoredRows};
 use connection::{ConnectionFault, Listen, serve_connections};
 use http_text::{Input, Output};
 use provider_core::Provider;
@@ -27,7 +27,7 @@ pub fn serve_one<K: Storage, I: Read, O: Write>(
 {
     let mut provider = Provider::new(storage.open()?);
     let served = serve(alloc, &mut provider, base, reader, writer);
-    storage.close(provider.close());
+    provider.close().close();
     Ok(served)
 }
 
@@ -56,7 +56,7 @@ pub fn serve_stored<K: Storage, L: Listen>(
         let served = serve_connections(rt, alloc, listener, 1, base, &mut provider);
         outcome = outcome.and(served);
     }
-    storage.close(provider.close());
+    provider.close().close();
     Ok(outcome)
 }
 
@@ -70,9 +70,9 @@ fn mended<K: Storage>(
     ensures cause { IfErr result (K.refuses storage.now) }
 {
     let rows = provider.close();
-    if !storage.has_failed(&rows) {
+    if !rows.has_failed() {
         return Ok(Provider::new(rows));
     }
-    storage.close(rows);
+    rows.close();
     Ok(Provider::new(storage.open()?))
 }

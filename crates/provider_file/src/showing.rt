@@ -7,7 +7,7 @@ ghost use Rattle.provider_file.specs.declared.showing.ShowFault.TheVariants.{Out
 ghost use Rattle.provider_store.specs.declared.opening.OpenFault.TheVariants.{Memory};
 
 use crate::lines::row_line;
-use crate::storage::Storage;
+use crate::storage::{Storage, StoredRows};
 use provider_core::{Registry, RegistryFault};
 use provider_store::OpenFault;
 use scim_resource::Stored;
@@ -88,7 +88,7 @@ pub fn show_rows<K: Storage, W: Write>(
 {
     let mut rows = storage.open()?;
     let shown = write_rows(alloc, &mut rows, out);
-    storage.close(rows);
+    rows.close();
     shown
 }
 

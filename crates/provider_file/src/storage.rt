@@ -6,9 +6,19 @@ ghost use Rattle.provider_store.specs.declared.opening.OpenFault.{OpenFault as R
 use provider_core::Registry;
 use provider_store::OpenFault;
 
+/// The rows of a provider, open where they are kept.
+pub trait StoredRows: Registry {
+    /// Whether a fault of the store was counted since the rows were opened.
+    fn has_failed(&self) -> bool
+        ensures { IsTrue result ↔ (0 < Self.faults self.now) };
+
+    /// Closes the rows. What was committed stands, whether or not this succeeds.
+    fn close(self);
+}
+
 /// Where the rows of a provider are kept, open or not.
 pub trait Storage {
-    type Rows: Registry;
+    type Rows: StoredRows;
 
     /// What it may refuse to open them with.
     ghost refuses: { Self → Refusal → Type 0 };
@@ -17,11 +27,4 @@ pub trait Storage {
     fn open(&self) -> Result<Self::Rows, OpenFault>
         ensures opened { IfOk result (IsOpened Self.Rows.Registry) }
         ensures refused { IfErr result (refuses self.now) };
-
-    /// Whether a fault of the store was counted since the rows were opened.
-    fn has_failed(&self, rows: &Self::Rows) -> bool
-        ensures { IsTrue result ↔ (0 < Self.Rows.faults rows.now) };
-
-    /// Closes the rows. What was committed stands, whether or not this succeeds.
-    fn close(&self, rows: Self::Rows);
 }

@@ -12,7 +12,7 @@ use connection::{Listen, Sockets, TimedHandle};
 use connector_core::Connector;
 use journal_core::Journal;
 use provider_core::Provider;
-use provider_file::Storage;
+use provider_file::StoredRows;
 use provisioning::PushFault;
 use scim_client::ScimService;
 use source_offers::Sources;
@@ -28,47 +28,43 @@ const OWN_ADDRESS: &str = "127.0.0.1:0";
 /// Runs the connector against a provider that listens at a free port of its own, and gives it back.
 /// Each row's report is printed, then how many exchanges there were where all is settled, then a line
 /// for each record. A fault of the provider's store ends the run.
-pub fn run_loop<'a, N: Net + Clock, K: Storage + 'a, J: Journal, W: Write>(
+pub fn run_loop<'a, N: Net + Clock, R: StoredRows + 'a, J: Journal, W: Write>(
     rt: &'a N,
     alloc: Global,
     service: &ScimService,
     connector: &mut Connector<J>,
-    storage: &K,
-    provider: Provider<K::Rows>,
+    provider: Provider<R>,
     sources: &Sources,
     out: &mut W,
-) -> (Provider<K::Rows>, Result<Outcome, RunFault>)
-    ensures { Loops ⟦<OwnReader<'a, 'a, 'a, N, Sockets<'a, N::Listener, N>, K> as Read>⟧.remaining
+) -> (Provider<R>, Result<Outcome, RunFault>)
+    ensures { Loops ⟦<OwnReader<'a, 'a, 'a, N, Sockets<'a, N::Listener, N>, R> as Read>⟧.remaining
         ⟦<TimedHandle<'a, N::Stream, N> as Write>⟧.contents J.Journal service.now sources.now
         connector.old connector.new result.1 }
 {
-    let (provider, carried) = carry_here(
-        rt, alloc, service, connector, storage, provider, sources, out,
-    );
-    finish(carried, connector, storage, provider, out)
+    let (provider, carried) = carry_here(rt, alloc, service, connector, provider, sources, out);
+    finish(carried, connector, provider, out)
 }
 
 /// Tells what became of a run, and gives the provider back.
-fn finish<K: Storage, J: Journal, W: Write>(
+fn finish<R: StoredRows, J: Journal, W: Write>(
     carried: Result<Outcome, PushFault>,
     connector: &Connector<J>,
-    storage: &K,
-    provider: Provider<K::Rows>,
+    provider: Provider<R>,
     out: &mut W,
-) -> (Provider<K::Rows>, Result<Outcome, RunFault>)
+) -> (Provider<R>, Result<Outcome, RunFault>)
     ensures { IsOutcome carried result.1 }
 {
     let mut provider = provider;
     let told = match carried {
-        Ok(outcome) => print_end(outcome, connector, storage, &mut provider, out),
-        Err(fault) => Err(ended(fault, storage, &mut provider)),
+        Ok(outcome) => print_end(outcome, connector, &mut provider, out),
+        Err(fault) => Err(ended(fault, &mut provider)),
     };
     (provider, told)
 }
 
 /// What ended a run: the provider's store, where it failed.
-fn ended<K: Storage>(fault: PushFault, storage: &K, provider: &mut Provider<K::Rows>) -> RunFault {
-    if has_failed(storage, provider) {
+fn ended<R: StoredRows>(fault: PushFault, provider: &mut Provider<R>) -> RunFault {
+    if has_failed(provider) {
         RunFault::Store
     } else {
         RunFault::Ended(fault)
@@ -76,16 +72,15 @@ fn ended<K: Storage>(fault: PushFault, storage: &K, provider: &mut Provider<K::R
 }
 
 /// Prints how a run went that no fault ended, and how its records stand.
-fn print_end<K: Storage, J: Journal, W: Write>(
+fn print_end<R: StoredRows, J: Journal, W: Write>(
     outcome: Outcome,
     connector: &Connector<J>,
-    storage: &K,
-    provider: &mut Provider<K::Rows>,
+    provider: &mut Provider<R>,
     out: &mut W,
 ) -> Result<Outcome, RunFault>
     ensures { IsOutcome (Ok outcome) result }
 {
-    if has_failed(storage, provider) {
+    if has_failed(provider) {
         return Err(RunFault::Store);
     }
     if outcome.tally.is_settled {
@@ -97,17 +92,16 @@ fn print_end<K: Storage, J: Journal, W: Write>(
 }
 
 /// Runs the connector against a provider over TCP, and gives the provider back.
-fn carry_here<'a, N: Net + Clock, K: Storage + 'a, J: Journal, W: Write>(
+fn carry_here<'a, N: Net + Clock, R: StoredRows + 'a, J: Journal, W: Write>(
     rt: &'a N,
     alloc: Global,
     service: &ScimService,
     connector: &mut Connector<J>,
-    storage: &K,
-    provider: Provider<K::Rows>,
+    provider: Provider<R>,
     sources: &Sources,
     out: &mut W,
-) -> (Provider<K::Rows>, Result<Outcome, PushFault>)
-    ensures { CarriesHere ⟦<OwnReader<'a, 'a, 'a, N, Sockets<'a, N::Listener, N>, K> as Read>⟧.remaining
+) -> (Provider<R>, Result<Outcome, PushFault>)
+    ensures { CarriesHere ⟦<OwnReader<'a, 'a, 'a, N, Sockets<'a, N::Listener, N>, R> as Read>⟧.remaining
         ⟦<TimedHandle<'a, N::Stream, N> as Write>⟧.contents J.Journal service.now sources.now
         connector.old connector.new result.1 }
 {
@@ -117,7 +111,6 @@ fn carry_here<'a, N: Net + Clock, K: Storage + 'a, J: Journal, W: Write>(
                 alloc,
                 base: service.base(),
                 listener,
-                storage,
                 provider,
             });
             let carried = carry_to(
@@ -137,17 +130,17 @@ fn carry_here<'a, N: Net + Clock, K: Storage + 'a, J: Journal, W: Write>(
 }
 
 /// Runs the connector against a provider of this program.
-fn carry_to<'r, 'p, 'b, N: Net + Clock, L: Listen + Drop, K: Storage, J: Journal, W: Write>(
+fn carry_to<'r, 'p, 'b, N: Net + Clock, L: Listen + Drop, R: StoredRows, J: Journal, W: Write>(
     rt: &'r N,
     alloc: Global,
     service: &ScimService,
     connector: &mut Connector<J>,
     sources: &Sources,
     address: &str,
-    own: &'p RefCell<OwnProvider<'b, L, K>>,
+    own: &'p RefCell<OwnProvider<'b, L, R>>,
     out: &mut W,
 ) -> Result<Outcome, PushFault>
-    ensures { CarriesSilently ⟦<OwnReader<'r, 'p, 'b, N, L, K> as Read>⟧.remaining
+    ensures { CarriesSilently ⟦<OwnReader<'r, 'p, 'b, N, L, R> as Read>⟧.remaining
         ⟦<TimedHandle<'r, N::Stream, N> as Write>⟧.contents J.Journal service.now sources.now
         connector.old connector.new result }
 {

@@ -2,7 +2,7 @@
 use connection::{Listen, TimedHandle, serve_next};
 use core::mem::replace_with;
 use provider_core::Provider;
-use provider_file::Storage;
+use provider_file::StoredRows;
 use provisioning::{Dial, Remote};
 use scim_key::Base;
 use std::alloc::Global;
@@ -12,40 +12,39 @@ use std::io::{ErrorKind, Read};
 use std::net::Net;
 use std::time::Clock;
 
-/// A provider, where its rows are kept, and the connections on which it is asked.
+/// A provider, and the connections on which it is asked.
 #[derive(Drop)]
-pub struct OwnProvider<'b, L: Listen + Drop, K: Storage> {
+pub struct OwnProvider<'b, L: Listen + Drop, R: StoredRows> {
     pub(crate) alloc: Global,
     pub(crate) base: &'b Base,
     pub(crate) listener: L,
-    pub(crate) storage: &'b K,
-    pub(crate) provider: Provider<K::Rows>,
+    pub(crate) provider: Provider<R>,
 }
 
 /// Whether a fault of a provider's store was counted.
-pub(crate) fn has_failed<K: Storage>(storage: &K, provider: &mut Provider<K::Rows>) -> bool {
-    replace_with(provider, storage, asked)
+pub(crate) fn has_failed<R: StoredRows>(provider: &mut Provider<R>) -> bool {
+    replace_with(provider, (), asked)
 }
 
 /// Whether a fault of the rows was counted.
-fn asked<K: Storage>(provider: Provider<K::Rows>, storage: &K) -> (Provider<K::Rows>, bool) {
+fn asked<R: StoredRows>(provider: Provider<R>, _: ()) -> (Provider<R>, bool) {
     let rows = provider.close();
-    let has_failed = storage.has_failed(&rows);
+    let has_failed = rows.has_failed();
     (Provider::new(rows), has_failed)
 }
 
 /// Streams to a provider in the same program, each answered once it is read from.
 #[derive(Drop)]
-pub(crate) struct OwnStreams<'r, 'p, 'b, N: Net + Clock, L: Listen + Drop, K: Storage> {
+pub(crate) struct OwnStreams<'r, 'p, 'b, N: Net + Clock, L: Listen + Drop, R: StoredRows> {
     pub remote: Remote<'r, N>,
-    pub own: &'p RefCell<OwnProvider<'b, L, K>>,
+    pub own: &'p RefCell<OwnProvider<'b, L, R>>,
 }
 
 /// What a provider in the same program answers.
 #[derive(Drop)]
-pub struct OwnReader<'r, 'p, 'b, N: Net + Clock, L: Listen + Drop, K: Storage> {
+pub struct OwnReader<'r, 'p, 'b, N: Net + Clock, L: Listen + Drop, R: StoredRows> {
     stream: TimedHandle<'r, N::Stream, N>,
-    own: &'p RefCell<OwnProvider<'b, L, K>>,
+    own: &'p RefCell<OwnProvider<'b, L, R>>,
     is_served: bool,
 }
 
@@ -53,7 +52,7 @@ fn busy() -> io::Error {
     io::Error::from(ErrorKind::ResourceBusy)
 }
 
-impl<'r, 'p, 'b, N: Net + Clock, L: Listen + Drop, K: Storage> OwnReader<'r, 'p, 'b, N, L, K> {
+impl<'r, 'p, 'b, N: Net + Clock, L: Listen + Drop, R: StoredRows> OwnReader<'r, 'p, 'b, N, L, R> {
     /// Ends what is asked, and has it answered.
     fn be_served(&mut self) -> io::Result<()> {
         if self.is_served {
@@ -68,8 +67,8 @@ impl<'r, 'p, 'b, N: Net + Clock, L: Listen + Drop, K: Storage> OwnReader<'r, 'p,
     }
 }
 
-impl<'r, 'p, 'b, N: Net + Clock, L: Listen + Drop, K: Storage> Read
-    for OwnReader<'r, 'p, 'b, N, L, K> {
+impl<'r, 'p, 'b, N: Net + Clock, L: Listen + Drop, R: StoredRows> Read
+    for OwnReader<'r, 'p, 'b, N, L, R> {
     /// Has the connection served and reads what came. Where nothing did, another one was served, which
     /// came first: the next is served before the next read.
     fn read(&mut self, buffer: &mut [u8]) -> io::Result<usize> {
@@ -88,9 +87,9 @@ impl<'r, 'p, 'b, N: Net + Clock, L: Listen + Drop, K: Storage> Read
     }
 }
 
-impl<'r, 'p, 'b, N: Net + Clock, L: Listen + Drop, K: Storage> Dial
-    for OwnStreams<'r, 'p, 'b, N, L, K> {
-    type Reader = OwnReader<'r, 'p, 'b, N, L, K>;
+impl<'r, 'p, 'b, N: Net + Clock, L: Listen + Drop, R: StoredRows> Dial
+    for OwnStreams<'r, 'p, 'b, N, L, R> {
+    type Reader = OwnReader<'r, 'p, 'b, N, L, R>;
 
     type Writer = TimedHandle<'r, N::Stream, N>;
 
@@ -98,7 +97,7 @@ impl<'r, 'p, 'b, N: Net + Clock, L: Listen + Drop, K: Storage> Dial
     fn dial(&mut self) -> io::Result<(Self::Reader, Self::Writer)> {
         let mut guard = self.own.try_borrow_mut().map_err(|_| busy())?;
         let own = &mut *guard;
-        if has_failed(own.storage, &mut own.provider) {
+        if has_failed(&mut own.provider) {
             return Err(io::Error::from(ErrorKind::NotConnected));
         }
         let (stream, writer) = self.remote.dial()?;
