@@ -1,5 +1,5 @@
 //! What a provider answers to each kind of request, for users and groups, as responses.
-use crate::support::{BOB_CREATED, base, empty};
+use crate::support::{BOB_CREATED, assert_that, base, empty};
 use provider_core::{MemoryRegistry, Provider, Request};
 use scim_filter::Filter;
 use scim_key::{GroupName, Kind, ResourceId};
@@ -109,7 +109,7 @@ fn answers(
 ) {
     let answer = provider.answer(alloc, &request).expect(rt, "an answer");
     let response = response_of(alloc, &answer, &base(rt, alloc)).expect(rt, "a response");
-    assert!(rt; response.as_slice() == expected);
+    assert_that(rt, response.as_slice() == expected);
 }
 
 /// A provider with bob and the crew.

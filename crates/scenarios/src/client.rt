@@ -1,6 +1,7 @@
 //! Requests as the client writes them, and what the server makes of them.
-use crate::support::{BOB_FOUND, CREATE_BOB, answers, base, empty, ends, exchange, tells};
-use provider_core::{MemoryRegistry, Provider};
+use crate::support::{
+    BOB_FOUND, CREATE_BOB, answers, assert_that, base, empty, ends, tells, with_bob,
+};
 use scim_client::ScimService;
 use scim_filter::Filter;
 use scim_key::{Kind, ResourceId, Revision, UserName};
@@ -24,19 +25,12 @@ fn bob_id(rt: &impl Abort, alloc: Global) -> ResourceId {
     ResourceId::of_number(alloc, 1).expect(rt, "memory")
 }
 
-/// A provider with bob at version 1, revision 1.
-fn with_bob(rt: &impl Abort, alloc: Global) -> Provider<MemoryRegistry> {
-    let mut provider = empty(alloc);
-    exchange(rt, alloc, &mut provider, CREATE_BOB);
-    provider
-}
-
 /// Asserts that these are the bytes of a GET of this target, with these further field lines.
 fn gets(rt: &impl Abort, alloc: Global, bytes: &[u8], target: &str, lines: &str) {
     let expected = format!(in alloc;
         "GET {target} HTTP/1.1\r\nHost: localhost:8080\r\nAccept: application/scim+json\r\nConnection: close\r\n{lines}\r\n"
     ).expect(rt, "memory");
-    assert!(rt; bytes == expected.as_bytes());
+    assert_that(rt, bytes == expected.as_bytes());
 }
 
 #[test]
@@ -45,14 +39,14 @@ fn a_create_is_written_whole(rt: HostRuntime) {
     let content = bob(&rt, rt.alloc(), 1);
     let planned = service.create_request(&content);
     let built = planned.build(rt.alloc()).expect(&rt, "a request");
-    assert!(rt; built.as_slice() == CREATE_BOB);
+    assert_that(&rt, built.as_slice() == CREATE_BOB);
     let bytes = service
         .bytes_of(
             rt.alloc(),
             &planned.request(rt.alloc()).expect(&rt, "a request"),
         )
         .expect(&rt, "a request");
-    assert!(rt; bytes.as_slice() == CREATE_BOB);
+    assert_that(&rt, bytes.as_slice() == CREATE_BOB);
 }
 
 #[test]
@@ -207,7 +201,7 @@ fn a_replacement_names_the_version_that_it_replaces(rt: HostRuntime) {
         .if_match(&tag)
         .build(rt.alloc())
         .expect(&rt, "a request");
-    assert!(rt; built.as_slice() == REPLACE_BOB);
+    assert_that(&rt, built.as_slice() == REPLACE_BOB);
     let mut provider = with_bob(&rt, rt.alloc());
     ends(
         &rt,

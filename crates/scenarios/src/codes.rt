@@ -1,20 +1,10 @@
 //! The codes that faults and refusals are printed as.
+use crate::support::are_printed;
 use http_text::{ReadFault, SendFault};
 use provider_core::{ProviderFault, RegistryFault};
 use scim_client::{AnswerFault, ExchangeFault};
 use scim_message::Refusal;
 use scim_server::MeaningFault;
-use std::alloc::Global;
-use std::fmt::Display;
-use std::process::Abort;
-
-/// Asserts that each of these is printed as the text beside it.
-fn are_printed<F: Display>(rt: &impl Abort, alloc: Global, table: &[(F, &str)]) {
-    for (fault, code) in table {
-        let text = fault.to_string(alloc).expect(rt, "memory");
-        assert!(rt; text.as_str() == *code, "{text} and not {code}");
-    }
-}
 
 static REFUSALS: &[(Refusal, &str)] = &[
     (Refusal::UnreadableBody, "P1"),

@@ -3,7 +3,7 @@ use crate::answers::{BOB, creation};
 use crate::responses::padded;
 use crate::sayings::{Ask, line, request_for, response};
 use crate::scripts::{Event, Script, ScriptedReader, ScriptedWriter, Turn};
-use crate::support::{BOB_CREATED, CREATE_BOB, base};
+use crate::support::{BOB_CREATED, CREATE_BOB, assert_same, assert_that, base};
 use http_text::{Input, Output, SendFault};
 use scim_client::{ExchangeFault, ScimService};
 use scim_key::Kind;
@@ -37,8 +37,8 @@ fn is_read(rt: &impl Abort, alloc: Global, bytes: &[u8], script: Script<'_>, exp
     let mut writer = Output::new(Vec::new(alloc));
     let outcome = service.exchange(alloc, &request, &mut reader, &mut writer);
     let text = told(rt, alloc, &outcome);
-    assert!(rt; text.as_str() == expected, "{text} and not {expected}");
-    assert!(rt; writer.into_inner().as_slice() == CREATE_BOB);
+    assert_same(rt, text.as_str(), expected);
+    assert_that(rt, writer.into_inner().as_slice() == CREATE_BOB);
 }
 
 /// At most how many bytes a read gives, what happens at which byte, and what comes.
@@ -136,12 +136,12 @@ fn is_written(rt: &impl Abort, alloc: Global, writing: &Writing, events: &[Event
     });
     let outcome = service.exchange(alloc, &request, &mut reader, &mut writer);
     let text = told(rt, alloc, &outcome);
-    assert!(rt; text.as_str() == *expected, "{text} and not {expected}");
+    assert_same(rt, text.as_str(), *expected);
     let ScriptedWriter { taken, .. } = writer.into_inner();
-    assert!(rt; Some(taken.as_slice()) == CREATE_BOB.get(..*bytes));
+    assert_that(rt, Some(taken.as_slice()) == CREATE_BOB.get(..*bytes));
     if outcome.is_err() {
-        assert_eq!(rt; sent(&outcome), Some(*bytes));
-        assert_eq!(rt; reader.calls(), 0);
+        assert_same(rt, sent(&outcome), Some(*bytes));
+        assert_same(rt, reader.calls(), 0);
     }
 }
 
@@ -205,11 +205,11 @@ fn comes(rt: &impl Abort, alloc: Global, ask: Ask, bytes: &[u8], expected: &str,
     let mut writer = Output::new(Vec::new(alloc));
     let outcome = service.exchange(alloc, &request, &mut reader, &mut writer);
     let text = told(rt, alloc, &outcome);
-    assert!(rt; text.as_str() == expected, "{text} and not {expected}");
+    assert_same(rt, text.as_str(), expected);
     let mut rest = Vec::from_slice(alloc, reader.ahead()).expect(rt, "memory");
     rest.extend_from_slice(reader.into_inner())
         .expect(rt, "memory");
-    assert!(rt; rest.as_slice() == left);
+    assert_that(rt, rest.as_slice() == left);
 }
 
 /// What is asked for, the bytes that are read, what comes, and what is left.

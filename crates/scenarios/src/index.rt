@@ -1,7 +1,7 @@
 //! A Search for one name is answered by the index of names.
 ghost use Rattle.std.specs.Prelude.{◌≡◌, refl};
 
-use crate::support::{CREATE_BOB, ends, exchange};
+use crate::support::{CREATE_BOB, assert_same, ends, exchange};
 use provider_core::{MemoryRegistry, Provider, Registry, RegistryFault};
 use scim_key::{RecordName, ResourceId};
 use scim_resource::Stored;
@@ -103,6 +103,6 @@ fn a_name_is_found_by_the_index(rt: HostRuntime) {
             &rt, "memory",
         );
         ends(&rt, alloc, &mut provider, asked.as_bytes(), 200, end);
-        assert_eq!(rt; provider.close().scans, *scans);
+        assert_same(&rt, provider.close().scans, *scans);
     }
 }

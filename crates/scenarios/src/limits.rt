@@ -1,18 +1,9 @@
 //! Each limit is met exactly, and passed by one.
 use crate::registries::FullRegistry;
-use crate::support::{CREATE_BOB, empty, ends, tells};
+use crate::support::{CREATE_BOB, assert_same, empty, ends, repeated, tells};
 use provider_core::Provider;
 use std::alloc::Global;
 use std::process::Abort;
-
-/// A piece so many times.
-fn repeated(rt: &impl Abort, alloc: Global, piece: &str, count: usize) -> String {
-    let mut text = String::new(alloc);
-    for _ in 0..count {
-        text.push_str(piece).expect(rt, "memory");
-    }
-    text
-}
 
 /// A text whose piece may stand so many times between two others, and what is told of both sides of
 /// the limit: the status, and a part of the answer.
@@ -242,7 +233,7 @@ fn bodies_have_at_most_32768_bytes(rt: HostRuntime) {
         (32_769, (413, "the body is too long")),
     ] {
         let body = body_of_length(&rt, rt.alloc(), length);
-        assert_eq!(rt; body.len(), length);
+        assert_same(&rt, body.len(), length);
         let request = post_of(&rt, rt.alloc(), body.as_str());
         is_told(&rt, rt.alloc(), request.as_str(), told);
     }

@@ -1,5 +1,6 @@
 //! The lines of a file's images, through writers that follow a script.
 use crate::scripts::{Event, Script, ScriptedWriter, Turn};
+use crate::support::{assert_same, assert_that};
 use mapping::{WriteFault, write_images};
 use source_csv::read_users;
 use std::alloc::Global;
@@ -67,8 +68,8 @@ fn writes(rt: &impl Abort, alloc: Global, writing: &Writing) {
     let rows = read_users(alloc, USERS).expect(rt, "a file");
     let mut out = writer(alloc, *step, events, flush_faults);
     let written = write_images(alloc, rows.as_slice(), &mut out);
-    assert_eq!(rt; written, *wanted);
-    assert!(rt; Some(out.taken.as_slice()) == LINES.get(..*bytes));
+    assert_same(rt, written, *wanted);
+    assert_that(rt, Some(out.taken.as_slice()) == LINES.get(..*bytes));
 }
 
 #[test]
@@ -84,5 +85,5 @@ fn a_buffer_that_cannot_be_flushed(rt: HostRuntime) {
     let unflushed = writer(rt.alloc(), 1_000, &[], &[ErrorKind::BrokenPipe]);
     let mut buffer = BufWriter::new(rt.alloc(), unflushed).expect(&rt, "memory");
     let written = write_images(rt.alloc(), rows.as_slice(), &mut buffer);
-    assert_eq!(rt; written, FAILED);
+    assert_same(&rt, written, FAILED);
 }

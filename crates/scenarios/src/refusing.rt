@@ -1,5 +1,5 @@
 //! Each refusal has its answer, and nothing is stored.
-use crate::support::{asked, post};
+use crate::support::{asked, assert_same, assert_that, post};
 use scim_server::Served;
 use std::alloc::Global;
 use std::process::Abort;
@@ -7,13 +7,13 @@ use std::process::Abort;
 /// Asserts that an empty provider answers a request with this status line and this body, and stores nothing.
 fn refuses(rt: &impl Abort, alloc: Global, request: &[u8], status: u16, line: &str, body: &str) {
     let (served, written, rows) = asked(rt, alloc, request);
-    assert_eq!(rt; served, Served::Answered { status });
+    assert_same(rt, served, Served::Answered { status });
     let length = body.len();
     let expected = format!(in alloc;
         "HTTP/1.1 {line}\r\nConnection: close\r\nContent-Length: {length}\r\nContent-Type: application/scim+json\r\n\r\n{body}"
     ).expect(rt, "memory");
-    assert!(rt; written.as_slice() == expected.as_bytes());
-    assert_eq!(rt; rows, 0);
+    assert_that(rt, written.as_slice() == expected.as_bytes());
+    assert_same(rt, rows, 0);
 }
 
 /// The body of an error message without a scimType.
@@ -121,12 +121,13 @@ fn a_head_request_gets_the_head_alone(rt: HostRuntime) {
         rt.alloc(),
         b"HEAD /v2/Users HTTP/1.1\r\nHost: h\r\n\r\n",
     );
-    assert_eq!(rt; served, Served::Answered { status: 501 });
-    assert!(rt;
+    assert_same(&rt, served, Served::Answered { status: 501 });
+    assert_that(
+        &rt,
         written.as_slice()
-            == b"HTTP/1.1 501 Not Implemented\r\nConnection: close\r\nContent-Length: 113\r\nContent-Type: application/scim+json\r\n\r\n".as_slice()
+            == b"HTTP/1.1 501 Not Implemented\r\nConnection: close\r\nContent-Length: 113\r\nContent-Type: application/scim+json\r\n\r\n".as_slice(),
     );
-    assert_eq!(rt; rows, 0);
+    assert_same(&rt, rows, 0);
 }
 
 static MEDIA_TYPES: &[Refused] = &[

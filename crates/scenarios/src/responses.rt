@@ -1,6 +1,6 @@
 //! Responses of any provider, read as answers to a request.
 use crate::sayings::{Ask, BOB_ELSEWHERE, line, request_for, response};
-use crate::support::BOB_CREATED;
+use crate::support::{BOB_CREATED, assert_same};
 use scim_client::read_answer;
 use std::alloc::Global;
 use std::process::Abort;
@@ -12,7 +12,7 @@ fn says(rt: &impl Abort, alloc: Global, ask: Ask, bytes: &[u8], expected: &str) 
         Ok(answer) => line(rt, alloc, &answer),
         Err(fault) => fault.to_string(alloc).expect(rt, "memory"),
     };
-    assert!(rt; text.as_str() == expected, "{text} and not {expected}");
+    assert_same(rt, text.as_str(), expected);
 }
 
 /// What is asked for, a status, a body, and what they say.
@@ -457,7 +457,7 @@ fn heads_at_their_limits(rt: HostRuntime) {
     ];
     for (lines, value_length, length, expected) in table {
         let bytes = headed(&rt, rt.alloc(), lines, value_length);
-        assert_eq!(rt; bytes.len(), length);
+        assert_same(&rt, bytes.len(), length);
         says(&rt, rt.alloc(), Ask::Search, bytes.as_slice(), expected);
     }
 }

@@ -1,7 +1,9 @@
 //! Broken streams and registries.
 use crate::registries::FaultyRegistry;
 use crate::scripts::{Event, Script, ScriptedReader, ScriptedWriter, Turn};
-use crate::support::{BOB_CREATED, CREATE_BOB, GIVEN_UP, asked, base, empty, exchange};
+use crate::support::{
+    BOB_CREATED, CREATE_BOB, GIVEN_UP, asked, assert_same, assert_that, base, empty, exchange,
+};
 use http_text::{Input, Output, ReadFault};
 use provider_core::{Provider, Registry};
 use scim_server::{Served, serve};
@@ -45,9 +47,9 @@ fn is_read(
         None => (Served::Answered { status: 201 }, BOB_CREATED, 1),
         Some(fault) => (Served::NoRequest(fault), &[] as &[u8], 0),
     };
-    assert_eq!(rt; served, wanted);
-    assert!(rt; written.as_slice() == bytes);
-    assert_eq!(rt; rows, count);
+    assert_same(rt, served, wanted);
+    assert_that(rt, written.as_slice() == bytes);
+    assert_same(rt, rows, count);
 }
 
 /// At most how many bytes a read gives, what happens at which byte, and the fault that it leads to.
@@ -142,9 +144,9 @@ fn no_part_of_a_request_is_one(rt: HostRuntime) {
     for count in 0..CREATE_BOB.len() {
         let part = CREATE_BOB.get(..count).expect(&rt, "too long");
         let (served, written, rows) = asked(&rt, rt.alloc(), part);
-        assert_eq!(rt; served, Served::NoRequest(ReadFault::EndedEarly));
-        assert!(rt; written.is_empty());
-        assert_eq!(rt; rows, 0);
+        assert_same(&rt, served, Served::NoRequest(ReadFault::EndedEarly));
+        assert_that(&rt, written.is_empty());
+        assert_same(&rt, rows, 0);
     }
 }
 
@@ -157,8 +159,8 @@ fn what_follows_a_request_stays_unread(rt: HostRuntime) {
     let mut reader = Input::new(both.as_slice());
     let mut writer = Output::new(Vec::new(rt.alloc()));
     let served = serve(rt.alloc(), &mut provider, &base, &mut reader, &mut writer);
-    assert_eq!(rt; served, Served::Answered { status: 201 });
-    assert!(rt; reader.ahead() == b"GET".as_slice());
+    assert_same(&rt, served, Served::Answered { status: 201 });
+    assert_that(&rt, reader.ahead() == b"GET".as_slice());
 }
 
 /// Asserts that bob is created with a writer that follows a script, and that so many bytes of the
@@ -181,10 +183,10 @@ fn is_written(rt: &impl Abort, alloc: Global, writing: &Writing, events: &[Event
     } else {
         Served::Lost { status: 201 }
     };
-    assert_eq!(rt; served, wanted);
-    assert!(rt; Some(taken.as_slice()) == BOB_CREATED.get(..*bytes));
-    assert_eq!(rt; flushes, *flush_count);
-    assert_eq!(rt; provider.close().count().expect(rt, "a count"), 1);
+    assert_same(rt, served, wanted);
+    assert_that(rt, Some(taken.as_slice()) == BOB_CREATED.get(..*bytes));
+    assert_same(rt, flushes, *flush_count);
+    assert_same(rt, provider.close().count().expect(rt, "a count"), 1);
 }
 
 /// At most how many bytes a write takes, what happens at which byte, with what the first flushes
@@ -263,11 +265,11 @@ fn interruptions_are_calls_and_no_failures(rt: HostRuntime) {
         flushes: 0,
     });
     let served = serve(alloc, &mut provider, &base, &mut reader, &mut writer);
-    assert_eq!(rt; served, Served::Answered { status: 201 });
-    assert_eq!(rt; reader.calls(), 7);
-    assert_eq!(rt; reader.failures(), 0);
-    assert_eq!(rt; writer.calls(), 8);
-    assert_eq!(rt; writer.failures(), 0);
+    assert_same(&rt, served, Served::Answered { status: 201 });
+    assert_same(&rt, reader.calls(), 7);
+    assert_same(&rt, reader.failures(), 0);
+    assert_same(&rt, writer.calls(), 8);
+    assert_same(&rt, writer.failures(), 0);
 }
 
 #[test]
@@ -283,8 +285,8 @@ fn a_write_that_fails_once_at_each_place(rt: HostRuntime) {
 fn a_store_that_fails(rt: HostRuntime) {
     let mut provider = Provider::new(FaultyRegistry { faults: 0 });
     let (served, written) = exchange(&rt, rt.alloc(), &mut provider, CREATE_BOB);
-    assert_eq!(rt; served, Served::Answered { status: 500 });
-    assert!(rt; written.as_slice() == GIVEN_UP);
+    assert_same(&rt, served, Served::Answered { status: 500 });
+    assert_that(&rt, written.as_slice() == GIVEN_UP);
     let FaultyRegistry { faults } = provider.close();
-    assert_eq!(rt; faults, 1);
+    assert_same(&rt, faults, 1);
 }

@@ -4,27 +4,63 @@ use provider_core::{MemoryRegistry, Provider, Registry};
 use scim_key::Base;
 use scim_server::{Served, serve};
 use std::alloc::Global;
+use std::fmt::{Debug, Display};
 use std::process::Abort;
 
 /// The request that creates the user `bob` at revision 1, as the connector writes it.
-pub static CREATE_BOB: &[u8] =
+pub const CREATE_BOB: &[u8] =
     b"POST /v2/Users HTTP/1.1\r\nHost: localhost:8080\r\nAccept: application/scim+json\r\nConnection: close\r\nContent-Length: 214\r\nContent-Type: application/scim+json\r\n\r\n{\"active\":true,\"schemas\":[\"urn:ietf:params:scim:schemas:core:2.0:User\",\"urn:example:params:scim:schemas:extension:source:1.0\"],\"urn:example:params:scim:schemas:extension:source:1.0\":{\"revision\":1},\"userName\":\"bob\"}";
 
 /// The answer to it.
-pub static BOB_CREATED: &[u8] =
+pub const BOB_CREATED: &[u8] =
     b"HTTP/1.1 201 Created\r\nConnection: close\r\nContent-Length: 388\r\nContent-Location: http://localhost:8080/v2/Users/5c1a0000-0000-8000-8000-000000000001\r\nContent-Type: application/scim+json\r\nETag: \"1\"\r\nLocation: http://localhost:8080/v2/Users/5c1a0000-0000-8000-8000-000000000001\r\n\r\n{\"active\":true,\"id\":\"5c1a0000-0000-8000-8000-000000000001\",\"meta\":{\"location\":\"http://localhost:8080/v2/Users/5c1a0000-0000-8000-8000-000000000001\",\"resourceType\":\"User\",\"version\":\"\\\"1\\\"\"},\"schemas\":[\"urn:ietf:params:scim:schemas:core:2.0:User\",\"urn:example:params:scim:schemas:extension:source:1.0\"],\"urn:example:params:scim:schemas:extension:source:1.0\":{\"revision\":1},\"userName\":\"bob\"}";
 
 /// The answer to a GET of bob then.
-pub static BOB_FOUND: &[u8] =
+pub const BOB_FOUND: &[u8] =
     b"HTTP/1.1 200 OK\r\nConnection: close\r\nContent-Length: 388\r\nContent-Location: http://localhost:8080/v2/Users/5c1a0000-0000-8000-8000-000000000001\r\nContent-Type: application/scim+json\r\nETag: \"1\"\r\n\r\n{\"active\":true,\"id\":\"5c1a0000-0000-8000-8000-000000000001\",\"meta\":{\"location\":\"http://localhost:8080/v2/Users/5c1a0000-0000-8000-8000-000000000001\",\"resourceType\":\"User\",\"version\":\"\\\"1\\\"\"},\"schemas\":[\"urn:ietf:params:scim:schemas:core:2.0:User\",\"urn:example:params:scim:schemas:extension:source:1.0\"],\"urn:example:params:scim:schemas:extension:source:1.0\":{\"revision\":1},\"userName\":\"bob\"}";
 
 /// The fixed response, which takes no memory.
-pub static GIVEN_UP: &[u8] =
+pub const GIVEN_UP: &[u8] =
     b"HTTP/1.1 500 Internal Server Error\r\nConnection: close\r\nContent-Length: 129\r\nContent-Type: application/scim+json\r\n\r\n{\"detail\":\"the provider could not complete the request\",\"schemas\":[\"urn:ietf:params:scim:api:messages:2.0:Error\"],\"status\":\"500\"}";
+
+/// Asserts that two values are the same. Where `assert_eq!` itself stands, it costs a proof twenty
+/// times what a call of this does.
+pub fn assert_same<T: PartialEq + Debug + Drop>(rt: &impl Abort, value: T, wanted: T) {
+    assert_eq!(rt; value, wanted);
+}
+
+/// Asserts that this is so.
+pub fn assert_that(rt: &impl Abort, is_so: bool) {
+    assert!(rt; is_so);
+}
+
+/// Asserts that each of these is printed as the text beside it.
+pub fn are_printed<F: Display>(rt: &impl Abort, alloc: Global, table: &[(F, &str)]) {
+    for (fault, code) in table {
+        let text = fault.to_string(alloc).expect(rt, "memory");
+        assert_same(rt, text.as_str(), *code);
+    }
+}
+
+/// A piece so many times.
+pub fn repeated(rt: &impl Abort, alloc: Global, piece: &str, count: usize) -> String {
+    let mut text = String::new(alloc);
+    for _ in 0..count {
+        text.push_str(piece).expect(rt, "memory");
+    }
+    text
+}
 
 /// An empty provider in memory.
 pub fn empty(alloc: Global) -> Provider<MemoryRegistry> {
     Provider::new(MemoryRegistry::new(alloc))
+}
+
+/// A provider with bob at version 1, revision 1.
+pub fn with_bob(rt: &impl Abort, alloc: Global) -> Provider<MemoryRegistry> {
+    let mut provider = empty(alloc);
+    exchange(rt, alloc, &mut provider, CREATE_BOB);
+    provider
 }
 
 /// The base of all tests.
@@ -56,8 +92,8 @@ pub fn answers<R: Registry>(
     expected: &[u8],
 ) {
     let (served, written) = exchange(rt, alloc, provider, request);
-    assert_eq!(rt; served, Served::Answered { status });
-    assert!(rt; written.as_slice() == expected);
+    assert_same(rt, served, Served::Answered { status });
+    assert_that(rt, written.as_slice() == expected);
 }
 
 /// Asserts that a request is answered with this status, by bytes that end so.
@@ -70,8 +106,8 @@ pub fn ends<R: Registry>(
     end: &str,
 ) {
     let (served, written) = exchange(rt, alloc, provider, request);
-    assert_eq!(rt; served, Served::Answered { status });
-    assert!(rt; written.as_slice().ends_with(end.as_bytes()));
+    assert_same(rt, served, Served::Answered { status });
+    assert_that(rt, written.as_slice().ends_with(end.as_bytes()));
 }
 
 /// Asserts that a request is answered with this status, by a text in which this stands.
@@ -84,9 +120,9 @@ pub fn tells<R: Registry>(
     part: &str,
 ) {
     let (served, written) = exchange(rt, alloc, provider, request);
-    assert_eq!(rt; served, Served::Answered { status });
+    assert_same(rt, served, Served::Answered { status });
     let text = String::from_utf8(written).ok().expect(rt, "a text");
-    assert!(rt; text.as_str().contains(part));
+    assert_that(rt, text.as_str().contains(part));
 }
 
 /// What an empty provider answers to these bytes, and how many rows it then has.
@@ -99,9 +135,45 @@ pub fn asked(rt: &impl Abort, alloc: Global, request: &[u8]) -> (Served, Vec<u8>
 
 /// A POST of this body to `/v2/Users`.
 pub fn post(rt: &impl Abort, alloc: Global, body: &str) -> Vec<u8> {
+    request(rt, alloc, "POST /v2/Users", "", body)
+}
+
+// ---- requests by their parts
+
+/// What an answer is: these bytes, or bytes that end so, or a text in which this stands.
+#[derive(Clone, Copy)]
+pub enum Said {
+    Whole(&'static [u8]),
+    Ends(&'static str),
+    Tells(&'static str),
+}
+
+/// A request, as its method and target, further field lines and body, and the status and the words of
+/// its answer.
+pub type Round = (&'static str, &'static str, &'static str, u16, Said);
+
+fn request(rt: &impl Abort, alloc: Global, line: &str, fields: &str, body: &str) -> Vec<u8> {
     let length = body.len();
     let text = format!(in alloc;
-        "POST /v2/Users HTTP/1.1\r\nHost: localhost:8080\r\nContent-Length: {length}\r\nContent-Type: application/scim+json\r\n\r\n{body}"
+        "{line} HTTP/1.1\r\nHost: localhost:8080\r\nContent-Type: application/scim+json\r\n{fields}Content-Length: {length}\r\n\r\n{body}"
     ).expect(rt, "memory");
     text.into_bytes()
+}
+
+/// Asserts what a provider answers to these requests, one after the other.
+pub fn converse<R: Registry>(
+    rt: &impl Abort,
+    alloc: Global,
+    provider: &mut Provider<R>,
+    rounds: &[Round],
+) {
+    for (line, fields, body, status, said) in rounds {
+        let request = request(rt, alloc, line, fields, body);
+        let asked = request.as_slice();
+        match said {
+            Said::Whole(bytes) => answers(rt, alloc, provider, asked, *status, bytes),
+            Said::Ends(end) => ends(rt, alloc, provider, asked, *status, end),
+            Said::Tells(part) => tells(rt, alloc, provider, asked, *status, part),
+        }
+    }
 }

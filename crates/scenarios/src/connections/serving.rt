@@ -1,4 +1,5 @@
 //! A provider over connections from a queue in memory, without a socket.
+use crate::support::assert_same;
 use connection::{ConnectionFault, Listen, serve_from_memory};
 use scim_key::Base;
 use std::alloc::Global;
@@ -71,25 +72,25 @@ fn served<R: Eprint + Abort>(
 fn one_provider_serves_all(rt: HostRuntime) {
     let requests = [CREATE_BOB, FIND_BOB, CREATE_BOB];
     let (outcome, statuses) = served(&rt, rt.alloc(), requests.as_slice(), 3);
-    assert_eq!(rt; outcome, Ok(()));
-    assert_eq!(rt; statuses, 201_200_409);
+    assert_same(&rt, outcome, Ok(()));
+    assert_same(&rt, statuses, 201_200_409);
 }
 
 #[test]
 fn only_so_many_are_served(rt: HostRuntime) {
     let requests = [FIND_BOB, CREATE_BOB, FIND_BOB];
     let (outcome, statuses) = served(&rt, rt.alloc(), requests.as_slice(), 2);
-    assert_eq!(rt; outcome, Ok(()));
-    assert_eq!(rt; statuses, 404_201);
+    assert_same(&rt, outcome, Ok(()));
+    assert_same(&rt, statuses, 404_201);
 }
 
 #[test]
 fn a_fault_ends_nothing(rt: HostRuntime) {
     let requests = [CREATE_BOB, &CREATE_BOB[..100], FIND_BOB];
     let (outcome, statuses) = served(&rt, rt.alloc(), requests.as_slice(), 3);
-    assert_eq!(rt; outcome, Err(ConnectionFault));
-    assert_eq!(rt; statuses, 201_000_200);
+    assert_same(&rt, outcome, Err(ConnectionFault));
+    assert_same(&rt, statuses, 201_000_200);
     let (outcome, statuses) = served(&rt, rt.alloc(), [CREATE_BOB].as_slice(), 2);
-    assert_eq!(rt; outcome, Err(ConnectionFault));
-    assert_eq!(rt; statuses, 201);
+    assert_same(&rt, outcome, Err(ConnectionFault));
+    assert_same(&rt, statuses, 201);
 }

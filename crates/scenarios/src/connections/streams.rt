@@ -1,4 +1,5 @@
 //! Streams by a clock that a test winds, and their drains.
+use crate::support::assert_same;
 use connection::{Deadline, Listen, Sockets, TimedStream, timed_handles};
 use std::alloc::Global;
 use std::cell::Cell;
@@ -74,12 +75,12 @@ fn many_short_reads_take_no_longer(rt: HostRuntime) {
     let mut stream = TimedStream::new(trickle, &clock, deadline);
     let mut buffer = [0; 16];
     for _ in 0..4 {
-        assert_eq!(rt; stream.read(&mut buffer).expect(&rt, "bytes"), 1);
+        assert_same(&rt, stream.read(&mut buffer).expect(&rt, "bytes"), 1);
     }
     let fault = stream.read(&mut buffer).map_err(|error| error.kind());
-    assert_eq!(rt; fault, Err(ErrorKind::TimedOut));
+    assert_same(&rt, fault, Err(ErrorKind::TimedOut));
     // four reads of a second at most, which is set once
-    assert_eq!(rt; notes.get(), 10_000);
+    assert_same(&rt, notes.get(), 10_000);
 }
 
 /// A stream on which nothing comes: a read waits for its limit, which winds the clock.
@@ -119,10 +120,10 @@ fn a_silent_stream_is_read_to_its_deadline(rt: HostRuntime) {
     // each read takes two seconds by this clock: one to look at it, and one to wait
     for _ in 0..3 {
         let fault = stream.read(&mut buffer).map_err(|error| error.kind());
-        assert_eq!(rt; fault, Err(ErrorKind::Interrupted));
+        assert_same(&rt, fault, Err(ErrorKind::Interrupted));
     }
     let fault = stream.read(&mut buffer).map_err(|error| error.kind());
-    assert_eq!(rt; fault, Err(ErrorKind::TimedOut));
+    assert_same(&rt, fault, Err(ErrorKind::TimedOut));
 }
 
 #[test]
@@ -141,10 +142,10 @@ fn handles_are_on_one_stream(rt: HostRuntime) {
     let (mut reader, mut writer) = timed_handles(rt.alloc(), ended, &clock, deadline).expect(
         &rt, "handles",
     );
-    assert_eq!(rt; writer.write(b"abc").expect(&rt, "bytes"), 3);
-    assert_eq!(rt; reader.read(&mut [0; 4]).expect(&rt, "bytes"), 0);
-    assert_eq!(rt; writer.read(&mut [0; 4]).expect(&rt, "bytes"), 0);
-    assert_eq!(rt; notes.get(), 55);
+    assert_same(&rt, writer.write(b"abc").expect(&rt, "bytes"), 3);
+    assert_same(&rt, reader.read(&mut [0; 4]).expect(&rt, "bytes"), 0);
+    assert_same(&rt, writer.read(&mut [0; 4]).expect(&rt, "bytes"), 0);
+    assert_same(&rt, notes.get(), 55);
 }
 
 #[test]
@@ -165,7 +166,7 @@ fn a_drain_is_bounded(rt: HostRuntime) {
         );
         let mut stream = TimedStream::new(trickle, &clock, deadline);
         stream.drain(Duration::from_secs(drain));
-        assert_eq!(rt; notes.get(), wanted);
+        assert_same(&rt, notes.get(), wanted);
     }
 }
 
@@ -268,21 +269,26 @@ fn taken(rt: &impl Abort, alloc: Global, waiting: u32, count: u32, brings: u32) 
 #[test]
 fn streams_are_drained_where_none_waits(rt: HostRuntime) {
     // two wait, and the third comes later
-    assert_eq!(rt;
+    assert_same(
+        &rt,
         taken(&rt, rt.alloc(), 2, 3, 0),
-        (3_134_545_231, 31_345_452_315)
+        (3_134_545_231, 31_345_452_315),
     );
-    assert_eq!(rt; taken(&rt, rt.alloc(), 0, 2, 0), (3_145_231, 31_452_315));
+    assert_same(
+        &rt,
+        taken(&rt, rt.alloc(), 0, 2, 0),
+        (3_145_231, 31_452_315),
+    );
 }
 
 #[test]
 fn a_connection_that_comes_waits_for_one_drain(rt: HostRuntime) {
-    assert_eq!(rt; taken(&rt, rt.alloc(), 2, 3, 1), (313_453, 31_345_355));
+    assert_same(&rt, taken(&rt, rt.alloc(), 2, 3, 1), (313_453, 31_345_355));
 }
 
 #[test]
 fn only_so_many_are_kept(rt: HostRuntime) {
     let (before, after) = taken(&rt, rt.alloc(), 100, 34, 0);
-    assert_eq!(rt; before, 33_333_333_535);
-    assert_eq!(rt; after, 55_555_555_555);
+    assert_same(&rt, before, 33_333_333_535);
+    assert_same(&rt, after, 55_555_555_555);
 }

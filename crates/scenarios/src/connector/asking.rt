@@ -1,21 +1,17 @@
 //! What the connector asks for next of a record, over exchanges with a provider in memory.
 use crate::connector::offers::{named, new_connector, offer_rows, opened_again};
+use crate::support::{assert_same, empty};
 use connector_core::{Ask, Connector};
 use journal_core::MemoryJournal;
 use provider_core::{MemoryRegistry, Provider};
 use scim_filter::Filter;
 use scim_key::{Kind, RecordName, ResourceId};
 use scim_message::Request;
-use scim_resource::{Content, Group};
+use scim_resource::Content;
 use scim_version::{Condition, TagList};
 use std::alloc::Global;
 use std::process::Abort;
 use std::str::from_utf8;
-
-/// An empty provider in memory.
-pub fn empty(alloc: Global) -> Provider<MemoryRegistry> {
-    Provider::new(MemoryRegistry::new(alloc))
-}
 
 /// A request as a short text.
 fn sent(rt: &impl Abort, alloc: Global, request: &Request) -> String {
@@ -66,22 +62,10 @@ fn only_tag<'a>(rt: &impl Abort, tags: &'a TagList) -> &'a str {
 
 /// A content as its name, its revision, and the ids of a group's members.
 fn content_told(rt: &impl Abort, alloc: Global, what: &str, content: &Content) -> String {
-    match content {
-        Content::User(user) => {
-            let revision = user.revision().expect(rt, "no revision").number();
-            format!(in alloc; "{what} {} {revision}", user.user_name().as_str()).expect(
-                rt, "memory",
-            )
-        }
-        Content::Group(group) => group_told(rt, alloc, what, group),
-    }
-}
-
-fn group_told(rt: &impl Abort, alloc: Global, what: &str, group: &Group) -> String {
-    let revision = group.revision().expect(rt, "no revision").number();
-    let name = group.display_name().as_str();
+    let revision = content.revision().expect(rt, "no revision").number();
+    let name = content.spelled_name();
     let mut text = format!(in alloc; "{what} {name} {revision}").expect(rt, "memory");
-    for member in group.members() {
+    for member in content.members() {
         text.push_str(" ").expect(rt, "memory");
         text.push_str(member.as_str()).expect(rt, "memory");
     }
@@ -136,7 +120,7 @@ fn exchanges(
     for (kind, key, expected) in asks {
         let name = named(rt, alloc, *kind, key);
         let said = exchange(rt, alloc, connector, provider, &name);
-        assert!(rt; said.as_str() == *expected, "{said} of {key}");
+        assert_same(rt, (*key, said.as_str()), (*key, *expected));
     }
 }
 

@@ -3,6 +3,7 @@ use crate::connector::offers::{
     groups, named, new_connector, offer, offer_all, offer_group, offer_rows, offer_user,
     opened_again, users,
 };
+use crate::support::assert_same;
 use connector_core::Connector;
 use journal_core::{MemoryJournal, kind_word};
 use scim_key::Kind;
@@ -41,8 +42,12 @@ fn wants(
 ) {
     for (kind, key, revision) in wanted {
         let name = named(rt, alloc, *kind, key);
-        assert_eq!(rt; connector.wanted(&name).number(), *revision, "of {key}");
-        assert_eq!(rt; connector.confirmed(&name).number(), 0, "of {key}");
+        let (wanted, confirmed) = (connector.wanted(&name), connector.confirmed(&name));
+        assert_same(
+            rt,
+            (*key, wanted.number(), confirmed.number()),
+            (*key, *revision, 0),
+        );
     }
 }
 
@@ -55,7 +60,7 @@ fn says_of_users(
 ) {
     for (record, expected) in offers {
         let said = offer_user(rt, alloc, connector, record);
-        assert!(rt; said.as_str() == *expected, "{said} of {record}");
+        assert_same(rt, (*record, said.as_str()), (*record, *expected));
     }
 }
 
@@ -68,7 +73,7 @@ fn says_of_groups(
 ) {
     for (record, expected) in offers {
         let said = offer_group(rt, alloc, connector, record);
-        assert!(rt; said.as_str() == *expected, "{said} of {record}");
+        assert_same(rt, (*record, said.as_str()), (*record, *expected));
     }
 }
 
@@ -101,9 +106,9 @@ fn records_of(rt: &impl Abort, alloc: Global, offers: &[Offer]) -> String {
 
 /// Asserts what was said of these offers.
 fn were_said(rt: &impl Abort, offers: &[Offer], said: &[String]) {
-    assert_eq!(rt; said.len(), offers.len());
+    assert_same(rt, said.len(), offers.len());
     for ((record, expected), said) in offers.iter().zip(said) {
-        assert!(rt; said.as_str() == *expected, "{said} of {record}");
+        assert_same(rt, (*record, said.as_str()), (*record, *expected));
     }
 }
 
@@ -160,7 +165,7 @@ fn records_are_named_in_their_order(rt: HostRuntime) {
     );
     offer_rows(&rt, alloc, &mut connector, &["ann,1,,,,,active\n"], &[]);
     let names = names_told(&rt, alloc, &connector);
-    assert_eq!(rt; names.as_str(), "user ann\nuser zoe\ngroup crew\n");
+    assert_same(&rt, names.as_str(), "user ann\nuser zoe\ngroup crew\n");
 }
 
 #[test]
@@ -211,7 +216,7 @@ fn users_have_their_limit(rt: HostRuntime) {
     }
     for record in users(&rt, alloc, records.as_str()).as_slice() {
         let said = offer(&rt, alloc, &mut connector, record);
-        assert!(&rt; said.as_str() == "new");
+        assert_same(&rt, said.as_str(), "new");
     }
     let offers = [
         ("ann,1,,,,,active\n", "S12"),
@@ -227,7 +232,7 @@ fn users_have_their_limit(rt: HostRuntime) {
         &mut connector,
         &[("crew,1,user0 user99999\n", "new")],
     );
-    assert_eq!(rt; connector.names().expect(&rt, "memory").len(), 100_001);
+    assert_same(&rt, connector.names().expect(&rt, "memory").len(), 100_001);
     let mut connector = opened_again(&rt, alloc, connector);
     let offers = [
         ("ann,1,,,,,active\n", "S12"),

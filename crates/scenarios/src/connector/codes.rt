@@ -1,17 +1,7 @@
 //! The codes that faults of the connector and its journal are printed as.
+use crate::support::{are_printed, assert_same};
 use connector_core::{AskFault, ChangeFault, LearnFault, OpenFault};
 use journal_core::JournalFault;
-use std::alloc::Global;
-use std::fmt::Display;
-use std::process::Abort;
-
-/// Asserts that each of these is printed as the text beside it.
-fn are_printed<F: Display>(rt: &impl Abort, alloc: Global, table: &[(F, &str)]) {
-    for (fault, code) in table {
-        let text = fault.to_string(alloc).expect(rt, "memory");
-        assert!(rt; text.as_str() == *code, "{text} and not {code}");
-    }
-}
 
 static JOURNAL_FAULTS: &[(JournalFault, &str)] = &[
     (JournalFault::Store, "J1"),
@@ -43,9 +33,9 @@ fn codes(rt: HostRuntime) {
     let code = ChangeFault::Store
         .to_string(rt.alloc())
         .expect(&rt, "memory");
-    assert!(&rt; code.as_str() == "C5");
+    assert_same(&rt, code.as_str(), "C5");
     let code = ChangeFault::Memory
         .to_string(rt.alloc())
         .expect(&rt, "memory");
-    assert!(&rt; code.as_str() == "C6");
+    assert_same(&rt, code.as_str(), "C6");
 }

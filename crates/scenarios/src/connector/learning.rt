@@ -1,6 +1,7 @@
 //! What the connector learns from each answer to each request: every line of its rule, in each
 //! state of a record.
 use crate::connector::messages::{answer, request};
+use crate::support::{assert_same, assert_that};
 use connector_core::{Connector, LearnFault, Learnt, Seen};
 use journal_core::{Journal, MemoryJournal};
 use scim_key::{Key, Kind, RecordName};
@@ -133,7 +134,7 @@ fn known_text(rt: &impl Abort, alloc: Global, connector: Connector<MemoryJournal
     let Some(entry) = entries.as_slice().first() else {
         panic!(rt; "no entry");
     };
-    assert!(rt; entry.confirmed == confirmed);
+    assert_that(rt, entry.confirmed == confirmed);
     let id = match &entry.id {
         Some(id) => id.as_str(),
         None => "-",
@@ -165,7 +166,7 @@ fn learns_in(
     } else {
         format!(in alloc; "{learnt}: {known}").expect(rt, "memory")
     };
-    assert_eq!(rt; text.as_str(), expected);
+    assert_same(rt, text.as_str(), expected);
 }
 
 /// Asserts what is learnt in each state.

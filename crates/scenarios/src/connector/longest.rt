@@ -1,21 +1,13 @@
 //! Rows that meet every limit of a row, from the source to the provider and over a restart.
-use crate::connector::asking::{empty, exchange};
+use crate::connector::asking::exchange;
 use crate::connector::offers::{named, new_connector, offer_group, offer_user, opened_again};
+use crate::support::{assert_same, assert_that, empty, repeated};
 use connector_core::Connector;
 use journal_core::MemoryJournal;
 use provider_core::{MemoryRegistry, Provider};
 use scim_key::{Kind, RecordName};
 use std::alloc::Global;
 use std::process::Abort;
-
-/// A piece so many times.
-fn repeated(rt: &impl Abort, alloc: Global, piece: &str, count: usize) -> String {
-    let mut text = String::new(alloc);
-    for _ in 0..count {
-        text.push_str(piece).expect(rt, "memory");
-    }
-    text
-}
 
 /// What is asked for by the second exchange of a record that was offered: its creation.
 fn created(
@@ -39,7 +31,7 @@ fn is_settled(
 ) {
     let mut connector = opened_again(rt, alloc, connector);
     let said = exchange(rt, alloc, &mut connector, provider, name);
-    assert!(rt; said.as_str() == "nothing", "{said}");
+    assert_same(rt, said.as_str(), "nothing");
 }
 
 #[test]
@@ -53,11 +45,11 @@ fn a_user_with_the_longest_fields(rt: HostRuntime) {
         "{login},2000000000,{field},{field},{field},{field},active\n"
     ).expect(&rt, "memory");
     let said = offer_user(&rt, alloc, &mut connector, record.as_str());
-    assert!(&rt; said.as_str() == "new", "{said}");
+    assert_same(&rt, said.as_str(), "new");
     let name = named(&rt, alloc, Kind::User, login.as_str());
     let said = created(&rt, alloc, &mut connector, &mut provider, &name);
     let expected = format!(in alloc; "create {login} 2000000000").expect(&rt, "memory");
-    assert!(&rt; said.as_str() == expected.as_str(), "{said}");
+    assert_same(&rt, said.as_str(), expected.as_str());
     is_settled(&rt, alloc, connector, &mut provider, &name)
 }
 
@@ -93,18 +85,18 @@ fn a_group_with_the_longest_name_and_400_members(rt: HostRuntime) {
     let crew = repeated(&rt, alloc, "C", 128);
     let record = format!(in alloc; "{crew},1,{members}\n").expect(&rt, "memory");
     let said = offer_group(&rt, alloc, &mut connector, record.as_str());
-    assert!(&rt; said.as_str() == "new", "{said}");
+    assert_same(&rt, said.as_str(), "new");
     let name = named(&rt, alloc, Kind::Group, crew.as_str());
     let said = created(&rt, alloc, &mut connector, &mut provider, &name);
     let first = format!(in alloc; "create {crew} 1 5c1a0000-0000-8000-8000-000000000001 ").expect(
         &rt, "memory",
     );
-    assert!(&rt; said.as_str().starts_with(first.as_str()), "{said}");
-    assert!(&rt;
+    assert_that(&rt, said.as_str().starts_with(first.as_str()));
+    assert_that(
+        &rt,
         said.as_str()
             .ends_with(" 5c1a0000-0000-8000-8000-000000000190"),
-        "{said}"
     );
-    assert_eq!(&rt; said.len(), 137 + 400 * 37);
+    assert_same(&rt, said.len(), 137 + 400 * 37);
     is_settled(&rt, alloc, connector, &mut provider, &name)
 }

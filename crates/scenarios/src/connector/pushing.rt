@@ -1,5 +1,6 @@
 //! Exchanges for every record, over streams in memory: with a provider, and with answers by hand.
 use crate::connector::offers::{new_connector, offer_rows};
+use crate::support::assert_same;
 use connector_core::Connector;
 use http_text::{Input, Output};
 use journal_core::MemoryJournal;
@@ -189,8 +190,8 @@ fn pushes<D: Dial>(
         text: String::new(alloc),
     };
     let ended = push_all(alloc, &service, connector, dial, &mut lines);
-    assert_eq!(rt; ended, end);
-    assert!(rt; lines.text.as_str() == told, "{}", lines.text.as_str());
+    assert_same(rt, ended, end);
+    assert_same(rt, lines.text.as_str(), told);
 }
 
 /// All is confirmed after so many exchanges.

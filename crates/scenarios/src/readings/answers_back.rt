@@ -1,5 +1,6 @@
 //! Responses of a provider are read by its client, where memory is there.
 use crate::readings::copies::{ANN, ANN_SHOWN};
+use crate::support::{assert_same, assert_that};
 use http_text::{Input, read_response};
 use scim_key::{Base, Kind, ResourceId};
 use scim_message::{Request, body_of, read_body};
@@ -22,17 +23,18 @@ fn is_read_back(rt: &impl Abort, alloc: Global, request: &Request, status: u16, 
     ).expect(rt, "memory");
     let mut reader = Input::new(response.as_bytes());
     let message = read_response(alloc, &mut reader).expect(rt, "a response");
-    assert_eq!(rt; message.status(), status);
-    assert!(rt; message.body() == body.as_bytes());
+    assert_same(rt, message.status(), status);
+    assert_that(rt, message.body() == body.as_bytes());
     let etag = message.fields("etag").next();
     let answer = read_body(alloc, request, status, etag, message.body()).expect(rt, "an answer");
-    assert_eq!(rt; answer.status(), status);
+    assert_same(rt, answer.status(), status);
     let base = Base::read(alloc, "http://localhost:8080/v2").expect(rt, "a base");
-    assert!(rt;
+    assert_that(
+        rt,
         body_of(alloc, &answer, &base)
             .expect(rt, "a body")
             .as_slice()
-            == body.as_bytes()
+            == body.as_bytes(),
     );
 }
 

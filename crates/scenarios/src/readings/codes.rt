@@ -1,4 +1,5 @@
 //! The codes that faults are printed as.
+use crate::support::are_printed;
 use mapping::{ImageFault, WriteFault};
 use scim_filter::FilterFault;
 use scim_key::NameFault;
@@ -7,17 +8,6 @@ use scim_resource::ReadFault;
 use scim_version::TagFault;
 use source_book::BookFault;
 use source_csv::{RowCode, RowFault, SourceFault};
-use std::alloc::Global;
-use std::fmt::Display;
-use std::process::Abort;
-
-/// Asserts that each of these is printed as the text beside it.
-fn are_printed<F: Display>(rt: &impl Abort, alloc: Global, table: &[(F, &str)]) {
-    for (fault, code) in table {
-        let text = fault.to_string(alloc).expect(rt, "memory");
-        assert!(rt; text.as_str() == *code, "{text} and not {code}");
-    }
-}
 
 static NAME_FAULTS: &[(NameFault, &str)] = &[
     (NameFault::Empty, "N1"),

@@ -1,4 +1,5 @@
 //! Contents and rows with every attribute: their texts, and that copies are the same.
+use crate::support::{assert_same, assert_that};
 use json::Writer;
 use scim_key::{Base, Kind, RecordName};
 use scim_resource::{Content, Shown, Stored};
@@ -33,8 +34,8 @@ pub fn shown_text(rt: &impl Abort, alloc: Global, shown: &Shown) -> Vec<u8> {
 }
 
 fn is_named(rt: &impl Abort, name: &RecordName, kind: Kind, key: &str) {
-    assert_eq!(rt; name.kind, kind);
-    assert!(rt; name.key.as_str() == key);
+    assert_same(rt, name.kind, kind);
+    assert_same(rt, name.key.as_str(), key);
 }
 
 /// A row with the content that a text spells.
@@ -50,14 +51,22 @@ fn stored(rt: &impl Abort, alloc: Global, text: &str, kind: Kind) -> Stored {
 
 /// Asserts what a row and its copy have and are shown as.
 fn is_shown(rt: &impl Abort, alloc: Global, row: &Stored, text: &str, shown: &str) {
-    assert!(rt; text_of(rt, alloc, row.content()).as_slice() == text.as_bytes());
+    assert_that(
+        rt,
+        text_of(rt, alloc, row.content()).as_slice() == text.as_bytes(),
+    );
     let copy = row.content().clone().expect(rt, "memory");
-    assert!(rt; text_of(rt, alloc, &copy).as_slice() == text.as_bytes());
-    assert!(rt;
-        row.id(alloc).expect(rt, "memory").as_str() == "5c1a0000-0000-8000-8000-000000000007"
+    assert_that(rt, text_of(rt, alloc, &copy).as_slice() == text.as_bytes());
+    assert_same(
+        rt,
+        row.id(alloc).expect(rt, "memory").as_str(),
+        "5c1a0000-0000-8000-8000-000000000007",
     );
     let copy = Shown::of(alloc, &row.clone().expect(rt, "memory")).expect(rt, "memory");
-    assert!(rt; shown_text(rt, alloc, &copy).as_slice() == shown.as_bytes());
+    assert_that(
+        rt,
+        shown_text(rt, alloc, &copy).as_slice() == shown.as_bytes(),
+    );
 }
 
 #[test]
@@ -95,7 +104,7 @@ fn is_row_of(
     is_named(rt, &row.record_name(alloc).expect(rt, "memory"), kind, key);
     let copy = row.clone().expect(rt, "memory");
     is_named(rt, &copy.record_name(alloc).expect(rt, "memory"), kind, key);
-    assert!(rt; copy.same_fields(row));
+    assert_that(rt, copy.same_fields(row));
 }
 
 #[test]

@@ -1,5 +1,6 @@
 //! Which texts are no filters, how filters are written, and which record they name.
 use crate::readings::filters::{around, hits, refuses, rows};
+use crate::support::{assert_same, assert_that};
 use scim_filter::{Filter, FilterFault};
 use scim_key::{GroupName, Kind, UserName};
 use scim_resource::ReadFault;
@@ -13,12 +14,12 @@ fn written_as(rt: &impl Abort, alloc: Global, table: &[(&str, &str)]) {
             .expect(rt, "a filter")
             .to_text(alloc)
             .expect(rt, "memory");
-        assert!(rt; written.as_str() == *wanted, "{text} is written {written}");
+        assert_same(rt, (*text, written.as_str()), (*text, *wanted));
         let again = Filter::read(alloc, wanted)
             .expect(rt, "a filter")
             .to_text(alloc)
             .expect(rt, "memory");
-        assert!(rt; again.as_str() == *wanted, "{wanted} is written {again}");
+        assert_same(rt, again.as_str(), *wanted);
     }
 }
 
@@ -39,7 +40,7 @@ fn record_named(rt: &impl Abort, alloc: Global, filter: &Filter) -> String {
 fn names(rt: &impl Abort, alloc: Global, table: &[(&str, &str)]) {
     for (text, wanted) in table {
         let named = record_named(rt, alloc, &Filter::read(alloc, text).expect(rt, "a filter"));
-        assert!(rt; named.as_str() == *wanted, "{text} names {named}");
+        assert_same(rt, (*text, named.as_str()), (*text, *wanted));
     }
 }
 
@@ -424,10 +425,14 @@ fn a_filter_names_no_record_by_a_longer_name(rt: HostRuntime) {
 
 /// Asserts how a filter is written, which record it names and which row it hits.
 fn asks(rt: &impl Abort, alloc: Global, filter: &Filter, text: &str, record: &str, row: &str) {
-    assert!(rt; filter.to_text(alloc).expect(rt, "memory").as_str() == text);
-    assert!(rt; record_named(rt, alloc, filter).as_str() == record);
+    assert_same(
+        rt,
+        filter.to_text(alloc).expect(rt, "memory").as_str(),
+        text,
+    );
+    assert_same(rt, record_named(rt, alloc, filter).as_str(), record);
     let rows = rows(rt, alloc);
-    assert!(rt; hits(rt, alloc, rows.as_slice(), filter).as_str() == row);
+    assert_same(rt, hits(rt, alloc, rows.as_slice(), filter).as_str(), row);
 }
 
 #[test]
@@ -449,39 +454,44 @@ fn a_filter_of_one_group(rt: HostRuntime) {
 
 #[test]
 fn faults_are_printed_as_their_codes(rt: HostRuntime) {
-    assert!(rt;
+    assert_that(
+        &rt,
         FilterFault::Unsupported
             .to_string(rt.alloc())
             .expect(&rt, "memory")
             .as_str()
-            == "P3"
+            == "P3",
     );
-    assert!(rt;
+    assert_that(
+        &rt,
         FilterFault::Memory
             .to_string(rt.alloc())
             .expect(&rt, "memory")
             .as_str()
-            == "memory"
+            == "memory",
     );
-    assert!(rt;
+    assert_that(
+        &rt,
         ReadFault::InvalidSyntax
             .to_string(rt.alloc())
             .expect(&rt, "memory")
             .as_str()
-            == "P1"
+            == "P1",
     );
-    assert!(rt;
+    assert_that(
+        &rt,
         ReadFault::InvalidValue
             .to_string(rt.alloc())
             .expect(&rt, "memory")
             .as_str()
-            == "P2"
+            == "P2",
     );
-    assert!(rt;
+    assert_that(
+        &rt,
         ReadFault::Memory
             .to_string(rt.alloc())
             .expect(&rt, "memory")
             .as_str()
-            == "memory"
+            == "memory",
     );
 }

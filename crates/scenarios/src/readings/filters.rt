@@ -1,4 +1,5 @@
 //! What filters hit, and how long and deep they may be (RFC 7644 section 3.4.2.2).
+use crate::support::assert_same;
 use scim_filter::{Filter, FilterFault};
 use scim_key::Kind;
 use scim_resource::{Content, Stored};
@@ -141,14 +142,14 @@ fn is_hit(
     wanted: &str,
 ) {
     let hits = hits(rt, alloc, rows, filter);
-    assert!(rt; hits.as_str() == wanted, "{hits} and not {wanted}");
+    assert_same(rt, hits.as_str(), wanted);
 }
 
 /// Asserts that each text is refused.
 pub fn refuses(rt: &impl Abort, alloc: Global, texts: &[&str]) {
     for text in texts {
         let fault = Filter::read(alloc, text).err();
-        assert_eq!(rt; fault, Some(FilterFault::Unsupported), "{text}");
+        assert_same(rt, (*text, fault), (*text, Some(FilterFault::Unsupported)));
     }
 }
 
@@ -462,7 +463,7 @@ fn deeper_parentheses_are_refused(rt: HostRuntime) {
 
 /// Asserts that a text of 2,048 bytes hits these rows, and is refused with a space more.
 fn is_longest(rt: &impl Abort, alloc: Global, text: &str, wanted: &str) {
-    assert_eq!(rt; text.len(), 2048);
+    assert_same(rt, text.len(), 2048);
     hit(rt, alloc, &[(text, wanted)]);
     let longer = around(rt, alloc, 1, " ", text, "");
     refuses(rt, alloc, &[longer.as_str()]);

@@ -2,6 +2,7 @@
 ghost use Rattle.std.specs.Prelude.{Some, None, if◌then◌else◌, codes};
 ghost use Rattle.std.specs.Str.{bytes_eq};
 
+use crate::support::{assert_same, assert_that};
 use group_sync::{Ids, Ready, ready, settle_order};
 use mapping::{ImageFault, group_content, row_content};
 use scim_key::{Key, Kind, RecordName, ResourceId};
@@ -49,10 +50,10 @@ fn group<'a>(rt: &impl Abort, row: &'a Row) -> &'a GroupRow {
 }
 
 fn has_members(rt: &impl Abort, group: &Group, values: &[&str]) {
-    assert_eq!(rt; group.members().len(), values.len());
+    assert_same(rt, group.members().len(), values.len());
     for (place, value) in values.iter().enumerate() {
         let member = group.members().get(place).expect(rt, "no member");
-        assert!(rt; member.as_str() == *value);
+        assert_same(rt, member.as_str(), *value);
     }
 }
 
@@ -70,13 +71,13 @@ fn a_group_with_all_of_its_members_is_ready(rt: HostRuntime) {
     let rows = crew(&rt, alloc);
     let crew = row(&rt, rows.as_slice().first());
     match ready(alloc, group(&rt, crew), &known).expect(&rt, "a list") {
-        Ready::Ids(ids) => assert_eq!(rt; ids.as_slice().len(), 2),
+        Ready::Ids(ids) => assert_same(&rt, ids.as_slice().len(), 2),
         Ready::Waits(_) => panic!(&rt; "it waits"),
     }
     match row_content(alloc, crew, &known).expect(&rt, "a content") {
         Content::Group(image) => {
-            assert!(rt; image.display_name().as_str() == "crew");
-            assert!(rt; image.revision() == Some(crew.revision()));
+            assert_same(&rt, image.display_name().as_str(), "crew");
+            assert_that(&rt, image.revision() == Some(crew.revision()));
             has_members(&rt, &image, &[SECOND, FIRST])
         }
         Content::User(_) => panic!(&rt; "no group"),
@@ -107,15 +108,15 @@ fn a_group_waits_for_its_first_member(rt: HostRuntime) {
     let rows = crew(&rt, alloc);
     let crew = group(&rt, row(&rt, rows.as_slice().first()));
     match ready(alloc, crew, &known).expect(&rt, "a list") {
-        Ready::Waits(place) => assert_eq!(rt; place, 0),
+        Ready::Waits(place) => assert_same(&rt, place, 0),
         Ready::Ids(_) => panic!(&rt; "it is ready"),
     }
     let fault = group_content(alloc, crew, &known).err();
-    assert_eq!(rt; fault, Some(ImageFault::MemberWithoutId { place: 0 }));
+    assert_same(&rt, fault, Some(ImageFault::MemberWithoutId { place: 0 }));
     let code = ImageFault::MemberWithoutId { place: 0 }
         .to_string(alloc)
         .expect(&rt, "memory");
-    assert!(rt; code.as_str() == "M1");
+    assert_same(&rt, code.as_str(), "M1");
 }
 
 fn name(alloc: Global, kind: Kind, key: &str) -> Result<RecordName, AllocError> {
@@ -141,5 +142,5 @@ fn users_settle_before_groups(rt: HostRuntime) {
         keys.push_str(name.key.as_str()).expect(&rt, "memory");
         keys.push(' ').expect(&rt, "memory");
     }
-    assert!(rt; keys.as_str() == "ann bob b crew ");
+    assert_same(&rt, keys.as_str(), "ann bob b crew ");
 }

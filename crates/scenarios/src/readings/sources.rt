@@ -1,4 +1,5 @@
 //! Files of the source: which records are rows, which rows count, and their images.
+use crate::support::{assert_same, assert_that, repeated};
 use mapping::{row_line, user_content, write_images};
 use scim_key::{Kind, Revision};
 use source_book::{BookFault, Verdict, accept};
@@ -58,7 +59,7 @@ fn refused(place: usize, code: RowCode) -> Option<RowFault> {
 fn are_refused(rt: &impl Abort, records: &[Result<Row, RowFault>], codes: &[(usize, RowCode)]) {
     for (place, code) in codes {
         let record = records.get(place.saturating_sub(1));
-        assert_eq!(rt; fault(record), refused(*place, *code));
+        assert_same(rt, fault(record), refused(*place, *code));
     }
 }
 
@@ -92,10 +93,14 @@ fn revisions_have_their_range(rt: HostRuntime) {
         "ann,0,,,,,active\nann,2000000001,,,,,active\nann,07x,,,,,active\nann,2000000000,,,,,active\nann,000000000000000007,,,,,active\nann,0000000000000000007,,,,,active\nann,,,,,,active\n";
     let rows = users(rt.alloc(), records).expect(&rt, "a file");
     let rows = rows.as_slice();
-    assert_eq!(rt; rows.len(), 7);
+    assert_same(&rt, rows.len(), 7);
     are_refused(&rt, rows, REVISIONS);
-    assert_eq!(rt; row(&rt, rows.get(3)).revision().number(), 2_000_000_000);
-    assert_eq!(rt; row(&rt, rows.get(4)).revision().number(), 7);
+    assert_same(
+        &rt,
+        row(&rt, rows.get(3)).revision().number(),
+        2_000_000_000,
+    );
+    assert_same(&rt, row(&rt, rows.get(4)).revision().number(), 7);
 }
 
 /// Asserts what becomes of each row after the first of them.
@@ -107,7 +112,7 @@ fn become_of(
     let first = row(rt, records.first());
     for (place, verdict) in verdicts.iter().enumerate() {
         let next = row(rt, records.get(place));
-        assert_eq!(rt; accept(Some(first), next, None), *verdict);
+        assert_same(rt, accept(Some(first), next, None), *verdict);
     }
 }
 
@@ -136,7 +141,7 @@ fn a_higher_revision_is_new(rt: HostRuntime) {
         &[Ok(Verdict::Known), Ok(Verdict::New)],
     );
     let first = row(&rt, rows.as_slice().first());
-    assert_eq!(rt; accept(None, first, None), Ok(Verdict::New));
+    assert_same(&rt, accept(None, first, None), Ok(Verdict::New));
 }
 
 static FIRST_CODES: &[(usize, RowCode)] = &[
@@ -152,9 +157,9 @@ fn records_are_refused_by_the_first_code(rt: HostRuntime) {
         "a b,0,,,,,active,\na b,0,,,,,gone\nbob,0,,,,,gone\nbob,1,,,,,gone\nbob,1,,,,,left\n";
     let rows = users(rt.alloc(), records).expect(&rt, "a file");
     let rows = rows.as_slice();
-    assert_eq!(rt; rows.len(), 5);
+    assert_same(&rt, rows.len(), 5);
     are_refused(&rt, rows, FIRST_CODES);
-    assert!(rt; !user(&rt, rows.get(4)).is_active());
+    assert_that(&rt, !user(&rt, rows.get(4)).is_active());
 }
 
 #[test]
@@ -184,17 +189,19 @@ fn values_have_at_most_256_bytes(rt: HostRuntime) {
 
 #[test]
 fn headers_are_asked(rt: HostRuntime) {
-    assert_eq!(rt;
+    assert_same(
+        &rt,
         users(rt.alloc(), "").expect(&rt, "a file").as_slice().len(),
-        0
+        0,
     );
     let quoted = b"\"login\",revision,number,given,family,mail,\"status\"";
-    assert_eq!(rt;
+    assert_same(
+        &rt,
         read_users(rt.alloc(), quoted)
             .expect(&rt, "a file")
             .as_slice()
             .len(),
-        0
+        0,
     );
     for text in [
         "",
@@ -204,18 +211,19 @@ fn headers_are_asked(rt: HostRuntime) {
         "Login,revision,number,given,family,mail,status\n",
     ] {
         let fault = read_users(rt.alloc(), text.as_bytes()).err();
-        assert_eq!(rt; fault, Some(SourceFault::Header));
+        assert_same(&rt, fault, Some(SourceFault::Header));
     }
-    assert_eq!(rt;
+    assert_same(
+        &rt,
         read_groups(rt.alloc(), USERS.as_bytes()).err(),
-        Some(SourceFault::Header)
+        Some(SourceFault::Header),
     );
 }
 
 fn is_named(rt: &impl Abort, alloc: Global, row: &Row, key: &str) {
     let name = row.record_name(alloc).expect(rt, "memory");
-    assert_eq!(rt; name.kind, Kind::User);
-    assert!(rt; name.key.as_str() == key);
+    assert_same(rt, name.kind, Kind::User);
+    assert_same(rt, name.key.as_str(), key);
 }
 
 #[test]
@@ -224,11 +232,11 @@ fn records_are_those_of_csv(rt: HostRuntime) {
         b"\xef\xbb\xbflogin,revision,number,given,family,mail,status\r\n\r\nann,1,,\"Ann, \"\"A\"\"\",\"Lee\nfield\",,active\rbob,2,,,,,left\n\n\r\ncid,3,,,,,active";
     let rows = read_users(rt.alloc(), text).expect(&rt, "a file");
     let rows = rows.as_slice();
-    assert_eq!(rt; rows.len(), 3);
+    assert_same(&rt, rows.len(), 3);
     let ann = user(&rt, rows.first());
-    assert!(rt; ann.given() == "Ann, \"A\"");
-    assert!(rt; ann.family() == "Lee\nfield");
-    assert!(rt; ann.mail() == "");
+    assert_that(&rt, ann.given() == "Ann, \"A\"");
+    assert_that(&rt, ann.family() == "Lee\nfield");
+    assert_that(&rt, ann.mail() == "");
     for (place, key) in ["ann", "bob", "cid"].iter().enumerate() {
         is_named(&rt, rt.alloc(), row(&rt, rows.get(place)), key);
     }
@@ -242,10 +250,10 @@ static GROUP_CODES: &[(usize, RowCode)] = &[
 ];
 
 fn has_members(rt: &impl Abort, group: &GroupRow, keys: &[&str]) {
-    assert_eq!(rt; group.members().len(), keys.len());
+    assert_same(rt, group.members().len(), keys.len());
     for (place, key) in keys.iter().enumerate() {
         let member = group.members().get(place).expect(rt, "no member");
-        assert!(rt; member.as_str() == *key);
+        assert_same(rt, member.as_str(), *key);
     }
 }
 
@@ -257,7 +265,7 @@ fn members_are_keys_in_byte_order(rt: HostRuntime) {
     let rows = rows.as_slice();
     are_refused(&rt, rows, GROUP_CODES);
     let missing = accept(None, row(&rt, rows.get(2)), Some(0));
-    assert_eq!(rt; missing, Err(BookFault::NoSuchMember { place: 0 }));
+    assert_same(&rt, missing, Err(BookFault::NoSuchMember { place: 0 }));
     has_members(&rt, group(&rt, rows.get(3)), &["ann", "bob"]);
     has_members(&rt, group(&rt, rows.get(6)), &[])
 }
@@ -290,9 +298,9 @@ fn rows_have_their_images(rt: HostRuntime) {
     let rows = users(rt.alloc(), records.as_str()).expect(&rt, "a file");
     let mut out = Vec::new(rt.alloc());
     write_images(rt.alloc(), rows.as_slice(), &mut out).expect(&rt, "images");
-    assert!(rt; out.as_slice().starts_with(ANN_LINE));
-    assert!(rt; out.as_slice().ends_with(BOB_LINE));
-    assert_eq!(rt; out.len(), ANN_LINE.len() + BOB_LINE.len());
+    assert_that(&rt, out.as_slice().starts_with(ANN_LINE));
+    assert_that(&rt, out.as_slice().ends_with(BOB_LINE));
+    assert_same(&rt, out.len(), ANN_LINE.len() + BOB_LINE.len());
     are_refused(&rt, rows.as_slice(), &[(2, RowCode::Revision)]);
 }
 
@@ -300,20 +308,15 @@ fn rows_have_their_images(rt: HostRuntime) {
 fn a_row_has_its_image(rt: HostRuntime) {
     let rows = users(rt.alloc(), ANN).expect(&rt, "a file");
     let ann = user(&rt, rows.as_slice().first());
-    assert!(rt; row_line(rt.alloc(), ann).expect(&rt, "a line").as_slice() == ANN_LINE);
+    assert_that(
+        &rt,
+        row_line(rt.alloc(), ann).expect(&rt, "a line").as_slice() == ANN_LINE,
+    );
     let name = user_content(rt.alloc(), ann)
         .expect(&rt, "a content")
         .name(rt.alloc())
         .expect(&rt, "memory");
-    assert!(rt; name.key.as_str() == "ann");
-}
-
-fn repeated(rt: &impl Abort, alloc: Global, piece: &str, count: usize) -> String {
-    let mut text = String::new(alloc);
-    for _ in 0..count {
-        text.push_str(piece).expect(rt, "memory");
-    }
-    text
+    assert_same(&rt, name.key.as_str(), "ann");
 }
 
 #[test]
@@ -329,5 +332,5 @@ fn the_longest_line(rt: HostRuntime) {
         "{{\"active\":true,\"emails\":[{{\"primary\":true,\"type\":\"work\",\"value\":\"{written}\"}}],\"externalId\":\"{written}\",\"name\":{{\"familyName\":\"{written}\",\"givenName\":\"{written}\"}},\"schemas\":[\"urn:ietf:params:scim:schemas:core:2.0:User\",\"urn:example:params:scim:schemas:extension:source:1.0\"],\"urn:example:params:scim:schemas:extension:source:1.0\":{{\"revision\":2000000000}},\"userName\":\"{login}\"}}\n"
     ).expect(&rt, "memory");
     let longest = row_line(rt.alloc(), user(&rt, rows.as_slice().first())).expect(&rt, "a line");
-    assert!(rt; longest.as_slice() == line.as_bytes());
+    assert_that(&rt, longest.as_slice() == line.as_bytes());
 }

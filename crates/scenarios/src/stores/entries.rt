@@ -1,6 +1,7 @@
 //! The connector's journal: its entries are kept, and a refused opening leaves them.
 use crate::stores::connections::{limit, run, shown};
 use crate::stores::exchanges::{Run, entries, runs};
+use crate::support::assert_same;
 use connector_core::Connector;
 use journal_core::{Journal, MemoryJournal};
 use journal_store::{OpenFault, SqlJournal};
@@ -105,7 +106,7 @@ fn with_entries(rt: &impl Abort, alloc: Global) -> Connection<MemStore> {
 fn entries_are_kept_where_a_journal_is_closed(rt: HostRuntime) {
     let mut conn = with_entries(&rt, rt.alloc());
     let rows = rows(&rt, rt.alloc(), &mut conn);
-    assert_eq!(rt; rows.as_str(), KEPT);
+    assert_same(&rt, rows.as_str(), KEPT);
 }
 
 /// The entries of a journal in memory after all runs.
@@ -124,7 +125,7 @@ fn entries_are_loaded_as_from_memory(rt: HostRuntime) {
     let mut journal = opened(&rt, rt.alloc(), with_entries(&rt, rt.alloc()));
     let loaded = entries(&rt, rt.alloc(), &mut journal);
     let _conn = close(journal);
-    assert_eq!(rt; loaded.as_str(), expected.as_str());
+    assert_same(&rt, loaded.as_str(), expected.as_str());
 }
 
 /// All runs over one journal, which is tested again after each.
@@ -148,7 +149,7 @@ fn entries_are_kept_where_a_journal_is_reopened(rt: HostRuntime) {
     let journal = opened(&rt, rt.alloc(), conn);
     let mut conn = close(reopens(&rt, rt.alloc(), journal, &mut provider));
     let rows = rows(&rt, rt.alloc(), &mut conn);
-    assert_eq!(rt; rows.as_str(), KEPT);
+    assert_same(&rt, rows.as_str(), KEPT);
 }
 
 /// What spoils the journal with those entries, and the fault of its opening.
@@ -179,7 +180,7 @@ fn refused(
             panic!(rt; "opened")
         }
         Err((fault, conn)) => {
-            assert_eq!(rt; fault, expected);
+            assert_same(rt, fault, expected);
             conn
         }
     }
@@ -192,7 +193,7 @@ fn refuses(rt: &impl Abort, alloc: Global, spoils: &str, expected: OpenFault) {
     let before = rows(rt, alloc, &mut conn);
     let mut conn = refused(rt, alloc, conn, expected);
     let after = rows(rt, alloc, &mut conn);
-    assert_eq!(rt; after.as_str(), before.as_str(), "{spoils}");
+    assert_same(rt, (spoils, after.as_str()), (spoils, before.as_str()));
 }
 
 #[test]
@@ -210,5 +211,5 @@ fn a_journal_that_failed_once_is_opened(rt: HostRuntime) {
     limit(&mut conn, None);
     let mut conn = close(opened(&rt, rt.alloc(), conn));
     let rows = rows(&rt, rt.alloc(), &mut conn);
-    assert_eq!(rt; rows.as_str(), KEPT);
+    assert_same(&rt, rows.as_str(), KEPT);
 }

@@ -1,4 +1,5 @@
 //! Requests to a provider, and its answers.
+use crate::support::{assert_same, assert_that};
 use http_text::{Input, Output};
 use provider_core::{Provider, Registry};
 use scim_key::Base;
@@ -68,6 +69,6 @@ pub fn answers<R: Registry>(
 ) {
     let (request, status, part) = asked;
     let (served, text) = answer(rt, alloc, provider, request);
-    assert_eq!(rt; served, Served::Answered { status: *status });
-    assert!(rt; text.as_str().contains(*part), "{part}");
+    assert_same(rt, served, Served::Answered { status: *status });
+    assert_that(rt, text.as_str().contains(*part));
 }

@@ -3,6 +3,7 @@ use crate::stores::connections::{limit, run, shown};
 use crate::stores::requests::{
     Asked, CREATE_BOB, CREATE_GROUP, FIND_BOB, GET_BOB, LIST_GROUPS, REPLACE_BOB, answers,
 };
+use crate::support::assert_same;
 use provider_core::{Provider, Reopen};
 use provider_store::{OpenFault, SqlRegistry};
 use sqlite::{Alter, Connection, MemStore};
@@ -87,7 +88,7 @@ fn rows_are_kept_where_a_store_is_closed(rt: HostRuntime) {
         conn = turn(&rt, rt.alloc(), conn, asked);
     }
     let rows = rows(&rt, rt.alloc(), &mut conn);
-    assert_eq!(rt; rows.as_str(), KEPT);
+    assert_same(&rt, rows.as_str(), KEPT);
 }
 
 /// Requests to a provider whose store is tested again after each.
@@ -105,7 +106,7 @@ fn rows_are_kept_where_a_store_is_reopened(rt: HostRuntime) {
     asks_and_reopens(&rt, rt.alloc(), &mut provider);
     let mut conn = close(provider.close());
     let rows = rows(&rt, rt.alloc(), &mut conn);
-    assert_eq!(rt; rows.as_str(), KEPT);
+    assert_same(&rt, rows.as_str(), KEPT);
 }
 
 /// What spoils the store with those rows, and the fault of its opening, with the number of a row.
@@ -149,7 +150,7 @@ fn refused(
             panic!(rt; "opened")
         }
         Err((fault, conn)) => {
-            assert_eq!(rt; fault, expected);
+            assert_same(rt, fault, expected);
             conn
         }
     }
@@ -162,7 +163,7 @@ fn refuses(rt: &impl Abort, alloc: Global, spoils: &str, expected: OpenFault) {
     let before = rows(rt, alloc, &mut conn);
     let mut conn = refused(rt, alloc, conn, expected);
     let after = rows(rt, alloc, &mut conn);
-    assert_eq!(rt; after.as_str(), before.as_str(), "{spoils}");
+    assert_same(rt, (spoils, after.as_str()), (spoils, before.as_str()));
 }
 
 #[test]
@@ -180,5 +181,5 @@ fn a_store_that_failed_once_is_opened(rt: HostRuntime) {
     limit(&mut conn, None);
     let mut conn = close(opened(&rt, rt.alloc(), conn));
     let rows = rows(&rt, rt.alloc(), &mut conn);
-    assert_eq!(rt; rows.as_str(), KEPT);
+    assert_same(&rt, rows.as_str(), KEPT);
 }
