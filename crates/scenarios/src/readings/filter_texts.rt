@@ -1,9 +1,8 @@
 //! Which texts are no filters, how filters are written, and which record they name.
 use crate::readings::filters::{around, hits, refuses, rows};
-use crate::support::{assert_same, assert_that};
-use scim_filter::{Filter, FilterFault};
+use crate::support::assert_same;
+use scim_filter::Filter;
 use scim_key::{GroupName, Kind, UserName};
-use scim_resource::ReadFault;
 use std::alloc::Global;
 use std::process::Abort;
 
@@ -450,48 +449,4 @@ fn a_filter_of_one_group(rt: HostRuntime) {
     let text = "displayName eq \"TOUR Guides\"";
     let record = "group tour guides";
     asks(&rt, rt.alloc(), &filter, text, record, "guides")
-}
-
-#[test]
-fn faults_are_printed_as_their_codes(rt: HostRuntime) {
-    assert_that(
-        &rt,
-        FilterFault::Unsupported
-            .to_string(rt.alloc())
-            .expect(&rt, "memory")
-            .as_str()
-            == "P3",
-    );
-    assert_that(
-        &rt,
-        FilterFault::Memory
-            .to_string(rt.alloc())
-            .expect(&rt, "memory")
-            .as_str()
-            == "memory",
-    );
-    assert_that(
-        &rt,
-        ReadFault::InvalidSyntax
-            .to_string(rt.alloc())
-            .expect(&rt, "memory")
-            .as_str()
-            == "P1",
-    );
-    assert_that(
-        &rt,
-        ReadFault::InvalidValue
-            .to_string(rt.alloc())
-            .expect(&rt, "memory")
-            .as_str()
-            == "P2",
-    );
-    assert_that(
-        &rt,
-        ReadFault::Memory
-            .to_string(rt.alloc())
-            .expect(&rt, "memory")
-            .as_str()
-            == "memory",
-    );
 }

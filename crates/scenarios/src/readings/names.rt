@@ -2,6 +2,12 @@
 use crate::support::{assert_same, assert_that, repeated};
 use scim_key::{Base, GroupName, Key, NameFault, ResourceId, UserName};
 
+static NO_USER_NAMES: &[(&str, NameFault)] = &[
+    ("", NameFault::Empty),
+    ("a b", NameFault::Character),
+    ("a\"", NameFault::Character),
+];
+
 #[test]
 fn user_names(rt: HostRuntime) {
     let longest = repeated(&rt, rt.alloc(), "a", 128);
@@ -13,21 +19,9 @@ fn user_names(rt: HostRuntime) {
         UserName::read(rt.alloc(), longer.as_str()).err(),
         Some(NameFault::TooLong),
     );
-    assert_same(
-        &rt,
-        UserName::read(rt.alloc(), "").err(),
-        Some(NameFault::Empty),
-    );
-    assert_same(
-        &rt,
-        UserName::read(rt.alloc(), "a b").err(),
-        Some(NameFault::Character),
-    );
-    assert_same(
-        &rt,
-        UserName::read(rt.alloc(), "a\"").err(),
-        Some(NameFault::Character),
-    );
+    for (text, fault) in NO_USER_NAMES {
+        assert_same(&rt, UserName::read(rt.alloc(), text).err(), Some(*fault));
+    }
     let spelled = UserName::read(rt.alloc(), "Bob").expect(&rt, "a name");
     assert_that(
         &rt,
@@ -59,16 +53,10 @@ fn group_names(rt: HostRuntime) {
     assert_same(&rt, name.as_str().len(), 128);
     let fault = GroupName::read(rt.alloc(), longer.as_str()).err();
     assert_same(&rt, fault, Some(NameFault::TooLong));
-    assert_same(
-        &rt,
-        GroupName::read(rt.alloc(), " crew").err(),
-        Some(NameFault::SpaceAtEnd),
-    );
-    assert_same(
-        &rt,
-        GroupName::read(rt.alloc(), "crew ").err(),
-        Some(NameFault::SpaceAtEnd),
-    );
+    for text in [" crew", "crew "] {
+        let fault = GroupName::read(rt.alloc(), text).err();
+        assert_same(&rt, fault, Some(NameFault::SpaceAtEnd));
+    }
 }
 
 #[test]
@@ -104,16 +92,10 @@ fn ids_of_numbers(rt: HostRuntime) {
 
 #[test]
 fn bases(rt: HostRuntime) {
-    assert_same(
-        &rt,
-        Base::read(rt.alloc(), "ftp://x/v2").err(),
-        Some(NameFault::Character),
-    );
-    assert_same(
-        &rt,
-        Base::read(rt.alloc(), "http:///v2").err(),
-        Some(NameFault::Character),
-    );
+    for text in ["ftp://x/v2", "http:///v2"] {
+        let fault = Base::read(rt.alloc(), text).err();
+        assert_same(&rt, fault, Some(NameFault::Character));
+    }
     let base = Base::read(rt.alloc(), "http://[::1]:8080/v2").expect(&rt, "a base");
     assert_that(&rt, base.authority() == b"[::1]:8080".as_slice());
     let host = repeated(&rt, rt.alloc(), "a", 100);

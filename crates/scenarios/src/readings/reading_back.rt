@@ -38,7 +38,7 @@ fn revisions_by_text_and_number(rt: HostRuntime) {
 fn ids_are_spelled_into_a_buffer(rt: HostRuntime) {
     let mut buffer = [0; NUMBERED_ID_LENGTH];
     let text = ResourceId::spell(1_000_000, &mut buffer);
-    assert_that(&rt, text == "5c1a0000-0000-8000-8000-0000000f4240");
+    assert_same(&rt, text, "5c1a0000-0000-8000-8000-0000000f4240");
     assert_same(
         &rt,
         ResourceId::read(rt.alloc(), text)

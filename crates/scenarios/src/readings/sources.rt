@@ -36,7 +36,7 @@ fn groups(alloc: Global, records: &str) -> Result<SourceRows, SourceFault> {
 }
 
 /// The row of a record.
-fn row<'a>(rt: &impl Abort, record: Option<&'a Result<Row, RowFault>>) -> &'a Row {
+pub fn row<'a>(rt: &impl Abort, record: Option<&'a Result<Row, RowFault>>) -> &'a Row {
     match record {
         Some(Ok(row)) => row,
         _ => panic!(rt; "no row"),
@@ -72,7 +72,7 @@ fn user<'a>(rt: &impl Abort, record: Option<&'a Result<Row, RowFault>>) -> &'a U
 }
 
 /// The group of a record.
-fn group<'a>(rt: &impl Abort, record: Option<&'a Result<Row, RowFault>>) -> &'a GroupRow {
+pub fn group<'a>(rt: &impl Abort, record: Option<&'a Result<Row, RowFault>>) -> &'a GroupRow {
     match row(rt, record) {
         Row::Group(group) => group,
         Row::User(_) => panic!(rt; "no group"),
@@ -234,9 +234,9 @@ fn records_are_those_of_csv(rt: HostRuntime) {
     let rows = rows.as_slice();
     assert_same(&rt, rows.len(), 3);
     let ann = user(&rt, rows.first());
-    assert_that(&rt, ann.given() == "Ann, \"A\"");
-    assert_that(&rt, ann.family() == "Lee\nfield");
-    assert_that(&rt, ann.mail() == "");
+    assert_same(&rt, ann.given(), "Ann, \"A\"");
+    assert_same(&rt, ann.family(), "Lee\nfield");
+    assert_same(&rt, ann.mail(), "");
     for (place, key) in ["ann", "bob", "cid"].iter().enumerate() {
         is_named(&rt, rt.alloc(), row(&rt, rows.get(place)), key);
     }
