@@ -10,7 +10,7 @@ use scim_resource::{Content, Shown};
 use scim_version::{Condition, EntityTag};
 
 /// What a client asks of the provider.
-#[derive(Debug, Drop)]
+#[derive(Debug)]
 pub enum Request {
     /// A new resource (section 3.3).
     Create {
@@ -40,8 +40,35 @@ pub enum Request {
     },
 }
 
+/// One call wherever it is dropped, and not a step for each part of each form.
+impl Drop for Request {
+    fn drop(self) {
+        match self {
+            Request::Create { content: _ } => {}
+            Request::Retrieve {
+                kind: _,
+                id: _,
+                if_match: _,
+                if_none_match: _,
+            } => {}
+            Request::Search {
+                kind: _,
+                filter: _,
+                start: _,
+                count: _,
+            } => {}
+            Request::Replace {
+                id: _,
+                content: _,
+                if_match: _,
+                if_none_match: _,
+            } => {}
+        }
+    }
+}
+
 /// What the provider answers.
-#[derive(Debug, Drop)]
+#[derive(Debug)]
 pub enum Answer {
     /// The new resource.
     Created(Shown),
@@ -59,6 +86,22 @@ pub enum Answer {
     },
     /// Why there is none.
     Error(ErrorResponse),
+}
+
+/// One call wherever it is dropped, as for a request.
+impl Drop for Answer {
+    fn drop(self) {
+        match self {
+            Answer::Created(_) | Answer::Found(_) | Answer::Replaced(_) => {}
+            Answer::List(_) => {}
+            Answer::NotModified {
+                kind: _,
+                id: _,
+                version: _,
+            } => {}
+            Answer::Error(_) => {}
+        }
+    }
 }
 
 impl Answer {
