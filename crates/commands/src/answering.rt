@@ -1,4 +1,4 @@
-//! `answer`: one request from standard input, answered on standard output.
+//! One connection, and how the run then ends.
 ghost use Rattle.std.specs.Prelude.{◌≡◌, IfOk};
 ghost use Rattle.commands.specs.Connections.{AnswersOne, AnswersStored};
 ghost use Rattle.commands.specs.Statuses.{served_status};
@@ -11,26 +11,10 @@ use provider_file::{Storage, serve_one};
 use scim_key::Base;
 use scim_server::{Served, serve};
 use std::alloc::Global;
-use std::io;
 use std::io::{Read, Write};
-use std::rt::Runtime;
-
-/// Answers one request from standard input, over the rows of a file or an empty provider in memory.
-pub fn answer<R: Runtime + AllocGlobal, K: Storage>(
-    rt: &R,
-    base: &Base,
-    store: Option<&K>,
-) -> Result<Status, RunFault> {
-    let mut reader = Input::new(rt.reader());
-    let mut writer = Output::new(io::writer(rt));
-    match store {
-        Some(storage) => answer_stored(rt.alloc(), storage, base, &mut reader, &mut writer),
-        None => answer_one(rt.alloc(), base, &mut reader, &mut writer),
-    }
-}
 
 /// Answers one request over rows that are opened before it is read.
-fn answer_stored<K: Storage, I: Read, O: Write>(
+pub fn answer_stored<K: Storage, I: Read, O: Write>(
     alloc: Global,
     storage: &K,
     base: &Base,
@@ -44,7 +28,7 @@ fn answer_stored<K: Storage, I: Read, O: Write>(
 }
 
 /// Answers one request over an empty provider in memory.
-fn answer_one<I: Read, O: Write>(
+pub fn answer_one<I: Read, O: Write>(
     alloc: Global,
     base: &Base,
     reader: &mut Input<I>,

@@ -3,7 +3,7 @@ ghost use Rattle.std.specs.Prelude.{◌≡◌, ◌≢◌};
 ghost use Rattle.commands.specs.Statuses.{fault_status, journal_fault, lines_fault, loop_fault, offer_fault, schedule_fault, show_fault, show_journal_fault, status_code, store_fault, users_fault, world_fault};
 ghost use Rattle.commands.specs.declared.status.RunFault.TheVariants.{Memory};
 
-use crate::command::MOST_REQUESTS;
+use crate::words::MOST_REQUESTS;
 use connection::ConnectionFault;
 use mapping::WriteFault;
 use provider_file::ShowFault;

@@ -1,10 +1,10 @@
 //! The lines of a file's images, through writers that follow a script.
-use crate::scripts::{Event, Script, ScriptedWriter, Turn};
+use crate::scripts::{Event, ScriptedWriter, Turn};
 use crate::support::{assert_same, assert_that};
 use mapping::{WriteFault, write_images};
 use source_csv::read_users;
 use std::alloc::Global;
-use std::io::{BufWriter, ErrorKind};
+use std::io::{BufWriter, ErrorKind, Write};
 use std::process::Abort;
 
 static USERS: &[u8] =
@@ -12,21 +12,6 @@ static USERS: &[u8] =
 
 static LINES: &[u8] =
     b"{\"active\":true,\"emails\":[{\"primary\":true,\"type\":\"work\",\"value\":\"ann@example.com\"}],\"externalId\":\"1001\",\"name\":{\"familyName\":\"Lee\",\"givenName\":\"Ann\"},\"schemas\":[\"urn:ietf:params:scim:schemas:core:2.0:User\",\"urn:example:params:scim:schemas:extension:source:1.0\"],\"urn:example:params:scim:schemas:extension:source:1.0\":{\"revision\":7},\"userName\":\"ann\"}\n{\"active\":false,\"schemas\":[\"urn:ietf:params:scim:schemas:core:2.0:User\",\"urn:example:params:scim:schemas:extension:source:1.0\"],\"urn:example:params:scim:schemas:extension:source:1.0\":{\"revision\":1},\"userName\":\"bob\"}\n";
-
-/// A writer that follows a script.
-fn writer<'a>(
-    alloc: Global,
-    step: usize,
-    events: &'a [Event],
-    flush_faults: &'a [ErrorKind],
-) -> ScriptedWriter<'a> {
-    ScriptedWriter {
-        taken: Vec::new(alloc),
-        script: Script::new(step, events),
-        flush_faults,
-        flushes: 0,
-    }
-}
 
 /// At most how many bytes a write takes, what happens at which byte, with what the first flushes
 /// fail, how many bytes are written, and what `write_images` answers.
@@ -63,12 +48,16 @@ static WRITINGS: &[Writing] = &[
     (1_000, &[], &[ErrorKind::OutOfMemory], 565, NO_MEMORY),
 ];
 
+/// What `write_images` answers for both users.
+fn written<W: Write>(rt: &impl Abort, alloc: Global, out: &mut W) -> Result<(), WriteFault> {
+    let rows = read_users(alloc, USERS).expect(rt, "a file");
+    write_images(alloc, rows.as_slice(), out)
+}
+
 fn writes(rt: &impl Abort, alloc: Global, writing: &Writing) {
     let (step, events, flush_faults, bytes, wanted) = writing;
-    let rows = read_users(alloc, USERS).expect(rt, "a file");
-    let mut out = writer(alloc, *step, events, flush_faults);
-    let written = write_images(alloc, rows.as_slice(), &mut out);
-    assert_same(rt, written, *wanted);
+    let mut out = ScriptedWriter::new(alloc, *step, events, flush_faults);
+    assert_same(rt, written(rt, alloc, &mut out), *wanted);
     assert_that(rt, Some(out.taken.as_slice()) == LINES.get(..*bytes));
 }
 
@@ -81,9 +70,8 @@ fn writers_that_follow_a_script(rt: HostRuntime) {
 
 #[test]
 fn a_buffer_that_cannot_be_flushed(rt: HostRuntime) {
-    let rows = read_users(rt.alloc(), USERS).expect(&rt, "a file");
-    let unflushed = writer(rt.alloc(), 1_000, &[], &[ErrorKind::BrokenPipe]);
-    let mut buffer = BufWriter::new(rt.alloc(), unflushed).expect(&rt, "memory");
-    let written = write_images(rt.alloc(), rows.as_slice(), &mut buffer);
-    assert_same(&rt, written, FAILED);
+    let alloc = rt.alloc();
+    let unflushed = ScriptedWriter::new(alloc, 1_000, &[], &[ErrorKind::BrokenPipe]);
+    let mut buffer = BufWriter::new(alloc, unflushed).expect(&rt, "memory");
+    assert_same(&rt, written(&rt, alloc, &mut buffer), FAILED)
 }

@@ -1,6 +1,7 @@
 //! Readers and writers that do at each byte what a script says.
 ghost use Rattle.std.specs.Prelude.{◌≤◌, IfOk};
 
+use std::alloc::Global;
 use std::io;
 use std::io::{Read, Write};
 
@@ -69,6 +70,16 @@ pub struct ScriptedReader<'a> {
     pub script: Script<'a>,
 }
 
+impl<'a> ScriptedReader<'a> {
+    /// A reader of these bytes.
+    pub fn new(bytes: &'a [u8], step: usize, events: &'a [Event]) -> ScriptedReader<'a> {
+        ScriptedReader {
+            bytes,
+            script: Script::new(step, events),
+        }
+    }
+}
+
 impl<'a> Read for ScriptedReader<'a> {
     fn read(&mut self, buffer: &mut [u8]) -> io::Result<usize> {
         let count = self.script.next(buffer.len())?;
@@ -85,6 +96,23 @@ pub struct ScriptedWriter<'a> {
     pub script: Script<'a>,
     pub flush_faults: &'a [io::ErrorKind],
     pub flushes: usize,
+}
+
+impl<'a> ScriptedWriter<'a> {
+    /// A writer that nothing was written to yet.
+    pub fn new(
+        alloc: Global,
+        step: usize,
+        events: &'a [Event],
+        flush_faults: &'a [io::ErrorKind],
+    ) -> ScriptedWriter<'a> {
+        ScriptedWriter {
+            taken: Vec::new(alloc),
+            script: Script::new(step, events),
+            flush_faults,
+            flushes: 0,
+        }
+    }
 }
 
 impl<'a> Write for ScriptedWriter<'a> {

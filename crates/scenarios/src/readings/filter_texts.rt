@@ -1,46 +1,48 @@
 //! Which texts are no filters, how filters are written, and which record they name.
-use crate::readings::filters::{around, hits, refuses, rows};
+use crate::readings::filters::{around, filter_of, hits, refuses, rows, text_of};
 use crate::support::assert_same;
 use scim_filter::Filter;
-use scim_key::{GroupName, Kind, UserName};
+use scim_key::{GroupName, Kind, RecordName, UserName};
 use std::alloc::Global;
 use std::process::Abort;
+
+/// Asserts that the filter of a text is written as another.
+fn is_rewritten(rt: &impl Abort, alloc: Global, text: &str, wanted: &str) {
+    let filter = filter_of(rt, alloc, text);
+    let written = text_of(rt, alloc, &filter);
+    assert_same(rt, (text, written.as_str()), (text, wanted));
+}
 
 /// Asserts that each text is written as the one beside it, which is written as it is.
 fn written_as(rt: &impl Abort, alloc: Global, table: &[(&str, &str)]) {
     for (text, wanted) in table {
-        let written = Filter::read(alloc, text)
-            .expect(rt, "a filter")
-            .to_text(alloc)
-            .expect(rt, "memory");
-        assert_same(rt, (*text, written.as_str()), (*text, *wanted));
-        let again = Filter::read(alloc, wanted)
-            .expect(rt, "a filter")
-            .to_text(alloc)
-            .expect(rt, "memory");
-        assert_same(rt, again.as_str(), *wanted);
+        is_rewritten(rt, alloc, text, wanted);
+        is_rewritten(rt, alloc, wanted, wanted);
     }
+}
+
+/// A record as a text.
+fn record_text(rt: &impl Abort, alloc: Global, name: &RecordName) -> String {
+    let kind = match name.kind {
+        Kind::User => "user ",
+        Kind::Group => "group ",
+    };
+    around(rt, alloc, 1, kind, name.key.as_str(), "")
 }
 
 /// The record that a filter names, as a text.
 fn record_named(rt: &impl Abort, alloc: Global, filter: &Filter) -> String {
-    let Some(name) = filter.single_key(alloc).expect(rt, "memory") else {
-        return String::from_str(alloc, "none").expect(rt, "memory");
-    };
-    let kind = match name.kind {
-        Kind::User => "user",
-        Kind::Group => "group",
-    };
-    let key = name.key.as_str();
-    format!(in alloc; "{kind} {key}").expect(rt, "memory")
+    match filter.single_key(alloc).expect(rt, "memory") {
+        Some(name) => record_text(rt, alloc, &name),
+        None => String::from_str(alloc, "none").expect(rt, "memory"),
+    }
 }
 
-/// Asserts that each filter names the record beside it.
-fn names(rt: &impl Abort, alloc: Global, table: &[(&str, &str)]) {
-    for (text, wanted) in table {
-        let named = record_named(rt, alloc, &Filter::read(alloc, text).expect(rt, "a filter"));
-        assert_same(rt, (*text, named.as_str()), (*text, *wanted));
-    }
+/// Asserts that a filter names this record.
+fn names(rt: &impl Abort, alloc: Global, text: &str, wanted: &str) {
+    let filter = filter_of(rt, alloc, text);
+    let named = record_named(rt, alloc, &filter);
+    assert_same(rt, (text, named.as_str()), (text, wanted));
 }
 
 static OPERATORS_LEFT_OUT: &[&str] = &[
@@ -58,11 +60,6 @@ static OPERATORS_LEFT_OUT: &[&str] = &[
     r#"meta.lastModified lt "2011-05-13T04:42:34Z""#,
     r#"meta.lastModified le "2011-05-13T04:42:34Z""#,
 ];
-
-#[test]
-fn other_operators(rt: HostRuntime) {
-    refuses(&rt, rt.alloc(), OPERATORS_LEFT_OUT);
-}
 
 static ATTRIBUTES_LEFT_OUT: &[&str] = &[
     r#"title pr"#,
@@ -100,11 +97,6 @@ static ATTRIBUTES_LEFT_OUT: &[&str] = &[
     r#""userName" pr"#,
 ];
 
-#[test]
-fn other_attributes(rt: HostRuntime) {
-    refuses(&rt, rt.alloc(), ATTRIBUTES_LEFT_OUT);
-}
-
 static VALUES_LEFT_OUT: &[&str] = &[
     r#"externalId eq null"#,
     r#"externalId ne NULL"#,
@@ -130,11 +122,6 @@ static VALUES_LEFT_OUT: &[&str] = &[
     r#"userName eq eq"#,
 ];
 
-#[test]
-fn other_values(rt: HostRuntime) {
-    refuses(&rt, rt.alloc(), VALUES_LEFT_OUT);
-}
-
 static BAD_STRINGS: &[&str] = &[
     "userName eq \"bob",
     "userName eq bob\"",
@@ -153,8 +140,12 @@ static BAD_STRINGS: &[&str] = &[
 ];
 
 #[test]
-fn broken_texts(rt: HostRuntime) {
-    refuses(&rt, rt.alloc(), BAD_STRINGS);
+fn what_is_left_out_is_refused(rt: HostRuntime) {
+    let alloc = rt.alloc();
+    refuses(&rt, alloc, OPERATORS_LEFT_OUT);
+    refuses(&rt, alloc, ATTRIBUTES_LEFT_OUT);
+    refuses(&rt, alloc, VALUES_LEFT_OUT);
+    refuses(&rt, alloc, BAD_STRINGS);
 }
 
 static WORDS: &[&str] = &[
@@ -194,11 +185,6 @@ static WORDS: &[&str] = &[
     r#"%"#,
 ];
 
-#[test]
-fn words_that_stand_alone_or_too_many(rt: HostRuntime) {
-    refuses(&rt, rt.alloc(), WORDS);
-}
-
 static MISSING_SPACES: &[&str] = &[
     r#"userName eq"bob""#,
     r#"userNameeq "bob""#,
@@ -215,11 +201,6 @@ static MISSING_SPACES: &[&str] = &[
     r#"userName eq "a"or active pr"#,
 ];
 
-#[test]
-fn spaces_that_are_missing(rt: HostRuntime) {
-    refuses(&rt, rt.alloc(), MISSING_SPACES);
-}
-
 static TABS_AND_LINE_ENDS: &[&str] = &[
     "userName\teq \"bob\"",
     "userName eq\t\"bob\"",
@@ -233,11 +214,6 @@ static TABS_AND_LINE_ENDS: &[&str] = &[
     "userName pr\0",
     "\u{feff}userName pr",
 ];
-
-#[test]
-fn other_white_space(rt: HostRuntime) {
-    refuses(&rt, rt.alloc(), TABS_AND_LINE_ENDS);
-}
 
 static PARENTHESES: &[&str] = &[
     r#"(userName pr"#,
@@ -256,11 +232,6 @@ static PARENTHESES: &[&str] = &[
     r#"(userName pr and (active pr)"#,
     r#"userName pr and )"#,
 ];
-
-#[test]
-fn parentheses_that_do_not_fit(rt: HostRuntime) {
-    refuses(&rt, rt.alloc(), PARENTHESES);
-}
 
 static BARE_NOT: &[&str] = &[
     r#"not userName pr"#,
@@ -282,8 +253,13 @@ static BARE_NOT: &[&str] = &[
 ];
 
 #[test]
-fn not_without_its_parentheses(rt: HostRuntime) {
-    refuses(&rt, rt.alloc(), BARE_NOT);
+fn words_spaces_and_parentheses_that_do_not_fit(rt: HostRuntime) {
+    let alloc = rt.alloc();
+    refuses(&rt, alloc, WORDS);
+    refuses(&rt, alloc, MISSING_SPACES);
+    refuses(&rt, alloc, TABS_AND_LINE_ENDS);
+    refuses(&rt, alloc, PARENTHESES);
+    refuses(&rt, alloc, BARE_NOT);
 }
 
 static SPELLINGS: &[(&str, &str)] = &[
@@ -316,11 +292,6 @@ static SPELLINGS: &[(&str, &str)] = &[
         r#"not (id pr or active pr)"#,
     ),
 ];
-
-#[test]
-fn filters_are_written_with_no_more_than_they_need(rt: HostRuntime) {
-    written_as(&rt, rt.alloc(), SPELLINGS)
-}
 
 static GROUPED: &[(&str, &str)] = &[
     (
@@ -358,11 +329,6 @@ static GROUPED: &[(&str, &str)] = &[
     (r#"(id pr) or (active pr)"#, r#"id pr or active pr"#),
 ];
 
-#[test]
-fn joined_filters_are_grouped_to_the_left(rt: HostRuntime) {
-    written_as(&rt, rt.alloc(), GROUPED)
-}
-
 static WRITTEN_TEXTS: &[(&str, &str)] = &[
     (r#"userName eq "\u0062ob""#, r#"userName eq "bob""#),
     (
@@ -380,8 +346,11 @@ static WRITTEN_TEXTS: &[(&str, &str)] = &[
 ];
 
 #[test]
-fn texts_are_written_as_json(rt: HostRuntime) {
-    written_as(&rt, rt.alloc(), WRITTEN_TEXTS)
+fn filters_are_written_with_no_more_than_they_need(rt: HostRuntime) {
+    let alloc = rt.alloc();
+    written_as(&rt, alloc, SPELLINGS);
+    written_as(&rt, alloc, GROUPED);
+    written_as(&rt, alloc, WRITTEN_TEXTS);
 }
 
 static NAMED_RECORDS: &[(&str, &str)] = &[
@@ -409,44 +378,55 @@ static NAMED_RECORDS: &[(&str, &str)] = &[
 
 #[test]
 fn a_filter_names_a_record_by_one_test_of_its_name(rt: HostRuntime) {
-    names(&rt, rt.alloc(), NAMED_RECORDS)
+    for (text, wanted) in NAMED_RECORDS {
+        names(&rt, rt.alloc(), text, wanted);
+    }
+}
+
+#[test]
+fn a_filter_names_a_record_by_the_longest_name(rt: HostRuntime) {
+    let alloc = rt.alloc();
+    let longest = around(&rt, alloc, 128, "a", "", "");
+    let lawful = around(&rt, alloc, 1, "userName eq \"", longest.as_str(), "\"");
+    let named = around(&rt, alloc, 1, "user ", longest.as_str(), "");
+    names(&rt, alloc, lawful.as_str(), named.as_str())
 }
 
 #[test]
 fn a_filter_names_no_record_by_a_longer_name(rt: HostRuntime) {
-    let longest = around(&rt, rt.alloc(), 128, "a", "", "");
-    let lawful = format!(in rt.alloc(); "userName eq \"{longest}\"").expect(&rt, "memory");
-    let named = format!(in rt.alloc(); "user {longest}").expect(&rt, "memory");
-    let longer = format!(in rt.alloc(); "displayName eq \"{longest}a\"").expect(&rt, "memory");
-    let table = [(lawful.as_str(), named.as_str()), (longer.as_str(), "none")];
-    names(&rt, rt.alloc(), &table)
+    let alloc = rt.alloc();
+    let longer = around(&rt, alloc, 129, "a", "", "");
+    let filter = around(&rt, alloc, 1, "displayName eq \"", longer.as_str(), "\"");
+    names(&rt, alloc, filter.as_str(), "none")
 }
 
-/// Asserts how a filter is written, which record it names and which row it hits.
-fn asks(rt: &impl Abort, alloc: Global, filter: &Filter, text: &str, record: &str, row: &str) {
-    assert_same(
-        rt,
-        filter.to_text(alloc).expect(rt, "memory").as_str(),
-        text,
-    );
+fn is_written(rt: &impl Abort, alloc: Global, filter: &Filter, text: &str) {
+    let written = text_of(rt, alloc, filter);
+    assert_same(rt, written.as_str(), text);
+}
+
+/// Asserts which record a filter names and which row it hits.
+fn asks(rt: &impl Abort, alloc: Global, filter: &Filter, record: &str, row: &str) {
     assert_same(rt, record_named(rt, alloc, filter).as_str(), record);
     let rows = rows(rt, alloc);
-    assert_same(rt, hits(rt, alloc, rows.as_slice(), filter).as_str(), row);
+    let hits = hits(rt, alloc, rows.as_slice(), filter);
+    assert_same(rt, hits.as_str(), row);
 }
 
 #[test]
 fn a_filter_of_one_user(rt: HostRuntime) {
-    let name = UserName::read(rt.alloc(), "bob").expect(&rt, "a name");
-    let filter = Filter::eq_user_name(rt.alloc(), &name).expect(&rt, "memory");
-    let text = "userName eq \"bob\"";
-    asks(&rt, rt.alloc(), &filter, text, "user bob", "bob")
+    let alloc = rt.alloc();
+    let name = UserName::read(alloc, "bob").expect(&rt, "a name");
+    let filter = Filter::eq_user_name(alloc, &name).expect(&rt, "memory");
+    is_written(&rt, alloc, &filter, "userName eq \"bob\"");
+    asks(&rt, alloc, &filter, "user bob", "bob")
 }
 
 #[test]
 fn a_filter_of_one_group(rt: HostRuntime) {
-    let name = GroupName::read(rt.alloc(), "TOUR Guides").expect(&rt, "a name");
-    let filter = Filter::eq_display_name(rt.alloc(), &name).expect(&rt, "memory");
-    let text = "displayName eq \"TOUR Guides\"";
-    let record = "group tour guides";
-    asks(&rt, rt.alloc(), &filter, text, record, "guides")
+    let alloc = rt.alloc();
+    let name = GroupName::read(alloc, "TOUR Guides").expect(&rt, "a name");
+    let filter = Filter::eq_display_name(alloc, &name).expect(&rt, "memory");
+    is_written(&rt, alloc, &filter, "displayName eq \"TOUR Guides\"");
+    asks(&rt, alloc, &filter, "group tour guides", "guides")
 }

@@ -1,5 +1,5 @@
 //! What filters hit, and how long and deep they may be (RFC 7644 section 3.4.2.2).
-use crate::support::assert_same;
+use crate::support::{assert_same, repeated};
 use scim_filter::{Filter, FilterFault};
 use scim_key::Kind;
 use scim_resource::{Content, Stored};
@@ -56,91 +56,101 @@ static GUIDES: &str = r#"{
 }"#;
 
 fn content(rt: &impl Abort, alloc: Global, body: &str, kind: Kind) -> Content {
-    Content::read(
-        alloc,
-        &Value::from_str(alloc, body).expect(rt, "JSON"),
-        kind,
-    )
-    .expect(rt, "a content")
+    let json = Value::from_str(alloc, body).expect(rt, "JSON");
+    Content::read(alloc, &json, kind).expect(rt, "a content")
+}
+
+fn user(rt: &impl Abort, alloc: Global, body: &str) -> Content {
+    content(rt, alloc, body, Kind::User)
+}
+
+/// A row and its word.
+pub type Worded = (&'static str, Stored);
+
+fn add<T: Drop>(rt: &impl Abort, rows: &mut Vec<T>, row: T) {
+    rows.push(row).expect(rt, "memory");
 }
 
 /// The rows that the tables speak of, and their words there.
-pub fn rows(rt: &impl Abort, alloc: Global) -> Vec<(&'static str, Stored)> {
+pub fn rows(rt: &impl Abort, alloc: Global) -> Vec<Worded> {
     let mut rows = Vec::new(alloc);
-    rows.push((
-        "ann",
-        Stored::new(1, 1, content(rt, alloc, ANN, Kind::User)),
-    ))
-    .expect(rt, "memory");
-    rows.push((
-        "bob",
-        Stored::new(2, 12, content(rt, alloc, BOB, Kind::User)),
-    ))
-    .expect(rt, "memory");
-    rows.push((
-        "babs",
-        Stored::new(3, 2, content(rt, alloc, BABS, Kind::User)),
-    ))
-    .expect(rt, "memory");
-    rows.push((
-        "zoe",
-        Stored::new(10, 3, content(rt, alloc, LEAVER, Kind::User)),
-    ))
-    .expect(rt, "memory");
-    rows.push((
-        "guides",
-        Stored::new(11, 1, content(rt, alloc, GUIDES, Kind::Group)),
-    ))
-    .expect(rt, "memory");
+    add(
+        rt,
+        &mut rows,
+        ("ann", Stored::new(1, 1, user(rt, alloc, ANN))),
+    );
+    add(
+        rt,
+        &mut rows,
+        ("bob", Stored::new(2, 12, user(rt, alloc, BOB))),
+    );
+    add(
+        rt,
+        &mut rows,
+        ("babs", Stored::new(3, 2, user(rt, alloc, BABS))),
+    );
+    add(
+        rt,
+        &mut rows,
+        ("zoe", Stored::new(10, 3, user(rt, alloc, LEAVER))),
+    );
+    let guides = content(rt, alloc, GUIDES, Kind::Group);
+    add(rt, &mut rows, ("guides", Stored::new(11, 1, guides)));
     rows
 }
 
+/// The filter that a text spells.
+pub fn filter_of(rt: &impl Abort, alloc: Global, text: &str) -> Filter {
+    Filter::read(alloc, text).expect(rt, "a filter")
+}
+
+/// What a filter is written as.
+pub fn text_of(rt: &impl Abort, alloc: Global, filter: &Filter) -> String {
+    filter.to_text(alloc).expect(rt, "memory")
+}
+
+fn add_word(rt: &impl Abort, words: &mut String, word: &str) {
+    if !words.is_empty() {
+        words.push(' ').expect(rt, "memory");
+    }
+    words.push_str(word).expect(rt, "memory");
+}
+
 /// The words of the rows that a filter hits.
-pub fn hits(
-    rt: &impl Abort,
-    alloc: Global,
-    rows: &[(&'static str, Stored)],
-    filter: &Filter,
-) -> String {
+pub fn hits(rt: &impl Abort, alloc: Global, rows: &[Worded], filter: &Filter) -> String {
     let mut words = String::new(alloc);
     for (word, row) in rows {
         if filter.matches(row) {
-            if !words.is_empty() {
-                words.push(' ').expect(rt, "memory");
-            }
-            words.push_str(word).expect(rt, "memory");
+            add_word(rt, &mut words, word);
         }
     }
     words
 }
 
-/// Asserts that each filter hits the rows of which the words stand beside it, and so do its copy
-/// and the filter that its text spells.
+/// Asserts that each filter hits the rows of which the words stand beside it.
 fn hit(rt: &impl Abort, alloc: Global, table: &[(&str, &str)]) {
     let rows = rows(rt, alloc);
     for (text, wanted) in table {
-        let filter = Filter::read(alloc, text).expect(rt, "a filter");
-        is_hit(rt, alloc, rows.as_slice(), &filter, wanted);
-        is_hit(
-            rt,
-            alloc,
-            rows.as_slice(),
-            &filter.clone().expect(rt, "memory"),
-            wanted,
-        );
-        let written = filter.to_text(alloc).expect(rt, "memory");
-        let again = Filter::read(alloc, written.as_str()).expect(rt, "a filter");
-        is_hit(rt, alloc, rows.as_slice(), &again, wanted);
+        text_hits(rt, alloc, rows.as_slice(), text, wanted);
     }
 }
 
-fn is_hit(
-    rt: &impl Abort,
-    alloc: Global,
-    rows: &[(&'static str, Stored)],
-    filter: &Filter,
-    wanted: &str,
-) {
+/// Asserts that a filter hits these rows, and so do its copy and the filter that its text spells.
+fn text_hits(rt: &impl Abort, alloc: Global, rows: &[Worded], text: &str, wanted: &str) {
+    let filter = filter_of(rt, alloc, text);
+    filter_hits(rt, alloc, rows, &filter, wanted);
+    copies_hit(rt, alloc, rows, &filter, wanted);
+}
+
+fn copies_hit(rt: &impl Abort, alloc: Global, rows: &[Worded], filter: &Filter, wanted: &str) {
+    let copy = filter.clone().expect(rt, "memory");
+    filter_hits(rt, alloc, rows, &copy, wanted);
+    let written = text_of(rt, alloc, filter);
+    let again = filter_of(rt, alloc, written.as_str());
+    filter_hits(rt, alloc, rows, &again, wanted);
+}
+
+fn filter_hits(rt: &impl Abort, alloc: Global, rows: &[Worded], filter: &Filter, wanted: &str) {
     let hits = hits(rt, alloc, rows, filter);
     assert_same(rt, hits.as_str(), wanted);
 }
@@ -162,10 +172,7 @@ pub fn around(
     within: &str,
     after: &str,
 ) -> String {
-    let mut text = String::new(alloc);
-    for _ in 0..count {
-        text.push_str(before).expect(rt, "memory");
-    }
+    let mut text = repeated(rt, alloc, before, count);
     text.push_str(within).expect(rt, "memory");
     for _ in 0..count {
         text.push_str(after).expect(rt, "memory");
@@ -196,11 +203,6 @@ static FIGURES: &[(&str, &str)] = &[
     (r#"Username eq "ann""#, "ann"),
 ];
 
-#[test]
-fn the_figures_of_the_standard(rt: HostRuntime) {
-    hit(&rt, rt.alloc(), FIGURES)
-}
-
 static OPERATORS: &[(&str, &str)] = &[
     (r#"userName eq "bob""#, "bob"),
     (r#"userName eq "bo""#, ""),
@@ -217,11 +219,6 @@ static OPERATORS: &[(&str, &str)] = &[
     (r#"userName pr"#, "ann bob babs zoe"),
 ];
 
-#[test]
-fn the_operators(rt: HostRuntime) {
-    hit(&rt, rt.alloc(), OPERATORS)
-}
-
 static EMPTY_TEXTS: &[(&str, &str)] = &[
     (r#"userName eq """#, ""),
     (r#"userName ne """#, EVERYBODY),
@@ -232,8 +229,11 @@ static EMPTY_TEXTS: &[(&str, &str)] = &[
 ];
 
 #[test]
-fn the_empty_text_is_in_each_text(rt: HostRuntime) {
-    hit(&rt, rt.alloc(), EMPTY_TEXTS)
+fn the_figures_and_operators_of_the_standard(rt: HostRuntime) {
+    let alloc = rt.alloc();
+    hit(&rt, alloc, FIGURES);
+    hit(&rt, alloc, OPERATORS);
+    hit(&rt, alloc, EMPTY_TEXTS);
 }
 
 static LETTERS: &[(&str, &str)] = &[
@@ -262,11 +262,6 @@ static LETTERS: &[(&str, &str)] = &[
     (r#"name.givenName eq "ZOË""#, ""),
 ];
 
-#[test]
-fn letters_count_in_no_name_and_in_few_values(rt: HostRuntime) {
-    hit(&rt, rt.alloc(), LETTERS)
-}
-
 static BYTES: &[(&str, &str)] = &[
     (r#"id eq "5c1a0000-0000-8000-8000-00000000000a""#, "zoe"),
     (r#"id eq "5C1A0000-0000-8000-8000-00000000000A""#, ""),
@@ -293,8 +288,10 @@ static BYTES: &[(&str, &str)] = &[
 ];
 
 #[test]
-fn ids_and_versions_are_compared_by_bytes(rt: HostRuntime) {
-    hit(&rt, rt.alloc(), BYTES)
+fn letters_and_bytes(rt: HostRuntime) {
+    let alloc = rt.alloc();
+    hit(&rt, alloc, LETTERS);
+    hit(&rt, alloc, BYTES);
 }
 
 static MANY_VALUES: &[(&str, &str)] = &[
@@ -323,11 +320,6 @@ static MANY_VALUES: &[(&str, &str)] = &[
     (r#"members pr"#, "guides"),
 ];
 
-#[test]
-fn some_value_of_many_is_enough(rt: HostRuntime) {
-    hit(&rt, rt.alloc(), MANY_VALUES)
-}
-
 static BOOLEANS: &[(&str, &str)] = &[
     (r#"active eq true"#, "ann bob babs"),
     (r#"active eq false"#, "zoe"),
@@ -340,11 +332,6 @@ static BOOLEANS: &[(&str, &str)] = &[
     (r#"emails.primary ne false"#, "zoe guides"),
     (r#"emails.primary pr"#, "ann bob babs"),
 ];
-
-#[test]
-fn booleans_are_equal_or_not(rt: HostRuntime) {
-    hit(&rt, rt.alloc(), BOOLEANS)
-}
 
 static ABSENT: &[(&str, &str)] = &[
     (r#"externalId ne "5""#, EVERYBODY),
@@ -363,8 +350,11 @@ static ABSENT: &[(&str, &str)] = &[
 ];
 
 #[test]
-fn what_is_absent_is_equal_to_nothing(rt: HostRuntime) {
-    hit(&rt, rt.alloc(), ABSENT)
+fn values_that_are_many_or_absent(rt: HostRuntime) {
+    let alloc = rt.alloc();
+    hit(&rt, alloc, MANY_VALUES);
+    hit(&rt, alloc, BOOLEANS);
+    hit(&rt, alloc, ABSENT);
 }
 
 static CONNECTIVES: &[(&str, &str)] = &[
@@ -398,11 +388,6 @@ static CONNECTIVES: &[(&str, &str)] = &[
     (r#"not (not (userName eq "ann"))"#, "ann"),
 ];
 
-#[test]
-fn and_binds_closer_than_or(rt: HostRuntime) {
-    hit(&rt, rt.alloc(), CONNECTIVES)
-}
-
 static SPACES: &[(&str, &str)] = &[
     (r#"  userName   eq   "bob"  "#, "bob"),
     (r#"(userName eq "bob")"#, "bob"),
@@ -412,11 +397,6 @@ static SPACES: &[(&str, &str)] = &[
     (r#"not  (  userName pr  )  "#, "guides"),
     (r#"not((userName pr)) or (userName eq "ann")"#, "ann guides"),
 ];
-
-#[test]
-fn spaces_may_stand_round_parentheses(rt: HostRuntime) {
-    hit(&rt, rt.alloc(), SPACES)
-}
 
 static SPELLED_TEXTS: &[(&str, &str)] = &[
     (r#"userName eq "\u0062ob""#, "bob"),
@@ -435,8 +415,11 @@ static SPELLED_TEXTS: &[(&str, &str)] = &[
 ];
 
 #[test]
-fn texts_are_spelled_as_in_json(rt: HostRuntime) {
-    hit(&rt, rt.alloc(), SPELLED_TEXTS)
+fn connectives_spaces_and_spelled_texts(rt: HostRuntime) {
+    let alloc = rt.alloc();
+    hit(&rt, alloc, CONNECTIVES);
+    hit(&rt, alloc, SPACES);
+    hit(&rt, alloc, SPELLED_TEXTS);
 }
 
 /// Asserts that a filter in so many parentheses hits every user.
@@ -447,18 +430,24 @@ fn hits_within(rt: &impl Abort, alloc: Global, count: usize, before: &str, after
 
 #[test]
 fn parentheses_are_at_most_32_deep(rt: HostRuntime) {
-    hits_within(&rt, rt.alloc(), 32, "(", ")");
-    hits_within(&rt, rt.alloc(), 32, "not (", ")");
-    hits_within(&rt, rt.alloc(), 16, "( not(", ") )");
-    hits_within(&rt, rt.alloc(), 40, "(active pr) and ", "")
+    let alloc = rt.alloc();
+    hits_within(&rt, alloc, 32, "(", ")");
+    hits_within(&rt, alloc, 32, "not (", ")");
+    hits_within(&rt, alloc, 16, "( not(", ") )");
+    hits_within(&rt, alloc, 40, "(active pr) and ", "")
+}
+
+fn refuses_within(rt: &impl Abort, alloc: Global, count: usize, before: &str) {
+    let text = around(rt, alloc, count, before, "userName pr", ")");
+    refuses(rt, alloc, &[text.as_str()]);
 }
 
 #[test]
 fn deeper_parentheses_are_refused(rt: HostRuntime) {
-    for before in ["(", "not (", "(active pr or "] {
-        let deeper = around(&rt, rt.alloc(), 33, before, "userName pr", ")");
-        refuses(&rt, rt.alloc(), &[deeper.as_str()]);
-    }
+    let alloc = rt.alloc();
+    refuses_within(&rt, alloc, 33, "(");
+    refuses_within(&rt, alloc, 33, "not (");
+    refuses_within(&rt, alloc, 33, "(active pr or ");
 }
 
 /// Asserts that a text of 2,048 bytes hits these rows, and is refused with a space more.
@@ -477,10 +466,11 @@ fn with_letters(rt: &impl Abort, alloc: Global, count: usize, test: &str, letter
 
 #[test]
 fn a_text_has_at_most_2048_bytes(rt: HostRuntime) {
-    let spaces = around(&rt, rt.alloc(), 2037, "", "userName pr", " ");
-    is_longest(&rt, rt.alloc(), spaces.as_str(), "ann bob babs zoe");
-    let letters = with_letters(&rt, rt.alloc(), 2034, "userName sw \"", "a");
-    is_longest(&rt, rt.alloc(), letters.as_str(), "");
-    let accents = with_letters(&rt, rt.alloc(), 1017, "userName ne \"", "é");
-    is_longest(&rt, rt.alloc(), accents.as_str(), EVERYBODY)
+    let alloc = rt.alloc();
+    let spaces = around(&rt, alloc, 2037, "", "userName pr", " ");
+    is_longest(&rt, alloc, spaces.as_str(), "ann bob babs zoe");
+    let letters = with_letters(&rt, alloc, 2034, "userName sw \"", "a");
+    is_longest(&rt, alloc, letters.as_str(), "");
+    let accents = with_letters(&rt, alloc, 1017, "userName ne \"", "é");
+    is_longest(&rt, alloc, accents.as_str(), EVERYBODY)
 }

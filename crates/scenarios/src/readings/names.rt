@@ -1,108 +1,161 @@
 //! The limits of names, ids and bases.
 use crate::support::{assert_same, assert_that, repeated};
 use scim_key::{Base, GroupName, Key, NameFault, ResourceId, UserName};
+use std::alloc::Global;
+use std::process::Abort;
 
-static NO_USER_NAMES: &[(&str, NameFault)] = &[
-    ("", NameFault::Empty),
-    ("a b", NameFault::Character),
-    ("a\"", NameFault::Character),
-];
+/// So many letters.
+fn letters(rt: &impl Abort, alloc: Global, count: usize) -> String {
+    repeated(rt, alloc, "a", count)
+}
+
+// ---- names of users
+
+fn is_no_user_name(rt: &impl Abort, alloc: Global, text: &str, fault: NameFault) {
+    assert_same(rt, UserName::read(alloc, text).err(), Some(fault));
+}
+
+/// Asserts that a text is a name with this key, and so is its copy.
+fn is_user_name(rt: &impl Abort, alloc: Global, text: &str, key: &str) {
+    let name = UserName::read(alloc, text).expect(rt, "a name");
+    assert_same(rt, name.clone().expect(rt, "memory").as_str(), text);
+    assert_same(rt, name.key(alloc).expect(rt, "memory").as_str(), key);
+    assert_that(
+        rt,
+        name.same_key(&UserName::read(alloc, key).expect(rt, "a name")),
+    );
+}
 
 #[test]
 fn user_names(rt: HostRuntime) {
-    let longest = repeated(&rt, rt.alloc(), "a", 128);
-    let longer = repeated(&rt, rt.alloc(), "a", 129);
-    let read = UserName::read(rt.alloc(), longest.as_str()).expect(&rt, "a name");
-    assert_same(&rt, read.as_str().len(), 128);
-    assert_same(
-        &rt,
-        UserName::read(rt.alloc(), longer.as_str()).err(),
-        Some(NameFault::TooLong),
-    );
-    for (text, fault) in NO_USER_NAMES {
-        assert_same(&rt, UserName::read(rt.alloc(), text).err(), Some(*fault));
-    }
-    let spelled = UserName::read(rt.alloc(), "Bob").expect(&rt, "a name");
-    assert_that(
-        &rt,
-        spelled.same_key(&UserName::read(rt.alloc(), "BOB").expect(&rt, "a name")),
-    );
-    assert_same(
-        &rt,
-        spelled.key(rt.alloc()).expect(&rt, "memory").as_str(),
-        "bob",
-    );
-    assert_same(&rt, spelled.clone().expect(&rt, "memory").as_str(), "Bob");
+    let alloc = rt.alloc();
+    let longest = letters(&rt, alloc, 128);
+    is_user_name(&rt, alloc, longest.as_str(), longest.as_str());
+    is_user_name(&rt, alloc, "Bob", "bob");
+}
+
+#[test]
+fn no_user_names(rt: HostRuntime) {
+    let alloc = rt.alloc();
+    is_no_user_name(&rt, alloc, "", NameFault::Empty);
+    is_no_user_name(&rt, alloc, "a b", NameFault::Character);
+    is_no_user_name(&rt, alloc, "a\"", NameFault::Character);
+    let longer = letters(&rt, alloc, 129);
+    is_no_user_name(&rt, alloc, longer.as_str(), NameFault::TooLong);
+}
+
+#[test]
+fn keys_are_copied(rt: HostRuntime) {
     let key = Key::of(rt.alloc(), "Bob").expect(&rt, "a name");
     assert_same(&rt, key.clone().expect(&rt, "memory").as_str(), "bob");
 }
 
+// ---- names of groups
+
+fn is_no_group_name(rt: &impl Abort, alloc: Global, text: &str, fault: NameFault) {
+    assert_same(rt, GroupName::read(alloc, text).err(), Some(fault));
+}
+
+fn is_group_name(rt: &impl Abort, alloc: Global, text: &str, key: &str) {
+    let name = GroupName::read(alloc, text).expect(rt, "a name");
+    assert_same(rt, name.clone().expect(rt, "memory").as_str(), text);
+    assert_same(rt, name.key(alloc).expect(rt, "memory").as_str(), key);
+}
+
 #[test]
 fn group_names(rt: HostRuntime) {
-    let read = GroupName::read(rt.alloc(), "Crew two").expect(&rt, "a name");
-    assert_same(&rt, read.as_str(), "Crew two");
-    assert_same(&rt, read.clone().expect(&rt, "memory").as_str(), "Crew two");
-    assert_same(
-        &rt,
-        read.key(rt.alloc()).expect(&rt, "memory").as_str(),
-        "crew two",
-    );
-    let longest = repeated(&rt, rt.alloc(), "a", 128);
-    let longer = repeated(&rt, rt.alloc(), "a", 129);
-    let name = GroupName::read(rt.alloc(), longest.as_str()).expect(&rt, "a name");
-    assert_same(&rt, name.as_str().len(), 128);
-    let fault = GroupName::read(rt.alloc(), longer.as_str()).err();
-    assert_same(&rt, fault, Some(NameFault::TooLong));
-    for text in [" crew", "crew "] {
-        let fault = GroupName::read(rt.alloc(), text).err();
-        assert_same(&rt, fault, Some(NameFault::SpaceAtEnd));
-    }
+    let alloc = rt.alloc();
+    is_group_name(&rt, alloc, "Crew two", "crew two");
+    let longest = letters(&rt, alloc, 128);
+    is_group_name(&rt, alloc, longest.as_str(), longest.as_str());
+}
+
+#[test]
+fn no_group_names(rt: HostRuntime) {
+    let alloc = rt.alloc();
+    let longer = letters(&rt, alloc, 129);
+    is_no_group_name(&rt, alloc, longer.as_str(), NameFault::TooLong);
+    is_no_group_name(&rt, alloc, " crew", NameFault::SpaceAtEnd);
+    is_no_group_name(&rt, alloc, "crew ", NameFault::SpaceAtEnd);
+}
+
+// ---- ids
+
+fn is_no_id(rt: &impl Abort, alloc: Global, text: &str, fault: NameFault) {
+    assert_same(rt, ResourceId::read(alloc, text).err(), Some(fault));
+}
+
+/// Asserts that a text is an id with this number, and so is its copy.
+fn is_id(rt: &impl Abort, alloc: Global, text: &str, number: Option<u32>) {
+    let id = ResourceId::read(alloc, text).expect(rt, "an id");
+    assert_same(rt, id.number(), number);
+    assert_same(rt, id.clone().expect(rt, "memory").as_str(), text);
+}
+
+/// Asserts that the id of a number is this text.
+fn is_id_of(rt: &impl Abort, alloc: Global, id: &ResourceId, number: u32, text: &str) {
+    assert_same(rt, id.as_str(), text);
+    is_id(rt, alloc, text, Some(number));
 }
 
 #[test]
 fn ids_of_numbers(rt: HostRuntime) {
-    let id = ResourceId::of_number(rt.alloc(), 255).expect(&rt, "memory");
-    assert_same(&rt, id.as_str(), "5c1a0000-0000-8000-8000-0000000000ff");
-    assert_same(&rt, id.number(), Some(255));
-    let other = ResourceId::read(rt.alloc(), "5C1A0000-0000-8000-8000-0000000000FF").expect(
-        &rt, "an id",
-    );
-    assert_same(&rt, other.number(), None);
-    let last = ResourceId::of_number(rt.alloc(), 1_000_000).expect(&rt, "memory");
-    assert_same(&rt, last.as_str(), "5c1a0000-0000-8000-8000-0000000f4240");
-    assert_same(
+    let alloc = rt.alloc();
+    let id = ResourceId::of_number(alloc, 255).expect(&rt, "memory");
+    is_id_of(&rt, alloc, &id, 255, "5c1a0000-0000-8000-8000-0000000000ff");
+    let last = ResourceId::of_number(alloc, 1_000_000).expect(&rt, "memory");
+    is_id_of(
         &rt,
-        last.clone().expect(&rt, "memory").as_str(),
-        last.as_str(),
+        alloc,
+        &last,
+        1_000_000,
+        "5c1a0000-0000-8000-8000-0000000f4240",
     );
-    let longest = repeated(&rt, rt.alloc(), "a", 256);
-    let longer = repeated(&rt, rt.alloc(), "a", 257);
-    let id = ResourceId::read(rt.alloc(), longest.as_str()).expect(&rt, "an id");
-    assert_same(&rt, id.as_str().len(), 256);
-    assert_same(
-        &rt,
-        id.clone().expect(&rt, "memory").as_str(),
-        longest.as_str(),
-    );
-    let fault = ResourceId::read(rt.alloc(), longer.as_str()).err();
-    assert_same(&rt, fault, Some(NameFault::TooLong));
-    let fault = ResourceId::read(rt.alloc(), "").err();
-    assert_same(&rt, fault, Some(NameFault::Empty));
+    is_id(&rt, alloc, "5C1A0000-0000-8000-8000-0000000000FF", None);
+}
+
+#[test]
+fn ids_have_their_limit(rt: HostRuntime) {
+    let alloc = rt.alloc();
+    is_id(&rt, alloc, letters(&rt, alloc, 256).as_str(), None);
+    let longer = letters(&rt, alloc, 257);
+    is_no_id(&rt, alloc, longer.as_str(), NameFault::TooLong);
+    is_no_id(&rt, alloc, "", NameFault::Empty);
+}
+
+// ---- bases
+
+fn is_no_base(rt: &impl Abort, alloc: Global, text: &str, fault: NameFault) {
+    assert_same(rt, Base::read(alloc, text).err(), Some(fault));
+}
+
+/// The base of a host with so many letters.
+fn long_base(rt: &impl Abort, alloc: Global, count: usize) -> String {
+    let host = letters(rt, alloc, count);
+    format!(in alloc; "http://{host}/v2").expect(rt, "memory")
+}
+
+/// Asserts that a text is a base with this authority.
+fn is_base(rt: &impl Abort, alloc: Global, text: &str, authority: &[u8]) {
+    let base = Base::read(alloc, text).expect(rt, "a base");
+    assert_same(rt, base.as_str(), text);
+    assert_that(rt, base.authority() == authority);
 }
 
 #[test]
 fn bases(rt: HostRuntime) {
-    for text in ["ftp://x/v2", "http:///v2"] {
-        let fault = Base::read(rt.alloc(), text).err();
-        assert_same(&rt, fault, Some(NameFault::Character));
-    }
-    let base = Base::read(rt.alloc(), "http://[::1]:8080/v2").expect(&rt, "a base");
-    assert_that(&rt, base.authority() == b"[::1]:8080".as_slice());
-    let host = repeated(&rt, rt.alloc(), "a", 100);
-    let longest = format!(in rt.alloc(); "http://{host}/v2").expect(&rt, "memory");
-    let base = Base::read(rt.alloc(), longest.as_str()).expect(&rt, "a base");
-    assert_same(&rt, base.as_str(), longest.as_str());
-    let longer = format!(in rt.alloc(); "http://{host}a/v2").expect(&rt, "memory");
-    let fault = Base::read(rt.alloc(), longer.as_str()).err();
-    assert_same(&rt, fault, Some(NameFault::TooLong));
+    let alloc = rt.alloc();
+    is_base(&rt, alloc, "http://[::1]:8080/v2", b"[::1]:8080");
+    let longest = long_base(&rt, alloc, 100);
+    let host = letters(&rt, alloc, 100);
+    is_base(&rt, alloc, longest.as_str(), host.as_bytes());
+}
+
+#[test]
+fn no_bases(rt: HostRuntime) {
+    let alloc = rt.alloc();
+    is_no_base(&rt, alloc, "ftp://x/v2", NameFault::Character);
+    is_no_base(&rt, alloc, "http:///v2", NameFault::Character);
+    let longer = long_base(&rt, alloc, 101);
+    is_no_base(&rt, alloc, longer.as_str(), NameFault::TooLong);
 }

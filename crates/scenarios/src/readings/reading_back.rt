@@ -1,6 +1,6 @@
 //! What was written is read again, where memory is there.
-use crate::readings::copies::{ANN, ANN_SHOWN, CREW, CREW_SHOWN, shown_text, text_of};
-use crate::support::{assert_same, assert_that};
+use crate::readings::copies::{ANN, ANN_SHOWN, CREW, CREW_SHOWN, is_shown, is_written};
+use crate::support::assert_same;
 use scim_json::{JsonFault, json_of};
 use scim_key::{Kind, NUMBERED_ID_LENGTH, ResourceId, Revision};
 use scim_resource::{Content, ReadFault, Shown};
@@ -14,18 +14,25 @@ static REVISIONS: &[(&str, u64, &str)] = &[
     ("2000000000", 2_000_000_000, "2000000000"),
 ];
 
+/// Asserts that a revision is read from a text, and from what is written of it.
+fn is_revision(rt: &impl Abort, alloc: Global, revision: Revision, text: &str, written: &str) {
+    assert_same(rt, Revision::read(text), Some(revision));
+    let again = revision.to_string(alloc).expect(rt, "memory");
+    assert_same(rt, again.as_str(), written);
+    assert_same(rt, Revision::read(again.as_str()), Some(revision));
+}
+
 #[test]
 fn revisions_by_text_and_number(rt: HostRuntime) {
     for (text, number, written) in REVISIONS {
-        let Some(revision) = Revision::of_number(*number) else {
-            panic!(&rt; "no revision");
-        };
+        let revision = Revision::of_number(*number).expect(&rt, "no revision");
         assert_same(&rt, revision.number() as u64, *number);
-        assert_same(&rt, Revision::read(text), Some(revision));
-        let again = format!(in rt.alloc(); "{revision}").expect(&rt, "memory");
-        assert_same(&rt, again.as_str(), *written);
-        assert_same(&rt, Revision::read(again.as_str()), Some(revision));
+        is_revision(&rt, rt.alloc(), revision, text, written);
     }
+}
+
+#[test]
+fn no_revisions(rt: HostRuntime) {
     for text in ["", "0", "+1", "2000000001", "0000000000000000001"] {
         assert_same(&rt, Revision::read(text), None);
     }
@@ -48,44 +55,35 @@ fn ids_are_spelled_into_a_buffer(rt: HostRuntime) {
     );
 }
 
-/// Asserts that a content and a resource as it is shown are read from their texts as JSON.
-fn is_read_back(rt: &impl Abort, alloc: Global, kind: Kind, text: &str, shown: &str) {
-    let content = Content::read(
-        alloc,
-        &json_of(alloc, text.as_bytes()).expect(rt, "JSON"),
-        kind,
-    )
-    .expect(rt, "a content");
-    assert_that(
-        rt,
-        text_of(rt, alloc, &content).as_slice() == text.as_bytes(),
-    );
+/// Asserts that a content is read from its text, at once and by its JSON.
+fn is_content(rt: &impl Abort, alloc: Global, kind: Kind, text: &str) {
     let content = Content::from_slice(alloc, text.as_bytes(), kind).expect(rt, "a content");
-    assert_that(
-        rt,
-        text_of(rt, alloc, &content).as_slice() == text.as_bytes(),
-    );
-    let resource = Shown::read(
-        alloc,
-        &json_of(alloc, shown.as_bytes()).expect(rt, "JSON"),
-        kind,
-    )
-    .expect(rt, "a resource");
-    assert_that(
-        rt,
-        shown_text(rt, alloc, &resource).as_slice() == shown.as_bytes(),
-    );
-    assert_that(
-        rt,
-        text_of(rt, alloc, resource.content()).as_slice() == text.as_bytes(),
-    );
+    is_written(rt, alloc, &content, text);
+    let json = json_of(alloc, text.as_bytes()).expect(rt, "JSON");
+    let content = Content::read(alloc, &json, kind).expect(rt, "a content");
+    is_written(rt, alloc, &content, text);
+}
+
+/// Asserts that a resource is read from the text that it is shown as, with its content.
+fn is_resource(rt: &impl Abort, alloc: Global, kind: Kind, text: &str, shown: &str) {
+    let json = json_of(alloc, shown.as_bytes()).expect(rt, "JSON");
+    let resource = Shown::read(alloc, &json, kind).expect(rt, "a resource");
+    is_shown(rt, alloc, &resource, shown);
+    is_written(rt, alloc, resource.content(), text);
 }
 
 #[test]
 fn resources_are_read_back(rt: HostRuntime) {
     let alloc = rt.alloc();
-    is_read_back(&rt, alloc, Kind::User, ANN, ANN_SHOWN);
-    is_read_back(&rt, alloc, Kind::Group, CREW, CREW_SHOWN);
+    is_content(&rt, alloc, Kind::User, ANN);
+    is_content(&rt, alloc, Kind::Group, CREW);
+    is_resource(&rt, alloc, Kind::User, ANN, ANN_SHOWN);
+    is_resource(&rt, alloc, Kind::Group, CREW, CREW_SHOWN);
+}
+
+#[test]
+fn nothing_is_read_of_a_broken_text(rt: HostRuntime) {
+    let alloc = rt.alloc();
     assert_same(&rt, json_of(alloc, b"{").err(), Some(JsonFault::NotJson));
     let fault = Content::from_slice(alloc, b"{", Kind::User).err();
     assert_same(&rt, fault, Some(ReadFault::InvalidSyntax));

@@ -4,23 +4,36 @@ use scim_version::{Condition, EntityTag, TagFault};
 use std::alloc::Global;
 use std::process::Abort;
 
+/// Asserts whether a text is strongly and weakly equal to the tag of version 1 (RFC 7232 section 2.3.2),
+/// and so is its copy.
+fn compares(rt: &impl Abort, alloc: Global, text: &[u8], wanted: (bool, bool)) {
+    let made = EntityTag::of_counter(alloc, 1).expect(rt, "memory");
+    let read = EntityTag::read(alloc, text).expect(rt, "a tag");
+    assert_same(rt, read.strong_eq(&made), wanted.0);
+    let copy = read.clone().expect(rt, "memory");
+    assert_same(rt, copy.weak_eq(&made), wanted.1);
+}
+
 #[test]
 fn tags_are_compared_by_bytes(rt: HostRuntime) {
-    let strong = EntityTag::read(rt.alloc(), b"\"1\"").expect(&rt, "a tag");
+    let alloc = rt.alloc();
+    compares(&rt, alloc, b"\"1\"", (true, true));
+    compares(&rt, alloc, b"W/\"1\"", (false, true));
+    compares(&rt, alloc, b"\"01\"", (false, false));
+}
+
+#[test]
+fn a_weak_tag_is_strongly_equal_to_none(rt: HostRuntime) {
     let weak = EntityTag::read(rt.alloc(), b"W/\"1\"").expect(&rt, "a tag");
-    let padded = EntityTag::read(rt.alloc(), b"\"01\"").expect(&rt, "a tag");
+    assert_that(&rt, !weak.strong_eq(&weak));
+}
+
+#[test]
+fn tags_have_their_form(rt: HostRuntime) {
     let made = EntityTag::of_counter(rt.alloc(), 1).expect(&rt, "memory");
     assert_that(&rt, made.text() == b"\"1\"".as_slice());
-    // RFC 7232 section 2.3.2
-    assert_that(&rt, strong.strong_eq(&made) && strong.weak_eq(&made));
-    assert_that(&rt, !weak.strong_eq(&weak) && weak.weak_eq(&made));
-    assert_that(&rt, !padded.strong_eq(&made) && !padded.weak_eq(&made));
-    assert_that(&rt, strong.clone().expect(&rt, "memory").strong_eq(&made));
-    assert_same(
-        &rt,
-        EntityTag::read(rt.alloc(), b"1").err(),
-        Some(TagFault::Malformed),
-    );
+    let fault = EntityTag::read(rt.alloc(), b"1").err();
+    assert_same(&rt, fault, Some(TagFault::Malformed));
 }
 
 /// Asserts whether a condition holds of a version as `If-Match`, and as `If-None-Match`.

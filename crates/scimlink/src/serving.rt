@@ -1,14 +1,9 @@
 //! `serve`: connections to a socket, answered by one provider, one after another.
-ghost use Rattle.std.specs.Prelude.{◌≡◌, ◌≢◌};
-ghost use Rattle.commands.specs.Statuses.{outcome_status};
-ghost use Rattle.commands.specs.declared.status.RunFault.TheVariants.{Memory};
-
-use crate::status::{RunFault, Status};
-use connection::{ConnectionFault, Sockets, serve_from_memory};
+use commands::{RunFault, Status, listen_fault, outcome_status};
+use connection::{Sockets, serve_from_memory};
 use provider_file::{Storage, StoredRows, serve_stored};
 use scim_key::Base;
 use std::io;
-use std::io::ErrorKind;
 use std::net::{Net, OpenListener, SocketAddr, TcpListener};
 use std::rt::Runtime;
 use std::time::Duration;
@@ -83,25 +78,4 @@ fn bound<R: Net>(rt: &R, address: &str) -> io::Result<(R::Listener, SocketAddr)>
     let listener = TcpListener::bind(rt, address)?;
     let taken = listener.local_addr()?;
     Ok((listener, taken))
-}
-
-/// Why an address can't be listened on.
-fn listen_fault(kind: ErrorKind) -> RunFault
-    ensures memory { kind ≡ ErrorKind.OutOfMemory → result ≡ Memory }
-    ensures connection { kind ≢ ErrorKind.OutOfMemory → result ≡ RunFault.Connection (record {}) }
-{
-    match kind {
-        ErrorKind::OutOfMemory => RunFault::Memory,
-        _ => RunFault::Connection(ConnectionFault),
-    }
-}
-
-/// How a run ends that told each fault of its connections when it came.
-fn outcome_status(outcome: Result<(), ConnectionFault>) -> Status
-    ensures { result ≡ outcome_status outcome }
-{
-    match outcome {
-        Ok(()) => Status::Done,
-        Err(ConnectionFault) => Status::Fault,
-    }
 }

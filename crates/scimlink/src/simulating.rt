@@ -1,12 +1,8 @@
 //! `simulate`: a schedule, run over both sides in memory.
-ghost use Rattle.std.specs.Prelude.{◌≡◌};
-ghost use Rattle.std.specs.List.{list_all};
-ghost use Rattle.commands.specs.Statuses.{is_confirmed, is_taken, simulated_status};
-
-use crate::status::{RunFault, Status};
+use commands::{RunFault, Status, simulated_status};
 use journal_core::MemoryJournal;
 use provider_core::MemoryRegistry;
-use scim_key::Base;
+use scim_key::{Base, RecordName};
 use std::alloc::Global;
 use std::io::{BufWriter, Write};
 use std::rt::Runtime;
@@ -23,10 +19,15 @@ pub fn simulate<R: Runtime + AllocGlobal>(
     file: &str,
     base: Base,
 ) -> Result<Status, RunFault> {
-    let text = fs::read_to_string(rt, file)?;
-    let events = read_schedule(rt.alloc(), text.as_str())?;
+    let events = events_in(rt, file)?;
     let mut out = BufWriter::new(rt.alloc(), io::writer(rt))?;
     run(rt.alloc(), base, events.as_slice(), &mut out)
+}
+
+/// The events of a schedule's file.
+fn events_in<R: Runtime + AllocGlobal>(rt: &R, file: &str) -> Result<Vec<Event>, RunFault> {
+    let text = fs::read_to_string(rt, file)?;
+    Ok(read_schedule(rt.alloc(), text.as_str())?)
 }
 
 /// Runs these events in a new world.
@@ -55,7 +56,7 @@ fn print_run<W: Write>(
     Ok(simulated_status(reports.as_slice(), views.as_slice()))
 }
 
-/// Runs these events, and prints a line for each: its number from 1 and what it reports.
+/// Runs these events, and prints a line for each.
 fn print_reports<W: Write>(
     alloc: Global,
     world: &mut MemoryWorld,
@@ -64,11 +65,22 @@ fn print_reports<W: Write>(
 ) -> Result<Vec<Report>, RunFault> {
     let mut reports = Vec::new(alloc);
     for event in events {
-        let report = world.step(event)?;
-        writeln!(out, "{} {report}", reports.len() + 1)?;
-        reports.push(report)?;
+        let number = reports.len() + 1;
+        reports.push(print_report(world, event, number, out)?)?;
     }
     Ok(reports)
+}
+
+/// Runs an event, and prints its number and what it reports.
+fn print_report<W: Write>(
+    world: &mut MemoryWorld,
+    event: &Event,
+    number: usize,
+    out: &mut W,
+) -> Result<Report, RunFault> {
+    let report = world.step(event)?;
+    writeln!(out, "{number} {report}")?;
+    Ok(report)
 }
 
 /// Prints a line for each record: users by key, then groups by key.
@@ -77,48 +89,21 @@ fn print_views<W: Write>(
     world: &mut MemoryWorld,
     out: &mut W,
 ) -> Result<Vec<View>, RunFault> {
+    let names = world.names()?;
     let mut views = Vec::new(alloc);
-    for name in world.names()? {
-        let view = world.view(&name)?;
-        writeln!(out, "{view}")?;
-        views.push(view)?;
+    for name in names.as_slice() {
+        views.push(print_view(world, name, out)?)?;
     }
     Ok(views)
 }
 
-/// Whether an event isn't a row that the connector refuses.
-fn is_taken(report: &Report) -> bool
-    ensures { result ≡ is_taken report.now }
-{
-    !matches!(report, Report::Judged(Err(_)))
-}
-
-fn are_taken(reports: &[Report]) -> bool
-    ensures { result ≡ list_all is_taken reports.now }
-{
-    reports.iter().all(|report| is_taken(report))
-}
-
-/// Whether the wanted revision of a record is confirmed.
-fn is_confirmed(view: &View) -> bool
-    ensures { result ≡ is_confirmed view.now }
-{
-    view.confirmed == view.wanted
-}
-
-fn are_confirmed(views: &[View]) -> bool
-    ensures { result ≡ list_all is_confirmed views.now }
-{
-    views.iter().all(|view| is_confirmed(view))
-}
-
-/// How a run ends whose events reported this, and whose records then stand so.
-fn simulated_status(reports: &[Report], views: &[View]) -> Status
-    ensures { result ≡ simulated_status reports.now views.now }
-{
-    if are_taken(reports) && are_confirmed(views) {
-        Status::Done
-    } else {
-        Status::Refused
-    }
+/// Prints how a record stands.
+fn print_view<W: Write>(
+    world: &mut MemoryWorld,
+    name: &RecordName,
+    out: &mut W,
+) -> Result<View, RunFault> {
+    let view = world.view(name)?;
+    writeln!(out, "{view}")?;
+    Ok(view)
 }

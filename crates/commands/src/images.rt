@@ -1,4 +1,4 @@
-//! `map`: the image of each row of a users file, a line each.
+//! The images of the rows of a users file, and how the run then ends.
 ghost use Rattle.std.specs.Prelude.{◌≡◌, IfOk, OnOk};
 ghost use Rattle.std.specs.Io.KnownBytes.{Appends};
 ghost use Rattle.mapping.specs.Lines.{lines_of};
@@ -6,37 +6,12 @@ ghost use Rattle.commands.specs.Statuses.{are_rows, records_status};
 
 use crate::status::{RunFault, Status};
 use mapping::write_images;
-use source_csv::{Row, RowFault, SourceRows, read_users};
+use source_csv::{Row, RowFault};
 use std::alloc::Global;
-use std::io::{BufWriter, Write};
-use std::rt::Runtime;
-use std::{fs, io};
-
-/// Tells the refused records of a file on standard error, then prints the images of its rows.
-pub fn map<R: Runtime + AllocGlobal>(rt: &R, file: &str) -> Result<Status, RunFault> {
-    let rows = users_in(rt, file)?;
-    tell_refused(rt, rows.as_slice());
-    let mut out = BufWriter::new(rt.alloc(), io::writer(rt))?;
-    print_images(rt.alloc(), rows.as_slice(), &mut out)
-}
-
-/// The records of a file of users.
-fn users_in<R: Runtime + AllocGlobal>(rt: &R, file: &str) -> Result<SourceRows, RunFault> {
-    let bytes = fs::read(rt, file)?;
-    Ok(read_users(rt.alloc(), bytes.as_slice())?)
-}
-
-/// Says on standard error which records are refused.
-fn tell_refused(rt: &impl Eprint, rows: &[Result<Row, RowFault>]) {
-    for row in rows {
-        if let Err(fault) = row {
-            let _ = eprintln!(rt; "users {fault}");
-        }
-    }
-}
+use std::io::Write;
 
 /// Prints the images of these records, all of them, and tells how the run then ends.
-fn print_images<W: Write>(
+pub fn print_images<W: Write>(
     alloc: Global,
     records: &[Result<Row, RowFault>],
     out: &mut W,

@@ -1,5 +1,5 @@
 //! `show`: what a file keeps, a line each.
-use crate::status::{RunFault, Status};
+use commands::{RunFault, Status};
 use journal_file::show_entries;
 use provider_file::show_rows;
 use std::io;

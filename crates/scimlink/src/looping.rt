@@ -1,10 +1,7 @@
 //! `loop`: the connector against a provider in the same program, over TCP.
-ghost use Rattle.std.specs.Prelude.{◌≡◌};
-ghost use Rattle.commands.specs.Statuses.{run_status};
-
 use crate::command::SourceFiles;
-use crate::pushing::{carried_status, open_connector};
-use crate::status::{RunFault, Status};
+use crate::pushing::open_connector;
+use commands::{RunFault, Status, run_status};
 use connector_core::Connector;
 use journal_core::{Journal, MemoryJournal};
 use journal_file::StoredEntries;
@@ -18,7 +15,7 @@ use std::io;
 use std::io::BufWriter;
 use std::net::Net;
 use std::rt::Runtime;
-use sync_runs::{Outcome, run_loop};
+use sync_runs::run_loop;
 
 /// Opens the provider's rows, then the connector's journal, carries the records of the files from the
 /// one to the other, and closes both.
@@ -124,15 +121,5 @@ fn run_of<R: Runtime + Net + AllocGlobal, S: StoredRows, J: Journal>(
             (provider, run_status(ended))
         }
         Err(error) => (provider, Err(RunFault::from(error))),
-    }
-}
-
-/// How a run ends that came to this.
-fn run_status(ended: Result<Outcome, sync_runs::RunFault>) -> Result<Status, RunFault>
-    ensures { result ≡ run_status ended }
-{
-    match ended {
-        Ok(outcome) => Ok(carried_status(outcome)),
-        Err(fault) => Err(RunFault::from(fault)),
     }
 }

@@ -1,9 +1,6 @@
 //! `push`: the connector against the provider at an address.
-ghost use Rattle.std.specs.Prelude.{◌≡◌};
-ghost use Rattle.commands.specs.Statuses.{carried_status};
-
 use crate::command::SourceFiles;
-use crate::status::{RunFault, Status};
+use commands::{RunFault, Status, carried_status};
 use connector_core::Connector;
 use journal_core::Journal;
 use journal_file::{Storage, StoredEntries};
@@ -15,7 +12,6 @@ use std::io;
 use std::io::BufWriter;
 use std::net::Net;
 use std::rt::Runtime;
-use sync_runs::Outcome;
 
 /// Opens the journal, carries the records of files to the provider at an address, and closes the
 /// journal. What was confirmed stands in it, however the run ends.
@@ -70,15 +66,4 @@ fn push_of<R: Runtime + Net + AllocGlobal, J: Journal>(
     let mut out = BufWriter::new(rt.alloc(), io::writer(rt))?;
     let outcome = sync_runs::push(rt, rt.alloc(), service, connector, sources, to, &mut out)?;
     Ok(carried_status(outcome))
-}
-
-/// How a run of the connector ends.
-pub fn carried_status(outcome: Outcome) -> Status
-    ensures { result ≡ carried_status outcome }
-{
-    if outcome.is_done() {
-        Status::Done
-    } else {
-        Status::Refused
-    }
 }
