@@ -1,6 +1,6 @@
 //! What a provider answers to each kind of request, for users and groups, as responses.
 use crate::support::{BOB_CREATED, assert_that, base, empty};
-use provider_core::{MemoryRegistry, Provider, Request};
+use provider_core::{Answer, MemoryRegistry, Provider, Request};
 use scim_filter::Filter;
 use scim_key::{GroupName, Kind, ResourceId};
 use scim_resource::Content;
@@ -48,12 +48,8 @@ static NO_SUCH_RESOURCE: &[u8] =
     b"HTTP/1.1 404 Not Found\r\nConnection: close\r\nContent-Length: 102\r\nContent-Type: application/scim+json\r\n\r\n{\"detail\":\"no such resource\",\"schemas\":[\"urn:ietf:params:scim:api:messages:2.0:Error\"],\"status\":\"404\"}";
 
 fn content(rt: &impl Abort, alloc: Global, text: &str, kind: Kind) -> Content {
-    Content::read(
-        alloc,
-        &Value::from_str(alloc, text).expect(rt, "JSON"),
-        kind,
-    )
-    .expect(rt, "a content")
+    let value = Value::from_str(alloc, text).expect(rt, "JSON");
+    Content::read(alloc, &value, kind).expect(rt, "a content")
 }
 
 /// A creation of this content.
@@ -99,6 +95,11 @@ pub fn search(kind: Kind, filter: Option<Filter>) -> Request {
     }
 }
 
+/// The response with an answer.
+fn written(rt: &impl Abort, alloc: Global, answer: &Answer) -> Vec<u8> {
+    response_of(alloc, answer, &base(rt, alloc)).expect(rt, "a response")
+}
+
 /// Asserts that a request is answered so.
 fn answers(
     rt: &impl Abort,
@@ -108,7 +109,7 @@ fn answers(
     expected: &[u8],
 ) {
     let answer = provider.answer(alloc, &request).expect(rt, "an answer");
-    let response = response_of(alloc, &answer, &base(rt, alloc)).expect(rt, "a response");
+    let response = written(rt, alloc, &answer);
     assert_that(rt, response.as_slice() == expected);
 }
 
@@ -122,17 +123,27 @@ fn with_both(rt: &impl Abort, alloc: Global) -> Provider<MemoryRegistry> {
     provider
 }
 
+/// Asserts that a provider with both answers a request so.
+fn both_answer(rt: &impl Abort, alloc: Global, request: Request, expected: &[u8]) {
+    let mut provider = with_both(rt, alloc);
+    answers(rt, alloc, &mut provider, request, expected)
+}
+
 #[test]
 fn resources_are_retrieved(rt: HostRuntime) {
     let alloc = rt.alloc();
-    let mut provider = with_both(&rt, alloc);
     let bob = retrieval(&rt, alloc, BOB_ID, Kind::User, Condition::Always);
-    answers(&rt, alloc, &mut provider, bob, BOB_FOUND);
+    both_answer(&rt, alloc, bob, BOB_FOUND);
+    let nobody = retrieval(&rt, alloc, "x", Kind::User, Condition::Always);
+    both_answer(&rt, alloc, nobody, NO_SUCH_RESOURCE)
+}
+
+#[test]
+fn known_resources_are_not_retrieved(rt: HostRuntime) {
+    let alloc = rt.alloc();
     let known = Condition::read_list(alloc, b"\"1\"").expect(&rt, "a condition");
     let crew = retrieval(&rt, alloc, CREW_ID, Kind::Group, known);
-    answers(&rt, alloc, &mut provider, crew, CREW_NOT_MODIFIED);
-    let nobody = retrieval(&rt, alloc, "x", Kind::User, Condition::Always);
-    answers(&rt, alloc, &mut provider, nobody, NO_SUCH_RESOURCE)
+    both_answer(&rt, alloc, crew, CREW_NOT_MODIFIED)
 }
 
 #[test]
@@ -147,12 +158,18 @@ fn resources_are_replaced(rt: HostRuntime) {
 
 #[test]
 fn resources_are_listed(rt: HostRuntime) {
+    both_answer(&rt, rt.alloc(), search(Kind::Group, None), CREW_LISTED)
+}
+
+/// The filter for the crew's name, in other letters.
+fn crew_filter(rt: &impl Abort, alloc: Global) -> Filter {
+    let name = GroupName::read(alloc, "CREW").expect(rt, "a name");
+    Filter::eq_display_name(alloc, &name).expect(rt, "memory")
+}
+
+#[test]
+fn resources_are_listed_by_name(rt: HostRuntime) {
     let alloc = rt.alloc();
-    let mut provider = with_both(&rt, alloc);
-    let all = search(Kind::Group, None);
-    answers(&rt, alloc, &mut provider, all, CREW_LISTED);
-    let name = GroupName::read(alloc, "CREW").expect(&rt, "a name");
-    let filter = Filter::eq_display_name(alloc, &name).expect(&rt, "memory");
-    let named = search(Kind::Group, Some(filter));
-    answers(&rt, alloc, &mut provider, named, CREW_LISTED)
+    let named = search(Kind::Group, Some(crew_filter(&rt, alloc)));
+    both_answer(&rt, alloc, named, CREW_LISTED)
 }

@@ -7,9 +7,9 @@ use crate::support::{BOB_CREATED, CREATE_BOB, assert_same, assert_that, base};
 use http_text::{Input, Output, SendFault};
 use scim_client::{ExchangeFault, ScimService};
 use scim_key::Kind;
-use scim_message::Answer;
+use scim_message::{Answer, Request};
 use std::alloc::Global;
-use std::io::ErrorKind;
+use std::io::{ErrorKind, Read, Write};
 use std::process::Abort;
 
 /// An answer in a line, or the code of a fault.
@@ -28,16 +28,38 @@ const BROKEN: Turn = Turn::Fails(ErrorKind::BrokenPipe);
 
 // ---- readers
 
+/// Asks for something over these streams.
+fn exchanged<R: Read, W: Write>(
+    rt: &impl Abort,
+    alloc: Global,
+    request: &Request,
+    reader: &mut Input<R>,
+    writer: &mut Output<W>,
+) -> Result<Answer, ExchangeFault> {
+    let service = ScimService::new(base(rt, alloc));
+    service.exchange(alloc, request, reader, writer)
+}
+
+/// Asks for bob's creation over these streams, and asserts what comes.
+fn creates<R: Read, W: Write>(
+    rt: &impl Abort,
+    alloc: Global,
+    reader: &mut Input<R>,
+    writer: &mut Output<W>,
+    expected: &str,
+) -> Result<Answer, ExchangeFault> {
+    let request = creation(rt, alloc, BOB, Kind::User);
+    let outcome = exchanged(rt, alloc, &request, reader, writer);
+    assert_same(rt, told(rt, alloc, &outcome).as_str(), expected);
+    outcome
+}
+
 /// Asserts what comes where bob's creation is asked for and these bytes are read by a script. The
 /// request is written whole.
 fn is_read(rt: &impl Abort, alloc: Global, bytes: &[u8], script: Script<'_>, expected: &str) {
-    let service = ScimService::new(base(rt, alloc));
-    let request = creation(rt, alloc, BOB, Kind::User);
     let mut reader = Input::new(ScriptedReader { bytes, script });
     let mut writer = Output::new(Vec::new(alloc));
-    let outcome = service.exchange(alloc, &request, &mut reader, &mut writer);
-    let text = told(rt, alloc, &outcome);
-    assert_same(rt, text.as_str(), expected);
+    let _ = creates(rt, alloc, &mut reader, &mut writer, expected);
     assert_that(rt, writer.into_inner().as_slice() == CREATE_BOB);
 }
 
@@ -121,28 +143,24 @@ fn sent(outcome: &Result<Answer, ExchangeFault>) -> Option<usize> {
     }
 }
 
+/// Asserts that where no answer came so many bytes were sent, and the reader wasn't called.
+fn is_unsent(rt: &impl Abort, outcome: &Result<Answer, ExchangeFault>, bytes: usize, calls: u64) {
+    if outcome.is_err() {
+        assert_same(rt, sent(outcome), Some(bytes));
+        assert_same(rt, calls, 0);
+    }
+}
+
 /// Asserts what comes where bob's creation is asked for through a writer that follows a script. The
 /// answer is read only where the request was sent.
 fn is_written(rt: &impl Abort, alloc: Global, writing: &Writing, events: &[Event]) {
     let (step, _, flush_faults, expected, bytes) = writing;
-    let service = ScimService::new(base(rt, alloc));
-    let request = creation(rt, alloc, BOB, Kind::User);
     let mut reader = Input::new(BOB_CREATED);
-    let mut writer = Output::new(ScriptedWriter {
-        taken: Vec::new(alloc),
-        script: Script::new(*step, events),
-        flush_faults,
-        flushes: 0,
-    });
-    let outcome = service.exchange(alloc, &request, &mut reader, &mut writer);
-    let text = told(rt, alloc, &outcome);
-    assert_same(rt, text.as_str(), *expected);
-    let ScriptedWriter { taken, .. } = writer.into_inner();
+    let mut writer = Output::new(ScriptedWriter::new(alloc, *step, events, flush_faults));
+    let outcome = creates(rt, alloc, &mut reader, &mut writer, expected);
+    is_unsent(rt, &outcome, *bytes, reader.calls());
+    let taken = writer.into_inner().taken;
     assert_that(rt, Some(taken.as_slice()) == CREATE_BOB.get(..*bytes));
-    if outcome.is_err() {
-        assert_same(rt, sent(&outcome), Some(*bytes));
-        assert_same(rt, reader.calls(), 0);
-    }
 }
 
 /// A request that is taken whole by one write takes two turns of 100,000.
@@ -197,19 +215,27 @@ fn a_write_that_fails_once_at_each_place(rt: HostRuntime) {
 
 // ---- responses of other providers
 
-/// Asserts what comes where these bytes are read, and what is left of them.
-fn comes(rt: &impl Abort, alloc: Global, ask: Ask, bytes: &[u8], expected: &str, left: &[u8]) {
-    let service = ScimService::new(base(rt, alloc));
-    let request = request_for(rt, alloc, ask);
-    let mut reader = Input::new(bytes);
-    let mut writer = Output::new(Vec::new(alloc));
-    let outcome = service.exchange(alloc, &request, &mut reader, &mut writer);
-    let text = told(rt, alloc, &outcome);
-    assert_same(rt, text.as_str(), expected);
+/// What is left of the bytes of a reader.
+fn rest(rt: &impl Abort, alloc: Global, reader: Input<&[u8]>) -> Vec<u8> {
     let mut rest = Vec::from_slice(alloc, reader.ahead()).expect(rt, "memory");
     rest.extend_from_slice(reader.into_inner())
         .expect(rt, "memory");
-    assert_that(rt, rest.as_slice() == left);
+    rest
+}
+
+/// Asks for something over a reader, and asserts what comes.
+fn says(rt: &impl Abort, alloc: Global, ask: Ask, reader: &mut Input<&[u8]>, expected: &str) {
+    let request = request_for(rt, alloc, ask);
+    let mut writer = Output::new(Vec::new(alloc));
+    let outcome = exchanged(rt, alloc, &request, reader, &mut writer);
+    assert_same(rt, told(rt, alloc, &outcome).as_str(), expected);
+}
+
+/// Asserts what comes where these bytes are read, and what is left of them.
+fn comes(rt: &impl Abort, alloc: Global, ask: Ask, bytes: &[u8], expected: &str, left: &[u8]) {
+    let mut reader = Input::new(bytes);
+    says(rt, alloc, ask, &mut reader, expected);
+    assert_that(rt, rest(rt, alloc, reader).as_slice() == left);
 }
 
 /// What is asked for, the bytes that are read, what comes, and what is left.
@@ -289,27 +315,26 @@ fn responses_of_other_providers(rt: HostRuntime) {
 
 #[test]
 fn a_body_at_its_limit_is_read(rt: HostRuntime) {
-    let body = padded(&rt, rt.alloc(), 8_388_608);
-    let bytes = response(&rt, rt.alloc(), "200 OK", "", body.as_str());
-    comes(
-        &rt,
-        rt.alloc(),
-        Ask::Search,
-        bytes.as_slice(),
-        "list 0 1",
-        b"",
-    )
+    let alloc = rt.alloc();
+    let body = padded(&rt, alloc, 8_388_608);
+    let bytes = response(&rt, alloc, "200 OK", "", body.as_str());
+    comes(&rt, alloc, Ask::Search, bytes.as_slice(), "list 0 1", b"")
+}
+
+/// A head that has 16,400 bytes before it ends.
+fn long_head(rt: &impl Abort, alloc: Global) -> Vec<u8> {
+    let head = b"HTTP/1.1 200 OK\r\nContent-Length: 2\r\nF: ";
+    let mut bytes = Vec::from_slice(alloc, head).expect(rt, "memory");
+    for _ in bytes.len()..16_400 {
+        bytes.push(b'f').expect(rt, "memory");
+    }
+    bytes
 }
 
 #[test]
 fn a_head_past_its_limit_is_no_answer(rt: HostRuntime) {
-    let mut bytes = Vec::from_slice(
-        rt.alloc(),
-        b"HTTP/1.1 200 OK\r\nContent-Length: 2\r\nF: ",
-    ).expect(&rt, "memory");
-    for _ in bytes.len()..16_400 {
-        bytes.push(b'f').expect(&rt, "memory");
-    }
+    let alloc = rt.alloc();
+    let bytes = long_head(&rt, alloc);
     let left = [b'f'; 16];
-    comes(&rt, rt.alloc(), Ask::Search, bytes.as_slice(), "K1", &left)
+    comes(&rt, alloc, Ask::Search, bytes.as_slice(), "K1", &left)
 }

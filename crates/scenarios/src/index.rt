@@ -1,10 +1,12 @@
 //! A Search for one name is answered by the index of names.
 ghost use Rattle.std.specs.Prelude.{◌≡◌, refl};
 
-use crate::support::{CREATE_BOB, assert_same, ends, exchange};
+use crate::support::{CREATE_BOB, assert_same, ends, exchange, joined};
 use provider_core::{MemoryRegistry, Provider, Registry, RegistryFault};
 use scim_key::{RecordName, ResourceId};
 use scim_resource::Stored;
+use std::alloc::Global;
+use std::process::Abort;
 
 /// A registry in memory that counts how often its rows are gone through.
 #[derive(Drop)]
@@ -89,20 +91,32 @@ static FOUND: &[Found] = &[
     ),
 ];
 
+/// A GET of this target.
+fn request(rt: &impl Abort, alloc: Global, target: &str) -> String {
+    joined(rt, alloc, &["GET ", target, " HTTP/1.1\r\nHost: h\r\n\r\n"])
+}
+
+/// A provider with bob, over such a registry.
+fn with_bob(rt: &impl Abort, alloc: Global) -> Provider<CountingRegistry> {
+    let mut provider = Provider::new(CountingRegistry {
+        registry: MemoryRegistry::new(alloc),
+        scans: 0,
+    });
+    exchange(rt, alloc, &mut provider, CREATE_BOB);
+    provider
+}
+
+fn is_found(rt: &impl Abort, alloc: Global, found: &Found) {
+    let (target, end, scans) = found;
+    let mut provider = with_bob(rt, alloc);
+    let asked = request(rt, alloc, target);
+    ends(rt, alloc, &mut provider, asked.as_bytes(), 200, end);
+    assert_same(rt, provider.close().scans, *scans);
+}
+
 #[test]
 fn a_name_is_found_by_the_index(rt: HostRuntime) {
-    let alloc = rt.alloc();
-    for (target, end, scans) in FOUND {
-        let registry = CountingRegistry {
-            registry: MemoryRegistry::new(alloc),
-            scans: 0,
-        };
-        let mut provider = Provider::new(registry);
-        exchange(&rt, alloc, &mut provider, CREATE_BOB);
-        let asked = format!(in alloc; "GET {target} HTTP/1.1\r\nHost: h\r\n\r\n").expect(
-            &rt, "memory",
-        );
-        ends(&rt, alloc, &mut provider, asked.as_bytes(), 200, end);
-        assert_same(&rt, provider.close().scans, *scans);
+    for found in FOUND {
+        is_found(&rt, rt.alloc(), found);
     }
 }

@@ -1,6 +1,8 @@
 //! Each limit is met exactly, and passed by one.
 use crate::registries::FullRegistry;
-use crate::support::{CREATE_BOB, assert_same, empty, ends, repeated, tells};
+use crate::support::{
+    CREATE_BOB, assert_same, empty, ends, joined, printed, push_all, repeated, tells,
+};
 use provider_core::Provider;
 use std::alloc::Global;
 use std::process::Abort;
@@ -26,15 +28,14 @@ fn is_told(rt: &impl Abort, alloc: Global, request: &str, told: Told) {
 
 /// A POST of this body, to the collection that its schema says.
 fn post_of(rt: &impl Abort, alloc: Global, body: &str) -> String {
-    let length = body.len();
-    let path = if body.starts_with(GROUP) {
-        "/v2/Groups"
+    let line = if body.starts_with(GROUP) {
+        "POST /v2/Groups"
     } else {
-        "/v2/Users"
+        "POST /v2/Users"
     };
-    format!(in alloc;
-        "POST {path} HTTP/1.1\r\nHost: h\r\nContent-Length: {length}\r\n\r\n{body}"
-    ).expect(rt, "memory")
+    let head = " HTTP/1.1\r\nHost: h\r\nContent-Length: ";
+    let length = printed(rt, alloc, body.len());
+    joined(rt, alloc, &[line, head, length.as_str(), "\r\n\r\n", body])
 }
 
 static GROUP: &str = "{\"schemas\":[\"urn:ietf:params:scim:schemas:core:2.0:Group\"]";
@@ -126,15 +127,32 @@ static BODIES: &[Limit] = &[
     ),
 ];
 
+/// The text in which the piece stands so many times.
+fn text_of(rt: &impl Abort, alloc: Global, limit: &Limit, count: usize) -> String {
+    let (before, (piece, _), after, _, _) = limit;
+    let pieces = repeated(rt, alloc, piece, count);
+    joined(rt, alloc, &[before, pieces.as_str(), after])
+}
+
+/// Asserts what an empty provider tells of a POST of this body.
+fn body_is_told(rt: &impl Abort, alloc: Global, body: &str, told: Told) {
+    let request = post_of(rt, alloc, body);
+    is_told(rt, alloc, request.as_str(), told)
+}
+
+/// Asserts what is told of a body in which the piece stands so many times.
+fn bodies_have(rt: &impl Abort, alloc: Global, limit: &Limit, count: usize, told: Told) {
+    let body = text_of(rt, alloc, limit, count);
+    body_is_told(rt, alloc, body.as_str(), told)
+}
+
 #[test]
 fn parts_of_bodies(rt: HostRuntime) {
-    for (before, (piece, most), after, met, passed) in BODIES {
-        for (count, told) in [(*most, *met), (most.saturating_add(1), *passed)] {
-            let pieces = repeated(&rt, rt.alloc(), piece, count);
-            let body = format!(in rt.alloc(); "{before}{pieces}{after}").expect(&rt, "memory");
-            let request = post_of(&rt, rt.alloc(), body.as_str());
-            is_told(&rt, rt.alloc(), request.as_str(), told);
-        }
+    let alloc = rt.alloc();
+    for limit in BODIES {
+        let (_, (_, most), _, met, passed) = limit;
+        bodies_have(&rt, alloc, limit, *most, *met);
+        bodies_have(&rt, alloc, limit, most.saturating_add(1), *passed);
     }
 }
 
@@ -205,14 +223,19 @@ static REQUESTS: &[Limit] = &[
     ),
 ];
 
+/// Asserts what is told of a request in which the piece stands so many times.
+fn requests_have(rt: &impl Abort, alloc: Global, limit: &Limit, count: usize, told: Told) {
+    let request = text_of(rt, alloc, limit, count);
+    is_told(rt, alloc, request.as_str(), told)
+}
+
 #[test]
 fn parts_of_requests(rt: HostRuntime) {
-    for (before, (piece, most), after, met, passed) in REQUESTS {
-        for (count, told) in [(*most, *met), (most.saturating_add(1), *passed)] {
-            let pieces = repeated(&rt, rt.alloc(), piece, count);
-            let request = format!(in rt.alloc(); "{before}{pieces}{after}").expect(&rt, "memory");
-            is_told(&rt, rt.alloc(), request.as_str(), told);
-        }
+    let alloc = rt.alloc();
+    for limit in REQUESTS {
+        let (_, (_, most), _, met, passed) = limit;
+        requests_have(&rt, alloc, limit, *most, *met);
+        requests_have(&rt, alloc, limit, most.saturating_add(1), *passed);
     }
 }
 
@@ -221,69 +244,88 @@ fn body_of_length(rt: &impl Abort, alloc: Global, length: usize) -> String {
     let before =
         "{\"schemas\":[\"urn:ietf:params:scim:schemas:core:2.0:User\"],\"userName\":\"a\",\"x\":\"";
     let letters = repeated(rt, alloc, "x", length.saturating_sub(before.len() + 2));
-    format!(in alloc; "{before}{letters}\"}}").expect(rt, "memory")
+    joined(rt, alloc, &[before, letters.as_str(), "\"}"])
+}
+
+fn length_is_told(rt: &impl Abort, alloc: Global, length: usize, told: Told) {
+    let body = body_of_length(rt, alloc, length);
+    assert_same(rt, body.len(), length);
+    body_is_told(rt, alloc, body.as_str(), told)
 }
 
 #[test]
 fn bodies_have_at_most_32768_bytes(rt: HostRuntime) {
-    for (length, told) in [
-        (16_384, CREATED),
-        (16_385, CREATED),
-        (32_768, CREATED),
-        (32_769, (413, "the body is too long")),
-    ] {
-        let body = body_of_length(&rt, rt.alloc(), length);
-        assert_same(&rt, body.len(), length);
-        let request = post_of(&rt, rt.alloc(), body.as_str());
-        is_told(&rt, rt.alloc(), request.as_str(), told);
-    }
+    let alloc = rt.alloc();
+    length_is_told(&rt, alloc, 16_384, CREATED);
+    length_is_told(&rt, alloc, 16_385, CREATED);
+    length_is_told(&rt, alloc, 32_768, CREATED);
+    length_is_told(&rt, alloc, 32_769, (413, "the body is too long"))
+}
+
+/// A body with so many arrays, one in the other.
+fn body_of_depth(rt: &impl Abort, alloc: Global, count: usize) -> String {
+    let before =
+        "{\"schemas\":[\"urn:ietf:params:scim:schemas:core:2.0:User\"],\"userName\":\"a\",\"x\":";
+    let open = repeated(rt, alloc, "[", count);
+    let close = repeated(rt, alloc, "]", count);
+    joined(rt, alloc, &[before, open.as_str(), close.as_str(), "}"])
 }
 
 #[test]
 fn json_is_at_most_127_deep(rt: HostRuntime) {
-    for (count, told) in [(126, CREATED), (127, SYNTAX)] {
-        let open = repeated(&rt, rt.alloc(), "[", count);
-        let close = repeated(&rt, rt.alloc(), "]", count);
-        let body = format!(in rt.alloc();
-            "{{\"schemas\":[\"urn:ietf:params:scim:schemas:core:2.0:User\"],\"userName\":\"a\",\"x\":{open}{close}}}"
-        ).expect(&rt, "memory");
-        let request = post_of(&rt, rt.alloc(), body.as_str());
-        is_told(&rt, rt.alloc(), request.as_str(), told);
+    let alloc = rt.alloc();
+    let deepest = body_of_depth(&rt, alloc, 126);
+    body_is_told(&rt, alloc, deepest.as_str(), CREATED);
+    let deeper = body_of_depth(&rt, alloc, 127);
+    body_is_told(&rt, alloc, deeper.as_str(), SYNTAX)
+}
+
+/// Appends the member of this number, and a comma where one stands before it.
+fn push_member(rt: &impl Abort, alloc: Global, text: &mut String, number: usize) {
+    if number > 1 {
+        push_all(rt, text, &[","]);
     }
+    let number = printed(rt, alloc, number);
+    push_all(rt, text, &["{\"value\":\"m", number.as_str(), "\"}"])
 }
 
 /// Members from 1 to this number.
 fn members(rt: &impl Abort, alloc: Global, last: usize) -> String {
-    let mut text = String::from_str(alloc, "{\"value\":\"m1\"}").expect(rt, "memory");
-    for number in 2..=last {
-        let member = format!(in alloc; ",{{\"value\":\"m{number}\"}}").expect(rt, "memory");
-        text.push_str(member.as_str()).expect(rt, "memory");
+    let mut text = String::new(alloc);
+    for number in 1..=last {
+        push_member(rt, alloc, &mut text, number);
     }
     text
 }
 
+/// A group of members from 1 to this number, and the first one again.
+fn group_of(rt: &impl Abort, alloc: Global, last: usize) -> String {
+    let name = ",\"displayName\":\"a\",\"members\":[";
+    let members = members(rt, alloc, last);
+    let again = ",{\"value\":\"m1\"}]}";
+    joined(rt, alloc, &[GROUP, name, members.as_str(), again])
+}
+
 #[test]
 fn groups_have_at_most_400_members(rt: HostRuntime) {
+    let alloc = rt.alloc();
+    let largest = group_of(&rt, alloc, 400);
     let kept = (201, "{\"value\":\"m400\"}],");
-    for (last, told) in [(400, kept), (401, VALUE)] {
-        let members = members(&rt, rt.alloc(), last);
-        let body = format!(in rt.alloc();
-            "{GROUP},\"displayName\":\"a\",\"members\":[{members},{{\"value\":\"m1\"}}]}}"
-        ).expect(&rt, "memory");
-        let request = post_of(&rt, rt.alloc(), body.as_str());
-        is_told(&rt, rt.alloc(), request.as_str(), told);
-    }
+    body_is_told(&rt, alloc, largest.as_str(), kept);
+    let larger = group_of(&rt, alloc, 401);
+    body_is_told(&rt, alloc, larger.as_str(), VALUE)
 }
 
 #[test]
 fn a_provider_has_at_most_a_million_resources(rt: HostRuntime) {
+    let alloc = rt.alloc();
     let mut provider = Provider::new(FullRegistry {
         inserts: 0,
         room: 1,
     });
     let last = "\"id\":\"5c1a0000-0000-8000-8000-0000000f4240\"";
-    tells(&rt, rt.alloc(), &mut provider, CREATE_BOB, 201, last);
+    tells(&rt, alloc, &mut provider, CREATE_BOB, 201, last);
     let body =
         "{\"detail\":\"a limit of the provider is reached\",\"schemas\":[\"urn:ietf:params:scim:api:messages:2.0:Error\"],\"status\":\"500\"}";
-    ends(&rt, rt.alloc(), &mut provider, CREATE_BOB, 500, body)
+    ends(&rt, alloc, &mut provider, CREATE_BOB, 500, body)
 }

@@ -1,26 +1,32 @@
 //! Each refusal has its answer, and nothing is stored.
-use crate::support::{asked, assert_same, assert_that, post};
+use crate::support::{asked, assert_same, assert_that, joined, post, printed, repeated, response};
 use scim_server::Served;
 use std::alloc::Global;
 use std::process::Abort;
 
-/// Asserts that an empty provider answers a request with this status line and this body, and stores nothing.
-fn refuses(rt: &impl Abort, alloc: Global, request: &[u8], status: u16, line: &str, body: &str) {
+/// Asserts that an empty provider answers a request with this status by these bytes, and stores nothing.
+fn answers(rt: &impl Abort, alloc: Global, request: &[u8], status: u16, expected: &[u8]) {
     let (served, written, rows) = asked(rt, alloc, request);
     assert_same(rt, served, Served::Answered { status });
-    let length = body.len();
-    let expected = format!(in alloc;
-        "HTTP/1.1 {line}\r\nConnection: close\r\nContent-Length: {length}\r\nContent-Type: application/scim+json\r\n\r\n{body}"
-    ).expect(rt, "memory");
-    assert_that(rt, written.as_slice() == expected.as_bytes());
+    assert_that(rt, written.as_slice() == expected);
     assert_same(rt, rows, 0);
+}
+
+/// Asserts that an empty provider answers a request with this status line and this body, and stores nothing.
+fn refuses(rt: &impl Abort, alloc: Global, request: &[u8], status: u16, line: &str, body: &str) {
+    let expected = response(rt, alloc, line, body);
+    answers(rt, alloc, request, status, expected.as_bytes())
 }
 
 /// The body of an error message without a scimType.
 fn message(rt: &impl Abort, alloc: Global, detail: &str, status: u16) -> String {
-    format!(in alloc;
-        "{{\"detail\":\"{detail}\",\"schemas\":[\"urn:ietf:params:scim:api:messages:2.0:Error\"],\"status\":\"{status}\"}}"
-    ).expect(rt, "memory")
+    let schemas = "\",\"schemas\":[\"urn:ietf:params:scim:api:messages:2.0:Error\"],\"status\":\"";
+    let status = printed(rt, alloc, status);
+    joined(
+        rt,
+        alloc,
+        &["{\"detail\":\"", detail, schemas, status.as_str(), "\"}"],
+    )
 }
 
 static VALUE: &str =
@@ -39,12 +45,17 @@ static BAD_SYNTAX: &[&str] = &[
     "{\"schemas\":[\"urn:ietf:params:scim:schemas:core:2.0:User\"],\"userName\":\"x\",\"USERNAME\":\"y\"}",
 ];
 
+/// Asserts that a POST of this body is refused so.
+fn refuses_body(rt: &impl Abort, alloc: Global, body: &str, refusal: &str) {
+    let request = post(rt, alloc, body);
+    let asked = request.as_slice();
+    refuses(rt, alloc, asked, 400, "400 Bad Request", refusal)
+}
+
 /// Asserts that a POST of each of these bodies is refused so.
 fn refuses_bodies(rt: &impl Abort, alloc: Global, bodies: &[&str], refusal: &str) {
     for body in bodies {
-        let request = post(rt, alloc, body);
-        let asked = request.as_slice();
-        refuses(rt, alloc, asked, 400, "400 Bad Request", refusal);
+        refuses_body(rt, alloc, body, refusal);
     }
 }
 
@@ -57,10 +68,15 @@ fn bodies(rt: HostRuntime) {
 /// A request, and the status line and the detail that it is refused with.
 type Refused = (&'static str, u16, &'static str, &'static str);
 
+fn is_refused(rt: &impl Abort, alloc: Global, refused: &Refused) {
+    let (request, status, line, detail) = refused;
+    let body = message(rt, alloc, detail, *status);
+    refuses(rt, alloc, request.as_bytes(), *status, line, body.as_str())
+}
+
 fn refuses_all(rt: &impl Abort, alloc: Global, table: &[Refused]) {
-    for (request, status, line, detail) in table {
-        let body = message(rt, alloc, detail, *status);
-        refuses(rt, alloc, request.as_bytes(), *status, line, body.as_str());
+    for refused in table {
+        is_refused(rt, alloc, refused);
     }
 }
 
@@ -116,18 +132,10 @@ fn paths_and_methods(rt: HostRuntime) {
 
 #[test]
 fn a_head_request_gets_the_head_alone(rt: HostRuntime) {
-    let (served, written, rows) = asked(
-        &rt,
-        rt.alloc(),
-        b"HEAD /v2/Users HTTP/1.1\r\nHost: h\r\n\r\n",
-    );
-    assert_same(&rt, served, Served::Answered { status: 501 });
-    assert_that(
-        &rt,
-        written.as_slice()
-            == b"HTTP/1.1 501 Not Implemented\r\nConnection: close\r\nContent-Length: 113\r\nContent-Type: application/scim+json\r\n\r\n".as_slice(),
-    );
-    assert_same(&rt, rows, 0);
+    let request = b"HEAD /v2/Users HTTP/1.1\r\nHost: h\r\n\r\n";
+    let expected =
+        b"HTTP/1.1 501 Not Implemented\r\nConnection: close\r\nContent-Length: 113\r\nContent-Type: application/scim+json\r\n\r\n";
+    answers(&rt, rt.alloc(), request, 501, expected)
 }
 
 static MEDIA_TYPES: &[Refused] = &[
@@ -225,31 +233,28 @@ fn heads(rt: HostRuntime) {
     refuses_all(&rt, rt.alloc(), HEADS)
 }
 
+/// Asserts that a request is refused for the length of its head.
+fn refuses_head(rt: &impl Abort, alloc: Global, request: &[u8]) {
+    let body = message(rt, alloc, "the head is too long", 431);
+    let line = "431 Request Header Fields Too Large";
+    refuses(rt, alloc, request, 431, line, body.as_str())
+}
+
 #[test]
 fn long_heads(rt: HostRuntime) {
-    let long = message(&rt, rt.alloc(), "the head is too long", 431);
     let letters = vec![in rt.alloc(); b'a'; 16_384].expect(&rt, "memory");
-    refuses(
-        &rt,
-        rt.alloc(),
-        letters.as_slice(),
-        431,
-        "431 Request Header Fields Too Large",
-        long.as_str(),
-    );
-    let mut many = String::from_str(rt.alloc(), "GET /v2/Users HTTP/1.1\r\nHost: h\r\n").expect(
-        &rt, "memory",
-    );
-    for _ in 0..64 {
-        many.push_str("X: y\r\n").expect(&rt, "memory");
-    }
-    many.push_str("\r\n").expect(&rt, "memory");
-    refuses(
-        &rt,
-        rt.alloc(),
-        many.as_bytes(),
-        431,
-        "431 Request Header Fields Too Large",
-        long.as_str(),
-    )
+    refuses_head(&rt, rt.alloc(), letters.as_slice())
+}
+
+/// A GET with so many field lines more.
+fn with_lines(rt: &impl Abort, alloc: Global, count: usize) -> String {
+    let head = "GET /v2/Users HTTP/1.1\r\nHost: h\r\n";
+    let lines = repeated(rt, alloc, "X: y\r\n", count);
+    joined(rt, alloc, &[head, lines.as_str(), "\r\n"])
+}
+
+#[test]
+fn heads_of_many_lines(rt: HostRuntime) {
+    let many = with_lines(&rt, rt.alloc(), 64);
+    refuses_head(&rt, rt.alloc(), many.as_bytes())
 }

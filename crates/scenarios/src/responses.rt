@@ -1,18 +1,24 @@
 //! Responses of any provider, read as answers to a request.
 use crate::sayings::{Ask, BOB_ELSEWHERE, line, request_for, response};
-use crate::support::{BOB_CREATED, assert_same};
-use scim_client::read_answer;
+use crate::support::{BOB_CREATED, assert_same, joined, printed, push_all, repeated};
+use scim_client::{AnswerFault, read_answer};
+use scim_message::Answer;
 use std::alloc::Global;
 use std::process::Abort;
+
+/// An answer in a line, or the code of a fault.
+fn told(rt: &impl Abort, alloc: Global, outcome: &Result<Answer, AnswerFault>) -> String {
+    match outcome {
+        Ok(answer) => line(rt, alloc, answer),
+        Err(fault) => fault.to_string(alloc).expect(rt, "memory"),
+    }
+}
 
 /// Asserts that these bytes are this answer, or are refused by this code.
 fn says(rt: &impl Abort, alloc: Global, ask: Ask, bytes: &[u8], expected: &str) {
     let request = request_for(rt, alloc, ask);
-    let text = match read_answer(alloc, &request, bytes) {
-        Ok(answer) => line(rt, alloc, &answer),
-        Err(fault) => fault.to_string(alloc).expect(rt, "memory"),
-    };
-    assert_same(rt, text.as_str(), expected);
+    let outcome = read_answer(alloc, &request, bytes);
+    assert_same(rt, told(rt, alloc, &outcome).as_str(), expected);
 }
 
 /// What is asked for, a status, a body, and what they say.
@@ -240,35 +246,62 @@ static LISTS: &[(&str, &str)] = &[
     ("", "K2"),
 ];
 
+/// Asserts what a Search that is answered by this body with 200 says.
+fn list_says(rt: &impl Abort, alloc: Global, body: &str, expected: &str) {
+    let bytes = response(rt, alloc, "200 OK", "", body);
+    says(rt, alloc, Ask::Search, bytes.as_slice(), expected)
+}
+
 #[test]
 fn lists(rt: HostRuntime) {
     for (body, expected) in LISTS {
-        let bytes = response(&rt, rt.alloc(), "200 OK", "", body);
-        says(&rt, rt.alloc(), Ask::Search, bytes.as_slice(), expected);
+        list_says(&rt, rt.alloc(), body, expected);
     }
+}
+
+/// Appends a user of this number, and a comma where one stands before it.
+fn push_resource(rt: &impl Abort, alloc: Global, text: &mut String, number: u32) {
+    if number > 0 {
+        push_all(rt, text, &[","]);
+    }
+    let schemas =
+        "\",\"schemas\":[\"urn:ietf:params:scim:schemas:core:2.0:User\"],\"userName\":\"u";
+    let number = printed(rt, alloc, number);
+    let number = number.as_str();
+    push_all(rt, text, &["{\"id\":\"", number, schemas, number, "\"}"])
+}
+
+/// A list of 200 users of 201.
+fn body_of_200(rt: &impl Abort, alloc: Global) -> String {
+    let mut body = joined(rt, alloc, &["{\"totalResults\":201,\"Resources\":["]);
+    for number in 0..200u32 {
+        push_resource(rt, alloc, &mut body, number);
+    }
+    push_all(rt, &mut body, &["]}"]);
+    body
+}
+
+/// Appends what is said of the user of this number.
+fn push_said(rt: &impl Abort, alloc: Global, text: &mut String, number: u32) {
+    let number = printed(rt, alloc, number);
+    push_all(rt, text, &[", ", number.as_str(), " - u", number.as_str()])
+}
+
+/// What the list says.
+fn line_of_200(rt: &impl Abort, alloc: Global) -> String {
+    let mut text = joined(rt, alloc, &["list 201 1"]);
+    for number in 0..200u32 {
+        push_said(rt, alloc, &mut text, number);
+    }
+    text
 }
 
 #[test]
 fn a_list_of_200_resources(rt: HostRuntime) {
     let alloc = rt.alloc();
-    let mut body = String::from_str(alloc, "{\"totalResults\":201,\"Resources\":[").expect(
-        &rt, "memory",
-    );
-    let mut expected = String::from_str(alloc, "list 201 1").expect(&rt, "memory");
-    for n in 0..200u32 {
-        if n > 0 {
-            body.push_str(",").expect(&rt, "memory");
-        }
-        let resource = format!(in alloc;
-            "{{\"id\":\"{n}\",\"schemas\":[\"urn:ietf:params:scim:schemas:core:2.0:User\"],\"userName\":\"u{n}\"}}"
-        ).expect(&rt, "memory");
-        body.push_str(resource.as_str()).expect(&rt, "memory");
-        let shown = format!(in alloc; ", {n} - u{n}").expect(&rt, "memory");
-        expected.push_str(shown.as_str()).expect(&rt, "memory");
-    }
-    body.push_str("]}").expect(&rt, "memory");
-    let bytes = response(&rt, alloc, "200 OK", "", body.as_str());
-    says(&rt, alloc, Ask::Search, bytes.as_slice(), expected.as_str())
+    let body = body_of_200(&rt, alloc);
+    let expected = line_of_200(&rt, alloc);
+    list_says(&rt, alloc, body.as_str(), expected.as_str())
 }
 
 // ---- whole bytes
@@ -417,47 +450,46 @@ fn no_part_of_a_response_is_one(rt: HostRuntime) {
 
 /// A list message, with white space up to so many bytes.
 pub fn padded(rt: &impl Abort, alloc: Global, length: usize) -> String {
-    let mut body = String::from_str(alloc, "{\"totalResults\":0}").expect(rt, "memory");
-    for _ in body.len()..length {
-        body.push_str(" ").expect(rt, "memory");
-    }
-    body
+    let list = "{\"totalResults\":0}";
+    let spaces = repeated(rt, alloc, " ", length.saturating_sub(list.len()));
+    joined(rt, alloc, &[list, spaces.as_str()])
 }
 
 #[test]
 fn a_body_at_its_limit(rt: HostRuntime) {
     for (length, expected) in [(8_388_608usize, "list 0 1"), (8_388_609, "K1")] {
         let body = padded(&rt, rt.alloc(), length);
-        let bytes = response(&rt, rt.alloc(), "200 OK", "", body.as_str());
-        says(&rt, rt.alloc(), Ask::Search, bytes.as_slice(), expected);
+        list_says(&rt, rt.alloc(), body.as_str(), expected);
     }
 }
 
 /// A response with so many field lines more than its length, of which one has so long a value.
 fn headed(rt: &impl Abort, alloc: Global, lines: usize, value_length: usize) -> Vec<u8> {
-    let mut fields = String::from_str(alloc, "F: ").expect(rt, "memory");
-    for _ in 0..value_length {
-        fields.push_str("f").expect(rt, "memory");
-    }
-    fields.push_str("\r\n").expect(rt, "memory");
-    for _ in 1..lines {
-        fields.push_str("A: b\r\n").expect(rt, "memory");
-    }
+    let value = repeated(rt, alloc, "f", value_length);
+    let others = repeated(rt, alloc, "A: b\r\n", lines.saturating_sub(1));
+    let fields = joined(rt, alloc, &["F: ", value.as_str(), "\r\n", others.as_str()]);
     response(rt, alloc, "200 OK", fields.as_str(), "{\"totalResults\":0}")
+}
+
+/// Asserts the length of such a response, and what it says.
+fn headed_says(
+    rt: &impl Abort,
+    alloc: Global,
+    head: (usize, usize),
+    length: usize,
+    expected: &str,
+) {
+    let bytes = headed(rt, alloc, head.0, head.1);
+    assert_same(rt, bytes.len(), length);
+    says(rt, alloc, Ask::Search, bytes.as_slice(), expected)
 }
 
 /// A head has 44 bytes beside the value, and its body 18.
 #[test]
 fn heads_at_their_limits(rt: HostRuntime) {
-    let table = [
-        (63usize, 1usize, 435usize, "list 0 1"),
-        (64, 1, 441, "K1"),
-        (1, 16_340, 16_402, "list 0 1"),
-        (1, 16_341, 16_403, "K1"),
-    ];
-    for (lines, value_length, length, expected) in table {
-        let bytes = headed(&rt, rt.alloc(), lines, value_length);
-        assert_same(&rt, bytes.len(), length);
-        says(&rt, rt.alloc(), Ask::Search, bytes.as_slice(), expected);
-    }
+    let alloc = rt.alloc();
+    headed_says(&rt, alloc, (63, 1), 435, "list 0 1");
+    headed_says(&rt, alloc, (64, 1), 441, "K1");
+    headed_says(&rt, alloc, (1, 16_340), 16_402, "list 0 1");
+    headed_says(&rt, alloc, (1, 16_341), 16_403, "K1")
 }

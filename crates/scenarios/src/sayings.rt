@@ -1,6 +1,7 @@
 //! Requests for a user, responses as texts, and what an answer says in a line.
 use crate::answers::{creation, replacement, retrieval, search};
-use scim_key::Kind;
+use crate::support::{joined, printed, push_all};
+use scim_key::{Kind, ResourceId};
 use scim_message::{Answer, ErrorResponse, ListResponse, Request};
 use scim_resource::Shown;
 use scim_version::{Condition, EntityTag};
@@ -31,22 +32,28 @@ pub fn request_for(rt: &impl Abort, alloc: Global, ask: Ask) -> Request {
 
 /// A response with this status, these field lines and this body, whose length it states.
 pub fn response(rt: &impl Abort, alloc: Global, status: &str, fields: &str, body: &str) -> Vec<u8> {
-    let length = body.len();
-    let text = format!(in alloc;
-        "HTTP/1.1 {status}\r\nContent-Length: {length}\r\n{fields}\r\n{body}"
-    ).expect(rt, "memory");
+    let length = printed(rt, alloc, body.len());
+    let head = "\r\nContent-Length: ";
+    let mut text = joined(
+        rt,
+        alloc,
+        &["HTTP/1.1 ", status, head, length.as_str(), "\r\n"],
+    );
+    push_all(rt, &mut text, &[fields, "\r\n", body]);
     text.into_bytes()
 }
 
 // ---- answers in a line
 
+fn text_of(rt: &impl Abort, alloc: Global, bytes: &[u8]) -> String {
+    let text = Vec::from_slice(alloc, bytes).expect(rt, "memory");
+    String::from_utf8(text).ok().expect(rt, "a text")
+}
+
 fn tag_line(rt: &impl Abort, alloc: Global, tag: Option<&EntityTag>) -> String {
     match tag {
-        Some(tag) => {
-            let text = Vec::from_slice(alloc, tag.text()).expect(rt, "memory");
-            String::from_utf8(text).ok().expect(rt, "a text")
-        }
-        None => String::from_str(alloc, "-").expect(rt, "memory"),
+        Some(tag) => text_of(rt, alloc, tag.text()),
+        None => text_of(rt, alloc, b"-"),
     }
 }
 
@@ -55,26 +62,45 @@ fn shown_line(rt: &impl Abort, alloc: Global, what: &str, shown: &Shown) -> Stri
     let id = shown.id().as_str();
     let tag = tag_line(rt, alloc, shown.version());
     let name = shown.content().spelled_name();
-    format!(in alloc; "{what} {id} {tag} {name}").expect(rt, "memory")
+    joined(rt, alloc, &[what, " ", id, " ", tag.as_str(), " ", name])
+}
+
+/// Appends a resource of a list.
+fn push_shown(rt: &impl Abort, alloc: Global, text: &mut String, shown: &Shown) {
+    let line = shown_line(rt, alloc, ",", shown);
+    text.push_str(line.as_str()).expect(rt, "memory");
+}
+
+/// The total and the start.
+fn list_head(rt: &impl Abort, alloc: Global, list: &ListResponse) -> String {
+    let total = printed(rt, alloc, list.total);
+    let start = printed(rt, alloc, list.start);
+    joined(rt, alloc, &["list ", total.as_str(), " ", start.as_str()])
 }
 
 /// The total, the start and the resources.
 fn list_line(rt: &impl Abort, alloc: Global, list: &ListResponse) -> String {
-    let total = list.total;
-    let start = list.start;
-    let mut text = format!(in alloc; "list {total} {start}").expect(rt, "memory");
+    let mut text = list_head(rt, alloc, list);
     for shown in list.resources.as_slice() {
-        let line = shown_line(rt, alloc, ",", shown);
-        text.push_str(line.as_str()).expect(rt, "memory");
+        push_shown(rt, alloc, &mut text, shown);
     }
     text
 }
 
 fn error_line(rt: &impl Abort, alloc: Global, error: &ErrorResponse) -> String {
-    let status = error.status();
+    let status = printed(rt, alloc, error.status());
     let scim_type = error.scim_type().unwrap_or("-");
     let detail = error.detail().unwrap_or("-");
-    format!(in alloc; "error {status} {scim_type} {detail}").expect(rt, "memory")
+    joined(
+        rt,
+        alloc,
+        &["error ", status.as_str(), " ", scim_type, " ", detail],
+    )
+}
+
+fn unmodified_line(rt: &impl Abort, alloc: Global, id: &ResourceId, version: &EntityTag) -> String {
+    let tag = text_of(rt, alloc, version.text());
+    joined(rt, alloc, &["unmodified ", id.as_str(), " ", tag.as_str()])
 }
 
 pub fn line(rt: &impl Abort, alloc: Global, answer: &Answer) -> String {
@@ -83,11 +109,7 @@ pub fn line(rt: &impl Abort, alloc: Global, answer: &Answer) -> String {
         Answer::Found(shown) => shown_line(rt, alloc, "found", shown),
         Answer::Replaced(shown) => shown_line(rt, alloc, "replaced", shown),
         Answer::List(list) => list_line(rt, alloc, list),
-        Answer::NotModified { id, version, .. } => {
-            let id = id.as_str();
-            let tag = tag_line(rt, alloc, Some(version));
-            format!(in alloc; "unmodified {id} {tag}").expect(rt, "memory")
-        }
+        Answer::NotModified { id, version, .. } => unmodified_line(rt, alloc, id, version),
         Answer::Error(error) => error_line(rt, alloc, error),
     }
 }

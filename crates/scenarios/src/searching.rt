@@ -1,7 +1,11 @@
 //! Collections are searched, and their resources listed by pages (RFC 7644 section 3.4.2).
-use crate::support::{CREATE_BOB, answers, assert_same, empty, ends, exchange, post, tells};
+use crate::support::{
+    answers, assert_same, empty, ends, exchange, joined, post, printed, push_all, response, tells,
+    with_bob,
+};
 use provider_core::{MemoryRegistry, Provider};
 use std::alloc::Global;
+use std::fmt::Display;
 use std::process::Abort;
 
 /// A user of the tests: its place in the order of creation, and its name.
@@ -13,36 +17,43 @@ const BOB: Named = (2, "bob");
 
 const CID: Named = (3, "cid");
 
+/// The creation of a user that is active and has nothing but its name.
+fn creation(rt: &impl Abort, alloc: Global, name: &str) -> Vec<u8> {
+    let before = "{\"schemas\":[\"urn:ietf:params:scim:schemas:core:2.0:User\"],\"userName\":\"";
+    let body = joined(rt, alloc, &[before, name, "\"}"]);
+    post(rt, alloc, body.as_str())
+}
+
+fn create(rt: &impl Abort, alloc: Global, provider: &mut Provider<MemoryRegistry>, name: &str) {
+    let request = creation(rt, alloc, name);
+    exchange(rt, alloc, provider, request.as_slice());
+}
+
 /// A provider with these users, who are active and have nothing but their names.
 fn with_users(rt: &impl Abort, alloc: Global, users: &[Named]) -> Provider<MemoryRegistry> {
     let mut provider = empty(alloc);
     for (_, name) in users {
-        let body = format!(in alloc;
-            "{{\"schemas\":[\"urn:ietf:params:scim:schemas:core:2.0:User\"],\"userName\":\"{name}\"}}"
-        ).expect(rt, "memory");
-        exchange(
-            rt,
-            alloc,
-            &mut provider,
-            post(rt, alloc, body.as_str()).as_slice(),
-        );
+        create(rt, alloc, &mut provider, name);
     }
     provider
 }
 
-/// A request without a body.
-fn request(rt: &impl Abort, alloc: Global, method: &str, target: &str) -> String {
-    format!(in alloc; "{method} {target} HTTP/1.1\r\nHost: localhost:8080\r\n\r\n").expect(
-        rt, "memory",
-    )
+/// A GET of a target.
+fn request(rt: &impl Abort, alloc: Global, target: &str) -> String {
+    let head = " HTTP/1.1\r\nHost: localhost:8080\r\n\r\n";
+    joined(rt, alloc, &["GET ", target, head])
 }
 
-/// A whole response with a body.
-fn response(rt: &impl Abort, alloc: Global, line: &str, body: &str) -> String {
-    let length = body.len();
-    format!(in alloc;
-        "HTTP/1.1 {line}\r\nConnection: close\r\nContent-Length: {length}\r\nContent-Type: application/scim+json\r\n\r\n{body}"
-    ).expect(rt, "memory")
+/// Appends a name and a number.
+fn push_named<D: Display + Drop>(
+    rt: &impl Abort,
+    alloc: Global,
+    text: &mut String,
+    name: &str,
+    value: D,
+) {
+    let digits = printed(rt, alloc, value);
+    push_all(rt, text, &[name, digits.as_str()])
 }
 
 /// A list message with these resources.
@@ -54,9 +65,14 @@ fn list(
     start: u64,
     total: u64,
 ) -> String {
-    format!(in alloc;
-        "{{\"Resources\":[{resources}],\"itemsPerPage\":{on_page},\"schemas\":[\"urn:ietf:params:scim:api:messages:2.0:ListResponse\"],\"startIndex\":{start},\"totalResults\":{total}}}"
-    ).expect(rt, "memory")
+    let mut text = joined(rt, alloc, &["{\"Resources\":[", resources]);
+    push_named(rt, alloc, &mut text, "],\"itemsPerPage\":", on_page);
+    let schemas = ",\"schemas\":[\"urn:ietf:params:scim:api:messages:2.0:ListResponse\"]";
+    push_all(rt, &mut text, &[schemas]);
+    push_named(rt, alloc, &mut text, ",\"startIndex\":", start);
+    push_named(rt, alloc, &mut text, ",\"totalResults\":", total);
+    push_all(rt, &mut text, &["}"]);
+    text
 }
 
 /// Asserts that GET of a target is answered by this body.
@@ -67,7 +83,7 @@ fn is_answered(
     target: &str,
     body: &str,
 ) {
-    let asked = request(rt, alloc, "GET", target);
+    let asked = request(rt, alloc, target);
     let expected = response(rt, alloc, "200 OK", body);
     answers(
         rt,
@@ -83,18 +99,26 @@ fn is_answered(
 fn shown(rt: &impl Abort, alloc: Global, user: &Named, is_first: bool) -> String {
     let (number, name) = user;
     let comma = if is_first { "" } else { "," };
-    format!(in alloc;
-        "{comma}{{\"active\":true,\"id\":\"5c1a0000-0000-8000-8000-00000000000{number}\",\"meta\":{{\"location\":\"http://localhost:8080/v2/Users/5c1a0000-0000-8000-8000-00000000000{number}\",\"resourceType\":\"User\",\"version\":\"\\\"1\\\"\"}},\"schemas\":[\"urn:ietf:params:scim:schemas:core:2.0:User\"],\"userName\":\"{name}\"}}"
-    ).expect(rt, "memory")
+    let id = "{\"active\":true,\"id\":\"5c1a0000-0000-8000-8000-00000000000";
+    let location =
+        "\",\"meta\":{\"location\":\"http://localhost:8080/v2/Users/5c1a0000-0000-8000-8000-00000000000";
+    let schemas =
+        "\",\"resourceType\":\"User\",\"version\":\"\\\"1\\\"\"},\"schemas\":[\"urn:ietf:params:scim:schemas:core:2.0:User\"],\"userName\":\"";
+    let number = printed(rt, alloc, *number);
+    let number = number.as_str();
+    joined(
+        rt,
+        alloc,
+        &[comma, id, number, location, number, schemas, name, "\"}"],
+    )
 }
 
 /// The resources of a page.
 fn page_of(rt: &impl Abort, alloc: Global, page: &[Named]) -> String {
     let mut resources = String::new(alloc);
     for user in page {
-        resources
-            .push_str(shown(rt, alloc, user, resources.is_empty()).as_str())
-            .expect(rt, "memory");
+        let resource = shown(rt, alloc, user, resources.is_empty());
+        resources.push_str(resource.as_str()).expect(rt, "memory");
     }
     resources
 }
@@ -102,11 +126,20 @@ fn page_of(rt: &impl Abort, alloc: Global, page: &[Named]) -> String {
 /// What GET of the users with a query finds: a page, its start, and how many there are in all.
 type Found = (&'static str, &'static [Named], u64, u64);
 
-fn finds(rt: &impl Abort, alloc: Global, provider: &mut Provider<MemoryRegistry>, found: &Found) {
-    let (query, page, start, total) = found;
+/// The list message of what is found.
+fn list_of(rt: &impl Abort, alloc: Global, found: &Found) -> String {
+    let (_, page, start, total) = found;
     let resources = page_of(rt, alloc, page);
-    let body = list(rt, alloc, resources.as_str(), page.len(), *start, *total);
-    let target = format!(in alloc; "/v2/Users{query}").expect(rt, "memory");
+    list(rt, alloc, resources.as_str(), page.len(), *start, *total)
+}
+
+fn target_of(rt: &impl Abort, alloc: Global, query: &str) -> String {
+    joined(rt, alloc, &["/v2/Users", query])
+}
+
+fn finds(rt: &impl Abort, alloc: Global, provider: &mut Provider<MemoryRegistry>, found: &Found) {
+    let body = list_of(rt, alloc, found);
+    let target = target_of(rt, alloc, found.0);
     is_answered(rt, alloc, provider, target.as_str(), body.as_str())
 }
 
@@ -118,25 +151,38 @@ fn finds_all(rt: &impl Abort, alloc: Global, users: &[Named], table: &[Found]) {
     }
 }
 
+/// A response that refuses a request.
+fn refusal(rt: &impl Abort, alloc: Global, scim_type: &str, detail: &str) -> String {
+    let schemas =
+        "\",\"schemas\":[\"urn:ietf:params:scim:api:messages:2.0:Error\"],\"scimType\":\"";
+    let end = "\",\"status\":\"400\"}";
+    let body = joined(
+        rt,
+        alloc,
+        &["{\"detail\":\"", detail, schemas, scim_type, end],
+    );
+    response(rt, alloc, "400 Bad Request", body.as_str())
+}
+
+/// Asserts that GET of the users with a query is refused so.
+fn refuses(
+    rt: &impl Abort,
+    alloc: Global,
+    provider: &mut Provider<MemoryRegistry>,
+    query: &str,
+    expected: &[u8],
+) {
+    let target = target_of(rt, alloc, query);
+    let asked = request(rt, alloc, target.as_str());
+    answers(rt, alloc, provider, asked.as_bytes(), 400, expected)
+}
+
 /// Asserts that GET of the users with these queries is refused.
 fn refuses_all(rt: &impl Abort, alloc: Global, scim_type: &str, detail: &str, queries: &[&str]) {
-    let body = format!(in alloc;
-        "{{\"detail\":\"{detail}\",\"schemas\":[\"urn:ietf:params:scim:api:messages:2.0:Error\"],\"scimType\":\"{scim_type}\",\"status\":\"400\"}}"
-    ).expect(rt, "memory");
-    let expected = response(rt, alloc, "400 Bad Request", body.as_str());
+    let expected = refusal(rt, alloc, scim_type, detail);
     let mut provider = empty(alloc);
     for query in queries {
-        let asked = format!(in alloc; "GET /v2/Users{query} HTTP/1.1\r\nHost: h\r\n\r\n").expect(
-            rt, "memory",
-        );
-        answers(
-            rt,
-            alloc,
-            &mut provider,
-            asked.as_bytes(),
-            400,
-            expected.as_bytes(),
-        );
+        refuses(rt, alloc, &mut provider, query, expected.as_bytes());
     }
 }
 
@@ -161,14 +207,19 @@ static FILTERS_OF_BOB: &[&str] = &[
 #[test]
 fn a_name_is_found_in_any_case(rt: HostRuntime) {
     let alloc = rt.alloc();
-    let mut provider = empty(alloc);
-    exchange(&rt, alloc, &mut provider, CREATE_BOB);
+    let mut provider = with_bob(&rt, alloc);
     let body = list(&rt, alloc, BOB_SHOWN, 1, 1, 1);
     for target in FILTERS_OF_BOB {
         is_answered(&rt, alloc, &mut provider, target, body.as_str());
     }
-    let nobody = ("?filter=userName+eq+%22zed%22", &[] as &[Named], 1, 0);
-    finds(&rt, alloc, &mut provider, &nobody)
+}
+
+static NOBODY: Found = ("?filter=userName+eq+%22zed%22", &[], 1, 0);
+
+#[test]
+fn no_other_name_is_found(rt: HostRuntime) {
+    let mut provider = with_bob(&rt, rt.alloc());
+    finds(&rt, rt.alloc(), &mut provider, &NOBODY)
 }
 
 #[test]
@@ -266,12 +317,14 @@ static CREATE_CREW: &[u8] =
 static CREW_SHOWN: &str =
     "{\"displayName\":\"crew two\",\"id\":\"5c1a0000-0000-8000-8000-000000000002\",\"meta\":{\"location\":\"http://localhost:8080/v2/Groups/5c1a0000-0000-8000-8000-000000000002\",\"resourceType\":\"Group\",\"version\":\"\\\"1\\\"\"},\"schemas\":[\"urn:ietf:params:scim:schemas:core:2.0:Group\"]}";
 
+static ANN_FOUND: Found = ("", &[ANN], 1, 1);
+
 #[test]
 fn each_type_has_its_collection(rt: HostRuntime) {
     let alloc = rt.alloc();
     let mut provider = with_users(&rt, alloc, &[ANN]);
     exchange(&rt, alloc, &mut provider, CREATE_CREW);
-    finds(&rt, alloc, &mut provider, &("", &[ANN] as &[Named], 1, 1));
+    finds(&rt, alloc, &mut provider, &ANN_FOUND);
     let body = list(&rt, alloc, CREW_SHOWN, 1, 1, 1);
     let named = "/v2/Groups?filter=displayName+eq+%22CREW%20two%22";
     is_answered(&rt, alloc, &mut provider, named, body.as_str())
@@ -287,32 +340,39 @@ fn a_collection_has_no_head(rt: HostRuntime) {
     answers(&rt, rt.alloc(), &mut provider, asked, 501, HEAD_REFUSED)
 }
 
+fn create_numbered(
+    rt: &impl Abort,
+    alloc: Global,
+    provider: &mut Provider<MemoryRegistry>,
+    number: u32,
+) {
+    let number = printed(rt, alloc, number);
+    let name = joined(rt, alloc, &["u", number.as_str()]);
+    create(rt, alloc, provider, name.as_str())
+}
+
 /// A provider with 201 users.
 fn with_many(rt: &impl Abort, alloc: Global) -> Provider<MemoryRegistry> {
     let mut provider = empty(alloc);
     for number in 1..=201 {
-        let body = format!(in alloc;
-            "{{\"schemas\":[\"urn:ietf:params:scim:schemas:core:2.0:User\"],\"userName\":\"u{number}\"}}"
-        ).expect(rt, "memory");
-        exchange(
-            rt,
-            alloc,
-            &mut provider,
-            post(rt, alloc, body.as_str()).as_slice(),
-        );
+        create_numbered(rt, alloc, &mut provider, number);
     }
     provider
+}
+
+/// Asserts that GET of a target answers the first 200 of 201 users.
+fn has_200(rt: &impl Abort, alloc: Global, provider: &mut Provider<MemoryRegistry>, target: &str) {
+    let asked = request(rt, alloc, target);
+    let last = "\"userName\":\"u200\"}],\"itemsPerPage\":200,";
+    tells(rt, alloc, provider, asked.as_bytes(), 200, last);
+    let end = "\"startIndex\":1,\"totalResults\":201}";
+    ends(rt, alloc, provider, asked.as_bytes(), 200, end)
 }
 
 #[test]
 fn a_page_has_200_resources_at_most(rt: HostRuntime) {
     let alloc = rt.alloc();
     let mut provider = with_many(&rt, alloc);
-    for target in ["/v2/Users", "/v2/Users?count=500"] {
-        let asked = request(&rt, alloc, "GET", target);
-        let last = "\"userName\":\"u200\"}],\"itemsPerPage\":200,";
-        tells(&rt, alloc, &mut provider, asked.as_bytes(), 200, last);
-        let end = "\"startIndex\":1,\"totalResults\":201}";
-        ends(&rt, alloc, &mut provider, asked.as_bytes(), 200, end);
-    }
+    has_200(&rt, alloc, &mut provider, "/v2/Users");
+    has_200(&rt, alloc, &mut provider, "/v2/Users?count=500")
 }

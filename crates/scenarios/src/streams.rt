@@ -1,6 +1,6 @@
 //! Broken streams and registries.
 use crate::registries::FaultyRegistry;
-use crate::scripts::{Event, Script, ScriptedReader, ScriptedWriter, Turn};
+use crate::scripts::{Event, ScriptedReader, ScriptedWriter, Turn};
 use crate::support::{
     BOB_CREATED, CREATE_BOB, GIVEN_UP, asked, assert_same, assert_that, base, empty, exchange,
 };
@@ -8,30 +8,35 @@ use http_text::{Input, Output, ReadFault};
 use provider_core::{Provider, Registry};
 use scim_server::{Served, serve};
 use std::alloc::Global;
-use std::io::ErrorKind;
+use std::io::{ErrorKind, Read, Write};
 use std::process::Abort;
 
-/// Creates bob with a reader that follows a script: what became of it, what was written, and how
-/// many rows there are.
-fn created_from(
+/// Creates bob over these streams: what became of it, and how many rows there are.
+fn created<R: Read, W: Write>(
     rt: &impl Abort,
     alloc: Global,
-    step: usize,
-    events: &[Event],
-) -> (Served, Vec<u8>, u32) {
+    reader: &mut Input<R>,
+    writer: &mut Output<W>,
+) -> (Served, u32) {
     let mut provider = empty(alloc);
     let base = base(rt, alloc);
-    let mut reader = Input::new(ScriptedReader {
-        bytes: CREATE_BOB,
-        script: Script::new(step, events),
-    });
+    let served = serve(alloc, &mut provider, &base, reader, writer);
+    (served, provider.close().count().expect(rt, "a count"))
+}
+
+/// Asserts that a request that is read by a script comes to this, with this answer and so many rows.
+fn comes(
+    rt: &impl Abort,
+    alloc: Global,
+    script: (usize, &[Event]),
+    wanted: (Served, u32),
+    answer: &[u8],
+) {
+    let (step, events) = script;
+    let mut reader = Input::new(ScriptedReader::new(CREATE_BOB, step, events));
     let mut writer = Output::new(Vec::new(alloc));
-    let served = serve(alloc, &mut provider, &base, &mut reader, &mut writer);
-    (
-        served,
-        writer.into_inner(),
-        provider.close().count().expect(rt, "a count"),
-    )
+    assert_same(rt, created(rt, alloc, &mut reader, &mut writer), wanted);
+    assert_that(rt, writer.into_inner().as_slice() == answer);
 }
 
 /// Asserts that bob is created, or that nothing is, by a fault.
@@ -42,14 +47,11 @@ fn is_read(
     events: &[Event],
     fault: Option<ReadFault>,
 ) {
-    let (served, written, rows) = created_from(rt, alloc, step, events);
-    let (wanted, bytes, count) = match fault {
-        None => (Served::Answered { status: 201 }, BOB_CREATED, 1),
-        Some(fault) => (Served::NoRequest(fault), &[] as &[u8], 0),
+    let (wanted, bytes) = match fault {
+        None => ((Served::Answered { status: 201 }, 1), BOB_CREATED),
+        Some(fault) => ((Served::NoRequest(fault), 0), &[] as &[u8]),
     };
-    assert_same(rt, served, wanted);
-    assert_that(rt, written.as_slice() == bytes);
-    assert_same(rt, rows, count);
+    comes(rt, alloc, (step, events), wanted, bytes)
 }
 
 /// At most how many bytes a read gives, what happens at which byte, and the fault that it leads to.
@@ -139,26 +141,36 @@ fn a_read_that_fails_once_at_each_place(rt: HostRuntime) {
     }
 }
 
+/// Asserts that a part of a request is none.
+fn is_none(rt: &impl Abort, alloc: Global, part: &[u8]) {
+    let (served, written, rows) = asked(rt, alloc, part);
+    assert_same(rt, served, Served::NoRequest(ReadFault::EndedEarly));
+    assert_that(rt, written.is_empty());
+    assert_same(rt, rows, 0);
+}
+
 #[test]
 fn no_part_of_a_request_is_one(rt: HostRuntime) {
     for count in 0..CREATE_BOB.len() {
         let part = CREATE_BOB.get(..count).expect(&rt, "too long");
-        let (served, written, rows) = asked(&rt, rt.alloc(), part);
-        assert_same(&rt, served, Served::NoRequest(ReadFault::EndedEarly));
-        assert_that(&rt, written.is_empty());
-        assert_same(&rt, rows, 0);
+        is_none(&rt, rt.alloc(), part);
     }
+}
+
+/// The request that creates bob, and the first bytes of another one.
+fn two_requests(rt: &impl Abort, alloc: Global) -> Vec<u8> {
+    let mut both = Vec::from_slice(alloc, CREATE_BOB).expect(rt, "memory");
+    both.extend_from_slice(b"GET").expect(rt, "memory");
+    both
 }
 
 #[test]
 fn what_follows_a_request_stays_unread(rt: HostRuntime) {
-    let mut both = Vec::from_slice(rt.alloc(), CREATE_BOB).expect(&rt, "memory");
-    both.extend_from_slice(b"GET").expect(&rt, "memory");
-    let mut provider = empty(rt.alloc());
-    let base = base(&rt, rt.alloc());
+    let alloc = rt.alloc();
+    let both = two_requests(&rt, alloc);
     let mut reader = Input::new(both.as_slice());
-    let mut writer = Output::new(Vec::new(rt.alloc()));
-    let served = serve(rt.alloc(), &mut provider, &base, &mut reader, &mut writer);
+    let mut writer = Output::new(Vec::new(alloc));
+    let (served, _) = created(&rt, alloc, &mut reader, &mut writer);
     assert_same(&rt, served, Served::Answered { status: 201 });
     assert_that(&rt, reader.ahead() == b"GET".as_slice());
 }
@@ -167,26 +179,24 @@ fn what_follows_a_request_stays_unread(rt: HostRuntime) {
 /// answer are written and so many flushes made: all 666 and one, or the answer is lost.
 fn is_written(rt: &impl Abort, alloc: Global, writing: &Writing, events: &[Event]) {
     let (step, _, flush_faults, is_whole, bytes, flush_count) = writing;
-    let mut provider = empty(alloc);
-    let base = base(rt, alloc);
-    let mut reader = Input::new(CREATE_BOB);
-    let mut writer = Output::new(ScriptedWriter {
-        taken: Vec::new(alloc),
-        script: Script::new(*step, events),
-        flush_faults,
-        flushes: 0,
-    });
-    let served = serve(alloc, &mut provider, &base, &mut reader, &mut writer);
-    let ScriptedWriter { taken, flushes, .. } = writer.into_inner();
     let wanted = if *is_whole {
         Served::Answered { status: 201 }
     } else {
         Served::Lost { status: 201 }
     };
-    assert_same(rt, served, wanted);
-    assert_that(rt, Some(taken.as_slice()) == BOB_CREATED.get(..*bytes));
-    assert_same(rt, flushes, *flush_count);
-    assert_same(rt, provider.close().count().expect(rt, "a count"), 1);
+    let mut reader = Input::new(CREATE_BOB);
+    let mut writer = Output::new(ScriptedWriter::new(alloc, *step, events, flush_faults));
+    assert_same(
+        rt,
+        created(rt, alloc, &mut reader, &mut writer),
+        (wanted, 1),
+    );
+    let writer = writer.into_inner();
+    assert_same(rt, writer.flushes, *flush_count);
+    assert_that(
+        rt,
+        Some(writer.taken.as_slice()) == BOB_CREATED.get(..*bytes),
+    );
 }
 
 /// At most how many bytes a write takes, what happens at which byte, with what the first flushes
@@ -247,27 +257,27 @@ fn writers_that_follow_a_script(rt: HostRuntime) {
     }
 }
 
-/// Reads and writes that are interrupted twice at the first byte, and three times at the next one.
+/// What is interrupted twice at the first byte, and three times at the next one.
+static INTERRUPTIONS: &[Event] = &[(0, 2, INTERRUPTED), (1, 3, INTERRUPTED)];
+
 #[test]
-fn interruptions_are_calls_and_no_failures(rt: HostRuntime) {
+fn interrupted_reads_are_calls_and_no_failures(rt: HostRuntime) {
     let alloc = rt.alloc();
-    let events = [(0, 2, INTERRUPTED), (1, 3, INTERRUPTED)];
-    let mut provider = empty(alloc);
-    let base = base(&rt, alloc);
-    let mut reader = Input::new(ScriptedReader {
-        bytes: CREATE_BOB,
-        script: Script::new(1_000, &events),
-    });
-    let mut writer = Output::new(ScriptedWriter {
-        taken: Vec::new(alloc),
-        script: Script::new(1_000, &events),
-        flush_faults: &[],
-        flushes: 0,
-    });
-    let served = serve(alloc, &mut provider, &base, &mut reader, &mut writer);
+    let mut reader = Input::new(ScriptedReader::new(CREATE_BOB, 1_000, INTERRUPTIONS));
+    let mut writer = Output::new(Vec::new(alloc));
+    let (served, _) = created(&rt, alloc, &mut reader, &mut writer);
     assert_same(&rt, served, Served::Answered { status: 201 });
     assert_same(&rt, reader.calls(), 7);
     assert_same(&rt, reader.failures(), 0);
+}
+
+#[test]
+fn interrupted_writes_are_calls_and_no_failures(rt: HostRuntime) {
+    let alloc = rt.alloc();
+    let mut reader = Input::new(ScriptedReader::new(CREATE_BOB, 1_000, INTERRUPTIONS));
+    let mut writer = Output::new(ScriptedWriter::new(alloc, 1_000, INTERRUPTIONS, &[]));
+    let (served, _) = created(&rt, alloc, &mut reader, &mut writer);
+    assert_same(&rt, served, Served::Answered { status: 201 });
     assert_same(&rt, writer.calls(), 8);
     assert_same(&rt, writer.failures(), 0);
 }

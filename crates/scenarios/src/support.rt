@@ -42,6 +42,37 @@ pub fn are_printed<F: Display>(rt: &impl Abort, alloc: Global, table: &[(F, &str
     }
 }
 
+/// A value as it is printed.
+pub fn printed<D: Display + Drop>(rt: &impl Abort, alloc: Global, value: D) -> String {
+    value.to_string(alloc).expect(rt, "memory")
+}
+
+/// Appends these texts.
+pub fn push_all(rt: &impl Abort, text: &mut String, parts: &[&str]) {
+    for part in parts {
+        text.push_str(part).expect(rt, "memory");
+    }
+}
+
+/// These texts, one after the other. Where `format!` itself stands, each part costs a proof.
+pub fn joined(rt: &impl Abort, alloc: Global, parts: &[&str]) -> String {
+    let mut text = String::new(alloc);
+    push_all(rt, &mut text, parts);
+    text
+}
+
+/// A whole response with this status line and this body.
+pub fn response(rt: &impl Abort, alloc: Global, line: &str, body: &str) -> String {
+    let length = printed(rt, alloc, body.len());
+    let head = "\r\nConnection: close\r\nContent-Length: ";
+    let kind = "\r\nContent-Type: application/scim+json\r\n\r\n";
+    joined(
+        rt,
+        alloc,
+        &["HTTP/1.1 ", line, head, length.as_str(), kind, body],
+    )
+}
+
 /// A piece so many times.
 pub fn repeated(rt: &impl Abort, alloc: Global, piece: &str, count: usize) -> String {
     let mut text = String::new(alloc);
@@ -82,6 +113,19 @@ pub fn exchange<R: Registry>(
     (served, writer.into_inner())
 }
 
+/// The bytes of the answer to a request, whose status is this.
+fn answer_to<R: Registry>(
+    rt: &impl Abort,
+    alloc: Global,
+    provider: &mut Provider<R>,
+    request: &[u8],
+    status: u16,
+) -> Vec<u8> {
+    let (served, written) = exchange(rt, alloc, provider, request);
+    assert_same(rt, served, Served::Answered { status });
+    written
+}
+
 /// Asserts that a request is answered with this status, by these bytes.
 pub fn answers<R: Registry>(
     rt: &impl Abort,
@@ -91,8 +135,7 @@ pub fn answers<R: Registry>(
     status: u16,
     expected: &[u8],
 ) {
-    let (served, written) = exchange(rt, alloc, provider, request);
-    assert_same(rt, served, Served::Answered { status });
+    let written = answer_to(rt, alloc, provider, request, status);
     assert_that(rt, written.as_slice() == expected);
 }
 
@@ -105,8 +148,7 @@ pub fn ends<R: Registry>(
     status: u16,
     end: &str,
 ) {
-    let (served, written) = exchange(rt, alloc, provider, request);
-    assert_same(rt, served, Served::Answered { status });
+    let written = answer_to(rt, alloc, provider, request, status);
     assert_that(rt, written.as_slice().ends_with(end.as_bytes()));
 }
 
@@ -119,8 +161,7 @@ pub fn tells<R: Registry>(
     status: u16,
     part: &str,
 ) {
-    let (served, written) = exchange(rt, alloc, provider, request);
-    assert_same(rt, served, Served::Answered { status });
+    let written = answer_to(rt, alloc, provider, request, status);
     let text = String::from_utf8(written).ok().expect(rt, "a text");
     assert_that(rt, text.as_str().contains(part));
 }
@@ -153,10 +194,14 @@ pub enum Said {
 pub type Round = (&'static str, &'static str, &'static str, u16, Said);
 
 fn request(rt: &impl Abort, alloc: Global, line: &str, fields: &str, body: &str) -> Vec<u8> {
-    let length = body.len();
-    let text = format!(in alloc;
-        "{line} HTTP/1.1\r\nHost: localhost:8080\r\nContent-Type: application/scim+json\r\n{fields}Content-Length: {length}\r\n\r\n{body}"
-    ).expect(rt, "memory");
+    let head = " HTTP/1.1\r\nHost: localhost:8080\r\nContent-Type: application/scim+json\r\n";
+    let length = printed(rt, alloc, body.len());
+    let mut text = joined(rt, alloc, &[line, head, fields]);
+    push_all(
+        rt,
+        &mut text,
+        &["Content-Length: ", length.as_str(), "\r\n\r\n", body],
+    );
     text.into_bytes()
 }
 
