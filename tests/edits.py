@@ -1,6 +1,7 @@
 #!/usr/bin/env python3
 """Wrong programs, each of which the prover must refuse: an edit of edits/NAME turns the meaning of a
-function of the crate NAME.
+function of the crate NAME. One whose refusal takes long stands in edits/NAME/slow: it is tried as the
+others are, but isn't in the file that `rt ci` tries.
 
 tests/edits.py                    tries those of every crate
 tests/edits.py NAME..             tries those of these crates
@@ -49,7 +50,8 @@ class Edit:
     def __init__(self, path):
         self.path = path
         inside = path.relative_to(ROOT / "edits")
-        self.crate, self.is_further = inside.parts[0], len(inside.parts) > 2
+        self.crate = inside.parts[0]
+        self.is_further, self.is_slow = inside.parts[1] == "further", inside.parts[1] == "slow"
         self.name = str(inside.with_suffix(""))
         self.pairs = [*pairs(path)]
 
@@ -226,7 +228,7 @@ def judged(edit, said):
 def joined(edits):
     """A crate's edits as one, as far as no text of one meets another's."""
     lines, texts = [], {}
-    for edit in checks_of(edits)[0]:
+    for edit in checks_of([it for it in edits if not it.is_slow])[0]:
         changed = dict(texts)
         for file, old, new in edit.pairs:
             text = changed.get(file) or edit.text(file)
@@ -260,10 +262,11 @@ def stale(edits):
 
 
 def sum_of(crate, edits):
-    """A sum over a crate's texts, without their comments, and over its edits."""
+    """A sum over a crate's texts, without their comments, and over its edits, slow or not."""
     files = [it for part in PARTS for it in sorted((ROOT / "crates" / crate / part).rglob("*")) if it.is_file()]
     texts = [(it.relative_to(ROOT), COMMENT.sub("", it.read_text(encoding="utf-8"))) for it in files]
-    texts += [(it.path.relative_to(ROOT), it.path.read_text(encoding="utf-8")) for it in edits]
+    named = sorted((it.path.name, it.path.read_text(encoding="utf-8")) for it in edits)
+    texts += [(f"edits/{crate}/{name}", text) for name, text in named]
     told = hashlib.sha256()
     for name, text in texts:
         told.update(f"{name} {len(text)}\n{text}".encode())

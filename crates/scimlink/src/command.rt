@@ -14,7 +14,7 @@ use std::rt::Runtime;
 const DEFAULT_BASE: &str = "http://localhost:8080/v2";
 
 /// What the command line asks for: a command, and the files that it keeps its rows in.
-#[derive(Debug, Drop)]
+#[derive(Drop)]
 pub struct Chosen {
     pub choice: Choice,
     /// The provider's rows. They are in memory, and none at first, where there is no such file.
@@ -24,7 +24,7 @@ pub struct Chosen {
 }
 
 /// What is to be done.
-#[derive(Debug, Drop)]
+#[derive(Drop)]
 pub enum Choice {
     /// One request from standard input is answered on standard output.
     Answer {
@@ -63,7 +63,7 @@ pub enum Choice {
 }
 
 /// The files of a source.
-#[derive(Debug, Drop)]
+#[derive(Drop)]
 pub struct SourceFiles {
     pub users: String,
     pub groups: Option<String>,
@@ -125,22 +125,22 @@ fn groups_option<'a>(alloc: Global) -> Arg<'a> {
 }
 
 fn answer_command<'a>(alloc: Global) -> Result<Command<'a>, AllocError> {
-    Command::new(alloc, "answer")
+    let command = Command::new(alloc, "answer")
         .about("answers one HTTP request from standard input on standard output")
-        .arg(base_option(alloc))?
-        .arg(store_option(alloc))
+        .arg(base_option(alloc));
+    with_option(command, store_option(alloc))
 }
 
 fn loop_command<'a>(alloc: Global) -> Result<Command<'a>, AllocError> {
-    Command::new(alloc, "loop")
+    let users = Command::new(alloc, "loop")
         .about(
             "carries the records of files to a provider in the same program, over TCP, and prints how each stands",
         )
-        .arg(users_option(alloc))?
-        .arg(groups_option(alloc))?
-        .arg(base_option(alloc))?
-        .arg(store_option(alloc))?
-        .arg(journal_option(alloc))
+        .arg(users_option(alloc));
+    let groups = with_option(users, groups_option(alloc));
+    let base = with_option(groups, base_option(alloc));
+    let store = with_option(base, store_option(alloc));
+    with_option(store, journal_option(alloc))
 }
 
 fn map_command<'a>(alloc: Global) -> Result<Command<'a>, AllocError> {
@@ -170,12 +170,12 @@ fn requests_option<'a>(alloc: Global) -> Arg<'a> {
 }
 
 fn serve_command<'a>(alloc: Global) -> Result<Command<'a>, AllocError> {
-    Command::new(alloc, "serve")
+    let listen = Command::new(alloc, "serve")
         .about("serves HTTP connections to an address, one after another")
-        .arg(listen_option(alloc))?
-        .arg(requests_option(alloc))?
-        .arg(base_option(alloc))?
-        .arg(store_option(alloc))
+        .arg(listen_option(alloc));
+    let requests = with_option(listen, requests_option(alloc));
+    let base = with_option(requests, base_option(alloc));
+    with_option(base, store_option(alloc))
 }
 
 fn to_option<'a>(alloc: Global) -> Arg<'a> {
@@ -187,24 +187,24 @@ fn to_option<'a>(alloc: Global) -> Arg<'a> {
 }
 
 fn push_command<'a>(alloc: Global) -> Result<Command<'a>, AllocError> {
-    Command::new(alloc, "push")
+    let users = Command::new(alloc, "push")
         .about(
             "carries the records of files to the provider at an address, and prints how each stands",
         )
-        .arg(users_option(alloc))?
-        .arg(groups_option(alloc))?
-        .arg(journal_option(alloc).required(true))?
-        .arg(to_option(alloc))?
-        .arg(base_option(alloc))
+        .arg(users_option(alloc));
+    let groups = with_option(users, groups_option(alloc));
+    let journal = with_option(groups, journal_option(alloc).required(true));
+    let to = with_option(journal, to_option(alloc));
+    with_option(to, base_option(alloc))
 }
 
 fn show_command<'a>(alloc: Global) -> Result<Command<'a>, AllocError> {
-    Command::new(alloc, "show")
+    let store = Command::new(alloc, "show")
         .about(
             "prints the rows of a provider's store, or the entries of a connector's journal, a line each",
         )
-        .arg(store_option(alloc))?
-        .arg(journal_option(alloc))
+        .arg(store_option(alloc));
+    with_option(store, journal_option(alloc))
 }
 
 fn simulate_command<'a>(alloc: Global) -> Result<Command<'a>, AllocError> {
@@ -226,35 +226,38 @@ fn program<'a>(alloc: Global) -> Command<'a> {
 }
 
 fn command<'a>(alloc: Global) -> Result<Command<'a>, AllocError> {
-    let answering = with_subcommand(program(alloc), answer_command(alloc))?;
-    let looping = with_subcommand(answering, loop_command(alloc))?;
-    let mapping = with_subcommand(looping, map_command(alloc))?;
-    let pushing = with_subcommand(mapping, push_command(alloc))?;
-    let serving = with_subcommand(pushing, serve_command(alloc))?;
-    let showing = with_subcommand(serving, show_command(alloc))?;
+    let answering = with_subcommand(Ok(program(alloc)), answer_command(alloc));
+    let looping = with_subcommand(answering, loop_command(alloc));
+    let mapping = with_subcommand(looping, map_command(alloc));
+    let pushing = with_subcommand(mapping, push_command(alloc));
+    let serving = with_subcommand(pushing, serve_command(alloc));
+    let showing = with_subcommand(serving, show_command(alloc));
     with_subcommand(showing, simulate_command(alloc))
 }
 
+/// A command with one more subcommand. The chain of these has no early end at which all that lives
+/// would be let go.
 fn with_subcommand<'a>(
-    program: Command<'a>,
+    program: Result<Command<'a>, AllocError>,
     subcommand: Result<Command<'a>, AllocError>,
 ) -> Result<Command<'a>, AllocError> {
-    match subcommand {
-        Ok(subcommand) => program.subcommand(subcommand),
-        Err(fault) => {
-            drop(program);
-            Err(fault)
-        }
-    }
+    let subcommand = subcommand?;
+    program?.subcommand(subcommand)
+}
+
+/// A command with one more option, likewise.
+fn with_option<'a>(
+    command: Result<Command<'a>, AllocError>,
+    option: Arg<'a>,
+) -> Result<Command<'a>, AllocError> {
+    command?.arg(option)
 }
 
 fn chosen_by(alloc: Global, matches: &ArgMatches<'_>) -> Result<Chosen, RunFault> {
     match matches.subcommand() {
         Some(("answer", words)) => to_answer(alloc, words),
         Some(("loop", words)) => to_loop(alloc, words),
-        Some(("map", words)) => without_files(Choice::Map {
-            file: file(alloc, words)?,
-        }),
+        Some(("map", words)) => to_map(alloc, words),
         Some(("serve", words)) => to_serve(alloc, words),
         Some(("push", words)) => to_push(alloc, words),
         Some(("show", words)) => to_show(alloc, words),
@@ -281,6 +284,12 @@ fn to_loop(alloc: Global, words: &ArgMatches<'_>) -> Result<Chosen, RunFault> {
             files: source_files(alloc, words)?,
             base: base(alloc, words)?,
         },
+    })
+}
+
+fn to_map(alloc: Global, words: &ArgMatches<'_>) -> Result<Chosen, RunFault> {
+    without_files(Choice::Map {
+        file: file(alloc, words)?,
     })
 }
 
