@@ -1,2 +1,3 @@
 pub mod Connections
 pub mod Statuses
+pub mod Words

@@ -1,8 +1,9 @@
 //! The images of the rows of a users file, and how the run then ends.
-ghost use Rattle.std.specs.Prelude.{◌≡◌, IfOk, OnOk};
+ghost use Rattle.std.specs.Prelude.{◌≡◌, IfErr, IfOk, OnOk};
 ghost use Rattle.std.specs.Io.KnownBytes.{Appends};
 ghost use Rattle.mapping.specs.Lines.{lines_of};
-ghost use Rattle.commands.specs.Statuses.{are_rows, records_status};
+ghost use Rattle.mapping.specs.declared.lines.WriteFault.{WriteFault};
+ghost use Rattle.commands.specs.Statuses.{are_rows, lines_fault, records_status};
 
 use crate::status::{RunFault, Status};
 use mapping::write_images;
@@ -19,6 +20,7 @@ pub fn print_images<W: Write>(
     ensures lines { OnOk result
         (Appends (W.contents out.old) (W.contents out.new) (lines_of records.now)) }
     ensures status { IfOk result (λ status. status ≡ records_status records.now) }
+    ensures fault { IfErr result (λ fault. (why : WriteFault) × (fault ≡ lines_fault why)) }
 {
     write_images(alloc, records, out)?;
     Ok(records_status(records))

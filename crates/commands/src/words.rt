@@ -1,8 +1,11 @@
 //! The values of the command line's words.
-ghost use Rattle.std.specs.Prelude.{◌≡◌, ◌<◌, ◌≤◌, IfOk, Some, codes, string_bytes};
+ghost use Rattle.std.specs.Prelude.{◌≡◌, ◌<◌, ◌≤◌, IfOk, Ok, Some, codes, string_bytes};
 ghost use Rattle.std.specs.Option.{option_map};
-ghost use Rattle.clap.specs.Matches.{first_value, found_of};
+ghost use Rattle.clap.specs.Matches.{first_value, found_of, one_text};
+ghost use Rattle.scim_key.specs.Outcome.{Gives, GivesBy};
 ghost use Rattle.commands.specs.Statuses.{base_fault, words_status};
+ghost use Rattle.commands.specs.Words.{number_in, wanted, wanted_base};
+ghost use Rattle.commands.specs.declared.status.RunFault.TheVariants.{Address, File, Memory};
 
 use crate::status::{RunFault, Status};
 use clap::ArgMatches;
@@ -15,8 +18,7 @@ pub const MOST_REQUESTS: u32 = 1_000_000;
 
 /// The base that the words give, or the one by default.
 pub fn base(alloc: Global, matches: &ArgMatches<'_>) -> Result<Base, RunFault>
-    ensures { IfOk result
-        (λ base. first_value (found_of matches.now) (codes "base") ≡ Some base) }
+    ensures { Gives Memory result (wanted_base (first_value (found_of matches.now) (codes "base"))) }
 {
     match matches.get_str("base") {
         Some(text) => Base::read(alloc, text).map_err(base_fault),
@@ -36,8 +38,8 @@ pub fn base_fault(fault: NameFault) -> RunFault
 
 /// The file that the words name.
 pub fn file(alloc: Global, matches: &ArgMatches<'_>) -> Result<String, RunFault>
-    ensures { IfOk result
-        (λ file. first_value (found_of matches.now) (codes "FILE") ≡ Some (string_bytes file)) }
+    ensures { GivesBy string_bytes Memory result
+        (wanted File (first_value (found_of matches.now) (codes "FILE"))) }
 {
     match matches.get_str("FILE") {
         Some(text) => Ok(String::from_str(alloc, text)?),
@@ -47,8 +49,8 @@ pub fn file(alloc: Global, matches: &ArgMatches<'_>) -> Result<String, RunFault>
 
 /// The file of users that the words name.
 pub fn users(alloc: Global, matches: &ArgMatches<'_>) -> Result<String, RunFault>
-    ensures { IfOk result
-        (λ file. first_value (found_of matches.now) (codes "users") ≡ Some (string_bytes file)) }
+    ensures { GivesBy string_bytes Memory result
+        (wanted File (first_value (found_of matches.now) (codes "users"))) }
 {
     match matches.get_str("users") {
         Some(text) => Ok(String::from_str(alloc, text)?),
@@ -58,8 +60,8 @@ pub fn users(alloc: Global, matches: &ArgMatches<'_>) -> Result<String, RunFault
 
 /// The file of groups that the words name, if they do.
 pub fn groups(alloc: Global, matches: &ArgMatches<'_>) -> Result<Option<String>, RunFault>
-    ensures { IfOk result
-        (λ file. first_value (found_of matches.now) (codes "groups") ≡ option_map string_bytes file) }
+    ensures { GivesBy (option_map string_bytes) Memory result
+        (Ok (first_value (found_of matches.now) (codes "groups"))) }
 {
     match matches.get_str("groups") {
         Some(text) => Ok(Some(String::from_str(alloc, text)?)),
@@ -69,8 +71,8 @@ pub fn groups(alloc: Global, matches: &ArgMatches<'_>) -> Result<Option<String>,
 
 /// The address that the words name.
 pub fn address(alloc: Global, matches: &ArgMatches<'_>) -> Result<String, RunFault>
-    ensures { IfOk result
-        (λ address. first_value (found_of matches.now) (codes "listen") ≡ Some (string_bytes address)) }
+    ensures { GivesBy string_bytes Memory result
+        (wanted Address (first_value (found_of matches.now) (codes "listen"))) }
 {
     match matches.get_str("listen") {
         Some(text) => Ok(String::from_str(alloc, text)?),
@@ -80,8 +82,8 @@ pub fn address(alloc: Global, matches: &ArgMatches<'_>) -> Result<String, RunFau
 
 /// The file of rows that the words name, if they do.
 pub fn store(alloc: Global, matches: &ArgMatches<'_>) -> Result<Option<String>, RunFault>
-    ensures { IfOk result
-        (λ store. first_value (found_of matches.now) (codes "store") ≡ option_map string_bytes store) }
+    ensures { GivesBy (option_map string_bytes) Memory result
+        (Ok (first_value (found_of matches.now) (codes "store"))) }
 {
     match matches.get_str("store") {
         Some(text) => Ok(Some(String::from_str(alloc, text)?)),
@@ -91,8 +93,8 @@ pub fn store(alloc: Global, matches: &ArgMatches<'_>) -> Result<Option<String>, 
 
 /// The file of the journal that the words name, if they do.
 pub fn journal(alloc: Global, matches: &ArgMatches<'_>) -> Result<Option<String>, RunFault>
-    ensures { IfOk result
-        (λ journal. first_value (found_of matches.now) (codes "journal") ≡ option_map string_bytes journal) }
+    ensures { GivesBy (option_map string_bytes) Memory result
+        (Ok (first_value (found_of matches.now) (codes "journal"))) }
 {
     match matches.get_str("journal") {
         Some(text) => Ok(Some(String::from_str(alloc, text)?)),
@@ -102,8 +104,8 @@ pub fn journal(alloc: Global, matches: &ArgMatches<'_>) -> Result<Option<String>
 
 /// The provider's address that the words name.
 pub fn to(alloc: Global, matches: &ArgMatches<'_>) -> Result<String, RunFault>
-    ensures { IfOk result
-        (λ to. first_value (found_of matches.now) (codes "to") ≡ Some (string_bytes to)) }
+    ensures { GivesBy string_bytes Memory result
+        (wanted Address (first_value (found_of matches.now) (codes "to"))) }
 {
     match matches.get_str("to") {
         Some(text) => Ok(String::from_str(alloc, text)?),
@@ -113,7 +115,9 @@ pub fn to(alloc: Global, matches: &ArgMatches<'_>) -> Result<String, RunFault>
 
 /// How many connections the words ask for.
 pub fn requests(matches: &ArgMatches<'_>) -> Result<u32, RunFault>
-    ensures { IfOk result (λ count. (0 < count) × (count ≤ MOST_REQUESTS)) }
+    ensures range { IfOk result (λ count. (0 < count) × (count ≤ MOST_REQUESTS)) }
+    ensures value { IfOk result
+        (λ count. option_map number_in (one_text (found_of matches.now) (codes "requests")) ≡ Some count) }
 {
     match matches.get_one("requests") {
         Some(count) if (1..=MOST_REQUESTS).contains(&count) => Ok(count),
