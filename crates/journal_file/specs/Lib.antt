@@ -1,4 +1,3 @@
 pub mod Opened
-pub mod Files
 pub mod Lines
 pub mod Showing

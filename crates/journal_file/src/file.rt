@@ -1,12 +1,11 @@
 //! A file as the place of the entries.
-ghost use Rattle.std.specs.Prelude.{◌≡◌, IfOk};
+ghost use Rattle.std.specs.Prelude.{IfOk};
 ghost use Rattle.journal_file.specs.Opened.{IsOpened};
-ghost use Rattle.journal_file.specs.Files.{file_fault};
 
 use crate::storage::{Storage, StoredEntries};
 use journal_core::Journal;
 use journal_store::{OpenFault, SqlJournal};
-use sqlite::{Alter, Connection, Error, ErrorCode, File, FileStore, Unknown};
+use sqlite::{Alter, Connection, File, FileStore, Unknown};
 use sqlite_disk::Disk;
 use std::alloc::Global;
 use std::rt::HostRuntime;
@@ -25,7 +24,7 @@ impl<'a> Storage for JournalFile<'a> {
     fn open(&self) -> Result<Self::Entries, OpenFault> {
         match Connection::open_from(self.rt, self.path, false, Unknown) {
             Ok(conn) => entries_over(self.rt.alloc(), conn),
-            Err((error, _left)) => Err(file_fault(error)),
+            Err((error, _left)) => Err(OpenFault::from(error)),
         }
     }
 }
@@ -46,15 +45,5 @@ fn entries_over<S: Alter + Drop>(
     match SqlJournal::open(alloc, conn) {
         Ok(entries) => Ok(entries),
         Err((fault, _conn)) => Err(fault),
-    }
-}
-
-/// Why a file isn't opened.
-fn file_fault(error: Error) -> OpenFault
-    ensures { result ≡ file_fault error }
-{
-    match error {
-        Error::SqliteFailure(ErrorCode::OutOfMemory) => OpenFault::Memory,
-        _ => OpenFault::Store,
     }
 }

@@ -15,7 +15,7 @@ use Rattle.journal_store.specs.Format.{no_schema, format_number, format_tree, en
 use Rattle.journal_store.specs.Connections.{AreNumbered, Answers, HasNumbers, IsLaid, ListsAll}
 use Rattle.journal_store.specs.Rows.{entries_in}
 use Rattle.journal_store.specs.Opening.{AreInOrder, AreLawful, AreRising, HoldsEntries, IsCause, IsDamaged, IsFormat, IsMarked, IsFor, IsJournal, IsNewer, IsNotLaid, IsSpoilt, keys_of, open_fault, IsStore, Looks, LeavesStore}
-use Rattle.journal_store.specs.Faults.{HasCause, IsOfStatement}
+use Rattle.journal_store.specs.Faults.{HasCause}
 use Rattle.journal_store.specs.declared.statements.TableFault.{TableFault}
 use Rattle.journal_store.specs.declared.statements.TableFault.TheVariants as table
 use Rattle.journal_store.specs.declared.opening.OpenFault.{OpenFault}
@@ -54,8 +54,9 @@ told P D E h table.Store it = tt
 told P D E h table.Damaged it = h it
 told P D E h table.Memory it = tt
 
-pub no_damage : (P D : Type 0) (fault : TableFault) → IsOfStatement fault → IsFor P D (open_fault fault)
-no_damage P D = told P ⊥ D (λ none. absurd none)
+-- and one that tells of nothing may stand for any
+pub no_damage : (P D : Type 0) (fault : OpenFault) → IsFor ⊥ ⊥ fault → IsFor P D fault
+no_damage P D = is_for {P = ⊥} {Q = P} {D = ⊥} {E = D} (λ none. absurd none) (λ none. absurd none)
 
 pub told_of : {T : Type 0} (P D E : Type 0) → (D → E) → (r : Result T OpenFault) (fault : TableFault) → IsErrAnd r (λ given. given ≡ open_fault fault) → HasCause D fault → IfErr r (IsFor P E)
 told_of P D E h (Ok x) fault is it = tt

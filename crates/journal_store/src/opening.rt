@@ -61,6 +61,18 @@ impl From<TableFault> for OpenFault {
     }
 }
 
+/// A failed statement tells of no damage, and of no newer format.
+impl From<Error> for OpenFault {
+    ghost use Rattle.journal_store.specs.Faults.{statement_fault};
+    ghost use Rattle.journal_store.specs.Opening.{open_fault};
+
+    ghost from_gives = { λ error fault. (fault ≡ open_fault (statement_fault error)) × IsFor ⊥ ⊥ fault };
+
+    fn from(error: Error) -> OpenFault {
+        OpenFault::from(TableFault::from(error))
+    }
+}
+
 // ---- the tables
 
 /// Makes the tables with the row of the format, all or none.
@@ -101,7 +113,7 @@ fn check_format<S: Alter>(conn: &mut Connection<S>) -> Result<(), OpenFault>
 {
     match ask(conn, "SELECT number FROM journal_format", &[]) {
         Ok(rows) => format_in(rows.as_slice()),
-        Err(error) => Err(OpenFault::from(TableFault::from(error))),
+        Err(error) => Err(OpenFault::from(error)),
     }
 }
 
@@ -168,7 +180,7 @@ fn check_table<S: Alter>(conn: &mut Connection<S>, kind: Kind) -> Result<(), Ope
 {
     match ask(conn, numbers_statement(kind), &[]) {
         Ok(rows) => check_rising(rows.as_slice()),
-        Err(error) => Err(OpenFault::from(TableFault::from(error))),
+        Err(error) => Err(OpenFault::from(error)),
     }
 }
 
@@ -258,6 +270,6 @@ pub(crate) fn open_tables<S: Alter>(
     }
     match make_tables(conn) {
         Ok(()) => Ok(()),
-        Err(error) => Err(OpenFault::from(TableFault::from(error))),
+        Err(error) => Err(OpenFault::from(error)),
     }
 }

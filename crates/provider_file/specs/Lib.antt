@@ -1,5 +1,4 @@
 pub mod Opened
-pub mod Files
 pub mod Serving
 pub mod Lines
 pub mod Showing

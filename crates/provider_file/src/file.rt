@@ -1,12 +1,11 @@
 //! A file as the place of the rows.
-ghost use Rattle.std.specs.Prelude.{◌≡◌, IfOk};
+ghost use Rattle.std.specs.Prelude.{IfOk};
 ghost use Rattle.provider_file.specs.Opened.{IsOpened};
-ghost use Rattle.provider_file.specs.Files.{file_fault};
 
 use crate::storage::{Storage, StoredRows};
 use provider_core::Registry;
 use provider_store::{OpenFault, SqlRegistry};
-use sqlite::{Alter, Connection, Error, ErrorCode, File, FileStore, Unknown};
+use sqlite::{Alter, Connection, File, FileStore, Unknown};
 use sqlite_disk::Disk;
 use std::alloc::Global;
 use std::rt::HostRuntime;
@@ -28,7 +27,7 @@ impl<'a> Storage for StoreFile<'a> {
     fn open(&self) -> Result<Self::Rows, OpenFault> {
         match Connection::open_from(self.rt, self.path, false, Unknown) {
             Ok(conn) => rows_over(self.rt.alloc(), conn),
-            Err((error, _left)) => Err(file_fault(error)),
+            Err((error, _left)) => Err(OpenFault::from(error)),
         }
     }
 }
@@ -53,15 +52,5 @@ fn rows_over<S: Alter + Drop>(
     match SqlRegistry::open(alloc, conn) {
         Ok(rows) => Ok(rows),
         Err((fault, _conn)) => Err(fault),
-    }
-}
-
-/// Why a file isn't opened.
-fn file_fault(error: Error) -> OpenFault
-    ensures { result ≡ file_fault error }
-{
-    match error {
-        Error::SqliteFailure(ErrorCode::OutOfMemory) => OpenFault::Memory,
-        _ => OpenFault::Store,
     }
 }

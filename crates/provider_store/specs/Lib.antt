@@ -2,6 +2,7 @@ pub mod Format
 pub mod Rows
 pub mod Lawful
 pub mod Connections
+pub mod Faults
 pub mod Opening
 pub mod Kept
 pub mod Lookups

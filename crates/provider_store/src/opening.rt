@@ -63,6 +63,18 @@ impl From<RegistryFault> for OpenFault {
     }
 }
 
+/// A failed statement tells of no damage, and of no newer format.
+impl From<Error> for OpenFault {
+    ghost use Rattle.provider_store.specs.Faults.{statement_fault};
+    ghost use Rattle.provider_store.specs.Opening.{open_fault};
+
+    ghost from_gives = { λ error fault. (fault ≡ open_fault (statement_fault error)) × IsFor ⊥ (λ _. ⊥) fault };
+
+    fn from(error: Error) -> OpenFault {
+        OpenFault::from(fault_of(error))
+    }
+}
+
 // ---- the tables
 
 /// Makes the tables with the row of the format, all or none.
@@ -100,7 +112,7 @@ fn check_format<S: Alter>(conn: &mut Connection<S>) -> Result<(), OpenFault>
 {
     match ask(conn, "SELECT number FROM provider_format", &[]) {
         Ok(rows) => format_in(rows.as_slice()),
-        Err(error) => Err(OpenFault::from(fault_of(error))),
+        Err(error) => Err(OpenFault::from(error)),
     }
 }
 
@@ -196,7 +208,7 @@ fn check_rest<S: Alter>(conn: &mut Connection<S>, count: u32) -> Result<(), Open
         &[ValueRef::Int(i64::from(count))],
     ) {
         Ok(rows) => none_in(rows.as_slice()),
-        Err(error) => Err(OpenFault::from(fault_of(error))),
+        Err(error) => Err(OpenFault::from(error)),
     }
 }
 
@@ -273,6 +285,6 @@ pub(crate) fn open_tables<S: Alter>(
     }
     match make_tables(conn) {
         Ok(()) => Ok(0),
-        Err(error) => Err(OpenFault::from(fault_of(error))),
+        Err(error) => Err(OpenFault::from(error)),
     }
 }

@@ -8,6 +8,7 @@ ghost use Rattle.sqlite.specs.Values.{bound};
 ghost use Rattle.scim_resource.specs.Contents.{content_kind, content_name};
 ghost use Rattle.scim_resource.specs.Reading.{content_in};
 ghost use Rattle.scim_resource.specs.Rows.{IsStored, StoredRecord};
+ghost use Rattle.provider_store.specs.Faults.{statement_fault};
 ghost use Rattle.provider_store.specs.Rows.{IsRowOf, kind_code};
 ghost use Rattle.provider_store.specs.Connections.{Answers, FindsName, FindsNumber, IsEditText, IsLaid, IsOnly, IsQuery, IsThere, Keeps, Leaves, Makes, MayLeave, Ran, added, content_text, renewed, resources};
 
@@ -28,7 +29,9 @@ pub enum Found {
 }
 
 /// The fault of a registry at an error of the database.
-pub(crate) fn fault_of(error: Error) -> RegistryFault {
+pub(crate) fn fault_of(error: Error) -> RegistryFault
+    ensures { result ≡ statement_fault error }
+{
     match error {
         Error::SqliteFailure(ErrorCode::OutOfMemory) => RegistryFault::Memory,
         _ => RegistryFault::Store,

@@ -1,8 +1,8 @@
-use Rattle.std.proofs.Common.{sym, subst, arith}
+use Rattle.std.proofs.Common.{arith}
 use Rattle.sqlite.specs.Held.{state}
 use Rattle.sqlite.specs.State.{HasCleanDisk}
 use Rattle.journal_store.specs.Format.{format_number}
-use Rattle.journal_store.specs.Opening.{IsFor, IsNewer, IsUnmarked}
+use Rattle.journal_store.specs.Opening.{IsNewer, IsUnmarked}
 use Rattle.journal_store.proofs.Texts.{marked_query}
 use Rattle.journal_store.proofs.Checking.{on_ok, if_err, is_for, no_damage, marked_found, found_marked}
 use Rattle.journal_store.proofs.opening.check_format.Goals as goal
@@ -28,4 +28,4 @@ returns-in-Ok-clause-cause g c clean =
 pub returns-in-Err-clause-cause : goal.returns-in-Err-clause-cause
 returns-in-Err-clause-cause g c clean =
     let old = state g.S.Store c.args.conn.now in
-    subst (IsFor (IsNewer old) (IsUnmarked old)) (sym c.from-in-Err.ensures) (no_damage (IsNewer old) (IsUnmarked old) c.from.result c.from.ensures.1)
+    no_damage (IsNewer old) (IsUnmarked old) c.from.result c.from.ensures.1

@@ -1,9 +1,9 @@
-use Rattle.std.proofs.Common.{[], IsTrue, arith, subst, sym}
+use Rattle.std.proofs.Common.{[], IsTrue, arith, subst}
 use Rattle.sqlite.specs.Held.{state}
 use Rattle.sqlite.specs.State.{HasCleanDisk}
 use Rattle.journal_store.specs.Connections.{Answers, AreNumbered}
 use Rattle.journal_store.specs.Format.{entry_tree}
-use Rattle.journal_store.specs.Opening.{IsFor, IsUnnumbered}
+use Rattle.journal_store.specs.Opening.{IsUnnumbered}
 use Rattle.journal_store.proofs.Texts.{numbers_query}
 use Rattle.journal_store.proofs.Checking.{damage_on, no_damage, on_ok, numbers_found}
 use Rattle.journal_store.proofs.Refusing.{unnumbered}
@@ -32,4 +32,4 @@ returns-in-Ok-clause-cause g c clean =
 pub returns-in-Err-clause-cause : goal.returns-in-Err-clause-cause
 returns-in-Err-clause-cause g c clean =
     let refused = IsTrue (state g.S.Store c.ask.new.conn).is_open × (AreNumbered ((state g.S.Store c.args.conn.now).now.trees (entry_tree c.args.kind)) → ⊥) in
-    subst (IsFor ⊥ refused) (sym c.from-in-Err.ensures) (no_damage ⊥ refused c.from.result c.from.ensures.1)
+    no_damage ⊥ refused c.from.result c.from.ensures.1

@@ -1,8 +1,8 @@
-use Rattle.std.proofs.Common.{◌≡◌, false, refl, sym, ◌∙◌, inl, inr, subst, IsTrue, rules, tests}
+use Rattle.std.proofs.Common.{◌≡◌, false, refl, sym, ◌∙◌, inl, inr, IsTrue, rules, tests}
 use Rattle.std.specs.FinMap.{empty}
 use Rattle.sqlite.specs.Held.{state}
 use Rattle.journal_core.specs.Entries.{EntryMap}
-use Rattle.journal_store.specs.Opening.{IsCause, IsDamaged, IsNewer, IsStore}
+use Rattle.journal_store.specs.Opening.{IsDamaged, IsNewer, IsStore}
 use Rattle.journal_store.proofs.Checking.{on_both, no_damage, opening_cause}
 use Rattle.journal_store.proofs.Reopening.{store_on}
 use Rattle.journal_store.proofs.opening.open_tables.Goals as goal
@@ -27,4 +27,4 @@ returns-then-not-is_blank-clause-cause g c clean =
 pub returns-in-Err-clause-cause : goal.returns-in-Err-clause-cause
 returns-in-Err-clause-cause g c clean =
     let old = state g.S.Store c.args.conn.now in
-    subst (IsCause old) (sym c.from-in-Err.ensures) (no_damage (IsNewer old) (IsDamaged old) c.from.result c.from.ensures.1)
+    no_damage (IsNewer old) (IsDamaged old) c.from.result c.from.ensures.1
