@@ -1,5 +1,6 @@
 #!/usr/bin/env python3
 """Tries the connector's journals of scimlink: tests/journals.py PROGRAM ROOM. Called by tests/stores.sh."""
+import contextlib
 import socket
 import sys
 import time
@@ -225,13 +226,20 @@ def test_files_that_are_no_journals_are_refused():
     files.tries_a_read_only_file(path, commands(path), "journal fault J1\n")
 
 
+@contextlib.contextmanager
+def silent_provider():
+    """A provider that answers nothing, so that a run which has connected waits: its listener and address."""
+    with socket.create_server(("127.0.0.1", 0)) as listener:
+        yield listener, "127.0.0.1:%d" % listener.getsockname()[1]
+
+
 def test_a_locked_file_is_refused():
     path = with_ann("locked")
     files.tries_a_locked_file(refuses_by_j1, path)
     shows(path, "user ann wanted=1 confirmed=0 id=-")
     users = source("locked-users", USERS_HEADER, ["bob,1,,,,,active"])
-    with socket.create_server(("127.0.0.1", 0)) as silent:
-        run = Run(push(path, users, "127.0.0.1:%d" % silent.getsockname()[1]))
+    with silent_provider() as (silent, address):
+        run = Run(push(path, users, address))
         with silent.accept()[0]:
             refuses_by_j1(path)
             assert files.is_locked(path)
@@ -250,9 +258,10 @@ def test_a_kill_while_rows_are_offered():
     users, all_rows = many("offered-users", 20_000)
     for turn in range(12):
         path = file(f"offered-{turn}")
-        run = Run(push(path, users, "127.0.0.1:1"))
-        time.sleep(turn * 0.02)
-        equal(run.kill(), "")
+        with silent_provider() as (_, address):
+            run = Run(push(path, users, address))
+            time.sleep(turn * 0.02)
+            equal(run.kill(), "")
         status, shown, _ = ran("show", "--journal", path)
         shown = shown.decode().splitlines()
         # the rows of a file are all there, or none of them
