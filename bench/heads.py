@@ -16,8 +16,9 @@ import subprocess
 import sys
 import tempfile
 
-TOP = os.path.dirname(os.path.dirname(os.path.abspath(__file__)))
-PROGRAM = os.path.join(TOP, "crates/scimlink/out/scimlink")
+from built import program
+
+PROGRAM = program()
 SIZES = (200, 1_024, 2_200, 4_096, 8_192, 16_200)
 
 

@@ -13,8 +13,9 @@ import sys
 import tempfile
 import time
 
-TOP = os.path.dirname(os.path.dirname(os.path.abspath(__file__)))
-PROGRAM = os.path.join(TOP, "crates/scimlink/out/scimlink")
+from built import program
+
+PROGRAM = program()
 PYTHON = """
 import csv, json, sys
 CORE = "urn:ietf:params:scim:schemas:core:2.0:User"
@@ -58,8 +59,6 @@ def best(command, times=5):
 
 
 def main():
-    if not os.path.exists(PROGRAM):
-        sys.exit("build the program first: make build")
     good, each = True, {}
     print(f"{'rows':>8} {'scimlink':>10} {'python':>10} {'ratio':>7}")
     with tempfile.TemporaryDirectory() as room:

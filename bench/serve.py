@@ -21,9 +21,10 @@ import tempfile
 import time
 
 import stores
+from built import program
 
 HERE = pathlib.Path(__file__).resolve().parent
-PROGRAM = pathlib.Path(os.environ.get("PROGRAM") or HERE.parent / "crates/scimlink/out/scimlink")
+PROGRAM = program()
 SCIM = "application/scim+json"
 CORE, SOURCE = "urn:ietf:params:scim:schemas:core:2.0:User", "urn:example:params:scim:schemas:extension:source:1.0"
 BODY = (f'{{"active":true,"emails":[{{"primary":true,"type":"work","value":"@@@@@@@@@example.com"}}],'

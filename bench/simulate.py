@@ -17,8 +17,9 @@ import sys
 import tempfile
 import time
 
-TOP = os.path.dirname(os.path.dirname(os.path.abspath(__file__)))
-PROGRAM = os.environ.get("PROGRAM", os.path.join(TOP, "crates/scimlink/out/scimlink"))
+from built import program
+
+PROGRAM = program()
 SIZES = (1_000, 10_000, 100_000)
 USERS = 100
 
