@@ -1,47 +1,51 @@
 # The commands of the README, and what a checkout needs from day to day.
 PREFIX ?= /usr/local
+JOBS ?= $(shell nproc)
+PROGRAM := crates/scimlink/out/scimlink
+# what the program is built of
+SOURCES := crates.txt HANDLES $(shell find crates -type f -not -path '*/out/*' \
+	\( -path '*/src/*' -o -path '*/specs/*' -o -path '*/proofs/*' \))
 
-.PHONY: loop answer map simulate try test edits build install
+.PHONY: try loop answer map simulate build install test mutants
 
-# the main job on the example: joiners, a leaver and a group, carried by both ends over TCP
+# the main job on the example, by a program that isn't proved, in a few minutes
+try:
+	@python3 -B tools/try.py
+
+# the main job on the example: joiners, a leaver and a group, carried by connector and provider over TCP
 loop: build
-	crates/scimlink/out/scimlink loop --users examples/tuesday.csv --groups examples/groups.csv
+	$(PROGRAM) loop --users examples/tuesday.csv --groups examples/groups.csv
 
 # one POST of a user, answered on standard output
 answer: build
-	crates/scimlink/out/scimlink answer < examples/create-user.http
+	$(PROGRAM) answer < examples/create-user.http
 
-# the images of a small personnel file; one of its records is refused, so the status is 1
+# the images of a small personnel file; one of its records is rejected, so the status is 1
 map: build
-	crates/scimlink/out/scimlink map examples/personnel.csv || test $$? = 1
+	$(PROGRAM) map examples/personnel.csv || test $$? = 1
 
 # a leaver whose messages are late and repeated: what each event reports, and what is held in the end
 simulate: build
-	crates/scimlink/out/scimlink simulate examples/late-leaver.schedule
+	$(PROGRAM) simulate examples/late-leaver.schedule
 
-# that answer with no proof and no kept program: for a first look. The last line says so: proved=no
-try:
-	cd crates/scimlink && rt try --steps 1 -- answer < ../../examples/create-user.http
+build: $(PROGRAM)
 
-test:
-	rt ci
-	tests/map.sh
-	tests/answer.sh
-	tests/serve.sh
-	tests/stores.sh
-	tests/push.sh
-	tests/loop.sh
-	tests/simulate.sh
-	tests/memory.sh
-	tests/guide.sh
-	tests/edits.py --apply
-
-# the wrong programs of every crate, over the libraries that rt ci or rt all check built
-edits:
-	tests/edits.py
-
-build:
-	cd crates/scimlink && rt run -- --version > /dev/null
+# proves the crates side by side, then the program, and builds it; what is printed goes to out/build.log, and
+# on to standard error if something fails
+$(PROGRAM): $(SOURCES)
+	@mkdir -p out
+	@echo "proving what isn't proved yet, $(JOBS) crates at a time: out/build.log shows how far it is" >&2
+	@{ rt all check --jobs $(JOBS) && cd crates/scimlink && rt run -- --version; } > out/build.log 2>&1 || \
+		{ grep -vE ': proved$$|^statements ' out/build.log >&2; exit 1; }
+	@touch $@
 
 install: build
-	install -D -m755 crates/scimlink/out/scimlink $(PREFIX)/bin/scimlink
+	install -D -m755 $(PROGRAM) $(PREFIX)/bin/scimlink
+
+# CI
+test:
+	python3 -B tools/gate.py
+
+# tries the mutants of every crate, or of CRATE, which the prover must reject
+mutants:
+	python3 -B tools/mutants.py $(CRATE)

@@ -1,0 +1,560 @@
+#!/usr/bin/env python3
+"""Mutants: changes of the code that break a promise, each of which the prover must reject.
+
+edits/NAME.edit holds those of the crate NAME, an empty line between two:
+
+    mutant: a name
+    rejected by: FUNCTION · CLAUSE
+    file: src/FILE.rt
+    old: a text of one line that is in the file exactly once; leading spaces count
+    new: the text that replaces it
+
+Further pairs of old: and new:, and further files, apply to what the earlier ones made. Only a run writes
+`rejected by`: the clause, or the goal of the code, that the prover couldn't prove in each function that the
+mutant changes. A run is
+
+    tools/mutants.py [--jobs N] [NAME..]    tries the mutants of these crates, or of all
+
+It proves each crate as it is first, over the proofs that `rt check` keeps. Then it tries the crate's mutants
+over those proofs, many in one check, but never two that change one function: each function that a mutant
+changes must be rejected by a goal of its own. A mutant that changes no function (a constant, a definition)
+is tried alone, and anything in the crate may reject it. Results are written as they come. What this clone
+has tried stands in out/mutants, and isn't tried again until the crate, a crate below it or the mutant
+changes; `rm -r out/mutants` forgets it.
+
+If all of a crate's mutants were rejected, edits/refused.txt gets a sum over the crate's texts, without
+comments, and over its mutants, without `rejected by`.
+
+    tools/mutants.py --sums                 tries nothing; reports the mutants that don't apply, and the
+                                            crates whose sum isn't that of what is there
+"""
+import argparse
+import concurrent.futures
+import contextlib
+import dataclasses
+import fcntl
+import functools
+import hashlib
+import os
+import pathlib
+import re
+import shutil
+import signal
+import subprocess
+import sys
+import tempfile
+import threading
+
+ROOT = pathlib.Path(__file__).resolve().parent.parent
+EDITS, CRATES, TRIED = ROOT / "edits", ROOT / "crates", ROOT / "out/mutants"
+SUMS = EDITS / "refused.txt"
+HEAD_OF_SUMS = "# a sum over each crate's texts and mutants, all of which the prover rejected; tools/mutants.py writes it"
+PARTS = ("src", "specs", "proofs")
+# Seconds that a check may take
+MOST_SECONDS = 3600
+
+# A literal, which stays, or a comment
+IN_CODE = re.compile(r"""r(#*)".*?"\1|"(?:\\.|[^"\\])*"|'(?:\\[^']*|[^\\'\n])'|(?P<comment>//[^\n]*|/\*.*?\*/)""", re.S)
+IN_LOGIC = re.compile(r"""(?P<comment>(?<![^\s(){}.;,@"«»])--[^\n]*|{-.*?-})|"(?:\\.|[^"\\\n])*\"""", re.S)
+FUNCTION = re.compile(r"^( *)(?:pub(?:\([a-z]+\))? )?(?:const )?fn (\w+)")
+# What the prover prints of a goal that isn't proved, by its place in the code or in the function's own proof
+OPEN_IN_CODE = re.compile(r"^note: (?:\./)?(src/\S+\.rt):(\d+):\d+: it is not proved(?:.*?\(`([^`\n]+)`\))?", re.M)
+OPEN_IN_PROOF = re.compile(r"^(?:\./)?proofs/(\S+)/[A-Z]\w*\.antt:\d+:\d+: error(?:: `([^`\n]+)`)?(.*)", re.M)
+ANY_ERROR = re.compile(r"^(?:\./)?((?:src|specs|proofs)/\S+):\d+:\d+: error(?:: `([^`\n]+)`)?", re.M)
+# A proof that names what the mutant took away says little of the contract
+OF_NAMES = re.compile(r"has no field|is not in scope|has no `|was not admitted")
+VERDICT = re.compile(r"^logic=", re.M)
+
+
+class Fault(Exception):
+    """Why a mutant can't be tried."""
+
+
+@dataclasses.dataclass
+class Mutant:
+    """A change of a crate: in these files, each old text replaced by the new one."""
+
+    crate: str
+    name: str
+    pairs: list = dataclasses.field(default_factory=list)
+    rejected_by: str = ""
+
+    def __str__(self):
+        return f"{self.crate} {self.name}"
+
+    def texts(self):
+        """The text of each file that it changes."""
+        made = {}
+        for file, old, new in self.pairs:
+            text = made.get(file) or text_of(self.crate, file)
+            if text.count(old) != 1:
+                raise Fault(f"an old text is in {file} {text.count(old)} times, and not once: {old}")
+            made[file] = text.replace(old, new)
+        if not made:
+            raise Fault("it has no old: and new:")
+        return made
+
+    @functools.cached_property
+    def changes(self):
+        """Of each file that it changes, the lines: their numbers, each with the new line."""
+        found = {}
+        for file, text in self.texts().items():
+            lines = enumerate(zip(text_of(self.crate, file).splitlines(), text.splitlines()), 1)
+            found[file] = {at: now for at, (was, now) in lines if was != now}
+        return found
+
+    @functools.cached_property
+    def functions(self):
+        """The functions that it changes, each as its file, name, first and last line; none if it changes
+        a line outside of every function."""
+        found = set()
+        for file, lines in self.changes.items():
+            was = text_of(self.crate, file).splitlines()
+            found |= {(file, *(function_at(was, at) or [None])) for at in lines}
+        return frozenset() if any(not it[0].startswith("src/") or not it[1] for it in found) else frozenset(found)
+
+    def sum(self):
+        return sum_of([self.crate, self.name, *(text for pair in self.pairs for text in pair)])
+
+
+def text_of(crate, file):
+    try:
+        return (CRATES / crate / file).read_text(encoding="utf-8")
+    except OSError as error:
+        raise Fault(f"{file}: {error.strerror}") from error
+
+
+def function_at(lines, number):
+    """The function that a line is in: its name, its first line (with what is before it) and its last."""
+    for first in range(number, 0, -1):
+        head = FUNCTION.match(lines[first - 1])
+        if head:
+            end = head[1] + "}"
+            last = next((at for at in range(first, len(lines) + 1) if lines[at - 1] == end), 0)
+            while first > 1 and lines[first - 2].strip() and lines[first - 2][-1] not in "{};":
+                first -= 1
+            return (head[2], first, last) if last >= number else None
+    return None
+
+
+# ---- the files of mutants
+
+
+def crates_with_mutants():
+    return sorted(it.stem for it in EDITS.glob("*.edit"))
+
+
+def read_mutants(crate):
+    """The mutants of a crate, as its file has them."""
+    found, file, old = [], None, None
+    for number, line in enumerate((EDITS / f"{crate}.edit").read_text(encoding="utf-8").splitlines(), 1):
+        word, _, text = line.partition(": ")
+        if word == "mutant":
+            found.append(Mutant(crate, text))
+            file = old = None
+        elif word == "rejected by" and found:
+            found[-1].rejected_by = text
+        elif word == "file" and found:
+            file = text
+        elif word == "old" and file:
+            old = text
+        elif word.removesuffix(":") == "new" and old:
+            found[-1].pairs.append((file, old, text))
+            old = None
+        elif line:
+            raise Fault(f"edits/{crate}.edit:{number}: this line has no place here: {line}")
+    twice = next((it.name for at, it in enumerate(found) if it.name in [one.name for one in found[:at]]), None)
+    if twice:
+        raise Fault(f"edits/{crate}.edit: two mutants are named {twice}")
+    return found
+
+
+def write_mutants(crate, mutants):
+    write(EDITS / f"{crate}.edit", "\n".join(map(text_of_mutant, mutants)))
+
+
+def text_of_mutant(mutant):
+    lines, at = [f"mutant: {mutant.name}"], None
+    if mutant.rejected_by:
+        lines.append(f"rejected by: {mutant.rejected_by}")
+    for file, old, new in mutant.pairs:
+        lines += [f"file: {file}"] if file != at else []
+        lines += [f"old: {old}", f"new: {new}" if new else "new:"]
+        at = file
+    return "".join(f"{it}\n" for it in lines)
+
+
+def write(path, text):
+    """Writes a file by renaming, so that who is interrupted leaves the old or the new one."""
+    path.parent.mkdir(parents=True, exist_ok=True)
+    new = path.with_name(f".{path.name}.{os.getpid()}")
+    new.write_text(text, encoding="utf-8")
+    new.replace(path)
+
+
+@contextlib.contextmanager
+def alone():
+    """Keeps other runs from the files of results meanwhile."""
+    TRIED.mkdir(parents=True, exist_ok=True)
+    with open(TRIED / "lock", "w", encoding="utf-8") as lock:
+        fcntl.flock(lock, fcntl.LOCK_EX)
+        yield
+
+
+# ---- sums
+
+
+def sum_of(texts):
+    told = hashlib.sha256()
+    for it in texts:
+        told.update(f"{len(it)} {it}\n".encode())
+    return told.hexdigest()[:32]
+
+
+def without_comments(text, form):
+    """A text with neither comments nor empty lines."""
+    text = form.sub(lambda found: "" if found["comment"] else found[0], text)
+    return "\n".join(it.rstrip() for it in text.splitlines() if it.strip())
+
+
+def sum_of_texts(crate):
+    """A sum over the texts of a crate, without comments."""
+    files = [it for part in PARTS for it in sorted((CRATES / crate / part).rglob("*")) if it.is_file()]
+    texts = [without_comments(it.read_text(encoding="utf-8"), IN_CODE if it.suffix == ".rt" else IN_LOGIC) for it in files]
+    names = [str(it.relative_to(CRATES)) for it in files]
+    return sum_of(it for pair in zip(names, texts) for it in pair)
+
+
+def sum_of_crate(crate, mutants):
+    """A sum over the texts of a crate and its mutants, whatever rejected them."""
+    return sum_of([sum_of_texts(crate), *sorted(it.sum() for it in mutants)])
+
+
+def kept_sums():
+    """The sums of the crates whose mutants were all rejected."""
+    lines = SUMS.read_text(encoding="utf-8").splitlines() if SUMS.is_file() else []
+    return dict(it.split() for it in lines if it and not it.startswith("#"))
+
+
+def keep_sum(crate, told):
+    sums = {it: told for it, told in (kept_sums() | {crate: told}).items() if it in crates_with_mutants()}
+    write(SUMS, "".join(f"{it}\n" for it in [HEAD_OF_SUMS, *(f"{it} {sums[it]}" for it in sorted(sums))]))
+
+
+def faults_of(crate):
+    """The mutants of a crate that don't apply, each with the reason."""
+    try:
+        mutants = read_mutants(crate)
+    except Fault as fault:
+        return [str(fault)]
+    found = []
+    for it in mutants:
+        try:
+            it.texts()
+        except Fault as fault:
+            found.append(f"{it}: {fault}")
+    return found
+
+
+def is_current(crate):
+    """Whether the mutants of a crate were all rejected with the texts that are there."""
+    return kept_sums().get(crate) == sum_of_crate(crate, read_mutants(crate))
+
+
+def unrecorded(crate):
+    """The mutants of a crate of which no run has written what rejects them."""
+    return [it.name for it in read_mutants(crate) if not it.rejected_by]
+
+
+# ---- the prover
+
+
+class Checks:
+    """Commands that end when the run ends."""
+
+    def __init__(self):
+        self.running, self.is_ended, self.own = set(), False, threading.Lock()
+
+    def output(self, told, folder):
+        """What a command prints, and its status."""
+        how = {"stdin": subprocess.DEVNULL, "stdout": subprocess.PIPE, "stderr": subprocess.STDOUT, "errors": "replace"}
+        with self.own:
+            if self.is_ended:
+                raise KeyboardInterrupt
+            run = subprocess.Popen(told, cwd=folder, start_new_session=True, **how)
+            self.running.add(run)
+        try:
+            said, _ = run.communicate(timeout=MOST_SECONDS)
+        except subprocess.TimeoutExpired:
+            self.kill(run)
+            said = f"{run.communicate()[0]}\nit took more than {MOST_SECONDS} seconds"
+        finally:
+            with self.own:
+                self.running.discard(run)
+        if self.is_ended:
+            raise KeyboardInterrupt
+        return said, run.returncode
+
+    def kill(self, run):
+        with contextlib.suppress(ProcessLookupError):
+            os.killpg(run.pid, signal.SIGKILL)
+
+    def end(self):
+        with self.own:
+            self.is_ended = True
+            for it in self.running:
+                self.kill(it)
+
+
+CHECKS = Checks()
+
+
+def crates_below():
+    """What each crate is built on, as crates.txt has it."""
+    lines = (ROOT / "crates.txt").read_text(encoding="utf-8").splitlines()
+    named = (it.partition(":") for it in lines if it and not it.startswith("#"))
+    return {name.strip(): below.split() for name, _, below in named}
+
+
+def all_below(crate):
+    """The repository's crates that a crate is built on, directly or not."""
+    below, found, left = crates_below(), [], [crate]
+    while left:
+        new = [it for it in below[left.pop(0)] if it in below and it not in found]
+        found, left = found + new, left + new
+    return found
+
+
+@functools.cache
+def kit():
+    told = subprocess.run(["rt", "doc"], capture_output=True, text=True, check=True)
+    return pathlib.Path(told.stdout.strip()).parent
+
+
+def command(crate):
+    """The prover's command for a crate of the repository."""
+    below = crates_below()
+    made = lambda it: CRATES / it / "out/rlib"
+    root = "src/main.rt" if (CRATES / crate / "src/main.rt").is_file() else "src/lib.rt"
+    told = [f"{kit()}/bin/rattle", "check", "--crate-name", crate, root]
+    for it in ["std", *below[crate]]:
+        told += ["--extern", f"{it}={made(it) if it in below else kit() / 'rlibs'}/{it}.rlib"]
+    for it in [kit() / "rlibs", *map(made, all_below(crate))]:
+        told += ["-L", f"dependency={it}"]
+    told += ["--antt-project", f"{kit()}/rattle/logic/antt-project.json", "--logic-built", f"{kit()}/logic_built"]
+    return [*told, "--links", f"{crate}=", "--jobs", "1"]
+
+
+def link_or_copy(file, to):
+    # the prover replaces such a file, and writes into none
+    return os.link(file, to) if file.endswith(".oantt") else shutil.copy2(file, to)
+
+
+def checked(mutants):
+    """What the prover says of a crate with these mutants, over a copy of its kept proofs."""
+    crate = mutants[0].crate
+    with tempfile.TemporaryDirectory(prefix="mutants-", dir=CRATES / crate / "out") as room:
+        for part in PARTS:
+            if (CRATES / crate / part).is_dir():
+                shutil.copytree(CRATES / crate / part, f"{room}/{part}")
+        for it in mutants:
+            for file, lines in it.changes.items():
+                path = pathlib.Path(room) / file
+                text = enumerate(path.read_text(encoding="utf-8").splitlines(), 1)
+                path.write_text("".join(f"{lines.get(at, line)}\n" for at, line in text), encoding="utf-8")
+        shutil.copytree(CRATES / crate / "out/incremental", f"{room}/kept", copy_function=link_or_copy)
+        said, _ = CHECKS.output([*command(crate), "--incremental", f"{room}/kept"], room)
+        return said
+
+
+# ---- what rejects a mutant
+
+
+def clause(goal):
+    """The clause that a goal is about, or the goal's own name if the code owes it."""
+    name = re.search(r"-clause-([\w-]+)$", goal or "")
+    name = f" {name[1]}" if name else ""
+    if not goal or goal.startswith("returns"):
+        return f"ensures{name}"
+    call, is_requires, _ = goal.partition("-requires")
+    return f"requires{name} of {call}" if is_requires else goal
+
+
+def rejection(mutant, said):
+    """What rejects a mutant: of each function that it changes, a goal that isn't proved."""
+    if not mutant.functions:
+        return rejection_of_crate(mutant, said)
+    by = [rejection_by(said, *it) for it in sorted(mutant.functions)]
+    return ", ".join(by) if all(by) else None
+
+
+def rejection_by(said, file, name, first, last):
+    """The goal of a function that isn't proved, if there is one."""
+    for at, line, goal in OPEN_IN_CODE.findall(said):
+        if at == file and first <= int(line) <= last:
+            return f"{name} · {clause(goal)}"
+    module = file.removeprefix("src/").removesuffix(".rt")
+    for proof, goal, why in OPEN_IN_PROOF.findall(said):
+        if proof.startswith(f"{module}/") and proof.split("/")[-1] == name and not OF_NAMES.search(why):
+            return f"{name} · {clause(goal)}"
+    return None
+
+
+def rejection_of_crate(mutant, said):
+    """What rejects a mutant that changes no function: the first goal of the crate that isn't proved."""
+    errors = [it for it in ANY_ERROR.finditer(said) if not OF_NAMES.search(said[it.end() :].partition("\n")[0])]
+    if any(it[1] in mutant.changes for it in errors):
+        raise Fault("the prover can't read the changed text")
+    for file, line, goal in OPEN_IN_CODE.findall(said):
+        at = function_at(text_of(mutant.crate, file).splitlines(), int(line))
+        return f"{at[0] if at else file} · {clause(goal)}"
+    return next((f"{it[1].removeprefix('proofs/').removesuffix('.antt')} · {it[2] or 'a proof'}" for it in errors), None)
+
+
+# ---- runs
+
+
+def checks_of(mutants):
+    """The mutants in lists that can be tried together."""
+    checks = []
+    for it in mutants:
+        own = it.functions
+        fits = (one for one in checks if own and all(other.functions and not own & other.functions for other in one))
+        free = next(fits, None)
+        if free is None:
+            checks.append([it])
+        else:
+            free.append(it)
+    return checks
+
+
+def results(mutants):
+    """Tries mutants together. Yields each with what rejects it, or None and the reason."""
+    said = checked(mutants)
+    if VERDICT.search(said):
+        for it in mutants:
+            try:
+                by, why = rejection(it, said), "NOT REJECTED"
+            except Fault as fault:
+                by, why = None, f"not tried: {fault}"
+            if by or len(mutants) == 1:
+                yield it, by, why
+            else:
+                # a proof that isn't read beside another's fault can keep the prover from the function's goals
+                yield from results([it])
+    elif len(mutants) == 1:
+        last = said.strip().splitlines()[-1:] or ["the check printed nothing"]
+        errors = [it for it in said.splitlines() if "error" in it]
+        yield mutants[0], None, f"not tried: {(errors or last)[0][:300]}"
+    else:
+        yield from results(mutants[: len(mutants) // 2])
+        yield from results(mutants[len(mutants) // 2 :])
+
+
+class Tried:
+    """What this clone has tried of a crate: what rejected each mutant, by a sum of all that it stood on."""
+
+    def __init__(self, crate):
+        self.crate, self.file = crate, TRIED / crate
+        below = sorted(all_below(crate))
+        self.on = sum_of([(kit() / "KIT-ID").read_text(encoding="utf-8"), *map(sum_of_texts, [crate, *below])])
+        lines = self.file.read_text(encoding="utf-8").splitlines() if self.file.is_file() else []
+        self.known = dict(it.split("\t") for it in lines)
+
+    def key(self, mutant):
+        return sum_of([self.on, mutant.sum()])
+
+    def by(self, mutant):
+        return self.known.get(self.key(mutant))
+
+    def keep(self, mutant, by):
+        """Writes what rejected a mutant, or that nothing did, here and beside the mutant."""
+        with alone():
+            if by and self.by(mutant) != by:
+                self.known[self.key(mutant)] = by
+                with open(self.file, "a", encoding="utf-8") as file:
+                    file.write(f"{self.key(mutant)}\t{by}\n")
+            mutants = read_mutants(self.crate)
+            own = next((it for it in mutants if it.sum() == mutant.sum()), None)
+            if own and own.rejected_by != (by or ""):
+                own.rejected_by = by or ""
+                write_mutants(self.crate, mutants)
+
+
+def try_crate(crate):
+    """Tries the mutants of a crate, and returns how many there are and how many were rejected."""
+    mutants, tried = read_mutants(crate), Tried(crate)
+    before, rejected = sum_of_crate(crate, mutants), 0
+    left = [it for it in mutants if not tried.by(it)]
+    for it in mutants:
+        if it not in left:
+            tried.keep(it, tried.by(it))
+            rejected += 1
+    if left:
+        said, status = CHECKS.output(["rt", "check", "--jobs", "1"], CRATES / crate)
+        if status:
+            print(said, f"{crate}: it isn't proved as it is, so {len(left)} mutants weren't tried", sep="\n", flush=True)
+            return len(mutants), rejected
+    for it, by, why in (it for check in checks_of(left) for it in results(check)):
+        print(f"{it}: {f'rejected by {by}' if by else why}", flush=True)
+        tried.keep(it, by)
+        rejected += bool(by)
+    with alone():
+        if rejected == len(mutants) and before == sum_of_crate(crate, read_mutants(crate)):
+            keep_sum(crate, before)
+    return len(mutants), rejected
+
+
+def try_all(crates, jobs):
+    """Tries the mutants of these crates, several crates side by side, and returns whether all were rejected."""
+    rejected = total = failed = 0
+    with concurrent.futures.ThreadPoolExecutor(jobs) as pool:
+        runs = {pool.submit(try_crate, it): it for it in sorted(crates, key=lambda it: len(all_below(it)))}
+        try:
+            for run in concurrent.futures.as_completed(runs):
+                try:
+                    of_crate, by = run.result()
+                except Exception as error:  # one crate's fault leaves the others' results
+                    print(f"{runs[run]}: not tried: {type(error).__name__}: {error}", flush=True)
+                    failed += 1
+                    continue
+                print(f"{runs[run]}: {by} of {of_crate} mutants rejected", flush=True)
+                rejected, total = rejected + by, total + of_crate
+        except KeyboardInterrupt:
+            CHECKS.end()
+            pool.shutdown(cancel_futures=True)
+            sys.exit("interrupted; what was tried is kept")
+    print(f"{rejected} of {total} mutants rejected, each by its own function")
+    return rejected == total and not failed
+
+
+def report_sums():
+    """Prints the mutants that don't apply and the crates whose sum isn't current, and returns whether all is well."""
+    crates = crates_with_mutants()
+    faults = [fault for it in crates for fault in faults_of(it)]
+    if not faults:
+        faults = [f"{it}: not all mutants were tried on what is there: make mutants CRATE={it}" for it in crates if not is_current(it)]
+    print(*faults, sep="\n", end="\n" if faults else "")
+    return not faults
+
+
+def interrupt(*_):
+    raise KeyboardInterrupt
+
+
+def main():
+    words = argparse.ArgumentParser(description="Tries mutants, which the prover must reject.")
+    words.add_argument("--sums", action="store_true", help="try nothing, and compare the sums of edits/refused.txt")
+    words.add_argument("--jobs", type=int, default=len(os.sched_getaffinity(0)), help="how many crates to try side by side")
+    words.add_argument("names", nargs="*", metavar="NAME", help="a crate; all if none is named")
+    words = words.parse_args()
+    lacking = [it for it in words.names if it not in crates_with_mutants()]
+    if lacking:
+        sys.exit(f"edits/{lacking[0]}.edit isn't there")
+    signal.signal(signal.SIGTERM, interrupt)
+    is_well = report_sums() if words.sums else try_all(words.names or crates_with_mutants(), words.jobs)
+    return 0 if is_well else 1
+
+
+if __name__ == "__main__":
+    sys.exit(main())
