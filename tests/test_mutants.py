@@ -4,7 +4,7 @@ import sys
 import unittest
 
 sys.path.insert(0, str(pathlib.Path(__file__).resolve().parent.parent / "tools"))
-import mutants
+import mutant_files as mutants
 
 
 class Mutants(unittest.TestCase):
