@@ -196,13 +196,17 @@ def rejection_by(said, file, name, first, last):
 
 def rejection_of_crate(mutant, said):
     """What rejects a mutant that changes no function: the first goal of the crate that isn't proved."""
-    errors = [it for it in ANY_ERROR.finditer(said) if not OF_NAMES.search(said[it.end() :].partition("\n")[0])]
+    errors = [*ANY_ERROR.finditer(said)]
     if any(it[1] in mutant.changes for it in errors):
         raise Fault("the prover can't read the changed text")
     for file, line, goal in OPEN_IN_CODE.findall(said):
         at = function_at(text_of(mutant.crate, file).splitlines(), int(line))
         return f"{at[0] if at else file} · {clause(goal)}"
-    return next((f"{it[1].removeprefix('proofs/').removesuffix('.antt')} · {it[2] or 'a proof'}" for it in errors), None)
+    by_names = lambda it: bool(OF_NAMES.search(said[it.end() :].partition("\n")[0]))
+    for it in sorted(errors, key=by_names):
+        place = re.sub(r"^proofs/|(/(Answers|Invariants|Proof))?\.antt$", "", it[1])
+        return f"{place} · {it[2] or 'its proof'}"
+    return None
 
 
 # ---- runs
