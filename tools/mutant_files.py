@@ -205,7 +205,8 @@ def kept_sums():
 
 
 def keep_sum(crate, told):
-    sums = {it: told for it, told in (kept_sums() | {crate: told}).items() if it in crates_with_mutants()}
+    """Writes a crate's sum, or that it has none."""
+    sums = {it: told for it, told in (kept_sums() | {crate: told}).items() if told and it in crates_with_mutants()}
     write(SUMS, "".join(f"{it}\n" for it in [HEAD_OF_SUMS, *(f"{it} {sums[it]}" for it in sorted(sums))]))
 
 

@@ -23,7 +23,7 @@ has tried stands in out/mutants, and isn't tried again until the crate, a crate 
 changes; `rm -r out/mutants` forgets it.
 
 If all of a crate's mutants were rejected, edits/refused.txt gets a sum over the crate's texts, without
-comments, and over its mutants, without `rejected by`.
+comments, and over its mutants, without `rejected by`. If one wasn't, the crate loses its sum.
 
     tools/mutants.py --sums                 tries nothing; reports the mutants that don't apply, and the
                                             crates whose sum isn't that of what is there
@@ -46,8 +46,9 @@ import time
 from mutant_files import CRATES, PARTS, ROOT, TRIED, Fault, alone, crates_with_mutants, faults_of, function_at
 from mutant_files import is_current, keep_sum, read_mutants, sum_of, sum_of_crate, sum_of_texts, text_of, write_mutants
 
-# Seconds that a check may take
+# Seconds that a check with mutants may take
 MOST_SECONDS = 3600
+NOT_REJECTED = "NOT REJECTED"
 # What the prover prints of a goal that isn't proved, by its place in the code or in the function's own proof
 OPEN_IN_CODE = re.compile(r"^note: (?:\./)?(src/\S+\.rt):(\d+):\d+: it is not proved(?:.*?\(`([^`\n]+)`\))?", re.M)
 OPEN_IN_PROOF = re.compile(r"^(?:\./)?proofs/(\S+)/[A-Z]\w*\.antt:\d+:\d+: error(?:: `([^`\n]+)`)?(.*)", re.M)
@@ -55,6 +56,8 @@ ANY_ERROR = re.compile(r"^(?:\./)?((?:src|specs|proofs)/\S+):\d+:\d+: error(?:: 
 # A proof that names what the mutant took away says little of the contract
 OF_NAMES = re.compile(r"has no field|is not in scope|has no `|was not admitted")
 VERDICT = re.compile(r"^logic=", re.M)
+# What it prints beside that
+OF_PROVED = re.compile(r": proved$|^(checked|statements) ")
 
 
 # ---- the prover
@@ -66,8 +69,8 @@ class Checks:
     def __init__(self):
         self.running, self.is_ended, self.own = set(), False, threading.Lock()
 
-    def output(self, told, folder):
-        """What a command prints, and its status."""
+    def output(self, told, folder, seconds=None):
+        """What a command prints, and its status. It is killed after these seconds."""
         how = {"stdin": subprocess.DEVNULL, "stdout": subprocess.PIPE, "stderr": subprocess.STDOUT, "errors": "replace"}
         with self.own:
             if self.is_ended:
@@ -75,10 +78,10 @@ class Checks:
             run = subprocess.Popen(told, cwd=folder, start_new_session=True, **how)
             self.running.add(run)
         try:
-            said, _ = run.communicate(timeout=MOST_SECONDS)
+            said, _ = run.communicate(timeout=seconds)
         except subprocess.TimeoutExpired:
             self.kill(run)
-            said = f"{run.communicate()[0]}\nit took more than {MOST_SECONDS} seconds"
+            said = f"{run.communicate()[0]}\nthe check took more than {seconds} seconds"
         finally:
             with self.own:
                 self.running.discard(run)
@@ -144,7 +147,9 @@ def link_or_copy(file, to):
 def checked(mutants):
     """What the prover says of a crate with these mutants, over a copy of its kept proofs."""
     crate = mutants[0].crate
-    with tempfile.TemporaryDirectory(prefix="mutants-", dir=CRATES / crate / "out") as room:
+    out = CRATES / crate / "out"
+    # (rt wants no source file below out, and links of files reach no other disk)
+    with tempfile.TemporaryDirectory(prefix="mutants-") as room, tempfile.TemporaryDirectory(prefix="mutants-", dir=out) as kept:
         for part in PARTS:
             if (CRATES / crate / part).is_dir():
                 shutil.copytree(CRATES / crate / part, f"{room}/{part}")
@@ -153,8 +158,8 @@ def checked(mutants):
                 path = pathlib.Path(room) / file
                 text = enumerate(path.read_text(encoding="utf-8").splitlines(), 1)
                 path.write_text("".join(f"{lines.get(at, line)}\n" for at, line in text), encoding="utf-8")
-        shutil.copytree(CRATES / crate / "out/incremental", f"{room}/kept", copy_function=link_or_copy)
-        said, _ = CHECKS.output([*command(crate), "--incremental", f"{room}/kept"], room)
+        shutil.copytree(out / "incremental", kept, copy_function=link_or_copy, dirs_exist_ok=True)
+        said, _ = CHECKS.output([*command(crate), "--incremental", kept], room, MOST_SECONDS)
         return said
 
 
@@ -232,7 +237,7 @@ def results(mutants):
     if VERDICT.search(said):
         for it in mutants:
             try:
-                by, why = rejection(it, said), "NOT REJECTED"
+                by, why = rejection(it, said), NOT_REJECTED
             except Fault as fault:
                 by, why = None, f"not tried: {fault}"
             if by or len(mutants) == 1:
@@ -291,14 +296,19 @@ def try_crate(crate):
     if left:
         said, status = CHECKS.output(["rt", "check", "--jobs", "1"], CRATES / crate)
         if status:
-            print(said, f"{crate}: it isn't proved as it is, so {len(left)} mutants weren't tried", sep="\n", flush=True)
+            print(*(it for it in said.splitlines() if not OF_PROVED.search(it)), sep="\n")
+            print(f"{crate}: it isn't proved as it is, so {len(left)} mutants weren't tried", flush=True)
             return len(mutants), rejected
+    is_passed = False
     for it, by, why in (it for check in checks_of(left) for it in results(check)):
         print(f"{it}: {f'rejected by {by}' if by else why}", flush=True)
-        tried.keep(it, by)
-        rejected += bool(by)
+        if by or why == NOT_REJECTED:
+            tried.keep(it, by)
+        rejected, is_passed = rejected + bool(by), is_passed or why == NOT_REJECTED and not by
     with alone():
-        if rejected == len(mutants) and before == sum_of_crate(crate, read_mutants(crate)):
+        if is_passed:
+            keep_sum(crate, None)
+        elif rejected == len(mutants) and before == sum_of_crate(crate, read_mutants(crate)):
             keep_sum(crate, before)
     return len(mutants), rejected
 
