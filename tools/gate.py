@@ -67,14 +67,16 @@ class Table:
         print(f"\n{'minutes':40} {'wall':>9} {'processor':>9}")
         for part, (wall, used) in [*self.rows.items(), ("all", map(sum, zip(*self.rows.values())))]:
             print(f"{part:40} {wall / 60:9.1f} {used / 60:9.1f}")
-        dear = sorted(((used / 60, it) for it, (_, used) in self.crates.items() if used / 60 >= WORTH_NAMING), reverse=True)
-        print("processor minutes of proofs:", *(f"{it} {used:.1f}" for used, it in dear), sep="\n  ", flush=True)
+        dear = sorted(((used / 60, it) for it, (_, used) in self.crates.items()), reverse=True)
+        named = (f"{it} {used:.1f}" for used, it in dear if used >= WORTH_NAMING)
+        print("processor minutes of proofs:", *named, sep="\n  ", flush=True)
 
 
 def is_proved(table):
     """Runs `rt ci`, and times each part as its lines come. Proofs run side by side, so each is given the time
     of the wall since the one before ended."""
-    run = subprocess.Popen(["rt", "ci"], cwd=ROOT, stdout=subprocess.PIPE, stderr=subprocess.STDOUT, text=True, errors="replace", bufsize=1)
+    how = {"stdout": subprocess.PIPE, "stderr": subprocess.STDOUT, "text": True, "errors": "replace", "bufsize": 1}
+    run = subprocess.Popen(["rt", "ci"], cwd=ROOT, **how)
     whole, clock, last = Clock(of_children), Clock(lambda: of_process(run.pid)), (0, 0)
     for line in run.stdout:
         print(line, end="", flush=True)

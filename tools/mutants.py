@@ -346,7 +346,8 @@ def report_sums():
     crates = crates_with_mutants()
     faults = [fault for it in crates for fault in faults_of(it)]
     if not faults:
-        faults = [f"{it}: not all mutants were tried on what is there: make mutants CRATE={it}" for it in crates if not is_current(it)]
+        told = "not all mutants were tried on what is there: make mutants"
+        faults = [f"{it}: {told} CRATE={it}" for it in crates if not is_current(it)]
     print(*faults, sep="\n", end="\n" if faults else "")
     return not faults
 
