@@ -44,7 +44,8 @@ import threading
 import time
 
 from mutant_files import CRATES, PARTS, ROOT, TRIED, Fault, alone, crates_with_mutants, faults_of, function_at
-from mutant_files import is_current, keep_sum, read_mutants, sum_of, sum_of_crate, sum_of_texts, text_of, write_mutants
+from mutant_files import is_current, keep_sum, read_mutants, sum_of, sum_of_crate, sum_of_texts, text_of, unrecorded
+from mutant_files import write_mutants
 
 # Seconds that a check with mutants may take
 MOST_SECONDS = 3600
@@ -348,6 +349,9 @@ def report_sums():
     if not faults:
         told = "not all mutants were tried on what is there: make mutants"
         faults = [f"{it}: {told} CRATE={it}" for it in crates if not is_current(it)]
+        lacking = {it: len(unrecorded(it)) for it in crates if is_current(it)}
+        notes = [f"{it}: note: no run has written what rejects {count} mutants" for it, count in lacking.items() if count]
+        print(*notes, sep="\n", end="\n" if notes else "")
     print(*faults, sep="\n", end="\n" if faults else "")
     return not faults
 
