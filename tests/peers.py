@@ -98,11 +98,12 @@ def narrow_listener():
 class Peer:
     """A provider that has a step for each connection: bytes that it answers, or what it does.
 
-    At the end of its context all its steps were taken, and `requests` has their requests.
+    At the end of its context all its steps were taken, and `requests` has their requests. `answered` is how many
+    of them have ended.
     """
 
     def __init__(self, steps):
-        self.steps, self.requests = steps, []
+        self.steps, self.requests, self.answered = steps, [], 0
         self.listener = narrow_listener() if take_no_request in steps else socket.create_server(("127.0.0.1", 0))
         self.listener.settimeout(PATIENCE)
         self.address = f"127.0.0.1:{self.listener.getsockname()[1]}"
@@ -133,6 +134,7 @@ class Peer:
         with stream:
             self.requests.append(None if step is take_no_request else read_request(stream))
             stream.sendall(step) if isinstance(step, bytes) else step(stream)
+        self.answered += 1
 
 
 def read_request(stream):

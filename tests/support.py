@@ -91,6 +91,15 @@ def scimlink(*arguments, stdin=b"", stdout=subprocess.PIPE, program=PROGRAM, **o
     return Ended(run.returncode, run.stdout or b"", run.stderr.decode())
 
 
+def writes_of(*arguments):
+    """What a whole run writes to standard output, write by write."""
+    ours, its = socket.socketpair(socket.AF_UNIX, socket.SOCK_SEQPACKET)
+    ours.settimeout(PATIENCE)
+    with ours, subprocess.Popen([PROGRAM, *map(str, arguments)], stdout=its, stderr=subprocess.DEVNULL):
+        its.close()
+        return list(iter(lambda: ours.recv(65536).decode(), ""))
+
+
 def watchdog(process):
     """A timer that kills a process which goes on for too long, so that no test waits for ever for what it prints."""
     timer = threading.Timer(2 * PATIENCE, process.kill)
@@ -232,6 +241,11 @@ def broken_pipe():
 def limited_memory(size):
     """An option of a run: it has this many bytes of memory."""
     return {"preexec_fn": lambda: resource.setrlimit(resource.RLIMIT_AS, (size, size))}
+
+
+def limited_handles(count):
+    """An option of a run: it has this many files and sockets open at once."""
+    return {"preexec_fn": lambda: resource.setrlimit(resource.RLIMIT_NOFILE, (count, count))}
 
 
 def limited_files(size):

@@ -9,7 +9,7 @@ import socket
 
 from support import (
     EXAMPLES, ROOT, USERS_HEADER, ProgramTest, Running,
-    full_disk, limited_files, resource_id, scimlink, wait_until,
+    full_disk, limited_files, limited_handles, resource_id, scimlink, text, wait_until, writes_of,
 )
 
 BOB = "user bob wanted=1 confirmed=1 held=1 version=1 active=true"
@@ -66,6 +66,13 @@ class RowsTest(LoopTest):
     def test_the_same_row_again(self):
         self.writes(["bob,1,,,,,active"] * 2)
         self.assert_loop("1 new", "2 known", "settled in 2 exchanges", BOB)
+
+    def test_each_report_is_one_write(self):
+        self.writes(["bob,1,,,,,active"] * 2, ["crew,1,"])
+        crew = "group crew wanted=1 confirmed=1 held=1 version=1 members=0"
+        *reports, rest = writes_of("loop", *self.site.source_options())
+        self.assertEqual(reports, ["1 new\n", "2 known\n", "3 new\n"])
+        self.assertEqual(rest, text("settled in 4 exchanges", BOB, crew))
 
     def test_rows_that_the_connector_rejects(self):
         self.writes(["bob,1,,,,,active", "bob,1,,,,bob@example.com,active"], ["crew,1,zoe", "crew,1,bob"])
@@ -178,6 +185,12 @@ class FaultTest(LoopTest):
         for sources in self.site.unreadable_sources():
             with self.subTest(sources=sources):
                 self.assert_fault(scimlink("loop", *sources), "file fault")
+
+    def test_a_connection_that_cannot_be_opened(self):
+        self.writes(["bob,1,,,,,active"])
+        # the three standard ones and the listener
+        run = self.site.loop(**limited_handles(4))
+        self.assert_prints(run, "1 new", status=3, errors=["connection fault"])
 
     def test_an_output_that_takes_nothing(self):
         self.writes(["bob,1,,,,,active"])

@@ -1,7 +1,7 @@
 """`push` to a provider of this program, both over files."""
 from support import (
     GROUPS_HEADER, NOWHERE, USERS_HEADER, ProgramTest, Provider,
-    full_disk, group_entry, limited_files, make_journal, resource_id, scimlink, text, user_entry,
+    full_disk, group_entry, limited_files, make_journal, resource_id, scimlink, text, user_entry, writes_of,
 )
 
 ANN_CONFIRMED, BOB_CONFIRMED = "user ann confirmed 1", "user bob confirmed 1"
@@ -42,6 +42,11 @@ class RecordTest(PushTest):
         self.join()
         self.pushes(0, ANN_CONFIRMED, BOB_CONFIRMED)
 
+    def test_each_line_is_one_write(self):
+        self.join()
+        lines = [f"{line}\n" for line in (ANN_CONFIRMED, BOB_CONFIRMED)]
+        self.assertEqual(writes_of(*self.site.push_command(NOWHERE)), lines)
+
     def test_a_leaver(self):
         self.leave()
         self.assert_prints(self.site.show_store(), ANN_HELD, BOB_LEFT)
@@ -65,6 +70,11 @@ class RecordTest(PushTest):
         self.assert_prints(self.site.show_store(), ANN_HELD, BOB_HELD, crew)
         self.site.write_groups("crew,2,zoe")
         self.pushes(0, *lines, status=1, errors=["groups record 1: S8 zoe"])
+
+    def test_a_host_by_its_name(self):
+        self.site.write_users("bob,1,,,,,active")
+        with self.serving(2) as provider:
+            self.assert_prints(self.site.push(f"localhost:{provider.port}"), BOB_CONFIRMED)
 
     def test_a_provider_that_is_away(self):
         self.join()

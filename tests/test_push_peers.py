@@ -2,12 +2,13 @@
 import json
 import pathlib
 import tempfile
+import threading
 import time
 
 from peers import (
     LATE, NO_HITS, TAKEN, Peer, answer, head, hits, late, reset, stays_after, take_no_request, user,
 )
-from support import SCIM_TYPE, ProgramTest, Site, make_journal, user_entry
+from support import SCIM_TYPE, ProgramTest, Running, Site, make_journal, user_entry
 
 FIND_BOB = "GET /v2/Users?filter=userName+eq+%22bob%22 HTTP/1.1"
 CREATE = "POST /v2/Users HTTP/1.1"
@@ -101,6 +102,22 @@ class PushPeersTest(ProgramTest):
         lines, body = requests[1]
         self.assertIn('If-Match: "v1"', lines)
         self.assertEqual(json.loads(body)["active"], False)
+
+    def test_a_line_is_printed_before_the_next_exchange_ends(self):
+        self.site.write_users("ann,1,,,,,active", "bob,1,,,,,active")
+        is_read = threading.Event()
+
+        def answers_when_it_is_read(stream):
+            is_read.wait(LATE)
+            stream.sendall(hits(user("bob", 1)))
+
+        with Peer([hits(user("ann", 1)), answers_when_it_is_read]) as peer:
+            with Running(*self.site.push_command(peer.address)) as push:
+                self.assertEqual(push.read_line(), "user ann confirmed 1\n")
+                # bob's exchange goes on
+                self.assertEqual(peer.answered, 1)
+                is_read.set()
+                self.assert_prints(push.ends(), "user bob confirmed 1")
 
     def test_answers_after_which_the_connection_stays_open(self):
         began = time.monotonic()

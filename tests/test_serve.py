@@ -128,6 +128,13 @@ class ServeTest(ProgramTest):
             moved = scimlink("answer", "--base", "http://scim.example/v2", stdin=CREATE_BOB)
             self.assertEqual(provider.exchange(CREATE_BOB), moved.output)
 
+    def test_versions_of_http(self):
+        with self.serving(3) as provider:
+            for version, status in ((b"1.1", b"200 OK"), (b"1.0", b"200 OK"), (b"2.0", b"400 Bad Request")):
+                with self.subTest(version=version):
+                    answer = provider.exchange(b"GET /v2/Users HTTP/" + version + b"\r\nHost: h\r\n\r\n")
+                    self.assertTrue(answer.startswith(b"HTTP/1.1 " + status + b"\r\n"), answer)
+
     def test_refusals(self):
         with self.serving(1 + len(REFUSED)) as provider:
             provider.exchange(CREATE_BOB)

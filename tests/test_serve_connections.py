@@ -57,7 +57,7 @@ class ConnectionTest(ProgramTest):
 
     def test_clients_that_send_more(self):
         more = b"x" * 1_000_000
-        with self.serving(3) as provider:
+        with self.serving(4) as provider:
             self.assertEqual(provider.exchange(CREATE_BOB + more), BOB_CREATED)
             with provider.connect() as stream:
                 # what comes after the answer isn't answered by a reset either
@@ -67,6 +67,7 @@ class ConnectionTest(ProgramTest):
                 self.assert_found(beginning + read_all(stream))
             head = b"POST /v2/Users HTTP/1.1\r\nHost: h\r\nContent-Length: 1000000\r\n\r\n"
             self.assert_whole(provider.exchange(head + more), b"413 Content Too Large")
+            self.assert_found(provider.exchange(FIND_BOB))
 
     def test_a_client_that_stays_after_its_answer(self):
         with self.serving(2) as provider, provider.connect() as stream:
@@ -74,8 +75,7 @@ class ConnectionTest(ProgramTest):
             self.assert_not_found(read_all(stream))
             began = time.monotonic()
             self.assert_not_found(provider.exchange(FIND_BOB))
-            # far below the 30 seconds of its connection
-            self.assertLess(time.monotonic() - began, DRAIN + 10)
+            self.assertLess(time.monotonic() - began, DRAIN + 5)
 
     def test_who_waits_is_served_before_the_drain(self):
         # the quickest of some tries, as a machine may be slow now and then

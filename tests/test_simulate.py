@@ -71,6 +71,12 @@ class SimulateTest(ProgramTest):
         bob = "user bob wanted=1 confirmed=0 held=0 version=0 active=-"
         self.assert_prints(self.simulate(text(*events)), *reports, bob, status=1)
 
+    def test_a_rejected_row_beside_confirmed_records(self):
+        creation = SCHEDULES / "creation.schedule"
+        *reports, bob = creation.with_suffix(".out").read_text().splitlines()
+        run = self.simulate(creation.read_text() + text("user bob,1,,,,bob@example.com,active"))
+        self.assert_prints(run, *reports, "9 S7", bob, status=1)
+
     def test_comments_and_line_ends(self):
         creation = SCHEDULES / "creation.schedule"
         *reports, bob = creation.with_suffix(".out").read_text().splitlines()
