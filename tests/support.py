@@ -1,5 +1,9 @@
 """What the tests of the program share: its runs, the files that it reads and keeps, and what is asserted of both.
 
+At the top of the repository, with -k for some of them:
+
+    python3 -B -m unittest discover -s tests -k test_a_leaver
+
 The program is crates/scimlink/out/scimlink, or the one that the environment variable SCIMLINK names.
 """
 import contextlib
@@ -22,7 +26,7 @@ import unittest
 
 ROOT = pathlib.Path(__file__).resolve().parent.parent
 EXAMPLES = ROOT / "examples"
-PROGRAM = pathlib.Path(os.environ.get("SCIMLINK", ROOT / "crates/scimlink/out/scimlink")).resolve()
+PROGRAM = pathlib.Path(os.environ.get("SCIMLINK") or ROOT / "crates/scimlink/out/scimlink").resolve()
 if not os.access(PROGRAM, os.X_OK):
     raise FileNotFoundError(f"there is no program {PROGRAM}: run make build")
 
@@ -176,7 +180,9 @@ class Provider(Running):
         super().__init__("serve", "--listen", listen, "--requests", requests, *more, **options)
         line = self.read_line()
         if not line.startswith("listening 127.0.0.1:"):
-            raise AssertionError(f"serve printed {line!r} and {self.kill().errors!r}")
+            errors = self.kill().errors
+            self.close()
+            raise AssertionError(f"serve printed {line!r} and {errors!r}")
         self.address = line.removeprefix("listening ").removesuffix("\n")
         self.port = int(self.address.rpartition(":")[2])
 
@@ -210,6 +216,7 @@ def read_all(stream):
 def silent_provider():
     """Something that takes connections and answers nothing, so that a push waits: its listener and address."""
     with socket.create_server(("127.0.0.1", 0)) as listener:
+        listener.settimeout(PATIENCE)
         yield listener, f"127.0.0.1:{listener.getsockname()[1]}"
 
 

@@ -81,7 +81,8 @@ class RowTest(StoreTest):
 
     def test_what_the_program_writes_sqlite_reads(self):
         run = scimlink("answer", "--store", self.site.store, stdin=CREATE_BOB)
-        self.assertEqual((run.status, run.output, run.errors), (0, BOB_CREATED, ""))
+        self.assert_reports(run, 0)
+        self.assertEqual(run.output, BOB_CREATED)
         self.assert_shows(BOB_SHOWN)
         # compact, with the members by name, as it is sent; the request's own body is so
         rows = [(1, 1, "bob", 1, BOB)]
