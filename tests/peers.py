@@ -62,14 +62,14 @@ def stays_after(said):
 
     def step(stream):
         stream.sendall(said)
-        say_nothing(stream)
+        say_nothing(stream, LATE)
 
     return step
 
 
-def say_nothing(stream):
-    """Waits until the other side gives up."""
-    stream.settimeout(TIME_LIMIT + LATE)
+def say_nothing(stream, seconds=TIME_LIMIT + LATE):
+    """Waits until the other side closes the connection, for some seconds at most."""
+    stream.settimeout(seconds)
     if read_all(stream):
         raise AssertionError("the other side said more")
 

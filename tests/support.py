@@ -31,7 +31,7 @@ if not os.access(PROGRAM, os.X_OK):
     raise FileNotFoundError(f"there is no program {PROGRAM}: run make build")
 
 # Seconds that anything may take which doesn't wait by its nature. A run that takes longer is killed
-PATIENCE = 60
+PATIENCE = 120
 # Seconds that the program gives a connection or an exchange
 TIME_LIMIT = 30
 # An address on which nothing listens
