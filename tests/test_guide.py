@@ -1,0 +1,101 @@
+"""docs/GUIDE.md: its commands print what it says, in their order, and its other blocks are files of examples."""
+import os
+import re
+import shlex
+import shutil
+import subprocess
+import unittest
+
+from support import EXAMPLES, PROGRAM, ROOT, ProgramTest, free_port, wait_until, watchdog
+
+PAGE = (ROOT / "docs/GUIDE.md").read_text()
+# Each block of the page: its language, and its text
+BLOCKS = re.findall(r"^```(\w*)\n(.*?)^```$", PAGE, re.MULTILINE | re.DOTALL)
+# The address on the page, in whose place a free one is taken
+ADDRESS = "127.0.0.1:8080"
+# What the shell says of its jobs, which the page leaves out
+OF_JOBS = re.compile(r"^.*: line \d+: +\d+ Terminated .*\n", re.MULTILINE)
+# The command that stands in for SQLite's own, if that isn't there
+SQLITE = """sqlite3() {
+    python3 -c 'import sqlite3, sys; sqlite3.connect(sys.argv[1]).executescript(sys.argv[2])' "$@"
+}"""
+
+
+def commands():
+    """The commands of the page, and what each prints."""
+    for language, content in BLOCKS:
+        if language == "console":
+            for part in re.split(r"^\$ ", content, flags=re.MULTILINE)[1:]:
+                command, _, printed = part.partition("\n")
+                yield command, printed
+
+
+class Shell:
+    """A shell that runs commands one after another, as if they were typed."""
+
+    def __init__(self, folder, programs):
+        self.folder = folder
+        environment = os.environ | {"PATH": f"{programs}:{os.environ['PATH']}"}
+        pipes = {"stdin": subprocess.PIPE, "stdout": subprocess.PIPE, "stderr": subprocess.DEVNULL, "text": True}
+        self.process = subprocess.Popen(["bash"], cwd=folder, env=environment, **pipes)
+        self.watchdog = watchdog(self.process)
+        if shutil.which("sqlite3") is None:
+            self.send(SQLITE)
+
+    def send(self, line):
+        self.process.stdin.write(f"{line}\n")
+        self.process.stdin.flush()
+
+    def run(self, command, output):
+        """Runs a command, which is given the status of the one before, and prints to a file."""
+        run = f"eval {shlex.quote(command)} > {output} 2>&1 < /dev/null"
+        self.send(f"(exit ${{status-0}}); {run}; status=$?; echo done")
+        if self.process.stdout.readline() != "done\n":
+            raise AssertionError(f"the shell ended: {command}")
+
+    def close(self):
+        """Ends the shell, and what it has running."""
+        self.send("kill $(jobs -p); wait")
+        self.process.communicate()
+        self.watchdog.cancel()
+
+
+class GuideTest(ProgramTest):
+    def test_commands_print_what_the_page_says(self):
+        programs, work = self.folder / "bin", self.folder / "work"
+        programs.mkdir()
+        work.mkdir()
+        (programs / "scimlink").symlink_to(PROGRAM)
+        (work / "examples").symlink_to(EXAMPLES)
+        shell = Shell(work, programs)
+        self.addCleanup(shell.close)
+        here = f"127.0.0.1:{free_port()}"
+        for number, (command, printed) in enumerate(commands()):
+            command, printed = command.replace(ADDRESS, here), printed.replace(ADDRESS, here)
+            with self.subTest(command):
+                output = self.folder / f"output.{number}"
+                shell.run(command, output)
+                if command.endswith("&"):
+                    # it prints in its own time
+                    wait_until(lambda: output.stat().st_size >= len(printed), "what it prints")
+                self.assertEqual(OF_JOBS.sub("", output.read_text()), printed)
+
+    def test_blocks(self):
+        self.assertEqual(PAGE.count("\n```"), 2 * len(BLOCKS))
+        self.assertGreater(len(list(commands())), 50)
+
+    def test_other_blocks_are_files_of_examples(self):
+        examples = {path.read_text() for path in EXAMPLES.iterdir()}
+        for language, content in BLOCKS:
+            if language != "console":
+                with self.subTest(content.partition("\n")[0]):
+                    self.assertTrue(content in examples, content)
+
+    @unittest.skipUnless(shutil.which("systemd-analyze"), "there is no systemd here")
+    def test_units(self):
+        units = [*EXAMPLES.glob("*.service"), *EXAMPLES.glob("*.timer")]
+        self.assertEqual(len(units), 3)
+        run = subprocess.run(["systemd-analyze", "verify", *units], capture_output=True, text=True, check=False)
+        # the program itself isn't installed here
+        lines = [line for line in (run.stdout + run.stderr).splitlines() if "is not executable" not in line]
+        self.assertEqual(lines, [])

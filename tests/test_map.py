@@ -1,0 +1,55 @@
+"""`map`: the image of each row of a users file."""
+from support import (
+    EXAMPLES, SOURCE, USERS_HEADER, ProgramTest, broken_pipe, full_disk, scimlink, text, user_text,
+)
+
+PERSONNEL = EXAMPLES / "personnel.csv"
+
+
+class MapTest(ProgramTest):
+    def write(self, content):
+        """A users file of this text."""
+        path = self.folder / "users.csv"
+        path.write_bytes(content.encode("latin-1"))
+        return path
+
+    def test_the_example(self):
+        run = scimlink("map", PERSONNEL)
+        self.assert_reports(run, 1, "users record 3: S5")
+        self.assertEqual(len(run.lines), 3)
+        self.assertIn(f'"{SOURCE}":{{"revision":7}},"userName":"ann"', run.lines[0])
+
+    def test_a_header_alone(self):
+        self.assert_prints(scimlink("map", self.write(text(USERS_HEADER))))
+
+    def test_other_headers(self):
+        for header in ["", "\n", "name,revision,members\n", USERS_HEADER.upper() + "\n", USERS_HEADER + ",more\n"]:
+            with self.subTest(header=header):
+                self.assert_prints(scimlink("map", self.write(header)), status=1, errors=["users: S1"])
+
+    def test_rejected_records(self):
+        records = ["ann,1", "\xff,1,,,,,active", "bob,1,,,,,active", "c d,1,,,,,active", "cid,1,,,,,gone"]
+        run = scimlink("map", self.write(text(USERS_HEADER, *records)))
+        errors = [f"users record {number}: {code}" for number, code in [(1, "S2"), (2, "S3"), (4, "S4"), (5, "S6")]]
+        self.assert_prints(run, user_text("bob"), status=1, errors=errors)
+
+    def test_files_that_cannot_be_read(self):
+        for path in (self.folder / "absent", self.folder):
+            with self.subTest(path=path):
+                self.assert_fault(scimlink("map", path), "file fault")
+
+    def test_an_output_that_takes_nothing(self):
+        for output in (full_disk, broken_pipe):
+            with self.subTest(output=output.__name__), output() as stdout:
+                run = scimlink("map", PERSONNEL, stdout=stdout)
+                self.assert_reports(run, 3, "users record 3: S5", "file fault")
+
+    def test_each_row_of_a_large_file_has_its_line(self):
+        numbers = range(1, 100_001)
+        path = self.write(text(USERS_HEADER, *(f"user{number},{number},,,,,active" for number in numbers)))
+        images = text(*(user_text(f"user{number}", number) for number in numbers))
+        run = scimlink("map", path)
+        self.assert_reports(run, 0)
+        self.assertTrue(run.output.decode() == images, "other images")
+        with broken_pipe() as stdout:
+            self.assert_reports(scimlink("map", path, stdout=stdout), 3, "file fault")

@@ -1,0 +1,53 @@
+"""Each command with less memory than its work takes: it says so, and leaves its files as they were."""
+from support import (
+    CREATE_BOB, EXAMPLES, NOWHERE, ProgramTest,
+    limited_memory, make_journal, make_store, scimlink, text, user_entry, user_resource,
+)
+
+# Enough to start, and far too little for what is asked for here
+STARVED = limited_memory(12_000 * 1024)
+NAMES = [f"u{place:06}" for place in range(100_000)]
+MONDAY = ["--users", EXAMPLES / "monday.csv"]
+
+
+class MemoryTest(ProgramTest):
+    def assert_starves(self, path, *arguments):
+        """Out of memory at its file, the command prints nothing, and the file stays."""
+        before = path.read_bytes()
+        self.assert_fault(scimlink(*arguments, stdin=CREATE_BOB, **STARVED), "memory fault")
+        self.assertTrue(path.read_bytes() == before, "the file was written")
+
+    def test_enough_to_start(self):
+        self.assert_reports(scimlink("map", EXAMPLES / "monday.csv", **STARVED), 0)
+
+    def test_input_files(self):
+        self.site.write_users(*(f"{name},1,,,,,active" for name in NAMES))
+        users = self.site.users
+        self.assert_starves(users, "map", users)
+        self.assert_starves(users, "loop", "--users", users)
+        journal = make_journal(self.site.journal)
+        self.assert_starves(journal, "push", "--users", users, "--journal", journal, "--to", NOWHERE)
+
+    def test_a_schedule(self):
+        schedule = self.folder / "schedule"
+        schedule.write_text(text(*(f"user {name},1,,,,,active" for name in NAMES)))
+        self.assert_starves(schedule, "simulate", schedule)
+
+    def test_a_journal(self):
+        journal = make_journal(self.site.journal, (user_entry(name, confirmed=1, id=name) for name in NAMES))
+        self.assert_starves(journal, "show", "--journal", journal)
+        self.assert_starves(journal, "push", *MONDAY, "--journal", journal, "--to", NOWHERE)
+        self.assert_starves(journal, "loop", *MONDAY, "--journal", journal)
+
+    def test_a_store(self):
+        rows = (user_resource(number, name) for number, name in enumerate(NAMES, 1))
+        store = make_store(self.site.store, rows)
+        self.assert_starves(store, "show", "--store", store)
+        self.assert_starves(store, "answer", "--store", store)
+        self.assert_starves(store, "serve", "--listen", "127.0.0.1:0", "--requests", "1", "--store", store)
+        self.assert_starves(store, "loop", *MONDAY, "--store", store)
+        # and with memory again
+        lines = text(*(f"user {name} held=1 version=1 active=true" for name in NAMES))
+        run = self.site.show_store()
+        self.assert_reports(run, 0)
+        self.assertTrue(run.output.decode() == lines, "other lines")

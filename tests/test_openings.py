@@ -1,0 +1,148 @@
+"""Files that no command opens as its store or journal: each reports why, and leaves the file as it was."""
+import os
+import shutil
+import subprocess
+import sys
+
+from support import (
+    CREATE_BOB, PROGRAM, ProgramTest, Running,
+    is_locked, journal_commands, make_journal, make_store, scimlink, silent_provider, sql, store_commands,
+    user_entry, user_resource,
+)
+
+# Another program that holds a file locked until its standard input ends. It isn't the test itself, since a
+# process that closes a file loses all its locks on it
+HOLD = """
+import sqlite3, sys
+database = sqlite3.connect(sys.argv[1])
+database.execute("BEGIN EXCLUSIVE")
+print("locked", flush=True)
+sys.stdin.read()
+"""
+
+
+class Openings:
+    """The openings that both files have in common."""
+
+    def test_a_text(self):
+        path = self.folder / "text"
+        path.write_text("user,bob\n" * 1000)
+        self.assert_refused(path, self.commands(path), self.failed)
+
+    def test_a_folder(self):
+        self.assert_refused(self.folder, self.commands(self.folder), self.failed)
+
+    def test_a_folder_that_is_not_there(self):
+        path = self.folder / "nowhere" / "file"
+        self.assert_refused(path, self.commands(path), self.failed)
+        self.assertFalse(path.parent.exists())
+
+    def test_a_damaged_page(self):
+        path = self.make()
+        content = bytearray(path.read_bytes())
+        content[4096:4200] = bytes(104)
+        path.write_bytes(content)
+        self.assert_refused(path, self.commands(path), self.failed)
+
+    def test_a_file_that_may_not_be_written(self):
+        path = self.make()
+        path.chmod(0o444)
+        options = {}
+        if os.geteuid() == 0:
+            # root may write it all the same; so another user runs a copy of the program
+            self.folder.chmod(0o755)
+            program = shutil.copy(PROGRAM, self.folder / "program")
+            options = {"program": program, "user": 65534}
+        self.assert_refused(path, self.commands(path), self.failed, **options)
+
+    def test_a_file_that_another_program_has_locked(self):
+        path = self.make()
+        command = [sys.executable, "-c", HOLD, path]
+        with subprocess.Popen(command, stdin=subprocess.PIPE, stdout=subprocess.PIPE) as holder:
+            self.assertEqual(holder.stdout.readline(), b"locked\n")
+            self.assert_refused(path, self.commands(path), self.failed)
+            holder.communicate()
+        self.assert_prints(scimlink(*self.commands(path)[0]), self.shown)
+
+    def test_the_file_of_the_other_side(self):
+        path = self.make_other()
+        self.assert_refused(path, self.commands(path), self.damaged)
+
+    def test_a_newer_format(self):
+        path = self.make()
+        sql(path, f"UPDATE {self.format} SET number = 2")
+        self.assert_refused(path, self.commands(path), self.newer)
+
+
+class StoreOpeningsTest(Openings, ProgramTest):
+    failed, damaged, newer = "store fault Y1", "store fault Y2", "store fault Y3"
+    format, shown = "provider_format", "user bob held=1 version=1 active=true"
+    commands = staticmethod(store_commands)
+
+    def make(self):
+        return make_store(self.site.store, [user_resource(1, "bob")])
+
+    def make_other(self):
+        return make_journal(self.site.journal)
+
+    def test_a_store_that_serve_holds(self):
+        path = self.make()
+        with self.serving(1, "--store", path) as provider:
+            self.assert_refused(path, self.commands(path), self.failed)
+            self.assertTrue(is_locked(path))
+            provider.exchange(CREATE_BOB.replace(b'"bob"', b'"ann"'))
+        self.assert_prints(self.site.show_store(), self.shown, "user ann held=1 version=1 active=true")
+
+
+class JournalOpeningsTest(Openings, ProgramTest):
+    failed, damaged, newer = "journal fault J1", "journal fault J2", "journal fault J4"
+    format, shown = "journal_format", "user bob wanted=1 confirmed=0 id=-"
+    commands = staticmethod(journal_commands)
+
+    def make(self):
+        return make_journal(self.site.journal, [user_entry("bob")])
+
+    def make_other(self):
+        return make_store(self.site.store)
+
+    def test_a_journal_that_push_holds(self):
+        path = self.make()
+        self.site.write_users("cid,1,,,,,active")
+        with silent_provider() as (listener, address), Running(*self.site.push_command(address)) as push:
+            with listener.accept()[0]:
+                self.assert_refused(path, self.commands(path), self.failed)
+                self.assertTrue(is_locked(path))
+                self.kill(push)
+        self.assert_prints(self.site.show_journal(), self.shown, "user cid wanted=1 confirmed=0 id=-")
+
+
+class OrderTest(ProgramTest):
+    """The store is opened before the journal, and both before anything else."""
+
+    def test_loop_opens_the_store_first(self):
+        text = self.folder / "text"
+        text.write_text("user,bob\n" * 1000)
+        store = make_store(self.site.store, [user_resource(1, "bob")])
+        for store_option, journal_option, fault in [
+            (text, text, "store fault Y1"),
+            (store, text, "journal fault J1"),
+            # the run itself has it open
+            (store, store, "journal fault J1"),
+            (store, self.site.journal, "file fault"),
+        ]:
+            with self.subTest(fault=fault, journal=journal_option.name):
+                options = ["--store", store_option, "--journal", journal_option]
+                self.assert_refused(text, [["loop", "--users", self.folder / "absent", *options]], fault)
+        self.assert_prints(self.site.show_store(), "user bob held=1 version=1 active=true")
+
+    def test_a_store_is_opened_before_the_address_and_the_request(self):
+        store = make_store(self.site.store)
+        serve = scimlink("serve", "--listen", "nowhere", "--requests", "1", "--store", store)
+        self.assert_fault(serve, "connection fault")
+        self.assert_fault(scimlink("answer", "--store", store), "connection fault")
+        self.assert_prints(self.site.show_store())
+
+    def test_arguments_are_read_before_a_store_is_opened(self):
+        run = scimlink("answer", "--store", self.site.store, "--base", "x")
+        self.assert_prints(run, status=2, errors=["error: --base is http://HOST/v2"])
+        self.assertFalse(self.site.store.exists())

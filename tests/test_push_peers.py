@@ -1,0 +1,190 @@
+"""`push` to providers by script, which answer late, otherwise, in part or not at all."""
+import json
+import pathlib
+import tempfile
+import threading
+
+from peers import (
+    LATE, NO_HITS, TAKEN, Peer, answer, head, hits, late, reset, stays_after, take_no_request, user,
+)
+from support import SCIM_TYPE, ProgramTest, Running, Site, make_journal, user_entry
+
+FIND_BOB = "GET /v2/Users?filter=userName+eq+%22bob%22 HTTP/1.1"
+CREATE = "POST /v2/Users HTTP/1.1"
+REPLACE_BOB = "PUT /v2/Users/7 HTTP/1.1"
+HTML = b"<html><body>Bad Gateway</body></html>"
+SCIM_ERROR = {"schemas": ["urn:ietf:params:scim:api:messages:2.0:Error"], "status": "500"}
+
+# By the code that is printed: what the search for bob is answered, each of three times
+UNUSABLE = {
+    "C1": {
+        "two hits": hits(user("bob", 1), user("bob", 1, number="8")),
+        "one of two hits": hits(user("bob", 1), total=2),
+        "another name": hits(user("bill", 1)),
+        "no revision": hits(user("bob", None)),
+        "a higher revision": hits(user("bob", 2)),
+    },
+    "C2": {
+        "no version": hits(user("bob", 1, None)),
+        "a version that is no tag": hits(user("bob", 1, "v1")),
+    },
+    "C4": {
+        "no token": answer(401, HTML),
+        "no such service": answer(404),
+        "too many requests": answer(429, Retry_After="60"),
+        "an error message": answer(500, SCIM_ERROR),
+        "a proxy that answers for it": answer(502, HTML, Content_Type="text/html"),
+    },
+    "H10": {
+        "no answer": b"",
+        "a part of a head": b"HTTP/1.1 200 OK\r\nContent-Le",
+        "a part of a body": head(200, Content_Length=3) + b"{}",
+    },
+    "H11": {"a reset": reset},
+    "K1": {
+        "another protocol": b"SSH-2.0-OpenSSH_9.2\r\n",
+        "no length": head(200, Connection="close") + b"{}",
+        "a chunked answer": head(200, Transfer_Encoding="chunked") + b"2\r\n{}\r\n0\r\n\r\n",
+        "an interim answer": head(100) + NO_HITS,
+        "another length": answer(200, b"{}", Content_Length=2) + b"more",
+        "two lengths": head(200, Content_Length="2\r\nContent-Length: 3") + b"{}",
+        "a body beyond the limit": head(200, Content_Length=8_388_609) + b"{}",
+        "a head beyond the limit": answer(200, b"{}", X="a" * 20_000),
+    },
+    "K2": {
+        "no JSON": answer(200, b"no"),
+        "a page": answer(200, HTML),
+        "a redirection": answer(301, HTML, Location="https://scim.example/v2"),
+    },
+    "K3": {
+        "another status": answer(202, {}),
+        "no list": answer(200, user("bob", 1)),
+        "a valid list of an invalid user": hits({"userName": "bob"}),
+    },
+}
+
+
+def asked(requests):
+    """The first lines of requests."""
+    return [lines[0] for lines, _ in requests]
+
+
+class PushPeersTest(ProgramTest):
+    def setUp(self):
+        super().setUp()
+        self.site.write_users("bob,1,,,,,active")
+
+    def meets(self, steps, *lines, status=0, errors=(), site=None, options=()):
+        """A push prints these lines when its exchanges have these answers: the requests that it sent."""
+        with Peer(steps) as peer:
+            run = (site or self.site).push(peer.address, *options)
+            self.assert_prints(run, *lines, status=status, errors=errors)
+        return peer.requests
+
+    def confirm_bob(self):
+        """A push after which revision 1 of bob is confirmed, and a file that has revision 2."""
+        self.meets([hits(user("bob", 1))], "user bob confirmed 1")
+        self.site.write_users("bob,2,,,,,left")
+
+    def test_answers_that_are_late(self):
+        steps = [late(1, NO_HITS), late(0.5, answer(201, user("bob", 1)))]
+        requests = self.meets(steps, "user bob confirmed 1")
+        self.assertEqual(asked(requests), [FIND_BOB, CREATE])
+        lines, body = requests[1]
+        self.assertEqual(lines[1:4], ["Host: localhost:8080", f"Accept: {SCIM_TYPE}", "Connection: close"])
+        self.assertEqual(json.loads(body)["userName"], "bob")
+
+    def test_a_replacement(self):
+        self.confirm_bob()
+        requests = self.meets([hits(user("bob", 1)), answer(200, user("bob", 2, '"v2"'))], "user bob confirmed 2")
+        self.assertEqual(asked(requests), [FIND_BOB, REPLACE_BOB])
+        lines, body = requests[1]
+        self.assertIn('If-Match: "v1"', lines)
+        self.assertEqual(json.loads(body)["active"], False)
+
+    def test_a_line_is_printed_before_the_next_exchange_ends(self):
+        self.site.write_users("ann,1,,,,,active", "bob,1,,,,,active")
+        is_read = threading.Event()
+
+        def answers_when_it_is_read(stream):
+            is_read.wait(LATE)
+            stream.sendall(hits(user("bob", 1)))
+
+        with Peer([hits(user("ann", 1)), answers_when_it_is_read]) as peer:
+            with Running(*self.site.push_command(peer.address)) as push:
+                self.assertEqual(push.read_line(), "user ann confirmed 1\n")
+                # bob's exchange goes on
+                self.assertLess(peer.answered, 2)
+                is_read.set()
+                self.assert_prints(push.ends(), "user bob confirmed 1")
+
+    def test_answers_after_which_the_connection_stays_open(self):
+        self.meets([stays_after(NO_HITS), stays_after(answer(201, user("bob", 1)))], "user bob confirmed 1")
+
+    def test_a_weak_tag(self):
+        self.confirm_bob()
+        # it is sent as it was given, and a provider that compares strongly refuses it
+        found = hits(user("bob", 1, 'W/"a"'))
+        requests = self.meets([found, answer(412), found], "user bob unconfirmed -", status=1)
+        self.assertEqual(asked(requests), [FIND_BOB, REPLACE_BOB, FIND_BOB])
+        self.assertIn('If-Match: W/"a"', requests[1][0])
+        self.meets([found, answer(200, user("bob", 2, 'W/"b"'))], "user bob confirmed 2")
+
+    def test_a_creation_that_is_answered_with_a_weak_tag(self):
+        self.meets([NO_HITS, answer(201, user("bob", 1, 'W/"a"'))], "user bob confirmed 1")
+
+    def test_a_name_that_was_just_taken(self):
+        requests = self.meets([NO_HITS, TAKEN, hits(user("bob", 1))], "user bob confirmed 1")
+        self.assertEqual(asked(requests), [FIND_BOB, CREATE, FIND_BOB])
+
+    def test_a_provider_that_loses_an_account(self):
+        self.confirm_bob()
+        requests = self.meets([NO_HITS] * 3, "user bob unconfirmed -", status=1)
+        self.assertEqual(asked(requests), [FIND_BOB] * 3)
+
+    def test_answers_that_cannot_be_used(self):
+        for code, answers in UNUSABLE.items():
+            for name, said in answers.items():
+                with self.subTest(name, code=code):
+                    site = Site(pathlib.Path(tempfile.mkdtemp(dir=self.folder)))
+                    site.write_users("bob,1,,,,,active")
+                    requests = self.meets([said] * 3, f"user bob unconfirmed {code}", status=1, site=site)
+                    self.assertEqual(asked(requests), [FIND_BOB] * 3)
+
+    def test_a_creation_without_a_version(self):
+        steps = [NO_HITS, answer(201, user("bob", 1, None)), TAKEN]
+        requests = self.meets(steps, "user bob unconfirmed C2", status=1)
+        self.assertEqual(asked(requests), [FIND_BOB, CREATE, CREATE])
+
+    def test_a_refused_replacement(self):
+        self.confirm_bob()
+        steps = [hits(user("bob", 1)), answer(403), answer(403)]
+        requests = self.meets(steps, "user bob unconfirmed C4", status=1)
+        self.assertEqual(asked(requests), [FIND_BOB, REPLACE_BOB, REPLACE_BOB])
+
+    def test_a_group_that_waits(self):
+        self.site.write_users("ann,1,,,,,active", "bob,1,,,,,active")
+        self.site.write_groups("crew,1,ann bob")
+        steps = [hits(user("ann", 1, number="6")), *[answer(502, HTML)] * 3]
+        lines = ["user ann confirmed 1", "user bob unconfirmed C4", "group crew unconfirmed waits bob"]
+        self.meets(steps, *lines, status=1)
+
+    def test_a_request_that_is_not_taken(self):
+        # a group whose members have the longest ids, so that its request is too long for a narrow connection
+        members = [f"u{place:03}" for place in range(400)]
+        entries = [user_entry(name, confirmed=1, id=name.ljust(256, "-")) for name in members]
+        make_journal(self.site.journal, entries)
+        self.site.write_users()
+        self.site.write_groups(f"crew,1,{' '.join(members)}")
+        lines = [f"user {name} confirmed 1" for name in members]
+        steps = [NO_HITS, take_no_request, take_no_request]
+        self.meets(steps, *lines, "group crew unconfirmed H12", status=1)
+
+    def test_another_base(self):
+        options = ["--base", "http://scim.example/v2"]
+        requests = self.meets([NO_HITS, answer(201, user("bob", 1))], "user bob confirmed 1", options=options)
+        self.assertEqual([lines[1] for lines, _ in requests], ["Host: scim.example"] * 2)
+
+    def test_a_provider_that_goes_away(self):
+        self.site.write_users("ann,1,,,,,active", "bob,1,,,,,active")
+        self.meets([hits(user("ann", 1))], "user ann confirmed 1", status=3, errors=["connection fault"])

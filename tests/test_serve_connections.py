@@ -1,0 +1,92 @@
+"""`serve`: clients that leave, stay, or send too much or too little, and whom they hold up."""
+import socket
+import struct
+import time
+
+from support import BOB_CREATED, CREATE_BOB, ProgramTest, read_all, resource_id
+
+FIND_BOB = f"GET /v2/Users/{resource_id(1)} HTTP/1.1\r\nHost: h\r\n\r\n".encode()
+# Seconds that the provider reads on after its answer, if nobody else waits
+DRAIN = 2
+
+
+def reset_on_close(stream):
+    """Has the end of a stream be a reset."""
+    stream.setsockopt(socket.SOL_SOCKET, socket.SO_LINGER, struct.pack("ii", 1, 0))
+
+
+class ConnectionTest(ProgramTest):
+    def assert_whole(self, answer, status):
+        """An answer with this status, whose body came to its end."""
+        self.assertTrue(answer.startswith(b"HTTP/1.1 " + status + b"\r\n") and answer.endswith(b"}"), answer)
+
+    def assert_found(self, answer):
+        self.assert_whole(answer, b"200 OK")
+
+    def assert_not_found(self, answer):
+        self.assert_whole(answer, b"404 Not Found")
+
+    def test_connections_are_served_in_their_order(self):
+        with self.serving(2) as provider, provider.connect() as first, provider.connect() as second:
+            # the second one asks first, for what the first one creates
+            second.sendall(FIND_BOB)
+            first.sendall(CREATE_BOB)
+            self.assertEqual(read_all(first), BOB_CREATED)
+            self.assert_found(read_all(second))
+
+    def test_clients_that_leave(self):
+        with self.serving(5, connection_faults=4) as provider:
+            provider.connect().close()
+            with provider.connect() as stream:
+                stream.sendall(CREATE_BOB[:100])
+            with provider.connect() as stream:
+                stream.sendall(CREATE_BOB[:-1])
+                stream.shutdown(socket.SHUT_WR)
+                self.assertEqual(read_all(stream), b"")
+            with provider.connect() as stream:
+                stream.sendall(CREATE_BOB[:-1])
+                reset_on_close(stream)
+            answer = provider.ask("GET", "/v2/Users")
+            self.assertEqual((answer.status, answer.content["totalResults"]), (200, 0))
+
+    def test_a_client_that_closes_its_half(self):
+        with self.serving(1) as provider, provider.connect() as stream:
+            stream.sendall(CREATE_BOB)
+            stream.shutdown(socket.SHUT_WR)
+            self.assertEqual(read_all(stream), BOB_CREATED)
+
+    def test_clients_that_send_more(self):
+        more = b"x" * 1_000_000
+        with self.serving(4) as provider:
+            self.assertEqual(provider.exchange(CREATE_BOB + more), BOB_CREATED)
+            with provider.connect() as stream:
+                # what comes after the answer isn't answered by a reset either
+                stream.sendall(FIND_BOB)
+                beginning = stream.recv(15)
+                stream.sendall(more)
+                self.assert_found(beginning + read_all(stream))
+            head = b"POST /v2/Users HTTP/1.1\r\nHost: h\r\nContent-Length: 1000000\r\n\r\n"
+            self.assert_whole(provider.exchange(head + more), b"413 Content Too Large")
+            self.assert_found(provider.exchange(FIND_BOB))
+
+    def test_a_client_that_stays_after_its_answer(self):
+        with self.serving(2) as provider, provider.connect() as stream:
+            stream.sendall(FIND_BOB)
+            self.assert_not_found(read_all(stream))
+            began = time.monotonic()
+            self.assert_not_found(provider.exchange(FIND_BOB))
+            self.assertLess(time.monotonic() - began, DRAIN + 5)
+
+    def test_who_waits_is_served_before_the_drain(self):
+        # the quickest of some tries, as a machine may be slow now and then
+        self.assertLess(min(self.waits_behind_one_that_stays() for _ in range(3)), DRAIN / 2)
+
+    def waits_behind_one_that_stays(self):
+        """Seconds that a client waits behind another which has its answer and stays."""
+        with self.serving(2) as provider, provider.connect() as first, provider.connect() as second:
+            first.sendall(FIND_BOB)
+            self.assert_not_found(read_all(first))
+            began = time.monotonic()
+            second.sendall(FIND_BOB)
+            self.assert_not_found(read_all(second))
+            return time.monotonic() - began

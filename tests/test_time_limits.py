@@ -1,0 +1,80 @@
+"""What `serve` and `push` do after the 30 seconds that they give a connection or an exchange.
+
+The waits are of one test, all at once, so that the suite waits once.
+"""
+import concurrent.futures
+import contextlib
+import itertools
+import time
+
+from peers import LATE, NO_HITS, TAKEN, Peer, answer, say_nothing, user
+from support import CREATE_BOB, TIME_LIMIT, ProgramTest, Site, read_all
+
+
+def trickle(stream, content):
+    """Sends a byte a second, for as long as the other side takes it."""
+    with contextlib.suppress(OSError):
+        for byte in itertools.islice(content, 2 * TIME_LIMIT):
+            stream.sendall(bytes([byte]))
+            time.sleep(1)
+
+
+def trickle_an_answer(stream):
+    trickle(stream, answer(200, b" " * 1000))
+
+
+class TimeLimitTest(ProgramTest):
+    def test_each_connection_and_exchange_ends_after_its_time(self):
+        waits = [self.a_silent_client, self.a_trickling_client, self.a_silent_provider, self.a_trickling_provider]
+        with concurrent.futures.ThreadPoolExecutor(len(waits)) as pool:
+            runs = {wait.__name__: pool.submit(wait) for wait in waits}
+        for name, run in runs.items():
+            with self.subTest(name):
+                since_before, since_after = run.result()
+                self.assertGreater(since_before, TIME_LIMIT - 1)
+                self.assertLess(since_after, TIME_LIMIT + LATE)
+
+    # Each gives the seconds that passed since before the connection, and since after it
+
+    def a_silent_client(self):
+        return self.connect_and(lambda stream: self.assertEqual(read_all(stream), b""))
+
+    def a_trickling_client(self):
+        return self.connect_and(lambda stream: trickle(stream, CREATE_BOB))
+
+    def connect_and(self, wait):
+        """A client that waits so for the end of its connection, and another that is served after it."""
+        with self.serving(2, connection_faults=1) as provider:
+            before = time.monotonic()
+            with provider.connect() as stream:
+                after = time.monotonic()
+                wait(stream)
+                end = time.monotonic()
+            self.assertEqual(provider.ask("GET", "/v2/Users").status, 200)
+        return end - before, end - after
+
+    def a_silent_provider(self):
+        # the third exchange is clean and says nothing, so the first one's fault is printed
+        return self.push_bob("silent", say_nothing, [NO_HITS, TAKEN], "user bob unconfirmed H11", 1)
+
+    def a_trickling_provider(self):
+        created = answer(201, user("bob", 1))
+        return self.push_bob("trickling", trickle_an_answer, [NO_HITS, created], "user bob confirmed 1", 0)
+
+    def push_bob(self, name, wait, steps, line, status):
+        """A push to a provider that waits so for the end of the first exchange, and then takes these steps."""
+        times = [time.monotonic()]
+
+        def timed(stream):
+            times.append(time.monotonic())
+            wait(stream)
+            times.append(time.monotonic())
+
+        folder = self.folder / name
+        folder.mkdir()
+        site = Site(folder)
+        site.write_users("bob,1,,,,,active")
+        with Peer([timed, *steps]) as peer:
+            self.assert_prints(site.push(peer.address), line, status=status)
+        before, after, end = times
+        return end - before, end - after
