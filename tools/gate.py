@@ -19,8 +19,6 @@ ENDED = [
     ("proofs of the crates' tests", re.compile(r"rt: (\w+): its tests are (?:proved|NOT PROVED)")),
     ("runs of tests and programs", re.compile(r"rt: (\w+)(?:: its tests (?:passed|FAILED)| ran\b)")),
 ]
-# Until each of these is a module of unittest
-SCRIPTS = "map answer serve stores push loop simulate memory guide".split()
 # The table names each crate that took this many processor minutes
 WORTH_NAMING = 1
 
@@ -90,10 +88,7 @@ def is_proved(table):
 
 
 def tests():
-    """What to run after `rt ci`: the name and the command of each."""
-    for it in SCRIPTS:
-        if (ROOT / f"tests/{it}.sh").is_file():
-            yield f"tests/{it}.sh", [f"tests/{it}.sh"]
+    """What to run after `rt ci`: the name and the command of each module of tests."""
     for it in sorted((ROOT / "tests").glob("test_*.py")):
         yield it.stem, [sys.executable, "-B", "-m", "unittest", "discover", "-s", "tests", "-p", it.name]
 
