@@ -48,7 +48,7 @@ GET = request("GET", USER)
 POST = request("POST", "/v2/Users", BODY % 1)
 PUT = request("PUT", USER, BODY % 2, 'If-Match: "1"\r\n')
 SEARCH = request("GET", "/v2/Users?filter=userName%20eq%20%22@@@@@@@@%22")
-# each request with the status that is wanted, whether its users are there before, and how the limit changes a row
+# each request with its expected status, whether its users exist before, and how the limit changes a row
 WORKS = {"GET by id": (GET, 200, True, None), "search by name": (SEARCH, 200, True, None),
          "POST": (POST, 201, False, "insert"), "PUT": (PUT, 200, True, "update")}
 

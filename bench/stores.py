@@ -87,7 +87,7 @@ class Journal:
     name = "journals"
     libraries = "source_csv journal_core journal_store connector_core".split()
     calls = ("add", "change")
-    # with those that are added not above the limit of a journal
+    # with the users that are added, the greatest stays within the limit of a journal
     sizes = (1_000, 10_000, 99_000)
     tables = """
 CREATE TABLE IF NOT EXISTS journal_format (one INTEGER PRIMARY KEY CHECK (one = 1), number INTEGER NOT NULL);

@@ -13,6 +13,7 @@ import json
 import os
 import pathlib
 import random
+import re
 import resource
 import signal
 import socket
@@ -401,12 +402,12 @@ def group_entry(key, members="", **other):
 
 def store_commands(path):
     """The commands that open a store, which they do before they look for anything else."""
-    rest = (["show"], ["answer"], ["serve", "--listen", "nowhere", "--requests", "1"], ["loop", "--users", "nowhere"])
+    rest = (["show"], ["answer"], ["serve", "--listen", NOWHERE, "--requests", "1"], ["loop", "--users", "nowhere"])
     return [[*arguments, "--store", path] for arguments in rest]
 
 
 def journal_commands(path):
-    rest = (["show"], ["push", "--users", "nowhere", "--to", "nowhere"], ["loop", "--users", "nowhere"])
+    rest = (["show"], ["push", "--users", "nowhere", "--to", NOWHERE], ["loop", "--users", "nowhere"])
     return [[*arguments, "--journal", path] for arguments in rest]
 
 
@@ -428,6 +429,11 @@ def contents(path):
 # ---- assertions
 
 
+def without_causes(errors):
+    """Standard error without the second lines of faults, which test_faults_told.py asserts."""
+    return re.sub(r"(?m)^((?:connection|file|journal|store) fault.*\n) .*\n", r"\1", errors)
+
+
 class ProgramTest(unittest.TestCase):
     """A test of the program, in a folder of its own."""
 
@@ -439,7 +445,7 @@ class ProgramTest(unittest.TestCase):
 
     def assert_reports(self, run, status, *errors):
         """The run ended with this status, and printed these lines on standard error."""
-        self.assertEqual(run.errors, text(*errors))
+        self.assertEqual(without_causes(run.errors), text(*errors))
         self.assertEqual(run.status, status)
 
     def assert_prints(self, run, *lines, status=0, errors=()):

@@ -137,7 +137,7 @@ class OrderTest(ProgramTest):
 
     def test_a_store_is_opened_before_the_address_and_the_request(self):
         store = make_store(self.site.store)
-        serve = scimlink("serve", "--listen", "nowhere", "--requests", "1", "--store", store)
+        serve = scimlink("serve", "--listen", "192.0.2.1:1", "--requests", "1", "--store", store)
         self.assert_fault(serve, "connection fault")
         self.assert_fault(scimlink("answer", "--store", store), "connection fault")
         self.assert_prints(self.site.show_store())

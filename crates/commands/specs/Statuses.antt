@@ -1,6 +1,10 @@
 -- The exit status of a run, and what leads to it.
 use Rattle.std.specs.Prelude.{ℕ, Bool, true, false, List, Result, Ok, Err, is_ok, if◌then◌else◌, ◌&&◌}
 use Rattle.std.specs.List.{list_all}
+use Rattle.std.specs.IoError.{error_kind}
+use Rattle.std.specs.declared.io.Error.{Error}
+use Rattle.std.specs.declared.io.ErrorKind.{ErrorKind as IoErrorKind}
+use Rattle.std.specs.declared.io.ErrorKind.TheVariants as io
 use Rattle.clap.specs.declared.error.kind.ErrorKind.{ErrorKind}
 use Rattle.clap.specs.declared.error.kind.ErrorKind.TheVariants as kind
 use Rattle.scim_key.specs.declared.names.NameFault.{NameFault}
@@ -30,15 +34,13 @@ use Rattle.world_sim.specs.declared.reports.WorldFault.TheVariants as world
 use Rattle.world_sim.specs.declared.schedules.ScheduleFault.{ScheduleFault}
 use Rattle.world_sim.specs.declared.schedules.ScheduleFault.TheVariants as schedule
 use Rattle.world_sim.specs.declared.views.View.{View}
-use Rattle.provisioning.specs.declared.faults.PushFault.TheVariants as push
-use Rattle.source_offers.specs.declared.faults.OfferFault.{OfferFault}
-use Rattle.source_offers.specs.declared.faults.OfferFault.TheVariants as offer
-use Rattle.sync_runs.specs.Carrying.{is_done}
-use Rattle.sync_runs.specs.declared.carrying.Outcome.{Outcome}
-use Rattle.sync_runs.specs.declared.faults.RunFault.{RunFault as LoopFault}
-use Rattle.sync_runs.specs.declared.faults.RunFault.TheVariants as looping
-use Rattle.commands.specs.declared.status.RunFault.{RunFault}
-use Rattle.commands.specs.declared.status.RunFault.TheVariants as fault
+use Rattle.provisioning.specs.Carrying.{is_done}
+use Rattle.provisioning.specs.declared.carrying.Outcome.{Outcome}
+use Rattle.provisioning.specs.declared.faults.LoopFault.{LoopFault}
+use Rattle.provisioning.specs.declared.faults.LoopFault.TheVariants as looping
+use Rattle.commands.specs.declared.status.CommandFault.{CommandFault}
+use Rattle.commands.specs.declared.status.CommandFault.TheVariants as fault
+use Rattle.commands.specs.declared.status.Part.{Part}
 use Rattle.commands.specs.declared.status.Status.{Status}
 use Rattle.commands.specs.declared.status.Status.TheVariants.{Done, Refused, Usage, Fault}
 
@@ -48,14 +50,16 @@ status_code Refused = 1
 status_code Usage = 2
 status_code Fault = 3
 
--- a run that a fault ended
-abbrev pub fault_status : RunFault → Status
+-- the exit status of a run that a fault ended
+abbrev pub fault_status : CommandFault → Status
 fault_status fault.Words = Usage
 fault_status fault.Subcommand = Usage
 fault_status fault.Base = Usage
-fault_status fault.Address = Usage
+fault_status fault.Listen = Usage
+fault_status fault.To = Usage
 fault_status fault.Requests = Usage
 fault_status fault.Show = Usage
+fault_status (fault.Events why) = Usage
 fault_status (fault.Users source.Header) = Refused
 fault_status (fault.Users source.Memory) = Fault
 fault_status (fault.Schedule (schedule.Line number)) = Refused
@@ -64,12 +68,15 @@ fault_status fault.Store = Fault
 fault_status (fault.StoreFile why) = Fault
 fault_status (fault.JournalFile why) = Fault
 fault_status fault.File = Fault
+fault_status (fault.Unread part error) = Fault
+fault_status (fault.Output error) = Fault
 fault_status (fault.Connection why) = Fault
-fault_status (fault.Push why) = Fault
+fault_status (fault.Unopened error) = Fault
+fault_status (fault.Run why) = Fault
 fault_status fault.Memory = Fault
 
--- What the parser of the command line told in place of a choice: help and the version are no fault, but where they
--- couldn't be printed
+-- The exit status after the argument parser printed something instead of choosing a command: help and the version are a
+-- success, unless they couldn't be printed
 abbrev pub words_status : ErrorKind → (is_printed : Bool) → Status
 words_status kind.OutOfMemory printed = Fault
 words_status kind.DisplayHelp true = Done
@@ -78,49 +85,62 @@ words_status kind.DisplayVersion true = Done
 words_status kind.DisplayVersion false = Fault
 words_status other printed = Usage
 
--- a base that isn't read
-abbrev pub base_fault : NameFault → RunFault
+-- the fault for a failed call of the system: out of memory, or this fault
+abbrev pub unless_memory : IoErrorKind → (otherwise : CommandFault) → CommandFault
+unless_memory io.OutOfMemory otherwise = fault.Memory
+unless_memory _ otherwise = otherwise
+
+-- the fault of a file that can't be read
+abbrev pub unread_fault : Part → Error → CommandFault
+unread_fault part error = unless_memory (error_kind error) (fault.Unread part error)
+
+-- the fault of arguments that can't be read
+abbrev pub words_fault : IoErrorKind → CommandFault
+words_fault kind = unless_memory kind fault.Words
+
+-- the fault of a base that can't be read
+abbrev pub base_fault : NameFault → CommandFault
 base_fault name.Memory = fault.Memory
 base_fault other = fault.Base
 
--- a connection is done where a response was written whole
-abbrev pub served_status : Served → Result Status RunFault
+-- a connection is done if a response was written whole
+abbrev pub served_status : Served → Result Status CommandFault
 served_status (Answered status) = Ok Done
 served_status (NoRequest why) = Err (fault.Connection (record {}))
 served_status (Lost status) = Err (fault.Connection (record {}))
 
--- a file of rows that isn't opened, or failed
-abbrev pub store_fault : OpenFault → RunFault
+-- the fault of a file of rows that couldn't be opened, or failed
+abbrev pub store_fault : OpenFault → CommandFault
 store_fault opening.Memory = fault.Memory
 store_fault why = fault.StoreFile why
 
--- rows that weren't shown whole
-abbrev pub show_fault : ShowFault → RunFault
+-- the fault of rows that couldn't be shown whole
+abbrev pub show_fault : ShowFault → CommandFault
 show_fault (show.Store why) = store_fault why
 show_fault show.Output = fault.File
 
--- the file of a journal that isn't opened, or failed
-abbrev pub journal_fault : JournalOpenFault → RunFault
+-- the fault of a file of a journal that couldn't be opened, or failed
+abbrev pub journal_fault : JournalOpenFault → CommandFault
 journal_fault journal.Memory = fault.Memory
 journal_fault why = fault.JournalFile why
 
--- entries that weren't shown whole
-abbrev pub show_journal_fault : ShowJournalFault → RunFault
+-- the fault of entries that couldn't be shown whole
+abbrev pub show_journal_fault : ShowJournalFault → CommandFault
 show_journal_fault (show_journal.Journal why) = journal_fault why
 show_journal_fault show_journal.Output = fault.File
 
--- each fault of these connections was told when it came
+-- the exit status after connections whose faults were reported
 abbrev pub outcome_status : Result (Unit {0}) ConnectionFault → Status
 outcome_status (Ok done) = Done
 outcome_status (Err why) = Fault
 
--- a file of users that gives no rows
-abbrev pub users_fault : SourceFault → RunFault
+-- the fault of a file of users that gives no rows
+abbrev pub users_fault : SourceFault → CommandFault
 users_fault source.Header = fault.Users source.Header
 users_fault source.Memory = fault.Memory
 
--- lines that weren't written whole
-abbrev pub lines_fault : WriteFault → RunFault
+-- the fault of lines that couldn't be written whole
+abbrev pub lines_fault : WriteFault → CommandFault
 lines_fault write.Memory = fault.Memory
 lines_fault write.Output = fault.File
 
@@ -128,17 +148,17 @@ lines_fault write.Output = fault.File
 abbrev pub are_rows : List (Result Row RowFault) → Bool
 are_rows records = list_all is_ok records
 
--- all is done where no record of a file is refused
+-- everything is done if no record of a file is rejected
 abbrev pub records_status : List (Result Row RowFault) → Status
 records_status records = if are_rows records then Done else Refused
 
--- a schedule that gives no events
-abbrev pub schedule_fault : ScheduleFault → RunFault
+-- the fault of a schedule that gives no events
+abbrev pub schedule_fault : ScheduleFault → CommandFault
 schedule_fault (schedule.Line number) = fault.Schedule (schedule.Line number)
 schedule_fault schedule.Memory = fault.Memory
 
--- a world that came to an end
-abbrev pub world_fault : WorldFault → RunFault
+-- the fault of a world that couldn't go on
+abbrev pub world_fault : WorldFault → CommandFault
 world_fault world.Memory = fault.Memory
 world_fault world.Store = fault.Store
 
@@ -151,25 +171,19 @@ is_taken other = true
 abbrev pub is_confirmed : View → Bool
 is_confirmed view = same_revision view.confirmed view.wanted
 
--- all is done where no row was refused and every record is confirmed in the end
+-- everything is done if no row was refused and every record is confirmed at the end
 abbrev pub simulated_status : List Report → List View → Status
 simulated_status reports views = if list_all is_taken reports && list_all is_confirmed views then Done else Refused
 
--- what ended a run while its rows were read and offered
-abbrev pub offer_fault : OfferFault → RunFault
-offer_fault offer.Journal = fault.Push push.Journal
-offer_fault offer.File = fault.File
-offer_fault offer.Memory = fault.Memory
-
--- what ended a run with a provider of its own
-abbrev pub loop_fault : LoopFault → RunFault
-loop_fault (looping.Ended why) = fault.Push why
+-- the fault of a run with its own provider
+abbrev pub loop_fault : LoopFault → CommandFault
+loop_fault (looping.Ended why) = fault.Run why
 loop_fault looping.Store = fault.StoreFile opening.Store
 
--- a run of the connector is done where nothing was refused and every record is confirmed
+-- a run of the connector is done if nothing was refused and every record is confirmed
 abbrev pub carried_status : Outcome → Status
 carried_status outcome = if is_done outcome then Done else Refused
 
-abbrev pub run_status : Result Outcome LoopFault → Result Status RunFault
+abbrev pub run_status : Result Outcome LoopFault → Result Status CommandFault
 run_status (Ok outcome) = Ok (carried_status outcome)
 run_status (Err why) = Err (loop_fault why)

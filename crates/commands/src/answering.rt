@@ -1,9 +1,9 @@
-//! One connection, and how the run then ends.
+//! One connection, and the exit status after it.
 ghost use Rattle.std.specs.Prelude.{◌≡◌, IfOk};
 ghost use Rattle.commands.specs.Connections.{AnswersOne, AnswersStored};
 ghost use Rattle.commands.specs.Statuses.{served_status};
 
-use crate::status::{RunFault, Status};
+use crate::status::{CommandFault, Status};
 use connection::answered;
 use http_text::{Input, Output};
 use provider_core::{MemoryRegistry, Provider};
@@ -13,14 +13,14 @@ use scim_server::{Served, serve};
 use std::alloc::Global;
 use std::io::{Read, Write};
 
-/// Answers one request over rows that are opened before it is read.
+/// Opens the rows, then reads one request and answers it.
 pub fn answer_stored<K: Storage, I: Read, O: Write>(
     alloc: Global,
     storage: &K,
     base: &Base,
     reader: &mut Input<I>,
     writer: &mut Output<O>,
-) -> Result<Status, RunFault>
+) -> Result<Status, CommandFault>
     ensures { AnswersStored K.Rows.Registry base.now reader.old reader.new writer.old writer.new result }
 {
     let served = serve_one(alloc, storage, base, reader, writer)?;
@@ -33,7 +33,7 @@ pub fn answer_one<I: Read, O: Write>(
     base: &Base,
     reader: &mut Input<I>,
     writer: &mut Output<O>,
-) -> Result<Status, RunFault>
+) -> Result<Status, CommandFault>
     ensures { AnswersOne base.now reader.old reader.new writer.old writer.new result }
 {
     let mut provider = Provider::new(MemoryRegistry::new(alloc));
@@ -41,12 +41,12 @@ pub fn answer_one<I: Read, O: Write>(
     served_status(served)
 }
 
-/// How a run ends after a connection.
-fn served_status(served: Served) -> Result<Status, RunFault>
+/// The exit status after a connection.
+fn served_status(served: Served) -> Result<Status, CommandFault>
     ensures { result ≡ served_status served }
 {
     match answered(served) {
         Ok(()) => Ok(Status::Done),
-        Err(fault) => Err(RunFault::Connection(fault)),
+        Err(fault) => Err(CommandFault::Connection(fault)),
     }
 }

@@ -1,27 +1,14 @@
-//! How a run ends, by what became of it.
-ghost use Rattle.std.specs.Prelude.{◌≡◌, ◌≢◌};
+//! The exit status of a run, by its result.
+ghost use Rattle.std.specs.Prelude.{◌≡◌};
 ghost use Rattle.std.specs.List.{list_all};
 ghost use Rattle.commands.specs.Statuses.{carried_status, is_confirmed, is_taken, outcome_status, run_status, simulated_status};
-ghost use Rattle.commands.specs.declared.status.RunFault.TheVariants.{Memory};
 
-use crate::status::{RunFault, Status};
+use crate::status::{CommandFault, Status};
 use connection::ConnectionFault;
-use std::io::ErrorKind;
-use sync_runs::Outcome;
+use provisioning::{LoopFault, Outcome};
 use world_sim::{Report, View};
 
-/// Why an address can't be listened on.
-pub fn listen_fault(kind: ErrorKind) -> RunFault
-    ensures memory { kind ≡ ErrorKind.OutOfMemory → result ≡ Memory }
-    ensures connection { kind ≢ ErrorKind.OutOfMemory → result ≡ RunFault.Connection (record {}) }
-{
-    match kind {
-        ErrorKind::OutOfMemory => RunFault::Memory,
-        _ => RunFault::Connection(ConnectionFault),
-    }
-}
-
-/// How a run ends that told each fault of its connections when it came.
+/// The exit status of a run that has reported each fault of its connections.
 pub fn outcome_status(outcome: Result<(), ConnectionFault>) -> Status
     ensures { result ≡ outcome_status outcome }
 {
@@ -31,7 +18,7 @@ pub fn outcome_status(outcome: Result<(), ConnectionFault>) -> Status
     }
 }
 
-/// How a run of the connector ends.
+/// The exit status of a run of the connector.
 pub fn carried_status(outcome: Outcome) -> Status
     ensures { result ≡ carried_status outcome }
 {
@@ -42,13 +29,13 @@ pub fn carried_status(outcome: Outcome) -> Status
     }
 }
 
-/// How a run ends that came to this.
-pub fn run_status(ended: Result<Outcome, sync_runs::RunFault>) -> Result<Status, RunFault>
+/// The exit status of a run with this result.
+pub fn run_status(ended: Result<Outcome, LoopFault>) -> Result<Status, CommandFault>
     ensures { result ≡ run_status ended }
 {
     match ended {
         Ok(outcome) => Ok(carried_status(outcome)),
-        Err(fault) => Err(RunFault::from(fault)),
+        Err(fault) => Err(CommandFault::from(fault)),
     }
 }
 
@@ -78,7 +65,7 @@ fn are_confirmed(views: &[View]) -> bool
     views.iter().all(|view| is_confirmed(view))
 }
 
-/// How a run ends whose events reported this, and whose records then stand so.
+/// The exit status of a run with these reports of its events and these views of its records.
 pub fn simulated_status(reports: &[Report], views: &[View]) -> Status
     ensures { result ≡ simulated_status reports.now views.now }
 {

@@ -1,22 +1,22 @@
-//! The images of the rows of a users file, and how the run then ends.
+//! The images of the rows of a users file, and the exit status after them.
 ghost use Rattle.std.specs.Prelude.{◌≡◌, IfErr, IfOk, OnOk};
 ghost use Rattle.std.specs.Io.KnownBytes.{Appends};
 ghost use Rattle.mapping.specs.Lines.{lines_of};
 ghost use Rattle.mapping.specs.declared.lines.WriteFault.{WriteFault};
 ghost use Rattle.commands.specs.Statuses.{are_rows, lines_fault, records_status};
 
-use crate::status::{RunFault, Status};
+use crate::status::{CommandFault, Status};
 use mapping::write_images;
 use source_csv::{Row, RowFault};
 use std::alloc::Global;
 use std::io::Write;
 
-/// Prints the images of these records, all of them, and tells how the run then ends.
+/// Prints the images of all these records, and returns the exit status.
 pub fn print_images<W: Write>(
     alloc: Global,
     records: &[Result<Row, RowFault>],
     out: &mut W,
-) -> Result<Status, RunFault>
+) -> Result<Status, CommandFault>
     ensures lines { OnOk result
         (Appends (W.contents out.old) (W.contents out.new) (lines_of records.now)) }
     ensures status { IfOk result (λ status. status ≡ records_status records.now) }
@@ -33,7 +33,7 @@ fn are_rows(records: &[Result<Row, RowFault>]) -> bool
     records.iter().all(|record| record.is_ok())
 }
 
-/// How a run ends that printed the images of these records.
+/// The exit status of a run that printed the images of these records.
 fn records_status(records: &[Result<Row, RowFault>]) -> Status
     ensures { result ≡ records_status records.now }
 {

@@ -1,13 +1,20 @@
-//! What the commands of `scimlink` answer and print, the values of their words, and how each run ends.
+//! What the commands of `scimlink` answer and print, the values of their arguments, and the exit status of
+//! each run.
 #![tactic(auto)]
 
+mod addresses;
 mod answering;
 mod endings;
 mod images;
+mod output;
+pub mod simulating;
 mod status;
 pub mod words;
 
 pub use answering::{answer_one, answer_stored};
-pub use endings::{carried_status, listen_fault, outcome_status, run_status, simulated_status};
+pub use endings::{carried_status, outcome_status, run_status, simulated_status};
 pub use images::print_images;
-pub use status::{RunFault, Status, told};
+pub use output::NotedWriter;
+pub use status::{
+    Cause, CommandFault, Part, Status, listen_fault, told, unread_fault, words_fault,
+};

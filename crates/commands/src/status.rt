@@ -1,16 +1,19 @@
-//! How a run ends.
-ghost use Rattle.std.specs.Prelude.{◌≡◌, ◌≢◌};
-ghost use Rattle.commands.specs.Statuses.{fault_status, journal_fault, lines_fault, loop_fault, offer_fault, schedule_fault, show_fault, show_journal_fault, status_code, store_fault, users_fault, world_fault};
-ghost use Rattle.commands.specs.declared.status.RunFault.TheVariants.{Memory};
+//! The exit status of a run.
+ghost use Rattle.std.specs.Prelude.{◌≡◌};
+ghost use Rattle.std.specs.IoError.{error_kind};
+ghost use Rattle.commands.specs.Causes.{error_of, part_of, source_part};
+ghost use Rattle.commands.specs.Statuses.{fault_status, journal_fault, lines_fault, loop_fault, schedule_fault, show_fault, show_journal_fault, status_code, store_fault, unless_memory, unread_fault, users_fault, words_fault, world_fault};
+ghost use Rattle.commands.specs.declared.status.CommandFault.TheVariants.{Memory, Output, Unopened};
 
+use crate::simulating::EventsFault;
 use crate::words::MOST_REQUESTS;
 use connection::ConnectionFault;
 use mapping::WriteFault;
 use provider_file::ShowFault;
 use provider_store::OpenFault;
-use provisioning::PushFault;
+use provisioning::{LoopFault, RunFault, UnreadFile};
+use scim_key::Kind;
 use source_csv::SourceFault;
-use source_offers::OfferFault;
 use std::alloc::{AllocError, AllocFailed};
 use std::io;
 use std::io::ErrorKind;
@@ -21,18 +24,18 @@ use world_sim::{ScheduleFault, WorldFault};
 /// The exit status of the program.
 #[derive(Clone, Copy, Debug, PartialEq, Eq)]
 pub enum Status {
-    /// All is done.
+    /// Everything is done.
     Done,
-    /// A row, the header of a file or a schedule was refused, or a record is unconfirmed at the end.
+    /// A row, the header of a file or a schedule was rejected, or a record is unconfirmed at the end.
     Refused,
-    /// The command line isn't lawful.
+    /// The arguments aren't valid.
     Usage,
     /// A store, a file, a connection or memory failed.
     Fault,
 }
 
 impl Status {
-    /// The number that the program ends with.
+    /// The number that the program exits with.
     pub fn code(self) -> u8
         ensures { result ≡ status_code self }
     {
@@ -45,231 +48,359 @@ impl Status {
     }
 }
 
-/// What ends a run before it is done. Its text is what standard error is told.
-#[derive(Clone, Copy, Debug, PartialEq, Eq, Error)]
-pub enum RunFault {
+/// The parts that a run uses.
+#[derive(Clone, Copy, Debug, PartialEq, Eq)]
+pub enum Part {
+    /// The files of users and of groups.
+    Users,
+    Groups,
+    /// The file that `map` or `simulate` reads.
+    File,
+    /// Standard output.
+    Output,
+    /// The address that `serve` listens on.
+    Listening,
+    /// The address of the provider that records are carried to.
+    Provider,
+    /// The file of the provider's rows.
+    Store,
+    /// The file of the connector's journal.
+    Journal,
+}
+
+/// What ends a run early. Its text is printed on standard error.
+#[derive(Clone, Copy, Debug, Error)]
+pub enum CommandFault {
     #[error("error: the command line isn't UTF-8")]
     Words,
     #[error("error: there is no such subcommand")]
     Subcommand,
     #[error("error: --base is http://HOST/v2")]
     Base,
-    #[error("error: --listen is HOST:PORT")]
-    Address,
+    #[error("error: --listen is HOST:PORT, such as 127.0.0.1:8080")]
+    Listen,
+    #[error("error: --to is HOST:PORT, such as localhost:8080")]
+    To,
     #[error("error: --requests is 1 to {most}", most = MOST_REQUESTS)]
     Requests,
     #[error("error: show takes one of --store FILE and --journal FILE")]
     Show,
-    /// The users file as a whole.
+    #[error("error: {0}")]
+    Events(EventsFault),
+    /// The users file as a whole is wrong.
     #[error("users: {0}")]
     Users(SourceFault),
-    /// The schedule as a whole.
+    /// The schedule as a whole is wrong.
     #[error("schedule {0}")]
     Schedule(ScheduleFault),
     /// A store of a world failed.
     #[error("store fault")]
     Store,
-    /// A file of rows isn't opened, or failed.
+    /// A file of rows couldn't be opened, or failed.
     #[error("store fault {0}")]
     StoreFile(OpenFault),
-    /// The file of a journal isn't opened, or failed.
+    /// The file of a journal couldn't be opened, or failed.
     #[error("journal fault {0}")]
     JournalFile(journal_store::OpenFault),
-    /// A file couldn't be read, or standard output not be written.
+    /// No file is named, or a line couldn't be written.
     #[error("file fault")]
     File,
-    /// No request came, its answer couldn't be written whole, or nothing can be listened to.
+    /// This file couldn't be read; with the system's error.
+    #[error("file fault")]
+    Unread(Part, io::Error),
+    /// A line couldn't be written; with the system's error.
+    #[error("file fault")]
+    Output(io::Error),
+    /// No request came, or its answer couldn't be written whole.
     #[error("{0}")]
     Connection(ConnectionFault),
-    /// A run of the connector.
+    /// The address can't be listened on; with the system's error.
+    #[error("connection fault")]
+    Unopened(io::Error),
+    /// A run of the connector ended early.
     #[error("{0}")]
-    Push(PushFault),
+    Run(RunFault),
     #[error("memory fault")]
     Memory,
 }
 
-impl RunFault {
-    /// How the run ends.
+impl CommandFault {
+    /// The exit status.
     pub fn status(self) -> Status
         ensures { result ≡ fault_status self }
     {
         match self {
-            RunFault::Words | RunFault::Subcommand => Status::Usage,
-            RunFault::Base | RunFault::Address | RunFault::Requests => Status::Usage,
-            RunFault::Show => Status::Usage,
-            RunFault::Users(SourceFault::Header) => Status::Refused,
-            RunFault::Users(SourceFault::Memory) => Status::Fault,
-            RunFault::Schedule(ScheduleFault::Line(_)) => Status::Refused,
-            RunFault::Schedule(ScheduleFault::Memory) | RunFault::Store => Status::Fault,
-            RunFault::StoreFile(_) | RunFault::JournalFile(_) => Status::Fault,
-            RunFault::File | RunFault::Connection(_) | RunFault::Memory => Status::Fault,
-            RunFault::Push(_) => Status::Fault,
+            CommandFault::Words | CommandFault::Subcommand => Status::Usage,
+            CommandFault::Base | CommandFault::Listen | CommandFault::To => Status::Usage,
+            CommandFault::Requests | CommandFault::Show => Status::Usage,
+            CommandFault::Events(_) => Status::Usage,
+            CommandFault::Users(SourceFault::Header) => Status::Refused,
+            CommandFault::Users(SourceFault::Memory) => Status::Fault,
+            CommandFault::Schedule(ScheduleFault::Line(_)) => Status::Refused,
+            CommandFault::Schedule(ScheduleFault::Memory) | CommandFault::Store => Status::Fault,
+            CommandFault::StoreFile(_) | CommandFault::JournalFile(_) => Status::Fault,
+            CommandFault::File | CommandFault::Unread(_, _) => Status::Fault,
+            CommandFault::Output(_) | CommandFault::Connection(_) => Status::Fault,
+            CommandFault::Unopened(_) | CommandFault::Run(_) => Status::Fault,
+            CommandFault::Memory => Status::Fault,
+        }
+    }
+
+    /// The part of a run that failed, if a part did.
+    pub fn part(self) -> Option<Part>
+        ensures { result ≡ part_of self }
+    {
+        match self {
+            CommandFault::Unread(part, _) => Some(part),
+            CommandFault::Output(_) => Some(Part::Output),
+            CommandFault::Unopened(_) => Some(Part::Listening),
+            CommandFault::StoreFile(OpenFault::Store) => Some(Part::Store),
+            CommandFault::JournalFile(journal_store::OpenFault::Store) => Some(Part::Journal),
+            CommandFault::Run(RunFault::Connection(_)) => Some(Part::Provider),
+            CommandFault::Run(RunFault::Journal) => Some(Part::Journal),
+            _ => None,
+        }
+    }
+
+    /// The system's error, if the fault has it.
+    pub fn error(self) -> Option<io::Error>
+        ensures { result ≡ error_of self }
+    {
+        match self {
+            CommandFault::Unread(_, error) | CommandFault::Output(error) => Some(error),
+            CommandFault::Unopened(error) => Some(error),
+            CommandFault::Run(RunFault::Connection(error)) => Some(error),
+            _ => None,
         }
     }
 }
 
-impl From<AllocError> for RunFault {
+impl From<AllocError> for CommandFault {
     ghost from_gives = { λ _ fault. fault ≡ Memory };
 
-    fn from(_: AllocError) -> RunFault {
-        RunFault::Memory
+    fn from(_: AllocError) -> CommandFault {
+        CommandFault::Memory
     }
 }
 
-impl<T: Drop> From<AllocFailed<T>> for RunFault {
+impl<T: Drop> From<AllocFailed<T>> for CommandFault {
     ghost from_gives = { λ _ fault. fault ≡ Memory };
 
-    fn from(_: AllocFailed<T>) -> RunFault {
-        RunFault::Memory
+    fn from(_: AllocFailed<T>) -> CommandFault {
+        CommandFault::Memory
     }
 }
 
-impl From<io::Error> for RunFault {
-    fn from(error: io::Error) -> RunFault {
-        io_fault(error.kind())
+/// The fault of a line that couldn't be written.
+impl From<io::Error> for CommandFault {
+    ghost from_gives = { λ error fault. fault ≡ unless_memory (error_kind error) (Output error) };
+
+    fn from(error: io::Error) -> CommandFault {
+        unless_memory(error.kind(), CommandFault::Output(error))
     }
 }
 
-/// Why a file can't be read, or standard output not be written.
-fn io_fault(kind: ErrorKind) -> RunFault
-    ensures memory { kind ≡ ErrorKind.OutOfMemory → result ≡ Memory }
-    ensures file { kind ≢ ErrorKind.OutOfMemory → result ≡ RunFault.File }
+impl From<UnreadFile> for CommandFault {
+    ghost from_gives = { λ unread fault. fault ≡ unread_fault (source_part unread.kind) unread.error };
+
+    fn from(unread: UnreadFile) -> CommandFault {
+        unread_fault(source_part(unread.kind), unread.error)
+    }
+}
+
+/// The file of records of this type.
+fn source_part(kind: Kind) -> Part
+    ensures { result ≡ source_part kind }
 {
     match kind {
-        ErrorKind::OutOfMemory => RunFault::Memory,
-        _ => RunFault::File,
+        Kind::User => Part::Users,
+        Kind::Group => Part::Groups,
     }
 }
 
-impl From<SourceFault> for RunFault {
+/// The fault of a file that couldn't be read.
+pub fn unread_fault(part: Part, error: io::Error) -> CommandFault
+    ensures { result ≡ unread_fault part error }
+{
+    unless_memory(error.kind(), CommandFault::Unread(part, error))
+}
+
+/// The fault of an address that can't be listened on.
+pub fn listen_fault(error: io::Error) -> CommandFault
+    ensures { result ≡ unless_memory (error_kind error) (Unopened error) }
+{
+    unless_memory(error.kind(), CommandFault::Unopened(error))
+}
+
+/// The fault of arguments that can't be read.
+pub fn words_fault(error: io::Error) -> CommandFault
+    ensures { result ≡ words_fault (error_kind error) }
+{
+    unless_memory(error.kind(), CommandFault::Words)
+}
+
+/// What ends a run after a failed call of the system: out of memory, or this fault.
+fn unless_memory(kind: ErrorKind, otherwise: CommandFault) -> CommandFault
+    ensures { result ≡ unless_memory kind otherwise }
+{
+    match kind {
+        ErrorKind::OutOfMemory => CommandFault::Memory,
+        _ => otherwise,
+    }
+}
+
+impl From<SourceFault> for CommandFault {
     ghost from_gives = { λ users fault. fault ≡ users_fault users };
 
-    fn from(fault: SourceFault) -> RunFault {
+    fn from(fault: SourceFault) -> CommandFault {
         match fault {
-            SourceFault::Header => RunFault::Users(fault),
-            SourceFault::Memory => RunFault::Memory,
+            SourceFault::Header => CommandFault::Users(fault),
+            SourceFault::Memory => CommandFault::Memory,
         }
     }
 }
 
-impl From<WriteFault> for RunFault {
+impl From<WriteFault> for CommandFault {
     ghost from_gives = { λ lines fault. fault ≡ lines_fault lines };
 
-    fn from(fault: WriteFault) -> RunFault {
+    fn from(fault: WriteFault) -> CommandFault {
         match fault {
-            WriteFault::Memory => RunFault::Memory,
-            WriteFault::Output => RunFault::File,
+            WriteFault::Memory => CommandFault::Memory,
+            WriteFault::Output => CommandFault::File,
         }
     }
 }
 
-impl From<ScheduleFault> for RunFault {
+impl From<ScheduleFault> for CommandFault {
     ghost from_gives = { λ schedule fault. fault ≡ schedule_fault schedule };
 
-    fn from(fault: ScheduleFault) -> RunFault {
+    fn from(fault: ScheduleFault) -> CommandFault {
         match fault {
-            ScheduleFault::Line(_) => RunFault::Schedule(fault),
-            ScheduleFault::Memory => RunFault::Memory,
+            ScheduleFault::Line(_) => CommandFault::Schedule(fault),
+            ScheduleFault::Memory => CommandFault::Memory,
         }
     }
 }
 
-impl From<WorldFault> for RunFault {
+impl From<WorldFault> for CommandFault {
     ghost from_gives = { λ world fault. fault ≡ world_fault world };
 
-    fn from(fault: WorldFault) -> RunFault {
+    fn from(fault: WorldFault) -> CommandFault {
         match fault {
-            WorldFault::Memory => RunFault::Memory,
-            WorldFault::Store => RunFault::Store,
+            WorldFault::Memory => CommandFault::Memory,
+            WorldFault::Store => CommandFault::Store,
         }
     }
 }
 
-impl From<OpenFault> for RunFault {
+impl From<OpenFault> for CommandFault {
     ghost from_gives = { λ opening fault. fault ≡ store_fault opening };
 
-    fn from(fault: OpenFault) -> RunFault {
+    fn from(fault: OpenFault) -> CommandFault {
         match fault {
-            OpenFault::Memory => RunFault::Memory,
+            OpenFault::Memory => CommandFault::Memory,
             OpenFault::Store | OpenFault::Damaged(_) | OpenFault::Newer => {
-                RunFault::StoreFile(fault)
+                CommandFault::StoreFile(fault)
             }
         }
     }
 }
 
-impl From<journal_store::OpenFault> for RunFault {
+impl From<journal_store::OpenFault> for CommandFault {
     ghost from_gives = { λ opening fault. fault ≡ journal_fault opening };
 
-    fn from(fault: journal_store::OpenFault) -> RunFault {
+    fn from(fault: journal_store::OpenFault) -> CommandFault {
         match fault {
-            journal_store::OpenFault::Memory => RunFault::Memory,
+            journal_store::OpenFault::Memory => CommandFault::Memory,
             journal_store::OpenFault::Store
             | journal_store::OpenFault::Damaged
-            | journal_store::OpenFault::Newer => RunFault::JournalFile(fault),
+            | journal_store::OpenFault::Newer => CommandFault::JournalFile(fault),
         }
     }
 }
 
-impl From<journal_file::ShowFault> for RunFault {
+impl From<journal_file::ShowFault> for CommandFault {
     ghost from_gives = { λ show fault. fault ≡ show_journal_fault show };
 
-    fn from(fault: journal_file::ShowFault) -> RunFault {
+    fn from(fault: journal_file::ShowFault) -> CommandFault {
         match fault {
-            journal_file::ShowFault::Journal(fault) => RunFault::from(fault),
-            journal_file::ShowFault::Output => RunFault::File,
+            journal_file::ShowFault::Journal(fault) => CommandFault::from(fault),
+            journal_file::ShowFault::Output => CommandFault::File,
         }
     }
 }
 
-impl From<PushFault> for RunFault {
-    ghost use Rattle.commands.specs.declared.status.RunFault.TheVariants.{Push};
+impl From<RunFault> for CommandFault {
+    ghost use Rattle.commands.specs.declared.status.CommandFault.TheVariants.{Run};
 
-    ghost from_gives = { λ push fault. fault ≡ Push push };
+    ghost from_gives = { λ run fault. fault ≡ Run run };
 
-    fn from(fault: PushFault) -> RunFault {
-        RunFault::Push(fault)
+    fn from(fault: RunFault) -> CommandFault {
+        CommandFault::Run(fault)
     }
 }
 
-impl From<OfferFault> for RunFault {
-    ghost from_gives = { λ offer fault. fault ≡ offer_fault offer };
-
-    fn from(fault: OfferFault) -> RunFault {
-        match fault {
-            OfferFault::Journal => RunFault::Push(PushFault::Journal),
-            OfferFault::File => RunFault::File,
-            OfferFault::Memory => RunFault::Memory,
-        }
-    }
-}
-
-impl From<sync_runs::RunFault> for RunFault {
+impl From<LoopFault> for CommandFault {
     ghost from_gives = { λ ended fault. fault ≡ loop_fault ended };
 
-    fn from(fault: sync_runs::RunFault) -> RunFault {
+    fn from(fault: LoopFault) -> CommandFault {
         match fault {
-            sync_runs::RunFault::Ended(fault) => RunFault::Push(fault),
-            sync_runs::RunFault::Store => RunFault::StoreFile(OpenFault::Store),
+            LoopFault::Ended(fault) => CommandFault::Run(fault),
+            LoopFault::Store => CommandFault::StoreFile(OpenFault::Store),
         }
     }
 }
 
-impl From<ShowFault> for RunFault {
+impl From<ShowFault> for CommandFault {
     ghost from_gives = { λ show fault. fault ≡ show_fault show };
 
-    fn from(fault: ShowFault) -> RunFault {
+    fn from(fault: ShowFault) -> CommandFault {
         match fault {
-            ShowFault::Store(fault) => RunFault::from(fault),
-            ShowFault::Output => RunFault::File,
+            ShowFault::Store(fault) => CommandFault::from(fault),
+            ShowFault::Output => CommandFault::File,
         }
     }
 }
 
-/// Tells a fault on standard error, and how the run then ends.
-pub fn told(rt: &impl Eprint, fault: RunFault) -> Status
+/// What a run used when a fault ended it, by its name in the arguments, and the system's error.
+#[derive(Clone, Copy, Debug)]
+pub struct Cause<'a> {
+    pub name: &'a str,
+    pub error: io::Error,
+}
+
+/// Reports a fault on standard error, with its cause in a second line, and returns the exit status.
+pub fn told<R: Eprint + AllocGlobal>(
+    rt: &R,
+    fault: CommandFault,
+    cause: Option<Cause<'_>>,
+) -> Status
     ensures { result ≡ fault_status fault }
 {
     let _ = eprintln!(rt; "{fault}");
+    if let Some(cause) = cause {
+        tell_cause(rt, cause);
+    }
     fault.status()
+}
+
+/// Prints the system's error. The error number is left out, unless memory has run out.
+fn tell_cause<R: Eprint + AllocGlobal>(rt: &R, cause: Cause<'_>) {
+    let Cause { name, error } = cause;
+    match format!(in rt.alloc(); "{error}") {
+        Ok(text) => {
+            let words = without_number(text.as_str());
+            let _ = eprintln!(rt; " {name}: {words}");
+        }
+        Err(_) => {
+            let _ = eprintln!(rt; " {name}: {error}");
+        }
+    }
+}
+
+fn without_number(text: &str) -> &str {
+    match text.split_once(" (os error ") {
+        Some((words, _number)) => words,
+        None => text,
+    }
 }

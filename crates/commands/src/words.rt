@@ -1,65 +1,67 @@
-//! The values of the command line's words.
+//! The values of the arguments.
 ghost use Rattle.std.specs.Prelude.{◌≡◌, ◌<◌, ◌≤◌, IfOk, Ok, Some, codes, string_bytes};
 ghost use Rattle.std.specs.Option.{option_map};
 ghost use Rattle.clap.specs.Matches.{first_value, found_of, one_text};
 ghost use Rattle.scim_key.specs.Outcome.{Gives, GivesBy};
+ghost use Rattle.commands.specs.Addresses.{GivesAddress, text_in};
 ghost use Rattle.commands.specs.Statuses.{base_fault, words_status};
 ghost use Rattle.commands.specs.Words.{number_in, wanted, wanted_base};
-ghost use Rattle.commands.specs.declared.status.RunFault.TheVariants.{Address, File, Memory};
+ghost use Rattle.commands.specs.declared.status.CommandFault.TheVariants.{File, Listen, Memory, To};
 
-use crate::status::{RunFault, Status};
+use crate::addresses::is_address;
+use crate::status::{CommandFault, Status};
 use clap::ArgMatches;
 use clap::error::ErrorKind;
 use scim_key::{Base, NameFault};
 use std::alloc::Global;
 
-/// How many connections one run serves at most.
+/// The most connections that one run serves.
 pub const MOST_REQUESTS: u32 = 1_000_000;
 
-/// The base that the words give, or the one by default.
-pub fn base(alloc: Global, matches: &ArgMatches<'_>) -> Result<Base, RunFault>
+/// The base in the arguments, or the default.
+pub fn base(alloc: Global, matches: &ArgMatches<'_>) -> Result<Base, CommandFault>
     ensures { Gives Memory result (wanted_base (first_value (found_of matches.now) (codes "base"))) }
 {
     match matches.get_str("base") {
         Some(text) => Base::read(alloc, text).map_err(base_fault),
-        None => Err(RunFault::Base),
+        None => Err(CommandFault::Base),
     }
 }
 
-/// Why a base isn't read.
-pub fn base_fault(fault: NameFault) -> RunFault
+/// The fault of a base that can't be read.
+pub fn base_fault(fault: NameFault) -> CommandFault
     ensures { result ≡ base_fault fault }
 {
     match fault {
-        NameFault::Memory => RunFault::Memory,
-        _ => RunFault::Base,
+        NameFault::Memory => CommandFault::Memory,
+        _ => CommandFault::Base,
     }
 }
 
-/// The file that the words name.
-pub fn file(alloc: Global, matches: &ArgMatches<'_>) -> Result<String, RunFault>
+/// The file in the arguments.
+pub fn file(alloc: Global, matches: &ArgMatches<'_>) -> Result<String, CommandFault>
     ensures { GivesBy string_bytes Memory result
         (wanted File (first_value (found_of matches.now) (codes "FILE"))) }
 {
     match matches.get_str("FILE") {
         Some(text) => Ok(String::from_str(alloc, text)?),
-        None => Err(RunFault::File),
+        None => Err(CommandFault::File),
     }
 }
 
-/// The file of users that the words name.
-pub fn users(alloc: Global, matches: &ArgMatches<'_>) -> Result<String, RunFault>
+/// The file of users in the arguments.
+pub fn users(alloc: Global, matches: &ArgMatches<'_>) -> Result<String, CommandFault>
     ensures { GivesBy string_bytes Memory result
         (wanted File (first_value (found_of matches.now) (codes "users"))) }
 {
     match matches.get_str("users") {
         Some(text) => Ok(String::from_str(alloc, text)?),
-        None => Err(RunFault::File),
+        None => Err(CommandFault::File),
     }
 }
 
-/// The file of groups that the words name, if they do.
-pub fn groups(alloc: Global, matches: &ArgMatches<'_>) -> Result<Option<String>, RunFault>
+/// The file of groups in the arguments, if there is one.
+pub fn groups(alloc: Global, matches: &ArgMatches<'_>) -> Result<Option<String>, CommandFault>
     ensures { GivesBy (option_map string_bytes) Memory result
         (Ok (first_value (found_of matches.now) (codes "groups"))) }
 {
@@ -69,19 +71,30 @@ pub fn groups(alloc: Global, matches: &ArgMatches<'_>) -> Result<Option<String>,
     }
 }
 
-/// The address that the words name.
-pub fn address(alloc: Global, matches: &ArgMatches<'_>) -> Result<String, RunFault>
-    ensures { GivesBy string_bytes Memory result
-        (wanted Address (first_value (found_of matches.now) (codes "listen"))) }
+/// The address to listen on, from the arguments. Port 0 takes a free port.
+pub fn address(alloc: Global, matches: &ArgMatches<'_>) -> Result<String, CommandFault>
+    ensures { GivesAddress string_bytes 0 Listen (first_value (found_of matches.now) (codes "listen")) result }
 {
-    match matches.get_str("listen") {
-        Some(text) => Ok(String::from_str(alloc, text)?),
-        None => Err(RunFault::Address),
+    address_in(alloc, matches.get_str("listen"), 0, CommandFault::Listen)
+}
+
+/// An address with a port that is at least this one, or what is wrong with the arguments.
+fn address_in(
+    alloc: Global,
+    given: Option<&str>,
+    least: u16,
+    wrong: CommandFault,
+) -> Result<String, CommandFault>
+    ensures { GivesAddress string_bytes least wrong (text_in given.entry) result }
+{
+    match given {
+        Some(text) if is_address(least, text) => Ok(String::from_str(alloc, text)?),
+        _ => Err(wrong),
     }
 }
 
-/// The file of rows that the words name, if they do.
-pub fn store(alloc: Global, matches: &ArgMatches<'_>) -> Result<Option<String>, RunFault>
+/// The file of rows in the arguments, if there is one.
+pub fn store(alloc: Global, matches: &ArgMatches<'_>) -> Result<Option<String>, CommandFault>
     ensures { GivesBy (option_map string_bytes) Memory result
         (Ok (first_value (found_of matches.now) (codes "store"))) }
 {
@@ -91,8 +104,8 @@ pub fn store(alloc: Global, matches: &ArgMatches<'_>) -> Result<Option<String>, 
     }
 }
 
-/// The file of the journal that the words name, if they do.
-pub fn journal(alloc: Global, matches: &ArgMatches<'_>) -> Result<Option<String>, RunFault>
+/// The file of the journal in the arguments, if there is one.
+pub fn journal(alloc: Global, matches: &ArgMatches<'_>) -> Result<Option<String>, CommandFault>
     ensures { GivesBy (option_map string_bytes) Memory result
         (Ok (first_value (found_of matches.now) (codes "journal"))) }
 {
@@ -102,30 +115,26 @@ pub fn journal(alloc: Global, matches: &ArgMatches<'_>) -> Result<Option<String>
     }
 }
 
-/// The provider's address that the words name.
-pub fn to(alloc: Global, matches: &ArgMatches<'_>) -> Result<String, RunFault>
-    ensures { GivesBy string_bytes Memory result
-        (wanted Address (first_value (found_of matches.now) (codes "to"))) }
+/// The provider's address in the arguments.
+pub fn to(alloc: Global, matches: &ArgMatches<'_>) -> Result<String, CommandFault>
+    ensures { GivesAddress string_bytes 1 To (first_value (found_of matches.now) (codes "to")) result }
 {
-    match matches.get_str("to") {
-        Some(text) => Ok(String::from_str(alloc, text)?),
-        None => Err(RunFault::Address),
-    }
+    address_in(alloc, matches.get_str("to"), 1, CommandFault::To)
 }
 
-/// How many connections the words ask for.
-pub fn requests(matches: &ArgMatches<'_>) -> Result<u32, RunFault>
+/// The number of connections in the arguments.
+pub fn requests(matches: &ArgMatches<'_>) -> Result<u32, CommandFault>
     ensures range { IfOk result (λ count. (0 < count) × (count ≤ MOST_REQUESTS)) }
     ensures value { IfOk result
         (λ count. option_map number_in (one_text (found_of matches.now) (codes "requests")) ≡ Some count) }
 {
     match matches.get_one("requests") {
         Some(count) if (1..=MOST_REQUESTS).contains(&count) => Ok(count),
-        _ => Err(RunFault::Requests),
+        _ => Err(CommandFault::Requests),
     }
 }
 
-/// How a run ends that gave help, the version, or told what is wrong with the words.
+/// The exit status of a run that only printed help, the version, or what is wrong with the arguments.
 pub fn words_status(kind: ErrorKind, is_printed: bool) -> Status
     ensures { result ≡ words_status kind is_printed }
 {

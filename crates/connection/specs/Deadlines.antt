@@ -1,4 +1,4 @@
--- What is left of a time, by a clock.
+-- The remaining time, by a clock.
 use Rattle.std.specs.Prelude.{◌≡◌, ◌+◌, ◌<◌}
 use Rattle.std.specs.Duration.{as_nanos}
 use Rattle.std.specs.Time.{instant_nanos}
@@ -6,17 +6,21 @@ use Rattle.std.specs.declared.time.Instant.{Instant}
 use Rattle.std.specs.declared.time.Duration.{Duration}
 use Rattle.connection.specs.declared.deadline.Deadline.{Deadline}
 
--- so long after a moment that the clock told
+-- `limit` after a moment of the clock
 pub record IsAfter (limit : Duration) (deadline : Deadline) : Type 0 where
   pub now : Instant
   pub sum : instant_nanos deadline.end ≡ instant_nanos now + as_nanos limit
 
--- at this moment so much is left, and not nothing
+-- the remaining time at this moment, which isn't zero
 pub record LeavesAt (deadline : Deadline) (now : Instant) (left : Duration) : Type 0 where
   pub some : 0 < as_nanos left
   pub sum : instant_nanos now + as_nanos left ≡ instant_nanos deadline.end
 
--- so much is left at a moment that the clock told
+-- the remaining time at a moment of the clock
 pub record IsLeft (deadline : Deadline) (left : Duration) : Type 0 where
   pub now : Instant
   pub leaves : LeavesAt deadline now left
+
+-- some time remained at a moment of the clock
+abbrev pub HadTime : Deadline → Type 0
+HadTime deadline = (left : Duration) × IsLeft deadline left

@@ -1,4 +1,4 @@
--- What the requests of many connections do to the rows, one after another.
+-- How the requests of many connections change the rows, one after another.
 use Rattle.std.specs.Prelude.{◌≡◌, ◌≤◌, ℕ, List, [], ◌∷◌, length}
 use Rattle.scim_resource.specs.Rows.{StoredRecord}
 use Rattle.scim_message.specs.declared.messages.Request.{Request}
@@ -9,7 +9,7 @@ abbrev pub rows_after : List StoredRecord → List Request → List StoredRecord
 rows_after rows [] = rows
 rows_after rows (request ∷ requests) = rows_after (changed_rows rows (outcome rows request).change) requests
 
--- some requests made the rows what they are, at most so many
+-- at most `most` requests made the rows what they are
 pub record FollowRequests (old new : List StoredRecord) (most : ℕ) : Type 0 where
   pub requests : List Request
   pub rows : new ≡ rows_after old requests

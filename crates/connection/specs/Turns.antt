@@ -8,18 +8,18 @@ use Rattle.http_text.specs.Counts.{Reading, Writing}
 use Rattle.http_text.specs.Message.{Message}
 use Rattle.scim_server.specs.declared.serving.Served.{Served}
 use Rattle.scim_server.specs.declared.serving.Served.TheVariants.{Answered, NoRequest, Lost}
-use Rattle.scim_server.specs.Serving.{HasRead, Serves}
+use Rattle.scim_server.specs.Serving.{AnswersFaults, HasRead, LeavesRows, Serves}
 use Rattle.connection.specs.declared.serving.ConnectionFault.{ConnectionFault}
 use Rattle.connection.specs.Listening.{Takes}
 
--- one turn of a listener: a connection was taken, and this became of it; or none could be
+-- one turn of a listener: a connection was accepted and served, or none could be accepted
 pub data Turn (I O : Type 0) : Type 0 where
   taken : (reader : I) (writer : O) (served : Served) → Turn I O
   unopened : Turn I O
 
 -- ---- outcomes
 
--- a connection is without a fault where a response was written whole
+-- a connection has no fault if a response was written whole
 abbrev pub answered : Served → Result (Unit {0}) ConnectionFault
 answered (Answered status) = Ok tt
 answered (NoRequest why) = Err (record {})
@@ -29,7 +29,7 @@ abbrev pub turn_outcome : {I O : Type 0} → Turn I O → Result (Unit {0}) Conn
 turn_outcome (taken reader writer served) = answered served
 turn_outcome unopened = Err (record {})
 
--- all are without a fault where each is
+-- all have no fault if each has none
 abbrev pub outcome : {I O : Type 0} → List (Turn I O) → Result (Unit {0}) ConnectionFault
 outcome [] = Ok tt
 outcome (turn ∷ turns) = result_and (turn_outcome turn) (outcome turns)
@@ -46,20 +46,22 @@ all_opened (turn ∷ turns) = opened turn ++ all_opened turns
 
 -- ---- what the provider did
 
--- a stream of which nothing is counted yet
+-- a stream with no counts yet
 abbrev pub fresh_reading : Option (List ℕ) → Reading
 fresh_reading remaining = record { remaining = remaining; ahead = []; calls = 0; failures = 0 }
 
 abbrev pub fresh_writing : Option (List ℕ) → Writing
 fresh_writing contents = record { contents = contents; calls = 0; failures = 0; flushes = 0 }
 
--- What a peer sent was read from the connection's start, and became this; the provider went from one state to the other
+-- What a peer sent was read from the connection's start, and led to this; the provider went from one state to the other
 pub record IsServed {I O R : Type 0} (remaining : I → Option (List ℕ)) (contents : O → Option (List ℕ)) (g : Ghosts R) (base : List ℕ) (old new : R) (reader : I) (writer : O) (served : Served) : Type 0 where
   pub left : Reading
   pub written : Writing
   pub read : Result Message ReadFault
   pub has_read : HasRead (fresh_reading (remaining reader)) left read
   pub serves : Serves (g.is_faithful new) base (g.rows old) (g.rows new) (fresh_writing (contents writer)) written read served
+  pub leaves : LeavesRows g old new read
+  pub faults : AnswersFaults g old new (fresh_writing (contents writer)) written served
   pub quiet : IsQuiet g.is_faithful g.faults old new
   pub writes : g.writes new ≤ g.writes old + 1
 
@@ -69,7 +71,7 @@ module _ {I O R : Type 0} (remaining : I → Option (List ℕ)) (contents : O �
   IsTurn (taken reader writer served) old new = IsServed remaining contents g base old new reader writer served
   IsTurn unopened old new = new ≡ old
 
-  -- each turn on the provider that the one before left, and nothing else
+  -- each turn starts from the provider that the turn before left, and nothing else changes it
   abbrev pub AreTurns : List (Turn I O) → (old new : R) → Type 0
   AreTurns [] old new = new ≡ old
   AreTurns (turn ∷ turns) old new = (between : R) × IsTurn turn old between × AreTurns turns between new
@@ -81,7 +83,7 @@ pub record TakesTurn {L I O R : Type 0} (waiting : L → Option (List (I × O)))
   pub served : IsTurn remaining contents g base turn old new
   pub result_is : result ≡ turn_outcome turn
 
--- so many turns of a listener, in the order in which its connections waited
+-- `count` turns of a listener, in the order in which its connections waited
 pub record ServesTurns {L I O R : Type 0} (waiting : L → Option (List (I × O))) (remaining : I → Option (List ℕ)) (contents : O → Option (List ℕ)) (g : Ghosts R) (base : List ℕ) (before after : L) (old new : R) (count : ℕ) (result : Result (Unit {0}) ConnectionFault) : Type 0 where
   pub turns : List (Turn I O)
   pub count_is : length turns ≡ count

@@ -1,4 +1,4 @@
-//! How long a connection may still take.
+//! The remaining time of a connection.
 ghost use Rattle.std.specs.Prelude.{◌≡◌, ◌+◌, ◌<◌, ◌≤◌, ◌↔◌, IfOk, IfSome, IsNone};
 ghost use Rattle.std.specs.Duration.{as_nanos};
 ghost use Rattle.std.specs.Time.{instant_nanos};
@@ -8,14 +8,15 @@ use std::io;
 use std::io::ErrorKind;
 use std::time::{Clock, Duration, Instant};
 
-/// The moment from which a connection has taken too long.
+/// The moment from which on a connection has taken too long.
 #[derive(Clone, Copy)]
 pub struct Deadline {
     pub end: Instant,
 }
 
 impl Deadline {
-    /// So long from now on. It fails where the clock does, or where it can't count so far.
+    /// The moment this long after the clock's current time. It fails if the clock fails or can't count that
+    /// far.
     pub fn after(clock: &impl Clock, limit: Duration) -> io::Result<Deadline>
         ensures { IfOk result (IsAfter limit) }
     {
@@ -26,7 +27,7 @@ impl Deadline {
         }
     }
 
-    /// The time that is left at a moment, if there is some.
+    /// The remaining time at a moment, if there is any.
     pub fn left_at(&self, now: Instant) -> Option<Duration>
         ensures some { IfSome result (LeavesAt self.now now) }
         ensures none { IsNone result ↔ (instant_nanos self.now.end ≤ instant_nanos now) }
@@ -37,7 +38,7 @@ impl Deadline {
         }
     }
 
-    /// The time that is left now. It fails with `TimedOut` where none is.
+    /// The remaining time now. It fails with `TimedOut` if there is none.
     pub fn left(&self, clock: &impl Clock) -> io::Result<Duration>
         ensures { IfOk result (IsLeft self.now) }
     {

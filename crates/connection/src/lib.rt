@@ -1,4 +1,4 @@
-//! The connections of a provider, one after another, each within its time.
+//! The connections of a provider, one after another, each with a deadline.
 #![tactic(auto)]
 
 mod deadline;

@@ -1,4 +1,4 @@
-//! Streams whose peers have their answers, and may still send.
+//! Streams whose peers have their answers and may still send.
 ghost use Rattle.std.specs.Prelude.{◌≡◌, ◌≤◌, ◌<◌, ◌↔◌, [], IsTrue, drop, length};
 
 use crate::timed::TimedStream;
@@ -8,14 +8,14 @@ use std::io::Read;
 use std::net::OpenStream;
 use std::time::{Clock, Duration};
 
-/// For how many seconds a peer may send on once it has its answer.
+/// For how many seconds a peer may still send after it has its answer.
 const DRAIN_SECONDS: u64 = 2;
 
-/// How many streams are kept at most.
+/// The most streams that are kept.
 pub(crate) const MOST_KEPT: usize = 32;
 
-/// Streams that were shut down for writing and are still to be drained, the longest kept first. They
-/// are drained before they are dropped.
+/// Streams that were shut down for writing and aren't drained yet, the longest kept first. Dropping them
+/// drains them first.
 pub(crate) struct Lingering<'a, S: Read + OpenStream + Drop, C: Clock> {
     pub(crate) streams: VecDeque<TimedStream<'a, S, C>, Global>,
 }
@@ -36,7 +36,7 @@ impl<'a, S: Read + OpenStream + Drop, C: Clock> Lingering<'a, S, C> {
         }
     }
 
-    /// Keeps a stream. Where there's no place for it, the longest kept is drained first.
+    /// Keeps a stream. If there is no room, it drains the longest kept first.
     pub(crate) fn keep(&mut self, stream: TimedStream<'a, S, C>)
         ensures { length self.old.streams.items ≤ MOST_KEPT → length self.new.streams.items ≤ MOST_KEPT }
     {
@@ -50,7 +50,7 @@ impl<'a, S: Read + OpenStream + Drop, C: Clock> Lingering<'a, S, C> {
         }
     }
 
-    /// Drains the longest kept, if there is one. It tells whether more are kept.
+    /// Drains the longest kept stream, if there is one. It returns whether more are kept.
     pub(crate) fn drain_longest(&mut self) -> bool
         ensures streams { self.new.streams.items ≡ drop 1 self.old.streams.items }
         ensures more { IsTrue result ↔ (0 < length self.new.streams.items) }
@@ -61,7 +61,7 @@ impl<'a, S: Read + OpenStream + Drop, C: Clock> Lingering<'a, S, C> {
         !self.streams.is_empty()
     }
 
-    /// Drains all of them, in their order.
+    /// Drains all of them, in order.
     pub(crate) fn drain_all(&mut self)
         ensures { self.new.streams.items ≡ [] }
     {

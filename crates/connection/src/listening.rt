@@ -1,25 +1,25 @@
-//! What connections come from.
+//! What accepts connections.
 ghost use Rattle.std.specs.Prelude.{◌≡◌, List, Option, None};
 ghost use Rattle.connection.specs.Listening.{Accepts};
 
 use std::io;
 use std::io::{Read, Write};
 
-/// What connections come from, one after another. A connection is a reader of what its peer sends
-/// and a writer of what it's answered.
+/// What accepts connections, one after another. A connection is a reader of what its peer sends and a
+/// writer of the answer.
 pub trait Listen {
     type Reader: Read + Drop;
 
     type Writer: Write + Drop;
 
-    /// The connections that will be taken from here on, where they are known.
+    /// The connections that will be accepted from now on, if they are known.
     ghost waiting: { Self → Option (List (Self.Reader × Self.Writer)) } = { λ _. None };
 
-    /// Takes the next connection.
+    /// Accepts the next connection.
     fn accept(&mut self) -> io::Result<(Self::Reader, Self::Writer)>
         ensures { Accepts (waiting self.old) (waiting self.new) result };
 
-    /// Ends a connection that was served. Its peer gets the answer whole, and may send on for a while.
+    /// Ends a connection that was served. Its peer gets the whole answer, and may still send for a while.
     fn end(&mut self, reader: Self::Reader, writer: Self::Writer)
         ensures { waiting self.new ≡ waiting self.old };
 }

@@ -13,15 +13,15 @@ use std::alloc::Global;
 use std::io::{Eprint, Read, Write};
 use thiserror::Error;
 
-/// A connection that couldn't be opened, on which no request came, or whose answer couldn't be
-/// written whole.
+/// A connection that couldn't be opened, on which no request came, or whose answer couldn't be written
+/// whole.
 #[derive(Clone, Copy, Debug, PartialEq, Eq, Error)]
 #[error("connection fault")]
 pub struct ConnectionFault;
 
-/// Takes so many connections, serves each by one request to the provider, and ends it before the
-/// next is taken. Each fault is told on standard error when it comes, and the next connection is
-/// served all the same; at last it is a fault where any connection had one.
+/// Accepts `count` connections. It serves each with one request to the provider, and ends it before it
+/// accepts the next. It reports each fault on standard error at once, and goes on. The result is a fault if
+/// any connection had one.
 pub fn serve_connections<R: Registry, L: Listen>(
     rt: &impl Eprint,
     alloc: Global,
@@ -44,8 +44,7 @@ pub fn serve_connections<R: Registry, L: Listen>(
     outcome
 }
 
-/// Serves so many connections, as `serve_connections` does, by a provider in memory that has no
-/// resource at first.
+/// Serves `count` connections as `serve_connections` does, with a provider in memory that starts empty.
 pub fn serve_from_memory<L: Listen>(
     rt: &impl Eprint,
     alloc: Global,
@@ -62,14 +61,14 @@ pub fn serve_from_memory<L: Listen>(
     serve_connections(rt, alloc, listener, count, base, &mut provider)
 }
 
-/// Tells a fault on standard error.
+/// Reports a fault on standard error.
 fn tell(rt: &impl Eprint, served: Result<(), ConnectionFault>) {
     if let Err(fault) = served {
         let _ = eprintln!(rt; "{fault}");
     }
 }
 
-/// Takes the next connection, serves it by one request to the provider, and ends it.
+/// Accepts the next connection, serves it with one request to the provider, and ends it.
 pub fn serve_next<R: Registry, L: Listen>(
     alloc: Global,
     listener: &mut L,
@@ -103,7 +102,7 @@ fn serve_opened<R: Registry, I: Read, O: Write>(
     serve(alloc, provider, base, &mut input, &mut output)
 }
 
-/// A connection is without a fault where a response was written whole.
+/// A connection has no fault if a response was written whole.
 pub fn answered(served: Served) -> Result<(), ConnectionFault>
     ensures { result ≡ answered served }
 {

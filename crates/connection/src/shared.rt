@@ -1,4 +1,4 @@
-//! Handles on one stream.
+//! Shared handles on one stream.
 ghost use Rattle.std.specs.Prelude.{◌≡◌, IfOk};
 
 use crate::deadline::Deadline;
@@ -11,8 +11,8 @@ use std::net::{OpenStream, Shutdown};
 use std::rc::Rc;
 use std::time::{Clock, Duration};
 
-/// A handle on a stream, which is closed with the last of its handles. Unlike `try_clone` of a socket,
-/// that of a handle asks nothing of the system.
+/// A handle on a stream; the last handle closes it. `try_clone` makes no call of the system, unlike that of
+/// a socket.
 #[derive(Drop)]
 pub struct SharedStream<S: Drop> {
     stream: Rc<RefCell<S>>,
@@ -71,10 +71,10 @@ impl<S: OpenStream + Drop> OpenStream for SharedStream<S> {
     }
 }
 
-/// A handle on a stream that keeps a deadline.
+/// A handle on a stream with a deadline.
 pub type TimedHandle<'a, S, C> = TimedStream<'a, SharedStream<S>, C>;
 
-/// A reader and a writer of one stream, which both keep this deadline.
+/// A reader and a writer of one stream with this deadline.
 pub fn timed_handles<'a, S: OpenStream + Drop, C: Clock>(
     alloc: Global,
     stream: S,

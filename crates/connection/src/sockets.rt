@@ -9,8 +9,8 @@ use std::io::{Read, Write};
 use std::net::{OpenListener, OpenStream};
 use std::time::{Clock, Duration};
 
-/// The connections of a listening socket. Each has this time in all, from when it is taken. Those
-/// that were served are drained, one after another, as long as no other one waits.
+/// The connections of a listening socket. Each has this time in all, from when it is accepted. Streams that
+/// were served are drained, one after another, while no connection waits.
 #[derive(Drop)]
 pub struct Sockets<'a, L: OpenListener + Drop, C: Clock>
 where
@@ -20,7 +20,7 @@ where
     listener: L,
     clock: &'a C,
     limit: Duration,
-    /// Whether the listener gives up at once where no connection waits.
+    /// Whether `accept` returns at once if no connection waits.
     gives_up: bool,
     served: Lingering<'a, SharedStream<L::Stream>, C>,
 }
@@ -40,8 +40,7 @@ where
         }
     }
 
-    /// The stream of the next connection. Where none can be taken at once, those that were served are
-    /// drained first.
+    /// The stream of the next connection. If none waits, it first drains the streams that were served.
     fn next_stream(&mut self) -> io::Result<L::Stream> {
         if self.gives_up {
             if let Some(stream) = self.stream_between_drains() {
@@ -54,8 +53,8 @@ where
         Ok(stream)
     }
 
-    /// The stream of a connection that can be taken at once. As long as there is none, a stream that was
-    /// served is drained; none where all are.
+    /// The stream of a connection that waits. While none waits, it drains a stream that was served; `None`
+    /// if all are drained.
     fn stream_between_drains(&mut self) -> Option<L::Stream> {
         for _ in 0..MOST_KEPT {
             if let Ok((stream, _)) = self.listener.accept() {

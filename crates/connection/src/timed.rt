@@ -1,9 +1,9 @@
-//! A stream that keeps a deadline.
+//! A stream with a deadline.
 ghost use Rattle.std.specs.Prelude.{◌≡◌, ◌≤◌, None, IfOk, IfSome, OnOk};
 ghost use Rattle.std.specs.Duration.{as_nanos};
 ghost use Rattle.std.specs.Io.{ReadsAtMost, WritesAtMost};
 ghost use Rattle.std.specs.Io.KnownBytes.{ReadConsumes, WriteAppends};
-ghost use Rattle.connection.specs.Deadlines.{IsLeft};
+ghost use Rattle.connection.specs.Deadlines.{HadTime, IsLeft};
 
 use crate::deadline::Deadline;
 use std::io;
@@ -11,21 +11,20 @@ use std::io::{ErrorKind, Read, Write};
 use std::net::{OpenStream, Shutdown};
 use std::time::{Clock, Duration};
 
-/// How often the end of a stream is looked for at most.
+/// The most reads that look for the end of a stream.
 const DRAIN_LIMIT: u32 = 400_000;
 
-/// For how many seconds one read waits at most.
+/// The most seconds that one read waits.
 const WAIT_SECONDS: u64 = 1;
 
-/// A stream that fails from a deadline on. No call waits for longer than what is left of the time, so
-/// that calls which are many and short take no longer in all. A read that waited for a second is
-/// interrupted, and is to be made again.
+/// A stream that fails from its deadline on. No call waits longer than the remaining time, and neither do
+/// many short calls together. A read that waited for a second is interrupted: the caller makes it again.
 #[derive(Drop)]
 pub struct TimedStream<'a, S: Drop, C> {
     stream: S,
     clock: &'a C,
     deadline: Deadline,
-    /// How long a read of the stream waits, once this was set.
+    /// How long a read of the stream waits, if that was set.
     read_limit: Option<Duration>,
 }
 
@@ -46,15 +45,15 @@ impl<'a, S: Drop, C> TimedStream<'a, S, C> {
 }
 
 impl<'a, S: OpenStream + Drop, C: Clock> TimedStream<'a, S, C> {
-    /// The time that is left for the stream. It fails where none is.
+    /// The remaining time of the stream. It fails if there is none.
     fn left(&self) -> io::Result<Duration>
         ensures { IfOk result (IsLeft self.now.deadline) }
     {
         self.deadline.left(self.clock)
     }
 
-    /// Lets no read wait for longer than this. A limit that is no longer stays: one that was set
-    /// serves many reads.
+    /// Lets no read wait longer than this. A limit that isn't longer stays, so one setting serves many
+    /// reads.
     fn limit_reads(&mut self, left: Duration) -> io::Result<()>
         ensures limit { OnOk result
             (IfSome self.new.read_limit (λ limit. as_nanos limit ≤ as_nanos left)) }
@@ -70,15 +69,15 @@ impl<'a, S: OpenStream + Drop, C: Clock> TimedStream<'a, S, C> {
         Ok(())
     }
 
-    /// Tells the peer that no more comes.
+    /// Shuts down writing, so that the peer sees the end.
     pub fn shut_down(&self) {
         let _ = self.stream.shutdown(Shutdown::Write);
     }
 }
 
 impl<'a, S: Read + OpenStream + Drop, C: Clock> TimedStream<'a, S, C> {
-    /// Reads on and drops what comes, to the stream's end, for at most this long. A stream that is
-    /// closed while its peer still sends is reset, and the peer may lose what was written to it.
+    /// Reads and discards what comes, to the stream's end, for at most this long. Closing a stream while
+    /// its peer still sends resets it, and the peer may lose its answer.
     pub fn drain(&mut self, limit: Duration) {
         let Ok(deadline) = Deadline::after(self.clock, limit) else {
             return;
@@ -96,7 +95,7 @@ impl<'a, S: Read + OpenStream + Drop, C: Clock> TimedStream<'a, S, C> {
     }
 }
 
-/// The fault of a read, where a wait that ended is an interruption.
+/// The fault of a read; a wait that ended is an interruption.
 fn interruption(error: io::Error) -> io::Error {
     match error.kind() {
         ErrorKind::WouldBlock => io::Error::from(ErrorKind::Interrupted),
@@ -112,6 +111,7 @@ impl<'a, S: Read + OpenStream + Drop, C: Clock> Read for TimedStream<'a, S, C> {
         ensures bytes { ReadConsumes (S.remaining self.old.stream) (S.remaining self.new.stream)
             result buffer.new }
         ensures deadline { self.new.deadline ≡ self.old.deadline }
+        ensures time { OnOk result (HadTime self.old.deadline) }
     {
         let left = self.left()?;
         self.limit_reads(left)?;
@@ -127,9 +127,10 @@ impl<'a, S: Write + OpenStream + Drop, C: Clock> Write for TimedStream<'a, S, C>
         ensures bytes { WriteAppends (S.contents self.old.stream) (S.contents self.new.stream)
             result bytes.now }
         ensures deadline { self.new.deadline ≡ self.old.deadline }
+        ensures time { OnOk result (HadTime self.old.deadline) }
     {
-        let left = self.left()?;
-        self.stream.set_write_timeout(Some(left))?;
+        let limit = self.left()?;
+        self.stream.set_write_timeout(Some(limit))?;
         self.stream.write(bytes)
     }
 

@@ -90,7 +90,7 @@ drop-group us old new key updates = same_map names_total names_same _ _ (λ q. a
 
 -- ---- a record that is there changes
 
--- by what stood in the tree
+-- by what was in the tree
 pub change-user : (change : Known → Known) (old new gs : Tree) (key : List ℕ) (o : Option Known) → tree.get key_cmp old key ≡ o → IsSome o → Updates key_cmp old new key (option_map change o) → book_in new gs ≡ changed change (book_in old gs) (of User key)
 change-user change old new gs key None held there updates = absurd (cc)
 change-user change old new gs key (Some known) held there updates =
@@ -130,7 +130,7 @@ names-in : (us gs : Entries) → map (λ e. e.0) (named_in User us ++ named_in G
 names-in [] gs = keys-of Group gs
 names-in (u ∷ us) gs = ap (λ names. of User u.0 ∷ names) (names-in us gs)
 
--- the names of the book are those of both trees
+-- the names of the book are the names of both trees
 pub names-are : (us gs : Tree) → IsOrdered key_cmp us → IsOrdered key_cmp gs → keys (book_in us gs) ≡ map (of User) (tree.keys us) ++ map (of Group) (tree.keys gs)
 names-are us gs users groups =
     let sorted : IsStrictlySortedBy name_cmp (map (λ (e : RecordName × Known). e.0) (named_in User us.entries ++ named_in Group gs.entries)) =

@@ -138,7 +138,7 @@ same-cond false entry known x y put rest = rest
 abbrev IsKnownWithin : Known → Type 0
 IsKnownWithin known = known.confirmed ≼ row_revision known.wanted
 
--- what holds of what is put, and of what stood there, holds of either
+-- a property of the new value and of the old one holds for both results
 pub either-holds : (P : Known → Type 0) (b : Bool) (put known : Known) (o : Option Known) → P put → ((k : Known) → o ≡ Some k → P k) → cond b (Some put) o ≡ Some known → P known
 either-holds P true put known o here rest is = let same : put ≡ known = cc in subst P same here
 either-holds P false put known o here rest is = rest known is
@@ -147,7 +147,7 @@ within-wanting : (o : Option Known) (row : Row) → ((known : Known) → o ≡ S
 within-wanting None row below = none_first (row_revision row)
 within-wanting (Some known) row below = below known refl
 
--- what is put into both stays kept
+-- the book and the journal stay kept after putting into both
 pub kept-put : (kept : EntryMap) (book : BookMap) (name : RecordName) (entry : Entry) (known : Known) → IsKept kept book → entry ≡ entry_of known → IsKnownWithin known
     → IsKept (insert kept name entry) (insert book name known)
 kept-put kept book name entry known is put within = record {

@@ -69,7 +69,7 @@ same-cond : (b : Bool) (known : Known) (o here : Option Known) → (b ≡ true �
 same-cond true known o here same is = sym (same refl ∙ is)
 same-cond false known o here same is = refl
 
--- what stands in the book, put into it again
+-- putting what is in the book into it again
 pub again : (book : BookMap) (name : RecordName) (known : Known) → get book name ≡ Some known → insert book name known ≡ book
 again book name known there = same_map names_total names_same _ _ (λ q. get-insert names_total book name known q
     ∙ same-cond (is_eq (name_cmp q name)) known (get book q) (get book name) (λ same. ap (get book) (name_from_test q name (sym (tied q name) ∙ same))) there)

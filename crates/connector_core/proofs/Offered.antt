@@ -48,7 +48,7 @@ absent-out book name none = same_map names_total names_same _ _ (λ q.
     get-remove names_total book name q
     ∙ absent-cond (is_eq (name_cmp q name)) (get book q) (get book name) (λ same. ap (get book) (name_from_test q name (sym (tied q name) ∙ same))) none)
 
--- a first row is taken back, where the note has a copy of the name
+-- a first row is taken back, if the note has a copy of the name
 pub first-back : (book later : BookMap) (name copied : RecordName) (known : Known) → get book name ≡ None → copied ≡ name → later ≡ insert book name known → remove later copied ≡ book
 first-back book later name copied known none same put = ap (remove later) same ∙ ap (λ b. remove b name) put ∙ undone book name known none
 
@@ -59,7 +59,7 @@ again-cond : (b : Bool) (put known : Known) (o here : Option Known) → (b ≡ t
 again-cond true put known o here same there = sym (same refl ∙ there)
 again-cond false put known o here same there = refl
 
--- what stood under a name is put there again
+-- what was under a name is put there again
 again : (book : BookMap) (name : RecordName) (put known : Known) → get book name ≡ Some known → insert (insert book name put) name known ≡ book
 again book name put known there = same_map names_total names_same _ _ (λ q.
     get-insert names_total (insert book name put) name known q ∙ ap (cond (is_eq (name_cmp q name)) (Some known)) (get-insert names_total book name put q)
@@ -125,7 +125,7 @@ can-next kept book row rest (Ok verdict.Known) said is can = can
 can-next kept book row rest (Ok verdict.Older) said is can = can
 can-next kept book row rest (Err fault) said is can = can
 
--- those that are new may be put
+-- the new rows may be put
 pub can-put-all : (kept : EntryMap) (book : BookMap) (rows : List Row) → IsKept kept book → CanPutRows kept (new_rows book rows)
 can-put-all kept book [] is = tt
 can-put-all kept book (row ∷ rows) is =
@@ -138,7 +138,7 @@ put-next kept row rest (Ok verdict.Known) = refl
 put-next kept row rest (Ok verdict.Older) = refl
 put-next kept row rest (Err fault) = refl
 
--- to put those that are new makes the entries that all of them leave
+-- putting the new rows makes the entries that all of the rows leave
 pub puts-all : (kept : EntryMap) (book : BookMap) (rows : List Row) → with_rows kept (new_rows book rows) ≡ entries_all kept book rows
 puts-all kept book [] = refl
 puts-all kept book (row ∷ rows) =
@@ -154,12 +154,12 @@ pub located-all : (book : BookMap) (rows : List Row) → AllLocated (book_of boo
 located-all book [] all = all
 located-all book (row ∷ rows) all = located-all (taking book row) rows (located-next book row (judged book row) all)
 
--- ---- one write of those that are new
+-- ---- one write of the new rows
 
 pub nothing : (rows : List Row) → (length rows == 0) ≡ true → rows ≡ []
 nothing rows none = nil_from_length rows (grind (arith, nat_tests))
 
--- what is put, where these are the rows that are new
+-- what is put, if these are the new rows
 module _ (held : EntryMap) (old new : BookMap) (rows : List Row) (offered : Offered) (are : AreOffered old new rows offered) where
   pub puts-fresh : (put : List Row) → put ≡ offered.fresh.items → with_rows held put ≡ entries_all held old rows
   puts-fresh put is = ap (with_rows held) (is ∙ are.fresh) ∙ puts-all held old rows

@@ -1,4 +1,4 @@
--- What a verdict tells of the book.
+-- What a verdict says about the book.
 use Rattle.std.proofs.Common.{◌≡◌, ℕ, ◌<◌, ◌+◌, Bool, true, false, cond, ◌&&◌, List, [], ◌∷◌, Option, Some, None, IsSome, is_none, Result, Ok, Err, refl, ap, sym, subst, ◌∙◌, arith, inl, inr, nat_le}
 use Rattle.std.proofs.lemmas.Bool.{cases_Bool}
 use Rattle.std.proofs.lemmas.Bool.Decides.{nat_tests}
@@ -23,7 +23,7 @@ use Rattle.connector_core.specs.Maps.{BookMap, book_of}
 use Rattle.connector_core.specs.State.{IsKept, entry_of}
 use Rattle.connector_core.specs.declared.knowledge.Known.{Known}
 
--- where one revision is not above another, which is below a third, it is not above that
+-- if one revision isn't above another, which is below a third, the first is not above the third
 pub below-later : (a b c : RevisionValue) → a ≼ b → b ≺ c → a ≼ c
 below-later a b c p q = elim (cases_Bool (before c a)) [
   | inl above ↦ absurd (clash (before b a) p (transitive b c a q above))
@@ -74,7 +74,7 @@ none-missing : (test : List ℕ → Bool) (i : ℕ) (ks : List (List ℕ)) → p
 none-missing test i [] e = All-nil (λ key. test key ≡ false)
 none-missing test i (k ∷ ks) e = missing-next (test k) test i k ks (position_from test (i + 1) ks) refl (λ none. none-missing test (i + 1) ks none) e
 
--- what is said of a new row
+-- what is said about a new row
 pub record IsNew (book : BookMap) (row : Row) : Type 0 where
   pub above : (known : Known) → get book (row_name row) ≡ Some known → row_revision known.wanted ≺ row_revision row
   pub members : All (λ key. is_none (get book (user key)) ≡ false) (members_of row)

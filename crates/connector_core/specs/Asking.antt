@@ -1,4 +1,4 @@
--- What the connector asks for next of a record.
+-- What the connector asks for next for a record.
 use Rattle.std.specs.Prelude.{ℕ, pos, Bool, List, [], ◌∷◌, Option, Some, None, Result, Ok, Err, if◌then◌else◌}
 use Rattle.std.specs.Option.{option_map}
 use Rattle.scim_key.specs.Revisions.{same_revision}
@@ -24,23 +24,25 @@ use Rattle.connector_core.specs.declared.knowledge.Known.{Known}
 use Rattle.connector_core.specs.declared.knowledge.Seen.{Seen}
 use Rattle.connector_core.specs.declared.knowledge.Seen.TheVariants.{Unknown, Absent, At}
 
--- the search for the resource with the row's name as it is spelled: from the first, and no count
+-- the search for the resource with the row's name as it is spelled: from the first place, without a count
 abbrev pub search_for : Row → Request
 search_for (User row) = Search kinds.User (Some (name_filter UserName row.login)) (pos 1) None
 search_for (Group row) = Search kinds.Group (Some (name_filter DisplayName row.name)) (pos 1) None
 
--- the replacement of the version with this tag, and of no other
+-- the replacement of the version with this tag, and of no other version
 abbrev pub replacement : (id : List ℕ) → (tag : List ℕ) → Content → Request
 replacement id tag content = Replace id content (Tags (tag ∷ [])) Always
 
--- by what was seen of the record and by its id. (Of what a connector saw it knows the id, `AllLocated`, so the last case doesn't come.)
+-- by what was seen of the record and by its id (the last case doesn't occur: what a connector saw has a known id,
+-- `AllLocated`)
 abbrev pub request_for : Seen → Option (List ℕ) → Row → Content → Request
 request_for Unknown id row content = search_for row
 request_for Absent id row content = Create content
 request_for (At tag revision) (Some id) row content = replacement id tag content
 request_for (At tag revision) None row content = search_for row
 
--- by the image of the wanted row, or the place of its first member without an id. (No image is out of memory, so the last case doesn't come.)
+-- by the image of the wanted row, or the place of its first member without an id (the last case doesn't occur: no image
+-- runs out of memory)
 abbrev pub asking_with : Result Content ImageFault → Known → Ask
 asking_with (Ok content) known = Send (request_for known.seen known.id known.wanted content)
 asking_with (Err (MemberWithoutId place)) known = Waits (member_at known.wanted place)
@@ -53,6 +55,6 @@ is_done known = same_revision known.confirmed (row_revision known.wanted)
 abbrev pub asking_of : Book → Known → Ask
 asking_of book known = if is_done known then Nothing else asking_with (imaged (known_id book) known.wanted) known
 
--- What is asked for next of a record, or none where the book lacks it
+-- What the connector asks for next for a record; none if the record isn't in the book
 abbrev pub asking : Book → RecordName → Option Ask
 asking book name = option_map (asking_of book) (book name)

@@ -1,4 +1,4 @@
--- The connector's book: of each record the row that is wanted, and what is known of it at the provider.
+-- The connector's book: for each record the wanted row, and what is known about the record at the provider.
 use Rattle.std.specs.Prelude.{◌≡◌, ℕ, List, Option, Some, None, IsSome, if◌then◌else◌}
 use Rattle.std.specs.Option.{option_map, option_and_then}
 use Rattle.scim_key.specs.Revisions.{RevisionValue, no_revision}
@@ -10,18 +10,18 @@ use Rattle.connector_core.specs.declared.knowledge.Known.{Known}
 use Rattle.connector_core.specs.declared.knowledge.Seen.{Seen}
 use Rattle.connector_core.specs.declared.knowledge.Seen.TheVariants.{Unknown, Absent, At}
 
--- a record of which the source gave no row isn't in the book
+-- a record without a row of the source isn't in the book
 abbrev pub Book : Type 0
 Book = RecordName → Option Known
 
 abbrev pub empty_book : Book
 empty_book name = None
 
--- the book with this in the place of what stood there of the record
+-- the book with this in place of what was there for the record
 abbrev pub put : Book → RecordName → Known → Book
 put book name known other = if same_name name other then Some known else book other
 
--- ---- what holds of each record
+-- ---- what holds for each record
 
 -- a resource that was seen has an id
 abbrev pub IsSeenWith : (id : Option (List ℕ)) → Seen → Type 0
@@ -29,17 +29,17 @@ IsSeenWith id Unknown = Unit {0}
 IsSeenWith id Absent = Unit {0}
 IsSeenWith id (At tag revision) = IsSome id
 
--- the id is known of what was seen
+-- the id of what was seen is known
 abbrev pub IsLocated : Known → Type 0
 IsLocated known = IsSeenWith known.id known.seen
 
--- the same of each record of the book
+-- this holds for each record of the book
 pub record AllLocated (book : Book) : Type 0 where
   pub each : (name : RecordName) (known : Known) → book name ≡ Some known → IsLocated known
 
 -- ---- what the source changes
 
--- a first row starts with nothing known; a later one takes the place of the wanted row alone
+-- a first row starts with nothing known; a later row replaces only the wanted row
 abbrev pub wanting : Option Known → Row → Known
 wanting None row = record { wanted = row; confirmed = no_revision; id = None; seen = Unknown }
 wanting (Some known) row = record known { wanted = row }
@@ -53,17 +53,17 @@ with_row book row = put book (row_name row) (wanting (book (row_name row)) row)
 abbrev pub forgotten : Known → Known
 forgotten known = record known { seen = Unknown }
 
--- the book after a restart: whatever was seen is forgotten, and all else stays
+-- the book after a restart: what was seen is forgotten, and everything else stays
 abbrev pub reopened : Book → Book
 reopened book name = option_map forgotten (book name)
 
--- ---- what changes of a record
+-- ---- how a record changes
 
 -- another row is wanted
 abbrev pub wanting_now : Row → Known → Known
 wanting_now row known = record known { wanted = row }
 
--- this was seen of it
+-- this was seen of the record
 abbrev pub seeing : Seen → Known → Known
 seeing seen known = record known { seen = seen }
 
@@ -86,7 +86,7 @@ abbrev pub confirmed_if : Option Known → RevisionValue
 confirmed_if None = no_revision
 confirmed_if (Some known) = known.confirmed
 
--- the confirmed revision, none where there is no such record
+-- the confirmed revision; none if the record doesn't exist
 abbrev pub confirmed_of : Book → RecordName → RevisionValue
 confirmed_of book name = confirmed_if (book name)
 
@@ -94,6 +94,6 @@ abbrev pub wanted_if : Option Known → RevisionValue
 wanted_if None = no_revision
 wanted_if (Some known) = row_revision known.wanted
 
--- the revision that is wanted, none where there is no such record
+-- the wanted revision; none if the record doesn't exist
 abbrev pub wanted_of : Book → RecordName → RevisionValue
 wanted_of book name = wanted_if (book name)

@@ -22,24 +22,25 @@ use Rattle.connector_core.specs.declared.learning.LearnFault.TheVariants as lear
 use Rattle.connector_core.specs.declared.opening.OpenFault.{OpenFault}
 use Rattle.connector_core.specs.declared.opening.OpenFault.TheVariants as opening
 
--- every map is a book, whatever is put into it
+-- putting into a map is putting into its book, for every map
 abbrev pub AllMapsAreBooks : Type 0
 AllMapsAreBooks = (map : BookMap) (name : RecordName) (known : Known) → MapsAreBooks map name known
 
--- over a journal in memory no call meets a store fault
+-- over a journal in memory, no call has a store fault
 pub record NoStoreFaults : Type 0 where
   pub opening : (old new : MemoryRecord) (fault : OpenFault) → CountsOpen (memory_faults old) (memory_faults new) fault → fault ≢ opening.Store
   pub changing : (old new : MemoryRecord) (fault : ChangeFault) → CountsChange (memory_faults old) (memory_faults new) fault → fault ≢ change.Store
   pub learning : (old new : MemoryRecord) (fault : LearnFault) → CountsLearn (memory_faults old) (memory_faults new) fault → fault ≢ learn.Store
 
--- a request is the replacement, by some content, of the resource with this id, as it was under this tag
+-- a request replaces the resource with this id by some content, if the resource still has this tag
 pub record Replaces (id : Option (List ℕ)) (tag : List ℕ) (request : Request) : Type 0 where
   pub known : List ℕ
   pub is_known : id ≡ Some known
   pub content : Content
   pub is : request ≡ replacement known tag content
 
--- what is sent of a record that was seen under a tag is the replacement of that version at the known id, and never a search
+-- if a record was seen with a tag, its next request is the replacement of that version at the known id, and never a
+-- search
 abbrev pub ReplacesWhatWasSeen : Type 0
 ReplacesWhatWasSeen = (book : Book) (name : RecordName) (known : Known) (tag : List ℕ) (revision : RevisionValue) (request : Request) → AllLocated book
     → book name ≡ Some known → known.seen ≡ At tag revision → asking book name ≡ Some (Send request) → Replaces known.id tag request

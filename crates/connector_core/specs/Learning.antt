@@ -29,7 +29,7 @@ use Rattle.connector_core.specs.declared.learning.Learnt.TheVariants as learnt
 use Rattle.connector_core.specs.declared.learning.LearnFault.{LearnFault}
 use Rattle.connector_core.specs.declared.learning.LearnFault.TheVariants.{Unfit, Unversioned, Refused, NoSuchRecord}
 
--- what is there, or a fault
+-- the value, or a fault if there is none
 abbrev pub or_fault : {A : Type 0} → LearnFault → Option A → Result A LearnFault
 or_fault fault (Some x) = Ok x
 or_fault fault None = Err fault
@@ -43,11 +43,11 @@ fault_unless fault false = Err fault
 abbrev pub if_of_kind : Kind → RecordName → Option RecordName
 if_of_kind kind name = if same_kind kind name.kind then Some name else None
 
--- the record that a filter of this type names alone
+-- the only record that a filter of this type names
 abbrev pub named_alone : Kind → Option Expression → Option RecordName
 named_alone kind wanted = option_and_then (if_of_kind kind) (option_and_then single_key wanted)
 
--- the record of the content, or the one that is searched for by a lawful name of its own type
+-- the record of the content, or the one of its own type that is searched for by a valid name
 abbrev pub subject : Request → Option RecordName
 subject (Create content) = Some (content_name content)
 subject (Retrieve kind id if_match if_none_match) = None
@@ -56,20 +56,20 @@ subject (Replace id content if_match if_none_match) = Some (content_name content
 
 -- ---- what an answer says
 
--- a resource; that there is none; that the name is taken; or that the resource has another version
+-- a resource; no resource; a name that is taken; or a resource with another version
 pub data Finding : Type 0 where
   Shows : (resource : ShownRecord) → Finding
   Shows_none : Finding
   Taken : Finding
   Stale : (if_match : Condition) → Finding
 
--- a list shows the one resource that was found, or that none was
+-- a list shows the one resource that was found, or that none was found
 abbrev pub listed : (total : ℕ) → List ShownRecord → Result Finding LearnFault
 listed total [] = if total == 0 then Ok Shows_none else Err Unfit
 listed total (s ∷ []) = if total == 1 then Ok (Shows s) else Err Unfit
 listed total (s ∷ other ∷ more) = Err Unfit
 
--- a refusal of this status says this, if it is the status that is looked for
+-- a refusal with the expected status says this
 abbrev pub refused_by : (status : ℕ) → (expected : ℕ) → Finding → Result Finding LearnFault
 refused_by status expected finding = if status == expected then Ok finding else Err (Refused status)
 
@@ -109,18 +109,19 @@ finding (Replace id content if_match if_none_match) answer = found_replacing if_
 
 -- ---- whether a shown resource is the record's
 
--- any id fits where none is known
+-- any id fits if none is known
 abbrev pub fits_id : (known : Option (List ℕ)) → (id : List ℕ) → Bool
 fits_id None id = true
 fits_id (Some known) id = bytes_eq known id
 
--- a resource at a revision, under an entity tag
+-- a resource that was seen, with its revision and its entity tag
 pub record Sight : Type 0 where
   pub id : List ℕ
   pub revision : RevisionValue
   pub tag : List ℕ
 
--- A shown resource is the record's where it has its name, its known id, a revision that isn't above the wanted one, and a tag
+-- A shown resource is the record's if it has its name, its known id, a revision that isn't above the wanted one, and a
+-- tag
 abbrev pub fit : RecordName → Known → ShownRecord → Result Sight LearnFault
 fit name known s = do
   _ ← fault_unless Unfit (same_name name (content_name s.content))
@@ -140,19 +141,19 @@ pub record Lesson : Type 0 where
 abbrev pub nothing_new : Known → Lesson
 nothing_new known = record { known = known; learnt = learnt.Nothing }
 
--- a resource in sight: its revision is confirmed, unless a higher one is
+-- a resource was seen: its revision is confirmed, unless a higher one is
 abbrev pub sighted : Known → Sight → Lesson
 sighted known sight = record {
   known = record known { confirmed = later known.confirmed sight.revision; id = Some sight.id; seen = At sight.tag sight.revision };
   learnt = if before known.confirmed sight.revision then learnt.Confirmed sight.revision else learnt.Seen;
 }
 
--- nothing in sight: the provider has none, unless an id is known
+-- no resource was seen: the provider has none, unless an id is known
 abbrev pub none_sighted : (id : Option (List ℕ)) → Known → Lesson
 none_sighted None known = record { known = record known { seen = Absent }; learnt = learnt.Absent }
 none_sighted (Some id) known = nothing_new known
 
--- what was seen is forgotten, if it is what the answer is about
+-- what was seen is forgotten, if the answer is about it
 abbrev pub forgetting : (concerned : Bool) → Known → Lesson
 forgetting true known = record { known = forgotten known; learnt = learnt.Forgotten }
 forgetting false known = nothing_new known
@@ -167,7 +168,7 @@ is_alone [] tag = false
 is_alone (t ∷ []) tag = bytes_eq t tag
 is_alone (t ∷ other ∷ more) tag = false
 
--- whether the tag that was seen is the only one of the condition
+-- whether the condition has only the tag that was seen
 abbrev pub is_under_tag : Condition → (tag : List ℕ) → Bool
 is_under_tag Always tag = false
 is_under_tag AnyTag tag = false
@@ -178,7 +179,7 @@ is_under if_match Unknown = false
 is_under if_match Absent = false
 is_under if_match (At tag revision) = is_under_tag if_match tag
 
--- What is learnt of a record from what an answer says
+-- What is learnt about a record from what an answer says
 abbrev pub lesson : RecordName → Known → Finding → Result Lesson LearnFault
 lesson name known (Shows s) = (fit name known s >>= λ sight. Ok (sighted known sight))
 lesson name known Shows_none = Ok (none_sighted known.id known)

@@ -8,3 +8,4 @@ pub mod Noting
 pub mod Changing
 pub mod Offering
 pub mod Laws
+pub mod Codes

@@ -1,4 +1,4 @@
--- What is learnt of which record, and what becomes of the book and of the journal.
+-- What is learnt about which record, and how the book and the journal change.
 use Rattle.std.specs.Prelude.{◌≡◌, ◌≤◌, ◌⊎◌, ℕ, true, Option, Some, None, Result, Ok, Err, IsOk, if◌then◌else◌}
 use Rattle.std.specs.FinMap.{get, insert}
 use Rattle.std.specs.Option.{option_map}
@@ -24,13 +24,13 @@ use Rattle.connector_core.specs.declared.learning.LearnFault.TheVariants.{Unfit,
 use Rattle.connector_core.specs.declared.learning.Learnt.{Learnt}
 use Rattle.connector_core.specs.declared.learning.Learnt.TheVariants as learnt
 
--- ---- what is learnt of which record
+-- ---- what is learnt about which record
 
 pub record Note : Type 0 where
   pub name : RecordName
   pub lesson : Lesson
 
--- What is learnt from the answer to a request, under the name of its record
+-- What is learnt from the answer to a request, with the name of its record
 abbrev pub note : Book → Request → Answer → Result Note LearnFault
 note book request answer = do
   name ← or_fault Unfit (subject request)
@@ -52,18 +52,18 @@ abbrev pub learnt_of : Result Learning LearnFault → Result Learnt LearnFault
 learnt_of (Ok l) = Ok l.learnt
 learnt_of (Err fault) = Err fault
 
--- the entries of the journal with what is known of the record afterwards
+-- the entries of the journal, with what is known about the record afterwards
 abbrev pub noted_entries : EntryMap → Result Note LearnFault → EntryMap
 noted_entries entries (Ok n) = insert entries n.name (entry_of n.lesson.known)
 noted_entries entries (Err fault) = entries
 
--- of each record the row, the confirmed revision and the id stay
+-- each record keeps its row, its confirmed revision and its id
 abbrev pub KeepsEntries : (old new : BookMap) → Type 0
 KeepsEntries old new = (name : RecordName) → option_map entry_of (get new name) ≡ option_map entry_of (get old name)
 
 -- ---- faults
 
--- in place of an answer the store's fault comes only where there is something to be learnt, and out of memory at any time
+-- instead of an answer, a store fault comes only if something can be learnt; out of memory may come at any time
 abbrev pub MayStandFor : Result Learning LearnFault → LearnFault → Type 0
 MayStandFor answer Unfit = ⊥
 MayStandFor answer Unversioned = ⊥
@@ -72,7 +72,7 @@ MayStandFor answer NoSuchRecord = ⊥
 MayStandFor answer Store = IsOk answer
 MayStandFor answer Memory = Unit {0}
 
--- a store fault is counted, and no other fault is one
+-- only a store fault is counted
 abbrev pub CountsLearn : (old new : ℕ) → LearnFault → Type 0
 CountsLearn old new Unfit = new ≡ old
 CountsLearn old new Unversioned = new ≡ old
@@ -81,14 +81,14 @@ CountsLearn old new NoSuchRecord = new ≡ old
 CountsLearn old new Store = (old ≤ new) × HasRisen old new
 CountsLearn old new Memory = new ≡ old
 
--- the connector's fault at a fault of its journal
+-- the connector's fault for a fault of its journal
 abbrev pub learn_fault : JournalFault → LearnFault
 learn_fault journal.Store = Store
 learn_fault journal.Memory = Memory
 
--- ---- news of a record
+-- ---- news about a record
 
--- what is learnt of a record from what an answer says, if it says something
+-- what is learnt about a record from what an answer says, if it says something
 abbrev pub lesson_if : RecordName → Known → Result Finding LearnFault → Result Lesson LearnFault
 lesson_if name known (Ok said) = lesson name known said
 lesson_if name known (Err fault) = Err fault
@@ -113,35 +113,35 @@ entries_with entries name (Lasting confirmed id seen learnt) = with_learnt entri
 entries_with entries name (Passing seen learnt) = entries
 entries_with entries name Nothing = entries
 
--- the journal is to keep this: a revision that may be confirmed, with an id where none was known, or higher than before
+-- the journal must keep this: a revision that may be confirmed, with an id if none was known, or higher than before
 pub record IsToBeKept (known : Known) (confirmed : RevisionValue) : Type 0 where
   pub confirms : no_revision ≺ confirmed
   pub within : known.confirmed ≼ row_revision known.wanted → confirmed ≼ row_revision known.wanted
   pub changes : (known.id ≡ None) ⊎ (known.confirmed ≺ confirmed)
 
--- the journal is written only for what it is to keep, and what was seen alone is seen with an id
+-- the journal is written only for what it must keep; what was only seen is seen with an id
 abbrev pub IsNewsOf : Known → News → Type 0
 IsNewsOf known (Lasting confirmed id seen learnt) = IsToBeKept known confirmed
 IsNewsOf known (Passing seen learnt) = IsSeenWith known.id seen
 IsNewsOf known Nothing = Unit {0}
 
--- a revision, where it is there and isn't above the wanted one
+-- a revision, if there is one and it isn't above the wanted one
 abbrev pub within : Known → Option RevisionValue → Option RevisionValue
 within known None = None
 within known (Some revision) = if before (row_revision known.wanted) revision then None else Some revision
 
--- a lawful revision up to the wanted one, with the known id
+-- a valid revision up to the wanted one, with the known id
 pub record IsFit (known : Known) (sight : Sight) : Type 0 where
   pub id : fits_id known.id sight.id ≡ true
   pub lawful : IsRevision sight.revision
   pub within : sight.revision ≼ row_revision known.wanted
 
--- the same of the record that this is known of
+-- the same for the record with this knowledge
 abbrev pub IsNewsAt : Option Known → News → Type 0
 IsNewsAt None news = ⊥
 IsNewsAt (Some known) news = IsNewsOf known news
 
--- what is noted is news of a record of the book
+-- what is noted is news about a record of the book
 pub record IsNoted (book : BookMap) (request : Request) (answer : Answer) (name : RecordName) (news : News) : Type 0 where
   pub known : Known
   pub there : get book name ≡ Some known

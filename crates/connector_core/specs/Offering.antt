@@ -1,4 +1,4 @@
--- What takes rows back that were offered, where all or none of them are to be taken.
+-- How rows that were offered are taken back, so that all or none of them are taken.
 use Rattle.std.specs.Prelude.{◌≡◌, List, [], ◌∷◌, Option, Some, None}
 use Rattle.std.specs.FinMap.{remove}
 use Rattle.scim_key.specs.declared.records.RecordName.{RecordName}
@@ -9,7 +9,7 @@ use Rattle.connector_core.specs.Maps.{BookMap, changed}
 use Rattle.connector_core.specs.declared.offering.Note.{Note}
 use Rattle.connector_core.specs.declared.offering.Offered.{Offered}
 
--- the book with the row of a record that was wanted before, or without the record where there was none
+-- the book with the row that was wanted before, or without the record if there was none
 abbrev pub row_back : BookMap → RecordName → Option Row → BookMap
 row_back book name None = remove book name
 row_back book name (Some row) = changed (wanting_now row) book name
@@ -22,7 +22,7 @@ abbrev pub all_back : List Note → BookMap → BookMap
 all_back [] book = book
 all_back (note ∷ notes) book = taken_back (all_back notes book) note
 
--- what came of these rows, offered to the old book
+-- the result of offering these rows to the old book
 pub record AreOffered (old new : BookMap) (rows : List Row) (offered : Offered) : Type 0 where
   pub said : offered.said.items ≡ verdicts old rows
   pub fresh : offered.fresh.items ≡ new_rows old rows

@@ -22,11 +22,12 @@ pub record State (J : Type 0) : Type 0 where
 
 -- ---- what the journal keeps of the book
 
--- all but what was seen
+-- everything except what was seen
 abbrev pub entry_of : Known → Entry
 entry_of known = record { row = known.wanted; confirmed = known.confirmed; id = known.id }
 
--- the journal has an entry of each record of the book, and of no other; nothing above the wanted revision is confirmed
+-- the journal has an entry for each record of the book, and for no other; nothing above the wanted revision is
+-- confirmed
 pub record IsKept (kept : EntryMap) (book : BookMap) : Type 0 where
   pub same : (name : RecordName) → get kept name ≡ option_map entry_of (get book name)
   pub names : keys kept ≡ keys book
@@ -34,39 +35,39 @@ pub record IsKept (kept : EntryMap) (book : BookMap) : Type 0 where
 
 -- ---- opening
 
--- what is known of an entry's record when the connector is opened: nothing was seen
+-- what is known about an entry's record when the connector is opened: nothing was seen
 abbrev pub opened : Entry → Known
 opened entry = record { wanted = entry.row; confirmed = entry.confirmed; id = entry.id; seen = Unknown }
 
 abbrev pub opened_named : Entry → RecordName × Known
 opened_named entry = (row_name entry.row, opened entry)
 
--- the book of a list of entries, where an earlier one counts before a later one of the same name
+-- the book of a list of entries; if a name is repeated, the earlier entry counts
 abbrev pub opened_book : List Entry → BookMap
 opened_book list = from_entries (map opened_named list)
 
--- the book has the entries of the journal, of all of which nothing was seen
+-- the book has the entries of the journal, and nothing was seen of any record
 pub record IsOpened (kept : EntryMap) (book : BookMap) : Type 0 where
   pub entries : (name : RecordName) → get book name ≡ option_map opened (get kept name)
   pub names : keys book ≡ keys kept
 
--- the journal after opening, whatever came of it
+-- the journal after opening, whatever the result
 abbrev pub journal_after : {J : Type 0} → Result (State J) (OpenFault × J) → J
 journal_after (Ok connector) = connector.journal
 journal_after (Err fault) = fault.1
 
 -- ---- faults
 
--- the connector's fault at a fault of its journal
+-- the connector's fault for a fault of its journal
 abbrev pub open_fault : JournalFault → OpenFault
 open_fault journal.Store = opening.Store
 open_fault journal.Memory = opening.Memory
 
--- a store fault is counted, and out of memory is none
+-- a store fault is counted; out of memory isn't
 abbrev pub CountsOpen : (old new : ℕ) → OpenFault → Type 0
 CountsOpen old new opening.Store = (old ≤ new) × HasRisen old new
 CountsOpen old new opening.Memory = new ≡ old
 
--- the same, where the fault comes with the journal
+-- the same for a fault that comes with the journal
 abbrev pub CountsOpenFault : {J : Type 0} → (old new : ℕ) → OpenFault × J → Type 0
 CountsOpenFault old new fault = CountsOpen old new fault.0

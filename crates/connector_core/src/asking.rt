@@ -1,4 +1,4 @@
-//! What is asked for next of a record.
+//! The next request for a record.
 ghost use Rattle.std.specs.Prelude.{◌≡◌, IfOk};
 ghost use Rattle.std.specs.Option.{ok_or};
 ghost use Rattle.scim_key.specs.Outcome.{Gives};
@@ -22,21 +22,21 @@ use source_csv::Row;
 use std::alloc::{AllocError, Global};
 use thiserror::Error;
 
-/// What is asked for next of a record.
+/// What the connector asks for next for a record.
 #[derive(Debug, Drop)]
 pub enum Ask {
     /// Nothing: the wanted revision is confirmed.
     Nothing,
-    /// Nothing yet: this member, the first by key, has no id so far.
+    /// Nothing yet: this member, the first by key, has no id.
     Waits(Key),
     /// This request.
     Send(Request),
 }
 
-/// Why nothing can be said.
+/// Why the connector can't say what it asks for.
 #[derive(Clone, Copy, Debug, PartialEq, Eq, Error)]
 pub enum AskFault {
-    /// The source gave no row of such a record.
+    /// The source gave no row of this record.
     #[error("C7")]
     NoSuchRecord,
     #[error("C6")]
@@ -81,7 +81,7 @@ fn search_for(alloc: Global, row: &Row) -> Result<Request, AllocError>
     })
 }
 
-/// The replacement of the version with this tag, and of no other.
+/// The replacement of the version with this tag, and of no other version.
 fn replacement(
     alloc: Global,
     id: &ResourceId,
@@ -114,7 +114,7 @@ fn request_for(alloc: Global, known: &Known, content: Content) -> Result<Request
 }
 
 impl<J: Journal> Connector<J> {
-    /// What is asked for next of a record. Nothing is written, and nothing changes.
+    /// What the connector asks for next for a record. It writes nothing and changes nothing.
     pub fn ask(&self, name: &RecordName) -> Result<Ask, AskFault>
         ensures { Gives AskFault.Memory result (ok_or (asking (book_of self.now.book) name.now) AskFault.NoSuchRecord) }
     {

@@ -1,4 +1,4 @@
-//! The book: what is known of each record, under its name.
+//! The book: what is known about each record, under its name.
 ghost use Rattle.std.specs.Prelude.{◌≡◌, ◌++◌, IfOk, OnOk, OnErr, IsSome, Some, map, refl};
 ghost use Rattle.std.specs.BTreeMap.{IsOrdered, Updates, get as get_in, keys as keys_in};
 ghost use Rattle.std.specs.FinMap.{empty, get, insert, keys, remove};
@@ -16,8 +16,8 @@ use std::alloc::{AllocError, AllocFailed, Global};
 use std::collections::BTreeMap;
 use std::marker::Model;
 
-/// What is known of each record, under its name. Users and groups stand apart, so that a member is
-/// found by its key alone, and each type is counted.
+/// What is known about each record, under its name. Users and groups are separate, so that a member is
+/// found by its key alone and each type is counted.
 #[derive(Debug, Drop)]
 pub(crate) struct Book {
     users: BTreeMap<Key, Known>,
@@ -37,7 +37,7 @@ impl Model for Book {
     ghost view = { λ b. book_in b.users b.groups };
 }
 
-/// Another wanted row of a record that is there.
+/// Sets another wanted row for an existing record.
 fn want(records: &mut BTreeMap<Key, Known>, key: &Key, row: Row)
     requires { IsSome (get_in key_cmp records.old key.now) }
     ensures { Updates key_cmp records.old records.new key.now (option_map (wanting_now row) (get_in key_cmp records.old key.now)) }
@@ -47,7 +47,7 @@ fn want(records: &mut BTreeMap<Key, Known>, key: &Key, row: Row)
     }
 }
 
-/// What was seen of a record that is there.
+/// Sets what was seen of an existing record.
 fn see(records: &mut BTreeMap<Key, Known>, key: &Key, seen: Seen)
     requires { IsSome (get_in key_cmp records.old key.now) }
     ensures { Updates key_cmp records.old records.new key.now (option_map (seeing seen) (get_in key_cmp records.old key.now)) }
@@ -57,7 +57,7 @@ fn see(records: &mut BTreeMap<Key, Known>, key: &Key, seen: Seen)
     }
 }
 
-/// What was learnt of a record that is there.
+/// Sets what was learnt about an existing record.
 fn learn(
     records: &mut BTreeMap<Key, Known>,
     key: &Key,
@@ -75,7 +75,7 @@ fn learn(
     }
 }
 
-/// Puts the names of a tree's records at the end of a list, in their order.
+/// Appends the names of a tree's records to a list, in order.
 fn push_names(
     names: &mut Vec<RecordName>,
     kind: Kind,
@@ -104,7 +104,7 @@ impl Book {
         }
     }
 
-    /// What is known of a record. It takes no memory.
+    /// What is known about a record. It allocates nothing.
     pub(crate) fn get(&self, name: &RecordName) -> Option<&Known>
         ensures { option_copied result ≡ get self.now name.now }
     {
@@ -114,7 +114,7 @@ impl Book {
         }
     }
 
-    /// What is known of the user with this key. It takes no memory.
+    /// What is known about the user with this key. It allocates nothing.
     pub(crate) fn user(&self, key: &Key) -> Option<&Known>
         ensures { option_copied result ≡ get self.now (user key.now) }
     {
@@ -133,7 +133,7 @@ impl Book {
         }
     }
 
-    /// The names of the records, in their order.
+    /// The names of the records, in order.
     pub(crate) fn names(&self, alloc: Global) -> Result<Vec<RecordName>, AllocError>
         ensures { IfOk result (λ names. names.items ≡ keys self.now) }
     {
@@ -143,7 +143,7 @@ impl Book {
         Ok(names)
     }
 
-    /// Puts what is known of a record in the place of what stood there.
+    /// Puts what is known about a record, in place of what was there.
     pub(crate) fn put(
         &mut self,
         name: RecordName,
@@ -165,7 +165,7 @@ impl Book {
         }
     }
 
-    /// Takes a record out.
+    /// Removes a record.
     pub(crate) fn take_out(&mut self, name: &RecordName)
         ensures { self.new ≡ remove self.old name.now }
     {
@@ -179,7 +179,7 @@ impl Book {
         }
     }
 
-    /// Another wanted row of a record that is there. It takes no memory.
+    /// Sets another wanted row for an existing record. It allocates nothing.
     pub(crate) fn want(&mut self, name: &RecordName, row: Row)
         requires { IsSome (get self.old name.now) }
         ensures { self.new ≡ changed (wanting_now row) self.old name.now }
@@ -190,7 +190,7 @@ impl Book {
         }
     }
 
-    /// What was seen of a record that is there. It takes no memory.
+    /// Sets what was seen of an existing record. It allocates nothing.
     pub(crate) fn see(&mut self, name: &RecordName, seen: Seen)
         requires { IsSome (get self.old name.now) }
         ensures { self.new ≡ changed (seeing seen) self.old name.now }
@@ -201,7 +201,7 @@ impl Book {
         }
     }
 
-    /// What was learnt of a record that is there. It takes no memory.
+    /// Sets what was learnt about an existing record. It allocates nothing.
     pub(crate) fn learn(
         &mut self,
         name: &RecordName,

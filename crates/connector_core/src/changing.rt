@@ -1,4 +1,4 @@
-//! Rows that the source offers.
+//! Accepts rows that the source offers.
 ghost use Rattle.std.specs.Prelude.{◌≡◌, ◌≢◌, ℕ, IfErr, IfOk, IsSome, None, Ok, Err, OnErr, OnOk, is_none};
 ghost use Rattle.std.specs.FinMap.{get, insert, keys};
 ghost use Rattle.std.specs.List.{position_from};
@@ -22,26 +22,40 @@ use scim_key::{Key, Kind, RecordName, Revision};
 use source_book::{BookFault, Verdict, accept};
 use source_csv::{GroupRow, Row};
 use std::alloc::{AllocError, AllocFailed, Global};
-use thiserror::Error;
+use std::{error, fmt};
 
-/// Why a row isn't accepted. Nothing has changed then.
-#[derive(Debug, Drop, Error)]
+/// Why a row isn't accepted. Nothing was changed.
+#[derive(Debug, Drop)]
 pub enum ChangeFault {
-    /// It has the revision of the last row of its record, and another field.
-    #[error("S7")]
+    /// It has the revision of the last row of its record, but another field.
     Differs,
-    /// Its first member by key that is no user record.
-    #[error("S8 {}", .0.as_str())]
+    /// Its first member by key that isn't a user record.
     NoSuchMember(Key),
-    /// It would be the first row of one record of its type too many.
-    #[error("S12")]
+    /// It would be the first row of a record beyond the limit of its type.
     TooMany,
     /// The journal's store failed.
-    #[error("C5")]
     Store,
-    #[error("C6")]
     Memory,
 }
+
+impl fmt::Display for ChangeFault {
+    ghost use Rattle.std.specs.Prelude.{Some};
+    ghost use Rattle.connector_core.specs.Codes.{change_fault_text};
+
+    ghost output = { λ fault. Some (change_fault_text fault) };
+
+    fn fmt<W: fmt::Write>(&self, f: &mut fmt::Formatter<W>) -> fmt::Result {
+        match self {
+            ChangeFault::Differs => f.write_str("S7"),
+            ChangeFault::NoSuchMember(member) => write!(f, "S8 {}", member.as_str()),
+            ChangeFault::TooMany => f.write_str("S12"),
+            ChangeFault::Store => f.write_str("C5"),
+            ChangeFault::Memory => f.write_str("C6"),
+        }
+    }
+}
+
+impl error::Error for ChangeFault {}
 
 impl From<AllocError> for ChangeFault {
     ghost use Rattle.connector_core.specs.declared.changing.ChangeFault.TheVariants.{Memory};
@@ -76,7 +90,7 @@ impl From<JournalFault> for ChangeFault {
     }
 }
 
-/// The place, from 0, of the first of a group's members that is no user of the book.
+/// The place, from 0, of the first of a group's members that isn't a user in the book.
 fn missing_user(book: &Book, row: &GroupRow) -> Option<usize>
     ensures { result ≡ position_from (λ key. is_none (get book.now (user key))) 0 row.now.members }
 {
@@ -85,7 +99,7 @@ fn missing_user(book: &Book, row: &GroupRow) -> Option<usize>
         .position(|key| book.user(key).is_none())
 }
 
-/// The place, from 0, of a row's first member by key that is no user of the book.
+/// The place, from 0, of a row's first member by key that isn't a user in the book.
 fn missing_member(book: &Book, row: &Row) -> Option<usize>
     ensures { result ≡ unknown_member (book_of book.now) row.now }
 {
@@ -105,7 +119,7 @@ fn last_row<'a>(book: &'a Book, name: &RecordName) -> Option<&'a Row>
     }
 }
 
-/// Whether there are as many records of a type as there may be.
+/// Whether a type has as many records as it may have.
 fn is_full(book: &Book, kind: Kind) -> bool
     ensures { result ≡ is_full kind (keys book.now) }
 {
@@ -126,7 +140,7 @@ pub(crate) fn member_at(alloc: Global, row: &Row, place: usize) -> Result<Key, A
     }
 }
 
-/// The refusal of a row by its fields or its members.
+/// The refusal of a row for its fields or its members.
 fn refusal(
     alloc: Global,
     no_room: bool,
@@ -144,8 +158,8 @@ fn refusal(
     }
 }
 
-/// The verdict on a row by its book's, and by whether it would be the first of its record without
-/// there being room for one.
+/// The verdict on a row: the verdict of the book, unless the row would be the first of its record and there
+/// is no room for another record.
 fn limit(
     alloc: Global,
     no_room: bool,
@@ -162,7 +176,7 @@ fn limit(
     }
 }
 
-/// The verdict on a row by the book.
+/// The verdict of the book on a row.
 pub(crate) fn judge(
     alloc: Global,
     book: &Book,
@@ -179,7 +193,7 @@ pub(crate) fn judge(
     limit(alloc, no_room, row, verdict)
 }
 
-/// What is known of a record at its first row.
+/// What is known about a record after its first row.
 pub(crate) fn first_known(row: Row) -> Known
     ensures { result ≡ wanting None row }
 {
@@ -210,7 +224,7 @@ impl<J: Journal> Connector<J> {
         }
     }
 
-    /// Takes a row that is new.
+    /// Accepts a new row.
     fn accept_row(&mut self, name: RecordName, row: Row) -> Result<Verdict, ChangeFault>
         requires named { name ≡ row_name row }
         requires new { judging (book_of self.old.book) (keys self.old.book) row ≡ Ok verdicts.New }
@@ -228,7 +242,7 @@ impl<J: Journal> Connector<J> {
         }
     }
 
-    /// Takes a new row of a record that is there.
+    /// Accepts a new row of an existing record.
     fn accept_next(&mut self, name: &RecordName, row: Row) -> Result<Verdict, ChangeFault>
         requires named { name.now ≡ row_name row }
         requires new { judging (book_of self.old.book) (keys self.old.book) row ≡ Ok verdicts.New }
@@ -245,7 +259,7 @@ impl<J: Journal> Connector<J> {
         Ok(Verdict::New)
     }
 
-    /// Takes the first row of a record.
+    /// Accepts the first row of a record.
     fn accept_first(&mut self, name: RecordName, row: Row) -> Result<Verdict, ChangeFault>
         requires named { name ≡ row_name row }
         requires new { judging (book_of self.old.book) (keys self.old.book) row ≡ Ok verdicts.New }

@@ -15,9 +15,9 @@ use scim_key::{RecordName, Revision};
 use std::alloc::{AllocError, Global};
 use std::marker::Model;
 
-/// The connector: what the source wants of each record, and what is known of it at the provider.
+/// The connector: what the source wants of each record, and what is known about the record at the provider.
 ///
-/// The journal keeps all of it but what was seen.
+/// The journal keeps all of this except what was seen.
 #[derive(Debug, Drop)]
 pub struct Connector<J: Journal> {
     pub(crate) alloc: Global,
@@ -42,8 +42,8 @@ impl<J: Journal> Model for Connector<J> {
 }
 
 impl<J: Journal> Connector<J> {
-    /// A connector over the entries of a journal, which has seen nothing yet. With a fault the
-    /// journal comes back.
+    /// A connector over the entries of a journal. It has seen nothing yet. If it fails, it hands the
+    /// journal back.
     pub fn open(alloc: Global, mut journal: J) -> Result<Connector<J>, (OpenFault, J)>
         ensures opened { IfOk result (λ connector. J.is_faithful connector.journal → IsOpened (J.entries journal) connector.book) }
         ensures kept { IfOk result (λ connector. J.is_faithful connector.journal → IsKept (J.entries connector.journal) connector.book) }
@@ -63,7 +63,7 @@ impl<J: Journal> Connector<J> {
         }
     }
 
-    /// The journal, with the entries as they stand. What was seen is forgotten.
+    /// Gives the journal back, with its current entries. What was seen is forgotten.
     pub fn close(self) -> J
         ensures value { result ≡ self.journal }
         ensures kept { J.is_faithful self.journal → IsKept (J.entries self.journal) self.book }
@@ -72,7 +72,7 @@ impl<J: Journal> Connector<J> {
         journal
     }
 
-    /// What was seen last of a record since the connector was opened, if there is such a record.
+    /// What was seen last of a record since the connector was opened, if the record exists.
     pub fn seen(&self, name: &RecordName) -> Option<&Seen>
         ensures { option_copied result ≡ seen_of (book_of self.now.book) name.now }
     {
@@ -82,7 +82,7 @@ impl<J: Journal> Connector<J> {
         }
     }
 
-    /// The highest revision of a record that the provider showed, none where there is no such record.
+    /// The highest revision of a record that the provider has shown; none if the record doesn't exist.
     pub fn confirmed(&self, name: &RecordName) -> Revision
         ensures { result ≡ confirmed_of (book_of self.now.book) name.now }
     {
@@ -92,7 +92,7 @@ impl<J: Journal> Connector<J> {
         }
     }
 
-    /// The revision of a record that the source wants, none where there is no such record.
+    /// The revision of a record that the source wants; none if the record doesn't exist.
     pub fn wanted(&self, name: &RecordName) -> Revision
         ensures { result ≡ wanted_of (book_of self.now.book) name.now }
     {

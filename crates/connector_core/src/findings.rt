@@ -1,4 +1,4 @@
-//! What an answer says of a record.
+//! What an answer says about a record.
 ghost use Rattle.std.specs.Prelude.{◌≡◌, ℕ, IfErr, IfOk};
 ghost use Rattle.scim_key.specs.Outcome.{GivesBy};
 ghost use Rattle.connector_core.specs.Learning as spec;
@@ -13,7 +13,7 @@ use scim_message::{Answer, ListResponse, Request};
 use scim_version::{Condition, EntityTag, TagList};
 use std::alloc::Global;
 
-/// What is new where the provider has no such resource: nothing where an id is known.
+/// The news if the provider has no such resource: nothing if an id is known.
 fn none_shown(known: &Known) -> News
     ensures gives { lesson_of known.now result ≡ spec.none_sighted known.now.id known.now }
     ensures news { IsNewsOf known.now result }
@@ -27,7 +27,7 @@ fn none_shown(known: &Known) -> News
     }
 }
 
-/// What is new where an answer says that what was seen stands no longer, if it is about what was seen.
+/// The news if an answer says that what was seen is outdated, provided that the answer is about it.
 fn forgetting(is_concerned: bool) -> News
     ensures gives { (known : KnownRecord) → lesson_of known result ≡ spec.forgetting is_concerned known }
     ensures news { (known : KnownRecord) → IsNewsOf known result }
@@ -42,7 +42,7 @@ fn forgetting(is_concerned: bool) -> News
     }
 }
 
-/// Whether the provider was seen to have no resource of the record.
+/// Whether the connector saw that the provider has no resource of the record.
 fn is_absent(seen: &Seen) -> bool
     ensures { result ≡ spec.is_absent seen.now }
 {
@@ -56,7 +56,7 @@ fn is_alone(tags: &TagList, tag: &EntityTag) -> bool
     matches!(tags.as_slice(), [only] if only.text() == tag.text())
 }
 
-/// Whether the tag that was seen is the only one of a condition.
+/// Whether the condition has only the tag that was seen.
 fn is_under(if_match: &Condition, seen: &Seen) -> bool
     ensures { result ≡ spec.is_under if_match.now seen.now }
 {
@@ -66,7 +66,7 @@ fn is_under(if_match: &Condition, seen: &Seen) -> bool
     }
 }
 
-/// What is new where a search is answered by a list: the resource that was found, or none.
+/// The news from a list that answers a search: the resource that was found, or none.
 fn listed(
     alloc: Global,
     name: &RecordName,
@@ -84,7 +84,7 @@ fn listed(
     }
 }
 
-/// What is new in the answer to a Create.
+/// The news in the answer to a Create.
 fn from_creating(
     alloc: Global,
     name: &RecordName,
@@ -105,7 +105,7 @@ fn from_creating(
     }
 }
 
-/// What is new in the answer to a Search.
+/// The news in the answer to a Search.
 fn from_searching(
     alloc: Global,
     name: &RecordName,
@@ -125,7 +125,7 @@ fn from_searching(
     }
 }
 
-/// What is new in the answer to a Replace under a condition.
+/// The news in the answer to a Replace under a condition.
 fn from_replacing(
     alloc: Global,
     name: &RecordName,
@@ -149,7 +149,7 @@ fn from_replacing(
     }
 }
 
-/// What is new of a record in the answer to a request.
+/// The news about a record in the answer to a request.
 pub(crate) fn news_in(
     alloc: Global,
     name: &RecordName,

@@ -1,4 +1,4 @@
-//! Whether a shown resource is a record's, and what is new in it.
+//! Whether a shown resource is the record's, and the news in it.
 ghost use Rattle.std.specs.Prelude.{◌≡◌, ℕ, IfErr, IfOk, IfSome};
 ghost use Rattle.scim_key.specs.Outcome.{Gives, GivesBy};
 ghost use Rattle.scim_key.specs.Revisions.{IsRevision, ◌≼◌};
@@ -16,10 +16,10 @@ use scim_version::EntityTag;
 use std::alloc::{AllocError, Global};
 use std::marker::Model;
 
-/// What is new of a record.
+/// What is new about a record.
 #[derive(Debug, Drop)]
 pub(crate) enum News {
-    /// An id that wasn't known, or a higher revision: for the journal too.
+    /// A new id or a higher revision, which the journal keeps too.
     Lasting {
         confirmed: Revision,
         id: ResourceId,
@@ -34,7 +34,7 @@ pub(crate) enum News {
     Nothing,
 }
 
-/// A resource at a revision, under an entity tag.
+/// A resource that was seen, with its revision and its entity tag.
 #[derive(Debug, Drop)]
 pub(crate) struct Sight {
     id: ResourceId,
@@ -50,14 +50,14 @@ impl Model for Sight {
     ghost view = { λ s. record { id = s.id; revision = s.revision; tag = s.tag } };
 }
 
-/// Whether a content is a record's.
+/// Whether a content is of this record.
 fn is_named(alloc: Global, name: &RecordName, content: &Content) -> Result<bool, AllocError>
     ensures { IfOk result (λ same. same ≡ same_name name.now (content_name content.now)) }
 {
     Ok(*name == content.name(alloc)?)
 }
 
-/// Whether an id may be a record's: any may where none is known.
+/// Whether an id may be the record's; any id may if none is known.
 fn fits_id(known: &Known, id: &ResourceId) -> bool
     ensures { result ≡ spec.fits_id known.now.id id.now }
 {
@@ -67,7 +67,7 @@ fn fits_id(known: &Known, id: &ResourceId) -> bool
     }
 }
 
-/// The revision of a content, where it is one up to the wanted one.
+/// The revision of a content, if it has one that isn't above the wanted one.
 fn revision_within(known: &Known, content: &Content) -> Option<Revision>
     ensures value { result ≡ within known.now (content_revision content.now) }
     ensures lawful { IfSome result IsRevision }
@@ -79,8 +79,8 @@ fn revision_within(known: &Known, content: &Content) -> Option<Revision>
     }
 }
 
-/// What is in sight where a resource is shown: one with the record's name and known id, a revision
-/// up to the wanted one, and an entity tag.
+/// A shown resource as a sight of the record: it must have the record's name, its known id, a revision up
+/// to the wanted one, and an entity tag.
 fn fit(alloc: Global, name: &RecordName, known: &Known, shown: &Shown) -> Result<Sight, LearnFault>
     ensures gives { Gives LearnFault.Memory result (spec.fit name.now known.now shown.now) }
     ensures fit { IfOk result (IsFit known.now) }
@@ -102,7 +102,7 @@ fn fit(alloc: Global, name: &RecordName, known: &Known, shown: &Shown) -> Result
     })
 }
 
-/// What is new with a resource in sight.
+/// The news from a resource that was seen.
 fn sighted(known: &Known, sight: Sight) -> News
     requires { IsFit known.now sight }
     ensures gives { lesson_of known.now result ≡ spec.sighted known.now sight }
@@ -128,7 +128,7 @@ fn sighted(known: &Known, sight: Sight) -> News
     }
 }
 
-/// What is new where a resource is shown.
+/// The news from a shown resource.
 pub(crate) fn shown(
     alloc: Global,
     name: &RecordName,

@@ -1,4 +1,4 @@
-//! What is known of a record.
+//! What is known about a record.
 use scim_key::{ResourceId, Revision};
 use scim_version::EntityTag;
 use source_csv::Row;
@@ -10,23 +10,23 @@ pub enum Seen {
     Unknown,
     /// The provider has no resource of the record.
     Absent,
-    /// A resource under an entity tag, at a revision of the source.
+    /// A resource with this entity tag, at this revision of the source.
     At { tag: EntityTag, revision: Revision },
 }
 
-/// What the connector knows of a record.
+/// What the connector knows about a record.
 #[derive(Debug)]
 pub struct Known {
-    /// The last row that the source gave of it.
+    /// The last row that the source gave for it.
     pub wanted: Row,
-    /// The highest revision that the provider showed, or none.
+    /// The highest revision that the provider has shown, or none.
     pub confirmed: Revision,
-    /// The id that the provider gave to it.
+    /// The id that the provider gave to the record.
     pub id: Option<ResourceId>,
     pub seen: Seen,
 }
 
-/// One call wherever it is dropped, as for a row.
+/// Dropping it is one call, as for a row.
 impl Drop for Known {
     fn drop(self) {
         let Known {

@@ -8,31 +8,30 @@ ghost use Rattle.connector_core.specs.Noting.{LearnsByNotes};
 use crate::connectors::Connector;
 use journal_core::Journal;
 
-/// What is put into the book as a map is put into the book, and an accepted row makes the same of
-/// both.
+/// Putting into the book's map is putting into the book, and an accepted row changes both in the same way.
 pub fn maps_are_books()
     ensures put { AllMapsAreBooks }
     ensures accepted { MapsAccept }
 {}
 
-/// What is learnt from an answer is the note of one record, put into the book.
+/// What is learnt from an answer is a note about one record, put into the book.
 pub fn learns_by_notes()
     ensures { LearnsByNotes }
 {}
 
-/// Over a journal in memory no call meets a store fault.
+/// Over a journal in memory, no call has a store fault.
 pub fn memory_never_faults()
     ensures { NoStoreFaults }
 {}
 
-/// A connector knows the id of each record of which it saw a resource.
+/// A connector knows the id of each record whose resource it saw.
 pub fn connectors_know_the_id_of_what_they_saw<J: Journal>(connector: &Connector<J>)
     ensures { AllLocated (book_of connector.now.book) }
 {
     let _ = &connector.book;
 }
 
-/// So what was seen is replaced, as it was seen, and isn't searched for.
+/// So it replaces a resource as it saw it, and doesn't search for it.
 pub fn what_was_seen_is_replaced()
     ensures { ReplacesWhatWasSeen }
 {}

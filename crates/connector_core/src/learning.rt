@@ -1,4 +1,4 @@
-//! What is learnt from an answer.
+//! Learns from an answer.
 ghost use Rattle.std.specs.Prelude.{◌≡◌, ℕ, IfErr, IfOk, OnErr, OnOk};
 ghost use Rattle.std.specs.FinMap.{get, keys};
 ghost use Rattle.scim_key.specs.Outcome.{Gives};
@@ -17,44 +17,58 @@ use scim_filter::Filter;
 use scim_key::{Kind, RecordName, Revision};
 use scim_message::{Answer, Request};
 use std::alloc::{AllocError, Global};
-use thiserror::Error;
+use std::{error, fmt};
 
-/// What is learnt of a record.
+/// What is learnt about a record.
 #[derive(Clone, Copy, Debug, PartialEq, Eq)]
 pub enum Learnt {
-    /// This revision, higher than what was confirmed before, is confirmed.
+    /// This revision is now confirmed; it is higher than the one before.
     Confirmed(Revision),
     /// A resource was seen, at no higher revision.
     Seen,
     /// The provider has no resource of the record.
     Absent,
-    /// What was seen stands no longer.
+    /// What was seen is outdated.
     Forgotten,
     /// Nothing.
     Nothing,
 }
 
-/// Why nothing is learnt. Nothing has changed then.
-#[derive(Clone, Copy, Debug, PartialEq, Eq, Error)]
+/// Why nothing is learnt. Nothing was changed.
+#[derive(Clone, Copy, Debug, PartialEq, Eq)]
 pub enum LearnFault {
     /// The request or the answer isn't one that the connector can use.
-    #[error("C1")]
     Unfit,
     /// The resource is shown without an entity tag.
-    #[error("C2")]
     Unversioned,
-    /// The provider refuses for another reason than a taken name or another version.
-    #[error("C4 {status}")]
+    /// The provider refuses, and not for a taken name or another version.
     Refused { status: u16 },
-    /// The source gave no row of such a record.
-    #[error("C7")]
+    /// The source gave no row of this record.
     NoSuchRecord,
     /// The journal's store failed.
-    #[error("C5")]
     Store,
-    #[error("C6")]
     Memory,
 }
+
+impl fmt::Display for LearnFault {
+    ghost use Rattle.std.specs.Prelude.{Some};
+    ghost use Rattle.connector_core.specs.Codes.{learn_fault_text};
+
+    ghost output = { λ fault. Some (learn_fault_text fault) };
+
+    fn fmt<W: fmt::Write>(&self, f: &mut fmt::Formatter<W>) -> fmt::Result {
+        match self {
+            LearnFault::Unfit => f.write_str("C1"),
+            LearnFault::Unversioned => f.write_str("C2"),
+            LearnFault::Refused { status } => write!(f, "C4 {status}"),
+            LearnFault::NoSuchRecord => f.write_str("C7"),
+            LearnFault::Store => f.write_str("C5"),
+            LearnFault::Memory => f.write_str("C6"),
+        }
+    }
+}
+
+impl error::Error for LearnFault {}
 
 impl From<AllocError> for LearnFault {
     ghost use Rattle.connector_core.specs.declared.learning.LearnFault.TheVariants.{Memory};
@@ -79,7 +93,7 @@ impl From<JournalFault> for LearnFault {
     }
 }
 
-/// The record of this type that a filter names alone.
+/// The only record of this type that a filter names.
 fn sought(
     alloc: Global,
     kind: Kind,
@@ -96,7 +110,7 @@ fn sought(
     }
 }
 
-/// The record that a request is about: that of its content, or the one that is searched for by name.
+/// The record that a request is about: the record of its content, or the one that it searches for by name.
 fn subject(alloc: Global, request: &Request) -> Result<RecordName, LearnFault>
     ensures gives { Gives LearnFault.Memory result (or_fault LearnFault.Unfit (subject request.now)) }
     ensures counted { IfErr result (λ fault. (n : ℕ) → CountsLearn n n fault) }
@@ -111,7 +125,7 @@ fn subject(alloc: Global, request: &Request) -> Result<RecordName, LearnFault>
     }
 }
 
-/// What is new in the answer to a request, by the book, and the record of which it is new.
+/// The news in the answer to a request, by the book, and the record that it is about.
 fn judge(
     alloc: Global,
     book: &Book,
@@ -131,7 +145,7 @@ fn judge(
 }
 
 impl<J: Journal> Connector<J> {
-    /// Takes the answer to a request, which may be an old one.
+    /// Learns from the answer to a request. The answer may be an old one.
     pub fn learn(&mut self, request: &Request, answer: &Answer) -> Result<Learnt, LearnFault>
         ensures learnt { GivesUnless (MayStandFor (learn (book_of self.old.book) request.now answer.now)) result (learnt_of (learn (book_of self.old.book) request.now answer.now)) }
         ensures ok { OnOk result (book_of self.new.book ≡ after_learning (book_of self.old.book) (learn (book_of self.old.book) request.now answer.now)) }
@@ -145,7 +159,7 @@ impl<J: Journal> Connector<J> {
         self.take_news(&name, news)
     }
 
-    /// Takes what is new of a record that is there.
+    /// Takes the news about an existing record.
     fn take_news(&mut self, name: &RecordName, news: News) -> Result<Learnt, LearnFault>
         requires { IsNewsAt (get self.old.book name.now) news }
         ensures learnt { IfOk result (λ learnt. learnt ≡ news_learnt news) }

@@ -1,5 +1,5 @@
-//! The connector: what the source wants of each record, what is asked of the provider for it, and
-//! what is learnt from the answers.
+//! The connector: what the source wants of each record, what it asks of the provider, and what it learns
+//! from the answers.
 #![tactic(auto)]
 
 mod asking;

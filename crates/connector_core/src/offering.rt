@@ -1,4 +1,4 @@
-//! Rows that the source offers together.
+//! Accepts rows that the source offers together.
 ghost use Rattle.std.specs.Prelude.{◌≡◌, ◌++◌, ◌∷◌, [], IfErr, IfOk, None, OnErr, OnOk, Some};
 ghost use Rattle.std.specs.FinMap.{get, insert};
 ghost use Rattle.source_csv.specs.Records.{row_name};
@@ -18,15 +18,14 @@ use source_book::Verdict;
 use source_csv::Row;
 use std::alloc::{AllocError, Global};
 
-/// What takes a new row back: the row that was wanted before, none for a first row.
+/// How to take a new row back: the row that was wanted before; none if the new row was the first.
 #[derive(Debug, Drop)]
 pub(crate) struct Note {
     name: RecordName,
     last: Option<Row>,
 }
 
-/// What came of rows that were offered: the verdicts, the rows that are new, and what takes them
-/// back.
+/// The result of offering rows: the verdicts, the new rows, and how to take them back.
 #[derive(Debug, Drop)]
 pub(crate) struct Offered {
     said: Vec<Result<Verdict, ChangeFault>>,
@@ -78,7 +77,7 @@ fn take_first(
     Ok(())
 }
 
-/// Takes a new row of a record that is there into the book.
+/// Takes a new row of an existing record into the book.
 fn take_next(
     book: &mut Book,
     name: RecordName,
@@ -99,7 +98,7 @@ fn take_next(
     Ok(())
 }
 
-/// Takes a new row into the book. What takes it back is noted first.
+/// Takes a new row into the book. It first notes how to take the row back.
 fn take_row(
     book: &mut Book,
     name: RecordName,
@@ -120,7 +119,7 @@ fn take_row(
     }
 }
 
-/// The verdict on a row by the book.
+/// The verdict of the book on a row.
 fn verdict_on(
     alloc: Global,
     book: &Book,
@@ -138,7 +137,7 @@ fn verdict_on(
 }
 
 impl Offered {
-    /// What came of no rows.
+    /// The result of offering no rows.
     fn new(alloc: Global) -> Offered
         ensures said { result.said.items ≡ [] }
         ensures fresh { result.fresh.items ≡ [] }
@@ -151,7 +150,7 @@ impl Offered {
         }
     }
 
-    /// Takes a row that is offered after these.
+    /// Takes one more row that is offered.
     fn take(&mut self, alloc: Global, book: &mut Book, row: Row) -> Result<(), AllocError>
         ensures said { OnOk result (self.new.said.items ≡ self.old.said.items ++ judged book.old row ∷ []) }
         ensures fresh { OnOk result (self.new.fresh.items ≡ self.old.fresh.items ++ if_new row (judged book.old row)) }
@@ -203,7 +202,7 @@ fn offer(alloc: Global, book: &mut Book, rows: Vec<Row>) -> Result<Offered, Allo
 }
 
 impl<J: Journal> Connector<J> {
-    /// Takes rows that the source offers, as `change` would one after another, by one write of the
+    /// Takes rows that the source offers, as `change` would one after another, but by one write of the
     /// journal: all of them or none.
     pub fn change_all(
         &mut self,

@@ -1,4 +1,4 @@
-//! Opening the connector.
+//! Opens the connector.
 ghost use Rattle.std.specs.Prelude.{◌≡◌, IfOk};
 ghost use Rattle.connector_core.specs.State.{opened, opened_book};
 
@@ -8,7 +8,7 @@ use journal_core::{Entry, JournalFault};
 use std::alloc::{AllocError, Global};
 use thiserror::Error;
 
-/// Why the connector wasn't opened.
+/// Why the connector couldn't be opened.
 #[derive(Clone, Copy, Debug, PartialEq, Eq, Error)]
 pub enum OpenFault {
     /// The journal's store failed.
@@ -31,7 +31,7 @@ impl From<JournalFault> for OpenFault {
     }
 }
 
-/// What is known of an entry's record, of which nothing was seen.
+/// What is known about an entry's record; nothing was seen of it yet.
 fn known_of(entry: Entry) -> Known
     ensures { result ≡ opened entry }
 {
@@ -44,7 +44,7 @@ fn known_of(entry: Entry) -> Known
     }
 }
 
-/// The book of a list of entries, from its end, so that an earlier one counts.
+/// The book of a list of entries. If a name is repeated, the earlier entry counts.
 pub(crate) fn read_book(alloc: Global, mut list: Vec<Entry>) -> Result<Book, AllocError>
     ensures { IfOk result (λ book. book ≡ opened_book list.items) }
 {

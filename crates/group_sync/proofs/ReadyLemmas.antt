@@ -33,7 +33,7 @@ module _ (id : Key → Option (List ℕ)) where
         rw e (missing_at earlier later key (from + 1) (rw e at none) is ∙ ap Some place)
   ] refl
 
-  -- where none is missing, each has an id
+  -- if none is missing, each has an id
   each_found : (keys : List Key) (from : ℕ) → missing from keys ≡ None → map id keys ≡ map Some (filter_map id keys)
   each_found [] from none = refl
   each_found (k ∷ keys) from none = elim (id k) as (λ o. id k ≡ o → map id (k ∷ keys) ≡ map Some (filter_map id (k ∷ keys))) [

@@ -15,7 +15,7 @@ abbrev pub IsFirstWithout : (id_of : RecordName → Option (List ℕ)) → (keys
 IsFirstWithout id_of keys place = (earlier : List (List ℕ)) × (key : List ℕ) × (later : List (List ℕ))
     × (keys ≡ earlier ++ key ∷ later) × (length earlier ≡ place) × AllByRecursion (λ k. IsSome (id_of (user k))) earlier × (id_of (user key) ≡ None)
 
--- what is known in the first is known in the second
+-- each id that is known in the first is known in the second
 abbrev pub GoesOn : (id_of later : RecordName → Option (List ℕ)) → Type 0
 GoesOn id_of later = (name : RecordName) (id : List ℕ) → id_of name ≡ Some id → later name ≡ Some id
 

@@ -7,7 +7,7 @@ ghost use Rattle.source_csv.specs.Records.{user};
 use scim_key::{Key, ResourceId};
 use std::marker::Model;
 
-/// Who knows the ids of users at the provider.
+/// Something that knows the ids of users at the provider.
 pub trait Ids {
     ghost id_of: { Self → RecordName → Option (List ℕ) };
 
@@ -43,6 +43,6 @@ impl ResourceIds {
 pub enum Ready {
     /// Each member has an id: these, in the order of the members' keys.
     Ids(ResourceIds),
-    /// The member at this place, from 0, is the first by key that has none.
+    /// The member at this place, from 0, is the first by key without an id.
     Waits(usize),
 }

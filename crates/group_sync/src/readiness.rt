@@ -7,7 +7,7 @@ use crate::ids::{Ids, Ready, ResourceIds};
 use source_csv::GroupRow;
 use std::alloc::{AllocError, Global};
 
-/// The ids of a group's members, or its first member that has none.
+/// The ids of a group's members, or its first member without one.
 pub fn ready<I: Ids>(alloc: Global, row: &GroupRow, ids: &I) -> Result<Ready, AllocError>
     ensures { IfOk result (λ found. found ≡ ready (I.id_of ids.now) row.now.members) }
 {
@@ -22,8 +22,8 @@ pub fn ready<I: Ids>(alloc: Global, row: &GroupRow, ids: &I) -> Result<Ready, Al
     Ok(Ready::Ids(ResourceIds { items }))
 }
 
-/// Where a group is ready each member has an id, and no member is passed over; a member that is waited
-/// for has none; and ids that become known change no list that was ready.
+/// If a group is ready, each member has an id and no member is left out. A member that is waited for has
+/// none. Ids that become known later change no list that was ready.
 pub fn ready_means()
     ensures { ReadyMeans }
 {}

@@ -3,8 +3,8 @@ ghost use Rattle.group_sync.specs.Settling.{IsSettleOrder};
 
 use scim_key::RecordName;
 
-/// Puts names of records into the order in which they settle: users by key, then groups by key, so that
-/// members have ids before their groups are sent. It takes no memory.
+/// Sorts names of records: users by key, then groups by key, so that members have ids before their groups
+/// are sent. It allocates nothing.
 pub fn settle_order(names: &mut [RecordName])
     ensures { IsSettleOrder names.old names.new }
 {

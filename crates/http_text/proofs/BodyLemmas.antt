@@ -5,7 +5,7 @@ use Rattle.http_text.specs.Counts.{Reading}
 use Rattle.http_text.specs.Message.{Message}
 use Rattle.http_text.specs.Steps.{SpendsTurns}
 
--- of so many bytes so many are left, and the others stand at the body's end
+-- of `all` bytes, `left` remain, and the others are at the body's end
 pub record HasRead (old now : Reading) (before after : Message) (all left : ℕ) (turns turns_left : ℕ) : Type 0 where
   pub bytes : List ℕ
   pub taken : Consumes old.remaining now.remaining bytes

@@ -1,4 +1,4 @@
--- What stands at a reader's front is found: each clause on it follows from what was taken.
+-- What is at a reader's front is found: each clause about it follows from what was taken.
 use Rattle.std.proofs.Common.{◌≡◌, ℕ, ◌+◌, ◌<◌, ◌≤◌, List, [], ◌++◌, length, take, refl, ap, sym, ◌∙◌, subst, arith, append_assoc, length-append, Option, Some, None, Result, Ok, Err, inl, inr}
 use Rattle.std.specs.Prelude.{IfOk, IfErr, ◌⊎◌}
 use Rattle.std.specs.Io.KnownBytes.{Consumes}
@@ -24,7 +24,7 @@ module _ (F : Form) (laws : Laws F) where
     by_end : fault ≡ EndedEarly → IsUndecided F s → length s < head_limit → Cause s fault
     by_body : fault ≡ EndedEarly → IsPartOfBody F s → Cause s fault
 
-  -- what is left of known bytes
+  -- the remaining bytes of known bytes
   pub left_of : (s : List ℕ) (new : Option (List ℕ)) (bytes : List ℕ) → Consumes (Some s) new bytes → (left : List ℕ) × (new ≡ Some left) × (s ≡ bytes ++ left)
   left_of s None bytes h = absurd h
   left_of s (Some left) bytes h = (left, refl, h)
@@ -66,7 +66,7 @@ module _ (F : Form) (laws : Laws F) where
   reads_all : (s front after : List ℕ) (tree : F.Tree) → s ≡ front ++ after → F.Reads front tree [] → F.Reads s tree after
   reads_all s front after tree split h = subst (λ (t : List ℕ). F.Reads t tree after) (sym split) (reads_before F laws front after tree h)
 
-  -- it stands in each front that is no shorter
+  -- it is in each front that isn't shorter
   reads_in : (front after bytes left : List ℕ) (tree : F.Tree) → front ++ after ≡ bytes ++ left → length front ≤ length bytes → F.Reads front tree []
       → (x : List ℕ) × F.Reads bytes tree x
   reads_in front after bytes left tree split le h =
@@ -95,7 +95,7 @@ module _ (F : Form) (laws : Laws F) where
 
   -- ---- an accepted or refused head at the front
 
-  -- what a refusal says where a head stands at the front
+  -- what a refusal says if there is a head at the front
   data WithHead (head : Head) (after : List ℕ) (fault : ReadFault) : Type 0 where
     of_stream : IsStreamFault fault → WithHead head after fault
     of_head : F.judge head ≡ Err fault → WithHead head after fault

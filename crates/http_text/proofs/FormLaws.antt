@@ -1,4 +1,4 @@
--- What reading asks of a form of messages, and that both forms have it.
+-- What reading requires of a form of messages, and that both forms have it.
 use Rattle.std.proofs.Common.{◌≡◌, ℕ, List, [], ◌++◌, length, refl, ap, arith, Ok, Err, inl, length-append}
 use Rattle.httparse.specs.Grammar.{HasNoRequest, HasNoResponse, print_request, print_response}
 use Rattle.httparse.proofs.GrammarLemmas.{request_unique, ReadsRequest-append, response_unique, ReadsResponse-append}
@@ -16,7 +16,7 @@ pub record Laws (F : Form) : Type 0 where
   -- bytes begin with one head at most, whatever follows
   pub unique : (bytes : List ℕ) (h k : F.Tree) (r q : List ℕ) → F.Reads bytes h r → F.Reads bytes k q → (h ≡ k) × (r ≡ q)
   pub append : (bytes : List ℕ) (h : F.Tree) (rest more : List ℕ) → F.Reads bytes h rest → F.Reads (bytes ++ more) h (rest ++ more)
-  -- what is read is what is printed, and whatever begins so is read again
+  -- what is read is what is printed, and whatever begins with it is read again
   pub printed : (bytes : List ℕ) (h : F.Tree) (rest : List ℕ) → F.Reads bytes h rest → bytes ≡ F.print h ++ rest
   pub again : (bytes : List ℕ) (h : F.Tree) (rest : List ℕ) → F.Reads bytes h rest → (text left : List ℕ) → text ≡ F.print h ++ left → F.Reads text h left
   -- no bytes are a part of a head

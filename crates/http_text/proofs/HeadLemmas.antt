@@ -1,4 +1,4 @@
--- What a step of reading gives: a head that has become whole, one that is refused, and one that is neither.
+-- What a step of reading gives: a head that has become whole, one that is refused, or neither.
 use Rattle.std.proofs.Common.{◌≡◌, ℕ, ◌+◌, ◌-◌, ◌<◌, ◌≤◌, List, [], ◌∷◌, ◌++◌, length, take, drop, refl, ap, sym, ◌∙◌, arith, subst, length-append, length-take, Option, Result, Ok, Err, inl, inr}
 use Rattle.std.proofs.Math.Seq.{take-append-add}
 use Rattle.std.proofs.lemmas.Bool.Decides.{leb_tells}

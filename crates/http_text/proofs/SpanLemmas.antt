@@ -32,7 +32,7 @@ module _ (bytes : List ℕ) (n : ℕ) where
       let rest = headers_kept hs (All-tail (IsHeaderWithin n) h hs all) in
       λ i. (name i, value i) ∷ rest i
 
-  -- the bytes of a head alone
+  -- only the bytes of a head
   pub front_kept : (items : List ℕ) → items ≡ take n bytes → take n items ≡ take n bytes
   front_kept items is = ap (take n) is ∙ take-take n n bytes (omega arith)
 

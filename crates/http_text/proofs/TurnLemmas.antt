@@ -29,7 +29,7 @@ SpendsTurns-more old now new a b h some one =
     let turns : b - (b - 1) ≡ 1 = omega arith in
     SpendsTurns-then old now new a b (b - 1) h (record { left = omega arith; calls = one ∙ ap (count_up now.calls) (sym turns) })
 
--- a step after some where no read failed
+-- a step after others in which no read failed
 pub EndsTurns-then : (old now new : Reading) (after : ℕ) (fault : ReadFault) → now.failures ≡ old.failures → EndsTurns now new after fault → EndsTurns old new after fault
 EndsTurns-then old now new after Malformed same h = h ∙ same
 EndsTurns-then old now new after (HostMissingOrRepeated is_head) same h = h ∙ same

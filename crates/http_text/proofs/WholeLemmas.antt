@@ -24,7 +24,7 @@ module _ (F : Form) (laws : Laws F) (bytes front : List ℕ) (is : front ≡ tak
   size : length front ≤ head_limit
   size = let long = ap length is in omega (arith, length-take cut bytes)
 
-  -- the head of a message stands in the bytes that are parsed
+  -- the head of a message is in the bytes that are parsed
   in_front : (m : Message) (whole : IsOne F bytes m) → (x : List ℕ) × F.Reads front whole.0.head.tree x
   in_front m whole =
       let message = whole.0 in

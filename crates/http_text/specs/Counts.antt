@@ -1,8 +1,8 @@
--- What is counted of a stream, and how far a count goes.
+-- The counts of a stream, and where a count stops.
 use Rattle.std.specs.Prelude.{◌≡◌, ℕ, ◌+◌, ◌-◌, ◌^◌, ◌<◌, ◌≤◌, ◌⊎◌, max, min, List, Option}
 use Rattle.http_text.specs.declared.limits.TheConstants.{TURN_LIMIT}
 
--- where each count stays
+-- no count goes above this
 abbrev pub greatest_count : ℕ
 greatest_count = 2 ^ 64 - 1
 
@@ -12,31 +12,31 @@ count_up n k = max n (min (n + k) greatest_count)
 
 -- a reader, as contracts see it
 pub record Reading : Type 0 where
-  -- the bytes that nobody has taken yet, where they are known
+  -- the bytes that nobody has taken yet, if they are known
   pub remaining : Option (List ℕ)
-  -- those of them that were read ahead
+  -- the remaining bytes that were read ahead
   pub ahead : List ℕ
   -- its reads so far
   pub calls : ℕ
-  -- those that failed; an interrupted one didn't
+  -- its failed reads; an interrupted read isn't one
   pub failures : ℕ
 
 -- a writer, as contracts see it
 pub record Writing : Type 0 where
-  -- the bytes that it holds, where they are known
+  -- the bytes that it holds, if they are known
   pub contents : Option (List ℕ)
   -- its writes and flushes so far
   pub calls : ℕ
-  -- those that failed; an interrupted write didn't, an interrupted flush did
+  -- the failed ones; an interrupted write isn't one, but an interrupted flush is
   pub failures : ℕ
   -- its flushes so far
   pub flushes : ℕ
 
--- a count rose, or stood where no count rises
+-- a count rose, or was already the greatest
 abbrev pub HasRisen : ℕ → ℕ → Type 0
 HasRisen old new = (old < new) ⊎ (greatest_count ≤ old)
 
--- a count rose by k, or came to where no count rises
+-- a count rose by at least k, or reached the greatest
 abbrev pub HasReached : ℕ → ℕ → ℕ → Type 0
 HasReached k old new = (old + k ≤ new) ⊎ (greatest_count ≤ new)
 
@@ -44,6 +44,6 @@ HasReached k old new = (old + k ≤ new) ⊎ (greatest_count ≤ new)
 abbrev pub turn_limit : ℕ
 turn_limit = TURN_LIMIT
 
--- at most so many turns were made, each counted
+-- at most `turn_limit` turns were made, each counted
 abbrev pub CountsTurns : ℕ → ℕ → Type 0
 CountsTurns old new = (n : ℕ) × (n ≤ turn_limit) × (new ≡ count_up old n)

@@ -1,4 +1,4 @@
--- Requests and responses as two forms of one thing: which bytes are a head of a form, and which a message.
+-- Requests and responses as two forms of message: which bytes are a head, and which are a message.
 use Rattle.std.specs.Prelude.{◌≡◌, ℕ, ◌≤◌, ◌==◌, List, [], ◌++◌, length, map, Result, Ok, if◌then◌else◌}
 use Rattle.httparse.specs.Grammar.{Field, RequestHead, ReadsRequest, print_request, EndsInTarget, ResponseHead, ReadsResponse, print_response, status_code}
 use Rattle.httparse.specs.Spans.{name_and_value}
@@ -7,7 +7,7 @@ use Rattle.http_text.specs.Message.{StartLine, request_line, status_line, Head, 
 use Rattle.http_text.specs.Judging.{judge_head, judge_response}
 
 pub record Form : Type 1 where
-  -- the heads of httparse's grammar, which bytes they read and print, their first line and their field lines
+  -- the heads of httparse's grammar: which bytes they read and print, their first line and their field lines
   pub Tree : Type 0
   pub Reads : List ℕ → Tree → List ℕ → Type 0
   pub print : Tree → List ℕ
@@ -16,10 +16,10 @@ pub record Form : Type 1 where
   -- how many bytes follow a head, and whether it is refused
   pub body : Head → ℕ
   pub judge : Head → Result ℕ ReadFault
-  -- a part that isn't decided, though no bytes may complete it
+  -- a part that isn't refused yet, though no bytes may complete it
   pub IsLate : List ℕ → Type 0
 
--- whether a target is UTF-8 is told at its end
+-- only the end of a target decides whether the target is UTF-8
 abbrev pub request_form : Form
 request_form = record {
   Tree = RequestHead;
@@ -32,7 +32,7 @@ request_form = record {
   IsLate = EndsInTarget;
 }
 
--- 304 has no body, whatever length it states
+-- a 304 has no body, whatever it states
 abbrev pub response_form : Form
 response_form = record {
   Tree = ResponseHead;
@@ -58,7 +58,7 @@ module _ (F : Form) where
     pub fields : length (F.lines tree) ≤ field_limit
     pub parts : head ≡ head_in tree
 
-  -- the bytes are a head and then exactly the body that it states
+  -- the bytes are a head, followed by exactly the body that it states
   pub record IsMessage (bytes : List ℕ) (m : Message) : Type 0 where
     pub front : List ℕ
     pub head : IsHead front m.head
@@ -85,6 +85,6 @@ IsAccepted = IsAcceptable request_form
 abbrev pub IsResponseHead : List ℕ → Head → Type 0
 IsResponseHead = IsHead response_form
 
--- a response whose head is refused is none
+-- a response whose head is refused isn't one
 abbrev pub IsResponseMessage : List ℕ → Message → Type 0
 IsResponseMessage bytes m = IsMessage response_form bytes m × IsAcceptable response_form m

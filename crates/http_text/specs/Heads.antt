@@ -8,7 +8,7 @@ use Rattle.http_text.specs.Counts.{Reading, HasRisen, HasReached, turn_limit}
 use Rattle.http_text.specs.Message.{Head, Message, head_limit, field_limit}
 use Rattle.http_text.specs.Forms.{Form, IsHead, IsMessage, IsAcceptable}
 
--- a fault of the stream or of memory, whatever the bytes are
+-- a fault of the stream, or out of memory, whatever the bytes are
 abbrev pub IsStreamFault : ReadFault → Type 0
 IsStreamFault Malformed = ⊥
 IsStreamFault (HostMissingOrRepeated is_head) = ⊥
@@ -22,24 +22,24 @@ IsStreamFault ReadFailed = ⊤
 IsStreamFault OutOfMemory = ⊤
 IsStreamFault TurnsExhausted = ⊤
 
--- the message came, and what follows it is left; or a fault of the stream
+-- the message was read, and what follows it is left; or the stream had a fault
 abbrev pub Finds : Message → List ℕ → Option (List ℕ) → Result Message ReadFault → Type 0
 Finds m rest left (Ok found) = (found ≡ m) × (left ≡ Some rest)
 Finds m rest left (Err fault) = IsStreamFault fault
 
--- this refusal came, or a fault of the stream
+-- the result is this refusal, or a fault of the stream
 abbrev pub Answers : ReadFault → Result Message ReadFault → Type 0
 Answers fault (Ok found) = ⊥
 Answers fault (Err answered) = (answered ≡ fault) ⊎ IsStreamFault answered
 
--- a failure was counted, or no turn was left; else no read failed
+-- a failure was counted, or no turn was left; otherwise no read failed
 abbrev pub EndsReading : Reading → Reading → ReadFault → Type 0
 EndsReading old new ReadFailed = HasRisen old.failures new.failures
 EndsReading old new TurnsExhausted = HasReached turn_limit old.calls new.calls × (new.failures ≡ old.failures)
 EndsReading old new fault = new.failures ≡ old.failures
 
 module _ (F : Form) where
-  -- what stands in some bytes, and what may: as httparse's grammar has it for either form
+  -- what some bytes contain, and what they may become, by httparse's grammar for either form
 
   -- no prefix of the bytes is a head
   abbrev pub HasNone : List ℕ → Type 0
@@ -49,21 +49,21 @@ module _ (F : Form) where
   abbrev pub NeverHas : List ℕ → Type 0
   NeverHas bytes = (more : List ℕ) → HasNone (bytes ++ more)
 
-  -- some bytes can follow that make them a head, or that isn't decided yet
+  -- some bytes can complete them to a head, or that isn't decided yet
   abbrev pub MayBecome : List ℕ → Type 0
   MayBecome bytes = ((more : List ℕ) × (tree : F.Tree) × F.Reads (bytes ++ more) tree []) ⊎ F.IsLate bytes
 
-  -- whatever bytes follow, a head at the front has more field lines
+  -- whatever bytes follow, a head at the front has more than `room` field lines
   abbrev pub Overflows : ℕ → List ℕ → Type 0
   Overflows room bytes = (more : List ℕ) (tree : F.Tree) (rest : List ℕ) → F.Reads (bytes ++ more) tree rest → room < length (F.lines tree)
 
-  -- a prefix of the bytes and then an empty line are a head that has more field lines
+  -- a prefix of the bytes, ended by an empty line, is a head with more than `room` field lines
   abbrev pub Exceeds : ℕ → List ℕ → Type 0
   Exceeds room bytes =
       (front : List ℕ) × (rest : List ℕ) × (bytes ≡ front ++ rest)
       × (tree : F.Tree) × F.Reads (front ++ print_end lf) tree [] × (room < length (F.lines tree))
 
-  -- no whole head stands in the bytes, and one may come (or the bytes end in a target)
+  -- the bytes contain no whole head, and more bytes may complete one (or the bytes end in a target)
   pub record IsUndecided (bytes : List ℕ) : Type 0 where
     pub none : HasNone bytes
     pub open_end : MayBecome bytes
@@ -72,13 +72,13 @@ module _ (F : Form) where
   abbrev pub IsUndecidedBefore : List ℕ → Type 0
   IsUndecidedBefore bytes = (front : List ℕ) (last : ℕ) → bytes ≡ front ++ last ∷ [] → IsUndecided front
 
-  -- no bytes that follow make a head, and the last byte is the one that decides
+  -- no further bytes can complete a head, and the last byte decides that
   pub record IsMalformedHead (bytes : List ℕ) : Type 0 where
     pub never : NeverHas bytes
     pub before : IsUndecidedBefore bytes
     pub size : length bytes ≤ head_limit
 
-  -- as many bytes as a head may have hold no whole one
+  -- as many bytes as a head may have, without a whole head
   pub record IsHeadAtLimit (bytes : List ℕ) : Type 0 where
     pub undecided : IsUndecided bytes
     pub length_is : length bytes ≡ head_limit
@@ -90,7 +90,7 @@ module _ (F : Form) where
     pub before : IsUndecidedBefore bytes
     pub size : length bytes ≤ head_limit
 
-  -- a whole head that is refused so
+  -- a whole head that is refused with this fault
   abbrev pub IsRefusedHead : List ℕ → ReadFault → Type 0
   IsRefusedHead bytes fault = (head : Head) × IsHead F bytes head × (F.judge head ≡ Err fault)
 
@@ -109,7 +109,7 @@ module _ (F : Form) where
   abbrev pub IsUnfinished : List ℕ → Type 0
   IsUnfinished bytes = (IsUndecided bytes × (length bytes < head_limit)) ⊎ IsPartOfBody bytes
 
-  -- the bytes that were taken, and those that are left, are refused so
+  -- the bytes that were taken are refused with this fault, while these are left
   abbrev pub Refuses : List ℕ → Option (List ℕ) → ReadFault → Type 0
   Refuses bytes left Malformed = IsMalformedHead bytes ⊎ IsRefusedHead bytes Malformed
   Refuses bytes left (HostMissingOrRepeated is_head) = IsRefusedHead bytes (HostMissingOrRepeated is_head)
@@ -127,7 +127,7 @@ module _ (F : Form) where
   abbrev pub TakesMessage : Option (List ℕ) → Option (List ℕ) → Message → Type 0
   TakesMessage old new m = (bytes : List ℕ) × Consumes old new bytes × IsMessage F bytes m × IsAcceptable F m
 
-  -- what was taken is refused so
+  -- the bytes that were taken are refused with this fault
   abbrev pub TakesRefused : Option (List ℕ) → Option (List ℕ) → ReadFault → Type 0
   TakesRefused old new fault = (bytes : List ℕ) × Consumes old new bytes × Refuses bytes new fault
 
@@ -143,18 +143,18 @@ module _ (F : Form) where
       (front rest : List ℕ) (head : Head) (fault : ReadFault) → old ≡ Some (front ++ rest) → IsHead F front head
       → F.judge head ≡ Err fault → Answers fault r
 
-  -- a part of a head, which more bytes complete
+  -- a part of a head that more bytes complete
   pub record IsPartOfHead (bytes : List ℕ) : Type 0 where
     pub more : List ℕ
     pub head : Head
     pub is_head : IsHead F (bytes ++ more) head
     pub short : 0 < length more
 
-  -- a part of a request is all there is
+  -- there is only a part of a request
   abbrev pub FindsEnd : Option (List ℕ) → Result Message ReadFault → Type 0
   FindsEnd old r = (bytes : List ℕ) → old ≡ Some bytes → IsPartOfHead bytes ⊎ IsPartOfBody bytes → Answers EndedEarly r
 
-  -- as many bytes as a head may have are a part of one that has no more field lines than it may
+  -- as many bytes as a head may have, which are a part of a head with an allowed number of field lines
   pub record IsLongPart (bytes : List ℕ) : Type 0 where
     pub more : List ℕ
     pub tree : F.Tree
@@ -163,7 +163,7 @@ module _ (F : Form) where
     pub fields : length (F.lines tree) ≤ field_limit
     pub length_is : length bytes ≡ head_limit
 
-  -- a whole head with more field lines than it may have
+  -- a whole head with too many field lines
   abbrev pub HasLongSection : List ℕ → Type 0
   HasLongSection bytes = (tree : F.Tree) × F.Reads bytes tree [] × (field_limit < length (F.lines tree))
 
@@ -173,8 +173,8 @@ module _ (F : Form) where
       (bytes rest : List ℕ) → old ≡ Some (bytes ++ rest) → IsLongPart bytes ⊎ HasLongSection bytes
       → Answers HeadTooLong r
 
-  -- what may stand for a malformed head: in a target the malformed byte may be noticed at its end, and among the field
-  -- lines past the limit not at all
+  -- the results that a malformed head may have: in a target, the malformed byte may be noticed only at the target's
+  -- end, and among field lines beyond the limit not at all
   abbrev pub AnswersMalformed : List ℕ → Result Message ReadFault → Type 0
   AnswersMalformed all (Ok found) = ⊥
   AnswersMalformed all (Err Malformed) = ⊤
@@ -189,13 +189,13 @@ module _ (F : Form) where
   AnswersMalformed all (Err OutOfMemory) = ⊤
   AnswersMalformed all (Err TurnsExhausted) = ⊤
 
-  -- bytes that no bytes make a head are malformed
+  -- bytes that no further bytes complete to a head are malformed
   abbrev pub FindsMalformed : Option (List ℕ) → Result Message ReadFault → Type 0
   FindsMalformed old r =
       (bytes rest : List ℕ) → old ≡ Some (bytes ++ rest) → length bytes ≤ head_limit → NeverHas bytes
       → AnswersMalformed (bytes ++ rest) r
 
-  -- no proper prefix of a message is a message, and bytes are one message at most
+  -- no proper prefix of a message is a message, and bytes are at most one message
   abbrev pub AreApart : Type 0
   AreApart =
       (bytes more : List ℕ) (m n : Message) → IsMessage F bytes m → IsMessage F (bytes ++ more) n

@@ -5,7 +5,7 @@ use Rattle.http_text.specs.declared.incoming.Incoming.TheInside.{Inside}
 use Rattle.http_text.specs.Message.{Message}
 use Rattle.http_text.specs.Starts.{start_in, IsStartWithin}
 
--- the head is read off its bytes, and the body is what follows
+-- the head is read from its bytes, and the body is what follows it
 abbrev pub message_of : Inside → Message
 message_of a =
     let front = take a.head_length a.bytes.items in
@@ -14,7 +14,7 @@ message_of a =
       body = drop a.head_length a.bytes.items;
     }
 
--- each part lies in the head, and the head in the bytes
+-- each part is within the head, and the head is within the bytes
 pub record IsLaidOut (a : Inside) : Type 0 where
   pub head : a.head_length ≤ length a.bytes.items
   pub start : IsStartWithin a.head_length a.start

@@ -11,7 +11,7 @@ abbrev pub ◌>>=◌ : {A B : Type 0} → Result A ReadFault → (A → Result B
 (Ok x) >>= f = f x
 (Err fault) >>= f = Err fault
 
--- a step that refuses where the test holds
+-- a step that refuses if the test holds
 abbrev pub refused_where : Bool → ReadFault → Result (Unit {0}) ReadFault
 refused_where true fault = Err fault
 refused_where false fault = Ok tt
@@ -23,7 +23,7 @@ is_head head = bytes_eq (method_of head.start) (codes "HEAD")
 abbrev pub has_body : Head → Bool
 has_body head = bytes_eq (method_of head.start) (codes "POST") || bytes_eq (method_of head.start) (codes "PUT")
 
--- HTTP/1.1 asks for one Host, and no request may have two
+-- HTTP/1.1 requires one Host, and no request may have two
 abbrev pub is_host_wrong : ℕ → List (List ℕ) → Bool
 is_host_wrong minor [] = minor == 1
 is_host_wrong minor (host ∷ []) = false
@@ -39,7 +39,7 @@ readable_length absent = Ok None
 readable_length (stated n) = Ok (Some n)
 readable_length unreadable = Err Malformed
 
--- the body's length: a POST or PUT states it, and it keeps its limit
+-- the body's length: a POST or PUT must state it, and it is within its limit
 abbrev pub length_wanted : Bool → Bool → Option ℕ → Result ℕ ReadFault
 length_wanted true is_head None = Err (LengthMissing is_head)
 length_wanted false is_head None = Ok 0
@@ -54,7 +54,7 @@ judge_head head = do
   _ ← refused_where (is_any (values (codes "expect") head.fields)) (Expectation (is_head head))
   length_wanted (has_body head) (is_head head) length
 
--- the length of a response's body, which is stated: but 304 has no body, whatever it states
+-- the length of a response's body, which must be stated; but a 304 has no body, whatever it states
 abbrev pub response_length : Bool → Option ℕ → Result ℕ ReadFault
 response_length true length = Ok 0
 response_length false None = Err Malformed

@@ -41,11 +41,11 @@ abbrev pub minor_of : StartLine → ℕ
 minor_of (request_line method target minor) = minor
 minor_of (status_line minor code) = minor
 
--- the text with ASCII letters lowered
+-- the text with ASCII letters in lower case
 abbrev pub lowered : List ℕ → List ℕ
 lowered text = map to_ascii_lowercase text
 
--- a field has this name, letters in any case
+-- a field has this name, in any case
 abbrev pub is_named : List ℕ → NamedValue → Bool
 is_named name field = bytes_eq (lowered field.0) (lowered name)
 
@@ -76,7 +76,7 @@ pub data Length : Type 0 where
   stated : ℕ → Length
   unreadable : Length
 
--- one that is repeated, or no length, can't be read
+-- a `Content-Length` that is repeated, or that isn't a length, can't be read
 abbrev pub length_in : List (List ℕ) → Length
 length_in [] = absent
 length_in (text ∷ []) = if is_length text then stated (digits_value 10 text) else unreadable
@@ -85,7 +85,7 @@ length_in (text ∷ other ∷ texts) = unreadable
 abbrev pub length_of : Head → Length
 length_of head = length_in (values (codes "content-length") head.fields)
 
--- how many bytes follow a head: as many as it states, none without a statement
+-- how many bytes follow a head: the stated length, or none
 abbrev pub body_length : Length → ℕ
 body_length absent = 0
 body_length (stated n) = n

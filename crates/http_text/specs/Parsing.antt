@@ -1,4 +1,4 @@
--- What a parse of a head tells.
+-- The result of parsing a head.
 use Rattle.std.specs.Prelude.{◌≡◌, ℕ, ◌<◌, List, [], length, take, drop, map}
 use Rattle.httparse.specs.declared.spans.HeaderSpan.{HeaderSpan}
 use Rattle.httparse.specs.declared.spans.RequestSpans.{RequestSpans}
@@ -20,19 +20,19 @@ abbrev pub form_of : MessageKind → Form
 form_of Request = request_form
 form_of Response = response_form
 
--- the spans of a request's head and of a response's, as those of a head of either form
+-- the spans of a request's head and of a response's head, as spans of either form
 abbrev pub spans_of_request : RequestSpans → HeadSpans
 spans_of_request head = record { start = RequestLine head.method head.path; minor = head.version; count = head.headers; len = head.len }
 
 abbrev pub spans_of_response : ResponseSpans → HeadSpans
 spans_of_response head = record { start = StatusLine head.code; minor = head.version; count = head.headers; len = head.len }
 
--- each span lies in the head, and the head in the bytes
+-- each span is within the head, and the head is within the bytes
 pub record AreWithin (bytes : List ℕ) (fields : List HeaderSpan) (spans : HeadSpans) : Type 0 where
   pub start : IsStartWithin spans.len spans.start
   pub section : IsSectionWithin bytes fields spans.len spans.count
 
--- what the spans cover, with no body
+-- the message that the spans cover, without a body
 abbrev pub front_message : List ℕ → List HeaderSpan → HeadSpans → Message
 front_message bytes fields spans = record {
   head = record { start = start_in bytes spans.start spans.minor; fields = map (header_bytes bytes) (take spans.count fields) };
@@ -50,7 +50,7 @@ module _ (F : Form) (bytes : List ℕ) (fields : List HeaderSpan) where
   abbrev pub IsHeadOf : HeadSpans → Type 0
   IsHeadOf spans = (tree : F.Tree) × IsHeadAt spans tree
 
-  -- a whole head at the front and its parts; a part of one within the limit; or a refusal
+  -- a whole head at the front and its parts; a part of a head within the limit; or a refusal
   abbrev pub Parses : Parse → Type 0
   Parses (Whole spans) = IsHeadOf spans × AreWithin bytes fields spans
   Parses Part = IsUndecided F bytes × (length bytes < head_limit)

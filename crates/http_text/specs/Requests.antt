@@ -1,4 +1,4 @@
--- What is read of a request, and when each refusal comes: the definitions of Heads, at requests.
+-- What is read of a request, and when each refusal comes: the definitions of Heads, for requests.
 use Rattle.std.specs.Prelude.{ℕ, List, Option, Result}
 use Rattle.http_text.specs.declared.fault.ReadFault.{ReadFault}
 use Rattle.http_text.specs.Message.{Message}
@@ -41,6 +41,6 @@ AnswersMalformed = heads.AnswersMalformed request_form
 abbrev pub FindsMalformed : Option (List ℕ) → Result Message ReadFault → Type 0
 FindsMalformed = heads.FindsMalformed request_form
 
--- no proper prefix of a request is a request, and bytes are one request at most
+-- no proper prefix of a request is a request, and bytes are at most one request
 abbrev pub MessagesAreApart : Type 0
 MessagesAreApart = heads.AreApart request_form

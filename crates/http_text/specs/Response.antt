@@ -5,7 +5,7 @@ use Rattle.httparse.specs.Grammar.{crlf, Field, ResponseHead, print_response}
 use Rattle.http_text.specs.declared.response.FieldLine.{FieldLine}
 use Rattle.http_text.specs.Message.{NamedValue}
 
--- the phrase that stands beside a status
+-- the reason phrase of a status
 abbrev pub phrase_of : ℕ → List ℕ
 phrase_of status =
     if status == 200 then codes "OK" else (
@@ -27,7 +27,7 @@ phrase_of status =
 abbrev pub named_value : FieldLine → NamedValue
 named_value line = (line.name.now, line.value.now)
 
--- one space stands before the value
+-- one space comes before the value
 abbrev pub field_line : NamedValue → Field
 field_line field = record { name = field.0; raw = 32 ∷ field.1; end = crlf }
 

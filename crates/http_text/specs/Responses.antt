@@ -1,4 +1,4 @@
--- What is read of a response, and when each refusal comes: the definitions of Heads, at responses.
+-- What is read of a response, and when each refusal comes: the definitions of Heads, for responses.
 use Rattle.std.specs.Prelude.{ℕ, List, Option, Result}
 use Rattle.http_text.specs.declared.fault.ReadFault.{ReadFault}
 use Rattle.http_text.specs.Message.{Message}
@@ -26,10 +26,10 @@ FindsLongResponse = heads.FindsLong response_form
 abbrev pub FindsMalformedResponse : Option (List ℕ) → Result Message ReadFault → Type 0
 FindsMalformedResponse = heads.FindsMalformed response_form
 
--- no proper prefix of a response is a response, and bytes are one response at most
+-- no proper prefix of a response is a response, and bytes are at most one response
 abbrev pub ResponsesAreApart : Type 0
 ResponsesAreApart = heads.AreApart response_form
 
--- the bytes are no whole response, or more than one
+-- the bytes are only a part of a response, or more than one
 abbrev pub IsNoResponse : List ℕ → Type 0
 IsNoResponse bytes = (m : Message) → ¬ (IsResponseMessage bytes m)

@@ -1,4 +1,4 @@
--- How far bytes came that were sent, and why no further.
+-- How many bytes were sent, and why no more.
 use Rattle.std.specs.Prelude.{◌≡◌, ℕ, ◌<◌, ◌⊎◌, List, ◌++◌, length}
 use Rattle.std.specs.Io.KnownBytes.{Appends}
 use Rattle.http_text.specs.declared.fault.SendFault.{SendFault}
@@ -9,12 +9,12 @@ abbrev pub sent_count : SendFault → ℕ
 sent_count (WriteFailed sent) = sent
 sent_count (TurnsExhausted sent) = sent
 
--- why what was sent is no more: a part was left; or none was, and the flush failed, or no turn was left for it
+-- why no more was sent: a part was left; or none was left, and the flush failed or had no turn
 abbrev pub LeavesOut : Writing → Writing → List ℕ → SendFault → Type 0
 LeavesOut old new left (WriteFailed sent) = (0 < length left) ⊎ (new.flushes ≡ count_up old.flushes 1)
 LeavesOut old new left (TurnsExhausted sent) = new.flushes ≡ old.flushes
 
--- the writer holds a first part of the bytes more, as long as the fault tells
+-- the writer holds more: a first part of the bytes, as long as the fault reports
 pub record IsLost (old new : Writing) (bytes : List ℕ) (fault : SendFault) : Type 0 where
   pub front : List ℕ
   pub left : List ℕ

@@ -1,4 +1,4 @@
--- What the steps of reading a message do.
+-- The steps of reading a message.
 use Rattle.std.specs.Prelude.{◌≡◌, ℕ, ◌-◌, ◌<◌, ◌≤◌, ◌⊎◌, List, [], ◌++◌, length, Option}
 use Rattle.std.specs.Io.KnownBytes.{Keeps, Consumes, IsAtEnd}
 use Rattle.http_text.specs.declared.fault.ReadFault.{ReadFault}
@@ -8,18 +8,18 @@ use Rattle.http_text.specs.Message.{Message, field_limit}
 use Rattle.http_text.specs.Forms.{Form, IsHead}
 use Rattle.http_text.specs.Heads.{NeverHas, Exceeds, Overflows, IsHeadAtLimit}
 
--- from so many turns left to so many, each a call
+-- from `before` turns left to `after`, each of them a call
 pub record SpendsTurns (old new : Reading) (before after : ℕ) : Type 0 where
   pub left : after ≤ before
   pub calls : new.calls ≡ count_up old.calls (before - after)
 
--- a failure was counted, or no turn is left; else no read failed
+-- a failure was counted, or no turn is left; otherwise no read failed
 abbrev pub EndsTurns : Reading → Reading → ℕ → ReadFault → Type 0
 EndsTurns old new after ReadFailed = HasRisen old.failures new.failures
 EndsTurns old new after TurnsExhausted = (after ≡ 0) × (new.failures ≡ old.failures)
 EndsTurns old new after fault = new.failures ≡ old.failures
 
--- no bytes came: the reader is at its end, or it isn't known why not
+-- no bytes came: the reader is at its end, a read failed, or no turn was left
 abbrev pub GivesNone : Option (List ℕ) → Option (List ℕ) → ReadFault → Type 0
 GivesNone old new Malformed = ⊥
 GivesNone old new (HostMissingOrRepeated is_head) = ⊥
@@ -33,13 +33,13 @@ GivesNone old new ReadFailed = Keeps old new
 GivesNone old new OutOfMemory = ⊥
 GivesNone old new TurnsExhausted = Keeps old new
 
--- so many bytes were taken, and stand at the body's end
+-- `count` bytes were taken and appended to the body
 abbrev pub TakesBody : Option (List ℕ) → Option (List ℕ) → Message → Message → ℕ → Type 0
 TakesBody old new before after count =
     (bytes : List ℕ) × Consumes old new bytes × (length bytes ≡ count)
     × (after ≡ record { head = before.head; body = before.body ++ bytes })
 
--- fewer were taken
+-- reading the body stopped early: fewer than `count` bytes were taken, unless memory ran out
 abbrev pub CutsBody : Option (List ℕ) → Option (List ℕ) → ℕ → ReadFault → Type 0
 CutsBody old new count OutOfMemory = (bytes : List ℕ) × Consumes old new bytes
 CutsBody old new count EndedEarly = (bytes : List ℕ) × Consumes old new bytes × (length bytes < count) × IsAtEnd new

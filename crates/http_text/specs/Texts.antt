@@ -1,4 +1,4 @@
--- The texts of requests and of responses, and that each is a message of its parts.
+-- The texts of requests and responses, and that each is a message with its parts.
 use Rattle.std.specs.Prelude.{◌≡◌, ℕ, ◌<◌, ◌≤◌, List, [], ◌++◌, length, map, reverse, All, ◌+◌}
 use Rattle.std.specs.Str.{IsUtf8}
 use Rattle.http.specs.StatusCode.{IsStatusCode}
@@ -23,7 +23,7 @@ request_head method target fields = record {
 abbrev pub request_text : (method target : List ℕ) → List NamedValue → List ℕ → List ℕ
 request_text method target fields body = print_request (request_head method target fields) ++ body
 
--- a field line that a head may have: its name is a token; its value has no control byte but the tab, and no white
+-- a field line that a head may have: its name is a token; its value has no control byte except the tab, and no white
 -- space at its ends
 pub record IsFieldLine (field : NamedValue) : Type 0 where
   pub name : IsToken field.0
@@ -37,14 +37,14 @@ pub record IsTarget (target : List ℕ) : Type 0 where
   pub visible : AllPass is_uri_byte target
   pub text : IsUtf8 target
 
--- the text is a message of these parts, where it keeps the limits and its head states the body's length
+-- the text is a message with these parts, if it is within the limits and its head states the body's length
 abbrev pub IsRead : Form → List ℕ → Message → Type 0
 IsRead form text m =
     length text ≤ head_limit + length m.body → length m.head.fields ≤ field_limit → length m.body ≡ form.body m.head
     → IsMessage form text m
 
--- The text that is written for a request or a response is a message with just those parts, where its field lines are
--- such as a head may have
+-- The text that is written for a request or a response is a message with exactly those parts, if a head may have its
+-- field lines
 pub record TextsAreRead : Type 0 where
   pub request : (method target : List ℕ) (fields : List NamedValue) (body : List ℕ) → IsToken method → IsTarget target → All IsFieldLine fields
       → IsRead request_form (request_text method target fields body) (record { head = record { start = request_line method target 1; fields = fields }; body = body })

@@ -2,11 +2,11 @@
 
 use thiserror::Error;
 
-/// Why no request or response was read. Its text is its code. `is_head` tells whether the request's
-/// method was HEAD, whose answer has no body.
+/// Why no request or response was read. Its text is its code. `is_head` says whether the request's method
+/// was HEAD, whose answer has no body.
 #[derive(Clone, Copy, Debug, PartialEq, Eq, Error)]
 pub enum ReadFault {
-    /// No bytes that follow make a head, or its `Content-Length` is repeated or isn't 1 to 18 digits.
+    /// No further bytes can complete a head, or `Content-Length` is repeated or isn't 1 to 18 digits.
     #[error("H1")]
     Malformed,
     /// An HTTP/1.1 request without `Host`, or any request with two (RFC 9112, section 3.2).
@@ -21,10 +21,10 @@ pub enum ReadFault {
     /// 16,384 bytes hold no whole head, or there are more than 64 field lines.
     #[error("H5")]
     HeadTooLong,
-    /// `Transfer-Encoding` is there.
+    /// There is a `Transfer-Encoding`.
     #[error("H6")]
     TransferCoding { is_head: bool },
-    /// `Expect` is there.
+    /// There is an `Expect`.
     #[error("H7")]
     Expectation { is_head: bool },
     /// The bytes ended before the message did.
@@ -36,7 +36,7 @@ pub enum ReadFault {
     /// Out of memory.
     #[error("H13")]
     OutOfMemory,
-    /// 100,000 reads didn't give the whole message.
+    /// The message wasn't complete after 100,000 reads.
     #[error("H14")]
     TurnsExhausted,
 }
@@ -44,10 +44,10 @@ pub enum ReadFault {
 /// Why bytes weren't sent whole. Its text is its code.
 #[derive(Clone, Copy, Debug, PartialEq, Eq, Error)]
 pub enum SendFault {
-    /// A write or the flush failed, after so many bytes were taken.
+    /// A write or the flush failed, after `sent` bytes were taken.
     #[error("H12")]
     WriteFailed { sent: usize },
-    /// 100,000 writes and flushes weren't enough; so many bytes were taken.
+    /// 100,000 writes and flushes weren't enough; `sent` bytes were taken.
     #[error("H14")]
     TurnsExhausted { sent: usize },
 }

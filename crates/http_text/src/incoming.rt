@@ -1,4 +1,4 @@
-//! A message that was read: one buffer that lends its parts.
+//! A message that was read: one buffer, which lends its parts.
 ghost use Rattle.std.specs.Prelude.{◌≡◌, [], ◌∷◌, ◌++◌, length, vec_len, map, All, IfSome, IfOk, IfErr, OnOk, MatchOption};
 ghost use Rattle.httparse.specs.Spans.{header_bytes, IsHeaderWithin};
 ghost use Rattle.http_text.specs.Message.{method_of, target_of, code_of, minor_of, values};
@@ -89,7 +89,7 @@ impl Incoming {
         }
     }
 
-    /// A request's method, letters as they came. A response has none: it is empty.
+    /// A request's method, in the case that was sent; empty for a response.
     pub fn method(&self) -> &[u8]
         ensures { result.now ≡ method_of self.now.head.start }
     {
@@ -99,7 +99,7 @@ impl Incoming {
         }
     }
 
-    /// A request's target, escapes as they came. A response has none: it is empty.
+    /// A request's target, with its escapes; empty for a response.
     pub fn target(&self) -> &[u8]
         ensures { result.now ≡ target_of self.now.head.start }
     {
@@ -109,7 +109,7 @@ impl Incoming {
         }
     }
 
-    /// A response's status code. A request has none: it is 0.
+    /// A response's status code; 0 for a request.
     pub fn status(&self) -> u16
         ensures { result ≡ code_of self.now.head.start }
     {
@@ -126,8 +126,8 @@ impl Incoming {
         self.minor
     }
 
-    /// The values of the fields with this name, letters in any case, in the order of their lines.
-    /// White space at the ends of a value is left out.
+    /// The values of the fields with this name, in any case, in the order of their lines. White space at
+    /// the ends of a value is left out.
     pub fn fields<'a>(&'a self, name: &'a str) -> FieldValues<'a>
         ensures { result ≡ values name.now self.now.head.fields }
     {
@@ -138,7 +138,7 @@ impl Incoming {
         }
     }
 
-    /// The body, which is empty where there is none.
+    /// The body; empty if there is none.
     pub fn body(&self) -> &[u8]
         ensures { result.now ≡ self.now.body }
     {

@@ -1,4 +1,4 @@
-//! A reader that counts its reads, and reads ahead.
+//! A reader that counts its reads and reads ahead.
 ghost use Rattle.std.specs.Prelude.{◌≡◌, ◌≤◌, [], length, take, drop, Result};
 ghost use Rattle.std.specs.Io.KnownBytes.{Keeps, Consumes, prepend_known};
 ghost use Rattle.http_text.specs.Counts.{count_up};
@@ -8,12 +8,12 @@ use crate::counts::count;
 use std::io::{ErrorKind, Read};
 use std::marker::Model;
 
-/// How many bytes are read ahead at most.
+/// The most bytes that are read ahead.
 const AHEAD_LIMIT: usize = 4_096;
 
-/// A reader with the number of its reads and of those that failed. Each number stays at the
-/// greatest `u64`. An interrupted read is no failure. It reads ahead into an array of its own, so
-/// that a byte is no call of the reader; what was read ahead and not taken is still left.
+/// A reader that counts its reads and its failed reads, each up to the greatest `u64`. An interrupted read
+/// isn't a failure. It reads ahead into its own array, so that taking a byte needs no call of the reader.
+/// Bytes that were read ahead and not taken still count as remaining.
 #[derive(Drop)]
 pub struct Input<R: Read> {
     reader: R,
@@ -24,7 +24,7 @@ pub struct Input<R: Read> {
     failed_reads: u64,
 }
 
-/// What one read gave.
+/// The result of one read.
 #[derive(Clone, Copy)]
 pub(crate) enum ReadTurn {
     Bytes(usize),
@@ -51,7 +51,7 @@ impl<R: Read> Model for Input<R> {
 }
 
 impl<R: Read> Input<R> {
-    /// A reader that has counted nothing yet. Lend it as `&mut` to have it back.
+    /// A reader that has counted nothing yet. Pass it `&mut reader` to get the reader back.
     pub fn new(reader: R) -> Input<R>
         ensures { result
             ≡ record { remaining = R.remaining reader; ahead = []; calls = 0; failures = 0 } }
@@ -66,14 +66,14 @@ impl<R: Read> Input<R> {
         }
     }
 
-    /// The reader, with what it has left behind what was read ahead: take that from `ahead` first.
+    /// The reader itself. Bytes that were read ahead are lost with this call: take them from `ahead` first.
     pub fn into_inner(self) -> R
         ensures { self.remaining ≡ prepend_known self.ahead (R.remaining result) }
     {
         self.reader
     }
 
-    /// What was read ahead and nobody has taken yet: the front of what is left.
+    /// The bytes that were read ahead and not taken yet; they come first among the remaining bytes.
     pub fn ahead(&self) -> &[u8]
         ensures { result.now ≡ self.now.ahead }
     {
@@ -94,7 +94,7 @@ impl<R: Read> Input<R> {
         self.failed_reads
     }
 
-    /// Takes so many of the bytes that were read ahead.
+    /// Takes `count` of the bytes that were read ahead.
     pub(crate) fn take(&mut self, count: usize)
         requires { count ≤ length self.old.ahead }
         ensures bytes { Consumes self.old.remaining self.new.remaining (take count self.old.ahead) }
@@ -105,7 +105,7 @@ impl<R: Read> Input<R> {
         self.start += count;
     }
 
-    /// Reads ahead, where nothing stands ahead.
+    /// Reads ahead, if no bytes are there from an earlier read.
     pub(crate) fn look(&mut self) -> ReadTurn
         requires { self.old.ahead ≡ [] }
         ensures kept { Keeps self.old.remaining self.new.remaining }
@@ -127,7 +127,7 @@ impl<R: Read> Input<R> {
     }
 }
 
-/// What a read means: no byte is the end, and an interrupted read is made again.
+/// What a read means: no bytes are the end, and an interrupted read is made again.
 fn turn_of(outcome: Result<usize, ErrorKind>) -> ReadTurn
     ensures { result ≡ read_turn outcome }
 {

@@ -8,7 +8,7 @@ use crate::fault::ReadFault;
 use crate::incoming::Incoming;
 use crate::limits::{BODY_LIMIT, RESPONSE_BODY_LIMIT};
 
-/// The greatest number of digits that a length is written in.
+/// The most digits that a length may have.
 const LENGTH_DIGITS: usize = 18;
 
 /// The length of the body that follows a request's head, or the first refusal.
@@ -39,7 +39,7 @@ pub(crate) fn judge_response(message: &Incoming) -> Result<u64, ReadFault>
     response_length(message.status() == 304, length)
 }
 
-/// The length of a response's body: 304 has none, whatever it states.
+/// The length of a response's body; a 304 has no body, whatever it states.
 fn response_length(is_bodiless: bool, length: Option<u64>) -> Result<u64, ReadFault>
     ensures { result ≡ response_length is_bodiless length }
 {

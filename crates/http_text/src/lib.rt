@@ -1,5 +1,5 @@
-//! HTTP/1.1 texts over counted streams (RFC 9112): requests and responses are read and formed, and
-//! bytes are sent to a writer.
+//! HTTP/1.1 texts over counted streams (RFC 9112): reads and writes requests and responses, and sends bytes
+//! to a writer.
 #![tactic(auto)]
 
 mod counts;

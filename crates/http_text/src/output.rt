@@ -8,9 +8,8 @@ use crate::counts::count;
 use std::io::{ErrorKind, Write};
 use std::marker::Model;
 
-/// A writer with the number of its writes and flushes and of those that failed. Each number stays
-/// at the greatest `u64`. An interrupted write is no failure; an interrupted flush and a write that
-/// takes no byte are failures.
+/// A writer that counts its writes and flushes and the failed ones, each up to the greatest `u64`. An
+/// interrupted write isn't a failure; an interrupted flush is, and so is a write that takes no byte.
 #[derive(Drop)]
 pub struct Output<W: Write> {
     writer: W,
@@ -19,7 +18,7 @@ pub struct Output<W: Write> {
     flushes: u64,
 }
 
-/// What one write took.
+/// The result of one write.
 #[derive(Clone, Copy)]
 pub(crate) enum WriteTurn {
     Taken(usize),
@@ -41,7 +40,7 @@ impl<W: Write> Model for Output<W> {
 }
 
 impl<W: Write> Output<W> {
-    /// A writer that has counted nothing yet. Lend it as `&mut` to have it back.
+    /// A writer that has counted nothing yet. Pass it `&mut writer` to get the writer back.
     pub fn new(writer: W) -> Output<W>
         ensures { result ≡ record { contents = W.contents writer; calls = 0; failures = 0; flushes = 0 } }
     {
@@ -53,7 +52,7 @@ impl<W: Write> Output<W> {
         }
     }
 
-    /// The writer, with what it took.
+    /// The writer itself.
     pub fn into_inner(self) -> W
         ensures { W.contents result ≡ self.contents }
     {
@@ -90,7 +89,7 @@ impl<W: Write> Output<W> {
         turn
     }
 
-    /// Whether the flush was done.
+    /// Whether the flush succeeded.
     pub(crate) fn flush(&mut self) -> bool
         ensures bytes { Keeps self.old.contents self.new.contents }
         ensures calls { self.new.calls ≡ count_up self.old.calls 1 }
@@ -107,7 +106,7 @@ impl<W: Write> Output<W> {
     }
 }
 
-/// What a write means: to take no byte is to fail, and an interrupted write is made again.
+/// What a write means: taking no byte is a failure, and an interrupted write is made again.
 fn turn_of(outcome: Result<usize, ErrorKind>) -> WriteTurn
     ensures { result ≡ write_turn outcome }
 {
@@ -119,7 +118,7 @@ fn turn_of(outcome: Result<usize, ErrorKind>) -> WriteTurn
     }
 }
 
-/// Whether a flush was done. An interrupted one wasn't.
+/// Whether a flush succeeded. An interrupted flush didn't.
 fn is_flushed(outcome: Result<(), ErrorKind>) -> bool
     ensures { result ≡ is_ok outcome }
 {

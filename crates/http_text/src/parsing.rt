@@ -1,4 +1,4 @@
-//! Heads of requests and of responses, parsed.
+//! Parses the heads of requests and responses.
 ghost use Rattle.std.specs.Prelude.{◌≡◌, ◌≤◌, length};
 ghost use Rattle.http_text.specs.Message.{head_limit, field_limit};
 ghost use Rattle.http_text.specs.Forms.{request_form, response_form};
@@ -36,7 +36,7 @@ pub(crate) struct HeadSpans {
     pub(crate) len: usize,
 }
 
-/// What a parse of a head tells.
+/// The result of parsing a head.
 pub(crate) enum Parse {
     Whole(HeadSpans),
     Part,
@@ -44,7 +44,7 @@ pub(crate) enum Parse {
 }
 
 impl MessageKind {
-    /// Where the parts of a whole head at the front of these bytes are, or whether one may come.
+    /// The parts of a whole head at the front of these bytes, or whether more bytes may complete one.
     pub(crate) fn parse(self, bytes: &[u8], fields: &mut [HeaderSpan]) -> Parse
         requires room { length fields.old ≡ field_limit }
         requires bound { length bytes.now ≤ head_limit }

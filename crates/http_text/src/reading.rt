@@ -1,4 +1,4 @@
-//! A message of either form read from a stream.
+//! Reads a message of either form from a stream.
 ghost use Rattle.std.specs.Prelude.{◌≡◌, ◌<◌, length, OnOk, IfOk, IfErr};
 ghost use Rattle.std.specs.Io.KnownBytes.{Keeps};
 ghost use Rattle.http_text.specs.Counts.{CountsTurns};
@@ -58,8 +58,8 @@ fn read_whole<R: Read>(
     Ok(message)
 }
 
-/// Reads up to the end of a head, which is parsed when new bytes have come. Where a part of them is
-/// refused, half of it is tried, so that each refusal comes at the first byte that decides.
+/// Reads up to the end of a head, and parses it whenever new bytes have come. If they are refused, it tries
+/// half of them, so that each refusal comes at the first byte that decides it.
 fn read_head<R: Read>(
     alloc: Global,
     kind: MessageKind,
@@ -127,7 +127,8 @@ fn read_body<R: Read>(
     Ok(())
 }
 
-/// Reads ahead where nothing stands ahead. An interrupted read is made again while turns are left.
+/// Reads ahead, if no bytes are there from an earlier read. An interrupted read is made again while turns
+/// remain.
 fn look_ahead<R: Read>(reader: &mut Input<R>, turns: &mut u32) -> Result<(), ReadFault>
     ensures kept { OnOk result (Keeps reader.old.remaining reader.new.remaining) }
     ensures some { OnOk result (0 < length reader.new.ahead) }

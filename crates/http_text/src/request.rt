@@ -1,4 +1,4 @@
-//! A request read from a stream (RFC 9112, sections 2 to 6).
+//! Reads a request from a stream (RFC 9112, sections 2 to 6).
 ghost use Rattle.std.specs.Prelude.{◌≡◌, MatchOption, OnOk, IfOk, IfErr};
 ghost use Rattle.http_text.specs.Counts.{CountsTurns};
 ghost use Rattle.http_text.specs.Heads.{EndsReading};
@@ -14,21 +14,21 @@ use crate::wholes::message_in;
 use std::alloc::{AllocError, Global};
 use std::io::Read;
 
-/// Reads one request. What follows it, though it may have been read ahead, is left. An interrupted
-/// read is made again.
+/// Reads one request. Bytes after the request stay in the reader, even if they were read ahead. An
+/// interrupted read is made again.
 pub fn read_request<R: Read>(alloc: Global, reader: &mut Input<R>) -> Result<Incoming, ReadFault>
-    // What was taken from the reader: a whole message, or what the refusal says.
+    // What was taken from the reader: a whole message, or the bytes that the refusal is about.
     ensures message { IfOk result (TakesMessage reader.old.remaining reader.new.remaining) }
     ensures refused { IfErr result (TakesRefused reader.old.remaining reader.new.remaining) }
 
-    // What stands at the reader's front is found, whatever follows, but for a fault of the stream.
+    // A message at the reader's front is found, whatever follows it, unless the stream has a fault.
     ensures found { FindsMessage reader.old.remaining reader.new.remaining result }
     ensures refused_head { FindsRefusedHead reader.old.remaining result }
     ensures ended { FindsEnd reader.old.remaining result }
     ensures long { FindsLong reader.old.remaining result }
     ensures malformed { FindsMalformed reader.old.remaining result }
 
-    // A fault of the stream comes only as the counts allow.
+    // A fault of the stream agrees with the counts.
     ensures counts { CountsTurns reader.old.calls reader.new.calls }
     ensures clean { OnOk result (reader.new.failures ≡ reader.old.failures) }
     ensures fault { IfErr result (EndsReading reader.old reader.new) }
@@ -36,9 +36,9 @@ pub fn read_request<R: Read>(alloc: Global, reader: &mut Input<R>) -> Result<Inc
     read_message(alloc, MessageKind::Request, reader)
 }
 
-/// The request that these bytes are, from the first to the last; `None` where they are no whole
-/// request, or a refused one, or go on behind one. It is what `read_request` reads of them, without
-/// a stream that may fail. The work is in proportion to the bytes.
+/// The request that is exactly these bytes; `None` if they are only a part of a request, a refused one, or
+/// more than one. The result is the one of `read_request`, without a stream that may fail. The work is
+/// proportional to the number of bytes.
 pub fn request_in(alloc: Global, bytes: &[u8]) -> Result<Option<Incoming>, AllocError>
     ensures { IfOk result (λ found.
         MatchOption found (IsNoRequest bytes.now) (IsOneRequest bytes.now)) }

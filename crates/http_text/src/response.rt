@@ -7,7 +7,7 @@ ghost use Rattle.http_text.specs.Response.{phrase_of, named_value, field_line, r
 use http::StatusCode;
 use std::alloc::{AllocError, Global};
 
-/// How many bytes are kept free for a head, which most heads don't need.
+/// How many bytes are reserved for a head; most heads need fewer.
 const HEAD_ROOM: usize = 512;
 
 /// A field line to be written.
@@ -17,8 +17,7 @@ pub struct FieldLine<'a> {
     pub value: &'a [u8],
 }
 
-/// The reason phrase that a status is written with, which is empty for one that this product
-/// doesn't answer.
+/// The reason phrase of a status; empty for a status that this product never sends.
 fn phrase(status: StatusCode) -> &'static str
     ensures { result.now ≡ phrase_of status }
 {
@@ -41,8 +40,8 @@ fn phrase(status: StatusCode) -> &'static str
     }
 }
 
-/// The bytes of an HTTP/1.1 response with these field lines and this body. The lines are written
-/// as they are given: a name is to be a token, and a value has no control byte but the tab.
+/// The bytes of an HTTP/1.1 response with these field lines and this body. The lines are written unchanged:
+/// the caller sees to it that a name is a token and that a value has no control byte except the tab.
 pub fn write_response(
     alloc: Global,
     status: StatusCode,

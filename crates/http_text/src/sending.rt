@@ -1,4 +1,4 @@
-//! Bytes sent whole, or how far they came.
+//! Sends bytes whole, or reports how many were sent.
 ghost use Rattle.std.specs.Prelude.{◌≡◌, OnOk, OnErr, IfErr};
 ghost use Rattle.std.specs.Io.KnownBytes.{Keeps, Appends};
 ghost use Rattle.http_text.specs.Counts.{count_up, CountsTurns};
@@ -15,7 +15,7 @@ pub fn send<W: Write>(writer: &mut Output<W>, bytes: &[u8]) -> Result<(), SendFa
     ensures flushed { OnOk result (writer.new.flushes ≡ count_up writer.old.flushes 1) }
     ensures clean { OnOk result (writer.new.failures ≡ writer.old.failures) }
 
-    // A failure tells how much was sent, and comes only as the counts allow.
+    // A fault reports how much was sent, and agrees with the counts.
     ensures lost { IfErr result (IsLost writer.old writer.new bytes.now) }
     ensures fault { IfErr result (EndsSending writer.old writer.new) }
     ensures counts { CountsTurns writer.old.calls writer.new.calls }
@@ -37,7 +37,7 @@ pub fn send<W: Write>(writer: &mut Output<W>, bytes: &[u8]) -> Result<(), SendFa
     })
 }
 
-/// Flushes what was sent.
+/// Flushes the bytes that were sent.
 fn finish<W: Write>(writer: &mut Output<W>, sent: usize) -> Result<(), SendFault>
     ensures bytes { Keeps writer.old.contents writer.new.contents }
     ensures flushed { writer.new.flushes ≡ count_up writer.old.flushes 1 }

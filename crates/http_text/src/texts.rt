@@ -1,4 +1,4 @@
-//! The bytes of a request, and what the bytes of requests and responses are read as.
+//! The bytes of a request, and the law that written messages are read back.
 ghost use Rattle.std.specs.Prelude.{◌≡◌, map, IfOk};
 ghost use Rattle.http_text.specs.Response.{named_value};
 ghost use Rattle.http_text.specs.Texts.{request_text, TextsAreRead};
@@ -6,8 +6,8 @@ ghost use Rattle.http_text.specs.Texts.{request_text, TextsAreRead};
 use crate::response::{FieldLine, write_fields};
 use std::alloc::{AllocError, Global};
 
-/// The bytes of an HTTP/1.1 request with this method, this target, these field lines and this body,
-/// each written as it is given.
+/// The bytes of an HTTP/1.1 request with this method, this target, these field lines and this body, each
+/// written unchanged.
 pub fn write_request(
     alloc: Global,
     method: &str,
@@ -29,7 +29,7 @@ pub fn write_request(
     Ok(text)
 }
 
-/// A law: what is written for a request or a response is read as a message with just its parts.
+/// A law: the text that is written for a request or a response is read as a message with exactly its parts.
 pub fn texts_are_read()
     ensures { TextsAreRead }
 {}

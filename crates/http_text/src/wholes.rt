@@ -1,4 +1,4 @@
-//! One message that some bytes are, from the first to the last.
+//! Bytes that are exactly one message.
 ghost use Rattle.std.specs.Prelude.{MatchOption, IfOk};
 ghost use Rattle.http_text.specs.Parsing.{form_of};
 ghost use Rattle.http_text.specs.Wholes.{IsNone, IsOne, TakesWhole};
@@ -9,8 +9,8 @@ use crate::parsing::{MessageKind, Parse};
 use httparse::spans::EMPTY_HEADER_SPAN;
 use std::alloc::{AllocError, Global};
 
-/// The message of this kind that these bytes are, from the first to the last; `None` where they are
-/// no whole one, or a refused one, or go on behind one. The work is in proportion to the bytes.
+/// The message of this kind that is exactly these bytes; `None` if they are only a part of a message, a
+/// refused one, or more than one. The work is proportional to the number of bytes.
 pub(crate) fn message_in(
     alloc: Global,
     kind: MessageKind,
@@ -34,7 +34,7 @@ pub(crate) fn message_in(
     }
 }
 
-/// The message with this body, where its head states a body of that length.
+/// The message with this body, if its head states that length.
 fn with_body(
     kind: MessageKind,
     mut message: Incoming,

@@ -49,7 +49,7 @@ list-of tree lawful ordered found =
 same-value : (v w : Entry) → Some v ≡ Some w → v ≡ w
 same-value v w e = cc
 
--- the entries stay lawful where a lawful one is put
+-- the entries stay valid if a valid one is put
 pub lawful-put : (old new : Tree) (name : RecordName) (put : Entry) → AreLawful old → Updates name_cmp old new name (Some put) → IsEntryOf name put → AreLawful new
 lawful-put old new name put lawful updates is q entry gets = elim (cases_Bool (is_eq (name_cmp name q))) [
   | inl e ↦
@@ -70,7 +70,7 @@ first-or-later : (name : RecordName) (row : Row) (held : Option Entry) → row_n
 first-or-later name row None is below = record { named = is; within = none_first (row_revision row) }
 first-or-later name row (Some entry) is below = record { named = is; within = below entry refl }
 
--- what a lawful row makes of the entries
+-- the entries after a valid row
 pub row-put : (old new : Tree) (row copy : Row) (name : RecordName) → AreLawful old → CanPutRow (entries_in old) row → name ≡ row_name row → copy ≡ row
     → Updates name_cmp old new name (Some (entry_with copy (get_in name_cmp old name))) → AreLawful new × (entries_in new ≡ with_row (entries_in old) row)
 row-put old new row copy name lawful can is same updates =

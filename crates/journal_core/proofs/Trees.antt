@@ -44,7 +44,7 @@ module _ {X : Type 0} where
   pub get-tree : (tree : BTreeMap RecordName X) (q : RecordName) → get (map_of tree) q ≡ get_in name_cmp tree q
   get-tree tree q = get-from_entries names_total tree.entries q ∙ found q tree.entries
 
-  -- what is put into the tree is put into the map
+  -- putting into the tree is putting into the map
   pub insert-tree : (old new : BTreeMap RecordName X) (k : RecordName) (v : X) → Updates name_cmp old new k (Some v) → map_of new ≡ insert (map_of old) k v
   insert-tree old new k v updates = same_map names_total names_same _ _ (λ q.
       get-tree new q ∙ updates.0 q ∙ ap (λ o. cond (is_eq (name_cmp k q)) (Some v) o) (sym (get-tree old q))

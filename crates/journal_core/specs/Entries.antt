@@ -1,4 +1,4 @@
--- The entries of a journal, and what becomes of them.
+-- The entries of a journal, and how they change.
 use Rattle.std.specs.Prelude.{◌≡◌, ◌<◌, ℕ, List, [], ◌∷◌, Option, Some, None, map, IsSome}
 use Rattle.std.specs.FinMap.{FinMap, entries, get, insert, keys}
 use Rattle.std.specs.List.{All, count_by}
@@ -17,13 +17,13 @@ use Rattle.journal_core.specs.declared.entries.TheConstants.{USER_LIMIT, GROUP_L
 abbrev pub EntryMap : Type 0
 EntryMap = FinMap name_cmp Entry
 
--- ---- what becomes of them
+-- ---- how they change
 
 abbrev pub entry_with : Row → Option Entry → Entry
 entry_with row None = record { row = row; confirmed = no_revision; id = None }
 entry_with row (Some entry) = record entry { row = row }
 
--- the entries with this row: a new record has nothing else, one that is there keeps its id and what is confirmed
+-- the entries with this row: a new record has nothing else, an existing one keeps its id and its confirmed revision
 abbrev pub with_row : EntryMap → Row → EntryMap
 with_row map row = insert map (row_name row) (entry_with row (get map (row_name row)))
 
@@ -39,13 +39,13 @@ abbrev pub learnt_at : EntryMap → RecordName → RevisionValue → List ℕ �
 learnt_at map name confirmed id None = map
 learnt_at map name confirmed id (Some entry) = insert map name (entry_learnt confirmed id entry)
 
--- the entries with this confirmed revision and this id, where the record is there
+-- the entries with this confirmed revision and this id, if the record is there
 abbrev pub with_learnt : EntryMap → RecordName → RevisionValue → List ℕ → EntryMap
 with_learnt map name confirmed id = learnt_at map name confirmed id (get map name)
 
--- ---- what is lawful
+-- ---- what is valid
 
--- the entry is that of this record, and no revision above its row's is confirmed
+-- the entry belongs to this record, and its confirmed revision isn't above its row's
 pub record IsEntryOf (name : RecordName) (entry : Entry) : Type 0 where
   pub named : row_name entry.row ≡ name
   pub within : entry.confirmed ≼ row_revision entry.row
@@ -54,12 +54,12 @@ pub record IsEntryOf (name : RecordName) (entry : Entry) : Type 0 where
 abbrev pub named : Entry → RecordName × Entry
 named entry = (row_name entry.row, entry)
 
--- the list has the entries in order of their names, and each is lawful
+-- the list has all entries in order of their names, and each is valid
 pub record IsListOf (map_ : EntryMap) (list : List Entry) : Type 0 where
   pub whole : entries map_ ≡ map named list
   pub lawful : All (λ entry. entry.confirmed ≼ row_revision entry.row) list
 
--- how many records of a type there may be
+-- the most records of a type
 abbrev pub most_records : Kind → ℕ
 most_records User = USER_LIMIT
 most_records Group = GROUP_LIMIT
@@ -68,18 +68,19 @@ most_records Group = GROUP_LIMIT
 abbrev pub count_of : Kind → List RecordName → ℕ
 count_of kind names = count_by (λ name. same_kind kind name.kind) names
 
--- a row may be put where no higher revision is confirmed, its members are users that are there, and a new record has room
+-- a row may be put if no higher revision is confirmed, its members are existing users, and there is room for a new
+-- record
 pub record CanPutRow (map : EntryMap) (row : Row) : Type 0 where
   pub not_below : (entry : Entry) → get map (row_name row) ≡ Some entry → entry.confirmed ≼ row_revision row
   pub members : All (λ key. IsSome (get map (user key))) (members_of row)
   pub room : get map (row_name row) ≡ None → count_of (row_name row).kind (keys map) < most_records (row_name row).kind
 
--- the rows may be put one after another, each into the entries with those before it
+-- the rows may be put one after another, each into the entries that have the rows before it
 abbrev pub CanPutRows : EntryMap → List Row → Type 0
 CanPutRows map [] = Unit {0}
 CanPutRows map (row ∷ rows) = CanPutRow map row × CanPutRows (with_row map row) rows
 
--- a revision may be confirmed of a record that is there, where it is one, and isn't above its row's
+-- a revision may be confirmed for an existing record, if it is a revision and isn't above the row's
 pub record CanPutLearnt (map : EntryMap) (name : RecordName) (confirmed : RevisionValue) : Type 0 where
   pub entry : Entry
   pub there : get map name ≡ Some entry

@@ -16,6 +16,6 @@ pub record MemoryRecord : Type 0 where
 abbrev pub entries_in : BTreeMap RecordName Entry → EntryMap
 entries_in tree = from_entries tree.entries
 
--- each entry is a lawful one of its record
+-- each entry is valid, and under the name of its record
 abbrev pub AreLawful : BTreeMap RecordName Entry → Type 0
 AreLawful tree = (name : RecordName) (entry : Entry) → get name_cmp tree name ≡ Some entry → IsEntryOf name entry

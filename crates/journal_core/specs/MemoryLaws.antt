@@ -1,4 +1,4 @@
--- What a journal in memory can't answer.
+-- The faults of a journal in memory.
 use Rattle.std.specs.Prelude.{◌≡◌, ℕ}
 use Rattle.journal_core.specs.Memory.{MemoryRecord}
 use Rattle.journal_core.specs.Stores.{CountsFault}

@@ -1,4 +1,4 @@
--- What records are called in lines.
+-- The words for records in printed lines.
 use Rattle.std.specs.Prelude.{ℕ, List, codes}
 use Rattle.scim_key.specs.declared.records.Kind.{Kind}
 use Rattle.scim_key.specs.declared.records.Kind.TheVariants.{User, Group}

@@ -1,26 +1,26 @@
-//! What a journal keeps of a record.
+//! What a journal keeps about a record.
 use scim_key::{ResourceId, Revision};
 use source_csv::Row;
 use std::alloc::AllocError;
 
-/// How many users a connector keeps at most.
+/// The most users that a connector keeps.
 pub const USER_LIMIT: usize = 100_000;
 
-/// How many groups a connector keeps at most.
+/// The most groups that a connector keeps.
 pub const GROUP_LIMIT: usize = 10_000;
 
-/// What a journal keeps of a record.
+/// What a journal keeps about a record.
 #[derive(Debug)]
 pub struct Entry {
-    /// The last row that the source gave of it.
+    /// The last row that the source gave for this record.
     pub row: Row,
-    /// The highest revision that the provider showed, or none.
+    /// The highest revision that the provider has shown, or none.
     pub confirmed: Revision,
-    /// The id that the provider gave to it.
+    /// The id that the provider gave to the record.
     pub id: Option<ResourceId>,
 }
 
-/// One call wherever it is dropped, as for a row.
+/// Dropping an entry is one call, as for a row.
 impl Drop for Entry {
     fn drop(self) {
         let Entry {

@@ -10,7 +10,7 @@ use source_csv::Row;
 use std::alloc::{AllocError, AllocFailed};
 use thiserror::Error;
 
-/// Why a call of a journal failed. The entries are then as they were.
+/// Why a call of a journal failed. The entries are unchanged.
 #[derive(Clone, Copy, Debug, PartialEq, Eq, Error)]
 pub enum JournalFault {
     #[error("J1")]
@@ -41,8 +41,8 @@ impl<T: Drop> From<AllocFailed<T>> for JournalFault {
 
 /// The entries of a connector, one for each record.
 ///
-/// What is said of the entries holds while the store is faithful, that is open, and returns what
-/// was committed; a journal in memory always is. Faults of the store and writes are counted.
+/// The claims about entries hold while the store is faithful: it is open, and returns what was committed. A
+/// journal in memory is always faithful. Faults of the store and writes are counted.
 pub trait Journal {
     ghost entries: { Self → EntryMap };
 
@@ -51,7 +51,7 @@ pub trait Journal {
     /// The store returned what was committed.
     ghost is_honest: { Self → Type 0 };
 
-    /// The entries that may be found where the store is opened again after a stop at this moment.
+    /// The entries that may be found if the store is opened again after a stop at this moment.
     ghost may_hold: { Self → EntryMap → Type 0 };
 
     ghost faults: { Self → ℕ };
@@ -63,22 +63,22 @@ pub trait Journal {
         ensures ok { is_faithful self.new → IfOk result (λ list. IsListOf (entries self.old) list.items) }
         ensures reads { OnlyReads entries is_faithful is_honest may_hold faults writes CountsFault self.old self.new result };
 
-    /// Puts the row in the place of the last row of its record, whose id and confirmed revision stay.
-    /// A new record has neither.
+    /// Replaces the last row of the row's record, whose id and confirmed revision stay. A new record has
+    /// neither.
     fn put_row(&mut self, row: &Row) -> Result<(), JournalFault>
         requires lawful { is_faithful self.old → CanPutRow (entries self.old) row.now }
         ensures puts { WritesOnce entries is_faithful is_honest may_hold faults writes CountsFault self.old self.new (with_row (entries self.old) row.now) result }
         ensures open { is_honest self.new → OnOk result (is_faithful self.new) }
         ensures counted { OnOk result (HasRisen (writes self.old) (writes self.new)) };
 
-    /// Puts these rows, one after another, by one write: all of them or none.
+    /// Puts these rows, one after another, by one write: all or none.
     fn put_rows(&mut self, rows: &[Row]) -> Result<(), JournalFault>
         requires lawful { is_faithful self.old → CanPutRows (entries self.old) rows.now }
         ensures puts { WritesOnce entries is_faithful is_honest may_hold faults writes CountsFault self.old self.new (with_rows (entries self.old) rows.now) result }
         ensures open { is_honest self.new → OnOk result (is_faithful self.new) }
         ensures counted { OnOk result (HasRisen (writes self.old) (writes self.new)) };
 
-    /// Puts the confirmed revision and the id of a record that is there. Its row stays.
+    /// Puts the confirmed revision and the id of an existing record. Its row stays.
     fn put_learnt(
         &mut self,
         name: &RecordName,
@@ -90,12 +90,12 @@ pub trait Journal {
         ensures open { is_honest self.new → OnOk result (is_faithful self.new) }
         ensures counted { OnOk result (HasRisen (writes self.old) (writes self.new)) };
 
-    /// A faithful store is an honest one.
+    /// A faithful store is honest.
     ghost is_so: { (s : Self) → is_faithful s → is_honest s };
 
-    /// After a stop at this moment a faithful store holds its entries.
+    /// A stop at this moment leaves nothing but the entries of a faithful store.
     ghost settled: { (s : Self) (found : EntryMap) → is_faithful s → may_hold s found → found ≡ entries s };
 
-    /// A stop at this moment may leave a faithful store.
+    /// A stop at this moment may leave the entries of a faithful store.
     ghost stays: { (s : Self) → is_faithful s → may_hold s (entries s) };
 }

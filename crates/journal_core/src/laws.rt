@@ -1,7 +1,7 @@
 //! Laws of journals.
 ghost use Rattle.journal_core.specs.MemoryLaws.{StaysInMemory};
 
-/// A journal in memory is always faithful, and meets no store fault: what fails is out of memory.
+/// A journal in memory is always faithful, and its only fault is out of memory.
 pub fn journals_in_memory_stay()
     ensures { StaysInMemory }
 {}

@@ -17,7 +17,7 @@ use std::alloc::{AllocError, AllocFailed, Global};
 use std::collections::BTreeMap;
 use std::marker::Model;
 
-/// A journal whose entries stand in memory.
+/// A journal with its entries in memory.
 #[derive(Debug, Drop)]
 pub struct MemoryJournal {
     alloc: Global,
@@ -65,7 +65,7 @@ fn copies(alloc: Global, entries: &BTreeMap<RecordName, Entry>) -> Result<Vec<En
     Ok(list)
 }
 
-/// Puts the row in the place of that of the entry under its name, or makes a first entry.
+/// Replaces the row of the entry with this name, or makes a first entry.
 fn put_row(
     entries: &mut BTreeMap<RecordName, Entry>,
     name: RecordName,
@@ -128,7 +128,7 @@ fn copy_with(
     Ok(copy)
 }
 
-/// Puts what was learnt into the entry under a name, if it is there.
+/// Puts what was learnt into the entry with this name, if there is one.
 fn put_learnt(
     entries: &mut BTreeMap<RecordName, Entry>,
     name: &RecordName,

@@ -1,3 +1,4 @@
 pub mod Opened
 pub mod Lines
 pub mod Showing
+pub mod Closed

@@ -1,8 +1,8 @@
--- A journal that was opened where it is kept.
+-- A journal that was just opened.
 use Rattle.std.specs.Prelude.{◌≡◌}
 use Rattle.journal_core.specs.declared.journals.Journal.{Ghosts}
 
--- no call was made on it yet
+-- no call has been made on it yet
 pub record IsOpened {J : Type 0} (g : Ghosts J) (j : J) : Type 0 where
   pub faithful : g.is_honest j → g.is_faithful j
   pub faults : g.faults j ≡ 0

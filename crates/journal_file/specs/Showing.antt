@@ -16,13 +16,13 @@ abbrev pub journal_fault : JournalFault → ShowFault
 journal_fault journal.Store = Journal opening.Store
 journal_fault journal.Memory = Journal opening.Memory
 
--- a line of each entry, in order of their names, is written
+-- a line for each entry is written, in order of the names
 pub record WritesEntries (map_ : EntryMap) (before after : Option (List ℕ)) : Type 0 where
   pub list : List Entry
   pub whole : IsListOf map_ list
   pub lines : Appends before after (lines_of list)
 
--- so it is of the journal that was opened
+-- this holds for the journal that was opened
 pub record ShowsFrom {J : Type 0} (g : Ghosts J) (before after : Option (List ℕ)) : Type 0 where
   pub first : J
   pub last : J

@@ -1,16 +1,16 @@
-//! A file as the place of the entries.
+//! A file that keeps the entries.
 ghost use Rattle.std.specs.Prelude.{IfOk};
 ghost use Rattle.journal_file.specs.Opened.{IsOpened};
 
 use crate::storage::{Storage, StoredEntries};
 use journal_core::Journal;
 use journal_store::{OpenFault, SqlJournal};
-use sqlite::{Alter, Connection, File, FileStore, Unknown};
-use sqlite_disk::Disk;
+use sqlite::{Alter, Connection, Error, File, FileStore, Unknown};
+use sqlite_disk::{Disk, Files};
 use std::alloc::Global;
 use std::rt::HostRuntime;
 
-/// A file that keeps the journal of a connector. Where it isn't there, opening makes it.
+/// A file that keeps the journal of a connector. Opening makes the file if there is none.
 #[derive(Clone, Copy)]
 pub struct JournalFile<'a> {
     pub rt: &'a HostRuntime,
@@ -20,7 +20,7 @@ pub struct JournalFile<'a> {
 impl<'a> Storage for JournalFile<'a> {
     type Entries = SqlJournal<FileStore<File>>;
 
-    /// A file that is refused is closed as it stands, and what it holds is as it was.
+    /// If the file is refused, it is closed unchanged.
     fn open(&self) -> Result<Self::Entries, OpenFault> {
         match Connection::open_from(self.rt, self.path, false, Unknown) {
             Ok(conn) => entries_over(self.rt.alloc(), conn),
@@ -30,12 +30,19 @@ impl<'a> Storage for JournalFile<'a> {
 }
 
 impl<D: Disk + Drop> StoredEntries for SqlJournal<FileStore<D>> {
-    fn close(self) {
-        let _ = SqlJournal::close(self).close();
+    ghost use Rattle.journal_file.specs.Closed.{ClosesFiles};
+
+    type Left = Result<Files<D>, (Error, FileStore<D>)>;
+
+    ghost is_closed = { λ s left. ClosesFiles D.Disk s.conn left };
+
+    /// Copies the log into the main file.
+    fn close(self) -> Self::Left {
+        SqlJournal::close(self).close_files()
     }
 }
 
-/// The journal of a connection. One that is refused is dropped with no write.
+/// The journal of a connection. If it is refused, the connection is dropped without a write.
 fn entries_over<S: Alter + Drop>(
     alloc: Global,
     conn: Connection<S>,

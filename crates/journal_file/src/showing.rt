@@ -18,7 +18,7 @@ use thiserror::Error;
 /// Why the lines of a journal weren't written whole.
 #[derive(Clone, Copy, Debug, PartialEq, Eq, Error)]
 pub enum ShowFault {
-    /// The journal wasn't opened, it failed, or memory ran out.
+    /// The journal couldn't be opened, it failed, or memory ran out.
     #[error("journal {0}")]
     Journal(OpenFault),
     /// A write or the flush failed.
@@ -63,7 +63,7 @@ impl From<io::Error> for ShowFault {
     }
 }
 
-/// Why lines couldn't be written.
+/// The fault for a failed write.
 fn output_fault(kind: ErrorKind) -> ShowFault
     ensures memory { kind ≡ ErrorKind.OutOfMemory → result ≡ ShowFault.Journal Memory }
     ensures output { kind ≢ ErrorKind.OutOfMemory → result ≡ Output }
@@ -74,7 +74,7 @@ fn output_fault(kind: ErrorKind) -> ShowFault
     }
 }
 
-/// Opens the entries, writes a line of each, users by key, then groups by key, and closes them.
+/// Opens the entries, writes a line for each (users by key, then groups by key), and closes them.
 pub fn show_entries<K: Storage, W: Write>(
     alloc: Global,
     storage: &K,
@@ -88,8 +88,8 @@ pub fn show_entries<K: Storage, W: Write>(
     shown
 }
 
-/// Writes a line of each entry, users by key, then groups by key, and flushes. After a fault any
-/// part may be written.
+/// Writes a line for each entry (users by key, then groups by key), and flushes. After a fault, any part of
+/// the lines may be written.
 pub fn write_entries<J: Journal, W: Write>(
     alloc: Global,
     journal: &mut J,

@@ -5,10 +5,16 @@ ghost use Rattle.journal_file.specs.Opened.{IsOpened};
 use journal_core::Journal;
 use journal_store::OpenFault;
 
-/// The entries of a connector, open where they are kept.
+/// The entries of a connector, opened where they are kept.
 pub trait StoredEntries: Journal {
-    /// Closes the entries. What was committed stands, whether or not this succeeds.
-    fn close(self);
+    /// What remains after the entries are closed.
+    type Left: Drop;
+
+    ghost is_closed: { Self → Self.Left → Type 0 };
+
+    /// Closes the entries. What was committed stays, even if closing fails.
+    fn close(self) -> Self::Left
+        ensures { is_closed self result };
 }
 
 /// Where the entries of a connector are kept, open or not.

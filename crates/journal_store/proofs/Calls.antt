@@ -17,7 +17,7 @@ abbrev pub fault_as : (T : Type 0) → JournalFault → Result T JournalFault
 fault_as T fault = Err fault
 
 module _ {S : Type 0} {entries : S → EntryMap} {is_faithful is_honest : S → Type 0} {may_hold : S → EntryMap → Type 0} {faults writes : S → ℕ} where
-  -- a call that only reads, after one that read and answered
+  -- a call that only reads, after another that read and succeeded
   pub reads_on : {T U : Type 0} {old mid new : S} {value : T} {result : Result U JournalFault}
       → OnlyReads entries is_faithful is_honest may_hold faults writes CountsFault old mid (Ok value) → OnlyReads entries is_faithful is_honest may_hold faults writes CountsFault mid new result
       → OnlyReads entries is_faithful is_honest may_hold faults writes CountsFault old new result
@@ -36,7 +36,7 @@ module _ {S : Type 0} {entries : S → EntryMap} {is_faithful is_honest : S → 
       → OnlyReads entries is_faithful is_honest may_hold faults writes CountsFault old new (Ok y)
   answered_so y r = record { was = r.was; same = r.same; honest = r.honest; opened = r.opened; stop = r.stop; counted = r.counted; unwritten = r.unwritten }
 
-  -- a call that writes, after one that read and answered
+  -- a call that writes, after another that read and succeeded
   pub writes_on : {T : Type 0} {old mid new : S} {value : T} {later wanted : EntryMap} {result : Result (Unit {0}) JournalFault}
       → OnlyReads entries is_faithful is_honest may_hold faults writes CountsFault old mid (Ok value) → (is_faithful mid → later ≡ wanted)
       → WritesOnce entries is_faithful is_honest may_hold faults writes CountsFault mid new later result → WritesOnce entries is_faithful is_honest may_hold faults writes CountsFault old new wanted result
@@ -54,7 +54,7 @@ module _ {S : Type 0} {entries : S → EntryMap} {is_faithful is_honest : S → 
     unwritten = on_err result (λ is. is ∙ one.unwritten) two.unwritten;
   }
 
-  -- a call that fails, after one that read
+  -- a call that fails, after another that read
   pub fails_so : {T : Type 0} (U : Type 0) {old new : S} {x : T} (fault : JournalFault) → OnlyReads entries is_faithful is_honest may_hold faults writes CountsFault old new (Ok x)
       → CountsFault (faults old) (faults new) fault → OnlyReads entries is_faithful is_honest may_hold faults writes CountsFault old new (fault_as U fault)
   fails_so U fault r counts = record { was = r.was; same = r.same; honest = r.honest; opened = λ _. tt; stop = r.stop; counted = counts; unwritten = r.unwritten }

@@ -44,7 +44,7 @@ module _ {S : Type 0} (g : Ghosts S) where
   abbrev at : Kept S → State
   at k = state g k.conn
 
-  -- a faithful journal's entries are those of its tables now
+  -- a faithful journal's entries are those in its tables now
   entries_now : (k : Kept S) → IsFaithful g k → entries_in (at k).now.trees ≡ kept_entries g k
   entries_now k it = sym (ap (λ (d : Database). entries_in d.trees) it.whole.laid.committed)
 

@@ -48,13 +48,13 @@ is_for f h Damaged it = h it
 is_for f h Newer it = f it
 is_for f h Memory it = tt
 
--- a fault of a statement tells of what it told there
+-- a fault of a statement reports what it reported there
 pub told : (P D E : Type 0) → (D → E) → (fault : TableFault) → HasCause D fault → IsFor P E (open_fault fault)
 told P D E h table.Store it = tt
 told P D E h table.Damaged it = h it
 told P D E h table.Memory it = tt
 
--- and one that tells of nothing may stand for any
+-- and a fault that reports neither has every cause
 pub no_damage : (P D : Type 0) (fault : OpenFault) → IsFor ⊥ ⊥ fault → IsFor P D fault
 no_damage P D = is_for {P = ⊥} {Q = P} {D = ⊥} {E = D} (λ none. absurd none) (λ none. absurd none)
 
@@ -62,11 +62,11 @@ pub told_of : {T : Type 0} (P D E : Type 0) → (D → E) → (r : Result T Open
 told_of P D E h (Ok x) fault is it = tt
 told_of P D E h (Err given) fault is it = subst (IsFor P E) (sym is) (told P D E h fault it)
 
--- a fault that tells of no newer format
+-- a fault that reports no newer format
 pub damage_on : {T : Type 0} (P D E : Type 0) → (D → E) → (r : Result T OpenFault) → IfErr r (IsFor ⊥ D) → IfErr r (IsFor P E)
 damage_on P D E h r = if_err r (λ fault. is_for {P = ⊥} {Q = P} (λ none. absurd none) h fault)
 
--- and where it is handed on
+-- and if it is handed on
 pub damage_of : {T : Type 0} (P D E : Type 0) → (D → E) → (r : Result T OpenFault) (fault : OpenFault) → IsErrAnd r (λ given. given ≡ fault) → IsFor ⊥ D fault → IfErr r (IsFor P E)
 damage_of P D E h (Ok x) fault is it = tt
 damage_of P D E h (Err given) fault is it = subst (IsFor P E) (sym is) (is_for {P = ⊥} {Q = P} (λ none. absurd none) h fault it)
@@ -135,7 +135,7 @@ one_mapped f [] y is = absurd (cc)
 one_mapped f (x ∷ []) y is = (x, refl, cc)
 one_mapped f (x ∷ z ∷ xs) y is = absurd (cc)
 
--- and what stands in the table is what its rows show
+-- and what is in the table is what its rows show
 pub found_marked : (s : State) (rows given : List Row) (number : ℕ) → given ≡ rows → IsLaid s → Answers marked_text [] s rows → IsFormat s number → IsMarked given number
 found_marked s rows given number same laid answers format =
     let all = answered_by s marked_text format_tree (λ _. refl) [] marked_shown [] (codes "number" ∷ []) [] rows marked_is marked_query laid answers in
@@ -197,7 +197,7 @@ store_found old marked numbered new r first laid second third clean format numbe
 
 -- ---- what is refused
 
--- where tables stand and no transaction is under way, what isn't laid out is foreign
+-- if there are tables and no transaction is open, tables that aren't laid out are foreign
 pub opening_cause : {T : Type 0} (s : State) (r : Result T OpenFault) → s.now.schema ≢ no_schema → s.in_transaction ≡ false → IfErr r (IsFor (IsNewer s) (IsNotLaid s ⊎ IsSpoilt s)) → IfErr r (IsCause s)
 opening_cause s r stand outside = if_err r (λ fault it. is_for {P = IsNewer s} {Q = IsNewer s} (λ newer. newer) step fault it)
   where

@@ -40,7 +40,7 @@ id_back : (id : Option (List ℕ)) → id_in (id_value id) ≡ Some id
 id_back None = refl
 id_back (Some id) = refl
 
--- a revision that isn't above a lawful one is none or lawful
+-- a revision that isn't above a valid one is none or valid
 pub confirmed_back : (r s : RevisionValue) → r ≼ s → IsRevision s → confirmed_of (revision_number r) ≡ Some r
 unfolding before is_revision revision_number revision_of_number
 confirmed_back zero s below lawful = refl

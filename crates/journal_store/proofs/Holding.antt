@@ -48,7 +48,7 @@ module _ (kind : Kind) (db : Trees) (list other : List Entry) (lists : ListsAll 
       let found = zip_left kind others.rows other row.0 others.shown.each (permuted others.rows table row.0 (IsPermutation-sym table others.rows others.all) (permuted table lists.rows row.0 lists.all row.1)) in
       subst (Has other) (one_entry kind row.0 found.0 e found.2 row.2) found.1
 
--- ---- lawful entries
+-- ---- valid entries
 
 module _ (db : Trees) (users groups : List Entry) (lists_users : ListsAll User db users) (lists_groups : ListsAll Group db groups) (holds : HoldsEntries db) where
   held_user : (e : Entry) → Has users e → Has holds.users e

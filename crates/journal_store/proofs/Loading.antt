@@ -120,7 +120,7 @@ has_map f [] y h = absurd h
 has_map f (x ∷ xs) y (inl same) = (x, inl refl, same)
 has_map f (x ∷ xs) y (inr later) = let found = has_map f xs y later in (found.0, inr found.1, found.2)
 
--- an entry is on the list where a row shows it
+-- an entry is on the list if a row shows it
 listed_there : (kind : Kind) (db : Trees) (list : List Entry) (p : RecordName × Entry) → ListsAll kind db list → Has (named_in kind (db (entry_tree kind))) p → Has (map named list) p
 listed_there kind db list p lists there =
     let it = has_named kind (db (entry_tree kind)) p there in

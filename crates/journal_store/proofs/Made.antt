@@ -18,7 +18,7 @@ use Rattle.journal_store.specs.Rows.{entries_in, shown_row}
 use Rattle.journal_store.specs.Opening.{HoldsEntries, IsBlank, IsStore}
 use Rattle.journal_store.proofs.Making.{format_schema, users_schema, format_made, users_made, groups_made, users_created, groups_created, creates, marks}
 
--- the tables stand, that of the format with its number, the others empty
+-- the tables are there: the one of the format with its number, the others empty
 pub record AreMade (db : Database) (mark : ℤ) : Type 0 where
   pub format_checks : List Term
   pub users : Order

@@ -111,7 +111,7 @@ only_one (y ∷ []) x (inl same) few = ap (λ z. z ∷ []) (sym same)
 only_one (y ∷ []) x (inr there) few = absurd there
 only_one (y ∷ z ∷ xs) x there few = absurd (omega (arith, few))
 
--- the numbers of a table are those that an answer shows of its rows
+-- the numbers of a table are those that a query shows for its rows
 pub numbered : (table rows : List Row) → IsPermutation (map (λ (r : Row). rowid r ∷ []) table) rows → AreRising rows → AreNumbered table
 numbered table rows same are r there = (number.0, number.2, only_one (filter (has_rowid number.0) table) r kept few)
   where

@@ -275,7 +275,7 @@ pub found_entry : (db : Trees) (name : RecordName) (held : Option Entry) → Fin
 found_entry db name None finds = found_none db name finds
 found_entry db name (Some e) finds = (found_some db name e finds).0
 
--- the row of an entry that is found is one that an update may write over
+-- the row of an entry that is found is one that an update may replace
 pub there_of : (db : Trees) (name : RecordName) (e : Entry) → HasNumbers db → Finds db name (Some e) → IsThere db name
 there_of db name e numbers finds =
     let r = finds.0 in

@@ -73,7 +73,7 @@ module _ {S : Type 0} (g : Ghosts S) where
 
   -- ---- a call that writes
 
-  -- what makes these entries of the tables, where the journal is faithful
+  -- the changes lead to these entries in the tables, if the journal is faithful
   module _ (old new : Kept S) (later : EntryMap) (Changes : Trees → Trees → Type 0) (sound : IsSound g old) (was_usable : IsTrue old.is_usable) (usable : new.is_usable ≡ old.is_usable)
       (means : IsFaithful g old → (db : Trees) → Changes (at old).now.trees db → HasNumbers db × (entries_in db ≡ later))
       (survives : Survives (at old) (at new) (λ db. IsTrue (at old).is_open × Changes (at old).now.trees db)) where

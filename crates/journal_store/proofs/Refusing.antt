@@ -1,4 +1,4 @@
--- What a fault tells of the rows.
+-- What a fault reports about the rows.
 use Rattle.std.proofs.Common.{◌≡◌, List, [], ℕ, Option, Some, None, Result, Ok, Err, IfErr, IsErrAnd, sym, subst}
 use Rattle.std.specs.Str.{IsUtf8}
 use Rattle.sqlite_value.specs.declared.value.Value.{Value}

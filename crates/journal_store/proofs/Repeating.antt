@@ -1,4 +1,4 @@
--- Rows in order that fail to rise: a number or a key stands twice.
+-- Rows in order that don't rise: a number or a key is repeated.
 use Rattle.std.proofs.Common.{◌≡◌, ◌<◌, ◌≤◌, ◌+◌, ℕ, suc, ℤ, Bool, true, false, cond, length, take, drop, get_or, List, [], ◌∷◌, ◌++◌, map, filter, Option, Some, None, Less, Equal, Greater, int_cmp, nat_cmp, refl, sym, ap, ◌∙◌, subst, inl, inr, append_assoc, IsPermutation, IsSortedBy, arith}
 use Rattle.std.specs.Prelude.{MatchOption}
 use Rattle.std.specs.Cmp.Lexicographic.{slice_cmp}

@@ -27,7 +27,7 @@ use Rattle.journal_store.proofs.Values.{equal_text}
 abbrev pub IsOrdered : List Row → Type 0
 IsOrdered rows = IsSorted (λ a b. value_cmp (column a 0) (column b 0)) rows
 
--- the row is shown so where it passes each test
+-- the row is shown if it passes each test
 abbrev pub passes : List Term → Row → Row → Bool
 passes terms params r = list_all (holds (params ∷ r ∷ [])) terms
 
@@ -96,7 +96,7 @@ module _ (tree : ℕ) (terms shown : List Term) (term : Term) (params : Row) (sa
       all-permutation IsByFirst a.kept a.ordered a.same (subst (AllByRecursion IsByFirst) (sym a.distinct) (all-map IsByFirst (output sorting) a.staged (all_of (λ env. IsByFirst (output sorting env)) same a.staged))) in
       subst IsOrdered (sym a.shown) (rows_ordered a.ordered each a.sorted)
 
--- without tables of its own a query sees those of the database
+-- without tables of its own, a query sees those of the database
 pub same_tree : (kind : Kind) (db : Trees) → overlay db [] (entry_tree kind) ≡ db (entry_tree kind)
 same_tree User db = refl
 same_tree Group db = refl

@@ -1,4 +1,4 @@
--- The entries that stand in the tables, as a map.
+-- The entries in the tables, as a map.
 use Rattle.std.proofs.Common.{◌≡◌, ℕ, Bool, true, false, cond, List, [], ◌∷◌, ◌++◌, filter, Option, Some, None, Ordering, Less, Equal, Greater, refl, sym, ap, ◌∙◌, subst, inl, inr}
 use Rattle.std.specs.Cmp.{tied_itself}
 use Rattle.std.specs.FinMap.{find, get, get-from_entries}
@@ -114,7 +114,7 @@ find_rows kind q (x ∷ xs) = go (entry_in kind (shown_row kind x)) refl (find_r
 abbrev pub all_named : Trees → List (RecordName × Entry)
 all_named db = named_in User (db (entry_tree User)) ++ named_in Group (db (entry_tree Group))
 
--- the entry stands in a row
+-- the entry is in a row
 pub record Stands (db : Trees) (kind : Kind) (e : Entry) : Type 0 where
   pub row : Row
   pub there : Has (db (entry_tree kind)) row

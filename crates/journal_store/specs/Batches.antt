@@ -8,7 +8,7 @@ use Rattle.journal_core.specs.Entries.{entry_with}
 use Rattle.journal_core.specs.declared.entries.Entry.{Entry}
 use Rattle.journal_store.specs.Connections.{Commits, Finds, IsLaid, PutsIn}
 
--- the row is put: its entry keeps what else the one of its name had
+-- the row is put: its record's entry keeps everything else
 abbrev pub PutsRow : Row → (old new : Trees) → Type 0
 PutsRow row old new = (held : Option Entry) × Finds old (row_name row) held × PutsIn (is_some held) (entry_with row held) old new
 
@@ -21,11 +21,11 @@ PutsRows (row ∷ rows) old new = (mid : Trees) × PutsRow row old mid × PutsRo
 abbrev pub settled : State → State
 settled s = record s { committed = s.now; in_transaction = false }
 
--- a transaction is under way, over tables that are laid out
+-- a transaction is open, over tables that are laid out
 pub record IsUnderWay (s : State) : Type 0 where
   pub inside : HasCleanDisk s → IsTrue s.in_transaction
   pub laid : HasCleanDisk s → IsTrue s.is_open → IsLaid (settled s)
 
--- the rows are put, and this is committed
+-- the rows are put and committed
 abbrev pub MakesRows : List Row → (old new : State) → Type 0
 MakesRows rows = Commits (PutsRows rows)

@@ -1,4 +1,4 @@
--- What the calls of the statements ask of a connection, and what they leave of it.
+-- What the statements require of a connection, and what they leave of it.
 use Rattle.std.specs.Prelude.{◌≡◌, ◌⊎◌, ◌+◌, ℕ, ℤ, Bool, true, false, List, [], ◌∷◌, ◌++◌, Option, Some, None, Ok, IsTrue, IsPermutation, filter, is_some, map}
 use Rattle.std.specs.List.{AllByRecursion, AllZip}
 use Rattle.std.specs.List.Sorted.{IsStrictlySortedBy}
@@ -33,7 +33,7 @@ use Rattle.journal_store.specs.Rows.{IsLawfulId, IsReadable, confirmed_in, entry
 
 -- ---- the tables of a connection
 
--- the tables are laid out, and no transaction is under way
+-- the tables are laid out, and no transaction is open
 pub record IsLaid (s : State) : Type 0 where
   pub format_checks : List Term
   pub users : Order
@@ -46,31 +46,32 @@ pub record IsLaid (s : State) : Type 0 where
 abbrev pub table_in : Kind → State → List Row
 table_in kind s = s.now.trees (entry_tree kind)
 
--- the connection is as it was, if it is still open
+-- the connection is unchanged, if it is still open
 pub record Keeps (old new : State) : Type 0 where
   pub was_open : IsTrue new.is_open → IsTrue old.is_open
   pub same : IsTrue new.is_open → IsLaid old → (new.now ≡ old.now) × (new.committed ≡ new.now) × (new.in_transaction ≡ false)
 
 -- ---- a query
 
--- the text is a query over the tables alone
+-- the text is a query that only reads the tables
 abbrev pub IsQuery : List ℕ → Type 0
 IsQuery sql = (format_checks : List Term) (users groups : Order)
     → IsPlain (understood (journal_schema format_checks users groups) sql) × (reads_listing (journal_schema format_checks users groups) sql ≡ false)
 
--- the rows are what the text asks for
+-- the rows are the result of the query
 abbrev pub Answers : List ℕ → Row → State → List Row → Type 0
 Answers sql params s rows = (c : Compiled) → understood s.now.schema sql ≡ Ok c → Reads c.command s.now params rows
 
 -- ---- entries
 
--- the row of a query shows this row of the source, which is a lawful one
+-- the row of a query shows this valid row of the source
 pub record ShowsSource (kind : Kind) (shown : Row) (row : source.Row) : Type 0 where
   pub row_is : source_in kind shown ≡ Some row
   pub lawful : IsRow row
   pub texts : AllByRecursion IsReadable (texts_of kind shown)
 
--- from this column on it shows the rest of the entry with this row: its confirmed revision, which isn't above that of the row, and its id
+-- from this column on, the row shows the rest of the entry with this source row: its confirmed revision, which isn't
+-- above the source row's, and its id
 pub record ShowsRest (kind : Kind) (shown : Row) (row : source.Row) (after : ℕ) (entry : Entry) : Type 0 where
   pub row_is : entry.row ≡ row
   pub key : column shown 0 ≡ Text (row_name row).key
@@ -80,7 +81,8 @@ pub record ShowsRest (kind : Kind) (shown : Row) (row : source.Row) (after : ℕ
   pub id : IsLawfulId entry.id
   pub within : entry.confirmed ≼ row_revision row
 
--- it shows this entry, which is a lawful one: its row and its id are, and its revision isn't below the confirmed one
+-- the row shows this valid entry: its source row and its id are valid, and its confirmed revision isn't above the
+-- source row's
 pub record Shows (kind : Kind) (shown : Row) (entry : Entry) : Type 0 where
   pub entry_is : entry_in kind shown ≡ Some entry
   pub lawful : IsRow entry.row
@@ -88,11 +90,11 @@ pub record Shows (kind : Kind) (shown : Row) (entry : Entry) : Type 0 where
   pub id : IsLawfulId entry.id
   pub within : entry.confirmed ≼ row_revision entry.row
 
--- it shows none
+-- the row shows no valid entry
 abbrev pub ShowsNone : Kind → Row → Type 0
 ShowsNone kind shown = (entry : Entry) → Shows kind shown entry → ⊥
 
--- the key in a row of a table
+-- whether a row of a table has this key
 abbrev pub has_key : List ℕ → Row → Bool
 has_key key r = is_eq (value_cmp (column r 1) (Text key))
 
@@ -102,12 +104,12 @@ Finds db name None = filter (has_key name.key) (db (entry_tree name.kind)) ≡ [
 Finds db name (Some entry) =
     (r : Row) × (filter (has_key name.key) (db (entry_tree name.kind)) ≡ r ∷ []) × Shows name.kind (shown_row name.kind r) entry
 
--- what the rows of a name show: one row at most
+-- what the rows with a name show: at most one row
 abbrev pub IsOnly : Kind → List Row → Option Entry → Type 0
 IsOnly kind rows None = rows ≡ []
 IsOnly kind rows (Some entry) = (r : Row) × (rows ≡ r ∷ []) × Shows kind r entry
 
--- the same, where it is known whether there is one
+-- the same, if it is known whether there is such an entry
 abbrev pub FindsIf : Trees → RecordName → Bool → Type 0
 FindsIf db name is_there = (held : Option Entry) × (is_there ≡ is_some held) × Finds db name held
 
@@ -122,7 +124,7 @@ pub record AreShown (kind : Kind) (rows : List Row) (list : List Entry) : Type 0
   pub each : AllZip (Shows kind) rows list
   pub rising : IsStrictlySortedBy name_cmp (map (λ (entry : Entry). row_name entry.row) list)
 
--- a row follows one whose first column isn't below its own
+-- a row comes right after another whose first column isn't below its own
 pub record FailsToRise (rows : List Row) : Type 0 where
   pub front : List Row
   pub first : Row
@@ -131,21 +133,21 @@ pub record FailsToRise (rows : List Row) : Type 0 where
   pub is : rows ≡ front ++ first ∷ second ∷ back
   pub not_below : is_lt (value_cmp (column first 0) (column second 0)) ≡ false
 
--- a row shows no lawful entry, or the keys fail to rise
+-- a row shows no valid entry, or the keys don't rise
 abbrev pub IsUnshown : Kind → List Row → Type 0
 IsUnshown kind rows = ((r : Row) × Has rows r × ShowsNone kind r) ⊎ FailsToRise rows
 
--- they are those of all rows of the table
+-- the entries are those of all rows of the table
 pub record ListsAll (kind : Kind) (db : Trees) (list : List Entry) : Type 0 where
   pub rows : List Row
   pub all : IsPermutation (map (shown_row kind) (db (entry_tree kind))) rows
   pub shown : AreShown kind rows list
 
--- no list is so of the rows of the table
+-- no list has the entries of all rows of the table
 abbrev pub ListsNone : Kind → Trees → Type 0
 ListsNone kind db = (list : List Entry) → ListsAll kind db list → ⊥
 
--- each row has a number that no other has
+-- each row has a number that no other row has
 abbrev pub AreNumbered : List Row → Type 0
 AreNumbered table = (r : Row) → Has table r → (n : ℤ) × (rowid r ≡ Int n) × (filter (has_rowid n) table ≡ r ∷ [])
 
@@ -155,7 +157,7 @@ pub record HasNumbers (db : Trees) : Type 0 where
 
 -- ---- a write
 
--- no key waits for a commit
+-- keys are checked at once, and none waits for a commit
 abbrev pub plain_mode : Mode
 plain_mode = record { keys = Enforced; in_doubt = false; may_wait = false }
 
@@ -181,7 +183,7 @@ pub record Ran (sql : List ℕ) (params : Row) (old new : State) : Type 0 where
   pub does : Does limit plain_mode params old.now text None compiled.command (Ok (tally, new.now))
   pub settled : IsLaid old → (new.committed ≡ new.now) × (new.in_transaction ≡ false)
 
--- what a stop within the statement may leave beside what was there
+-- what a stop during the statement may leave, other than what was there before
 pub record MayLeave (sql : List ℕ) (params : Row) (s : State) (db : Trees) : Type 0 where
   pub was_open : IsTrue s.is_open
   pub compiled : Compiled
@@ -198,35 +200,35 @@ abbrev pub put_text : Bool → Kind → List ℕ
 put_text false kind = insert_text kind
 put_text true kind = update_text kind
 
--- an entry as it is stored, under a number
+-- an entry as it is stored, with this number
 abbrev pub stored_row : ℤ → Entry → Row
 stored_row n entry = Int n ∷ row_of entry
 
--- a row of this entry is added, under a number that is free; or it takes the place of the one row with its key
+-- a row of this entry is added with a free number, or replaces the only row with its key
 abbrev pub Puts : Bool → Entry → (old new : List Row) → Type 0
 Puts false entry old new = (n : ℤ) × (is_taken old (stored_row n entry) ≡ false) × (new ≡ put_row (stored_row n entry) old)
 Puts true entry old new =
     (r : Row) × (n : ℤ) × (rowid r ≡ Int n) × (filter (has_key (row_name entry.row).key) old ≡ r ∷ []) × (new ≡ put_row (stored_row n entry) (without_rowid n old))
 
--- and the other table stays
+-- the entry is put into its table, and the other table stays
 pub record PutsIn (is_there : Bool) (entry : Entry) (old new : Trees) : Type 0 where
   pub lawful : IsRow entry.row
   pub puts : Puts is_there entry (old (entry_tree (row_name entry.row).kind)) (new (entry_tree (row_name entry.row).kind))
   pub users : (row_name entry.row).kind ≡ Group → new (entry_tree User) ≡ old (entry_tree User)
   pub groups : (row_name entry.row).kind ≡ User → new (entry_tree Group) ≡ old (entry_tree Group)
 
--- the tables are changed so, and this is committed
+-- the tables are changed in this way, and the change is committed
 pub record Commits (Changes : Trees → Trees → Type 0) (old new : State) : Type 0 where
   pub was_open : IsTrue old.is_open
   pub is_open : IsTrue new.is_open
   pub laid : IsLaid new
   pub puts : Changes old.now.trees new.now.trees
 
--- the entry is put, and this is committed
+-- the entry is put and committed
 abbrev pub Makes : Bool → Entry → (old new : State) → Type 0
 Makes is_there entry = Commits (PutsIn is_there entry)
 
--- the one row with this key is there, under a number of its own
+-- the only row with this key is there, with a number of its own
 pub record IsThere (db : Trees) (name : RecordName) : Type 0 where
   pub row : Row
   pub number : ℤ

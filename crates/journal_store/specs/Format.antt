@@ -30,17 +30,17 @@ optional name kind = record { name = name; kind = kind; is_strict = false; not_n
 abbrev pub format_tree : ℕ
 format_tree = 0
 
--- the entries of a type of record
+-- the tree with the entries of a type of record
 abbrev pub entry_tree : Kind → ℕ
 entry_tree User = 1
 entry_tree Group = 3
 
--- the place of their table among the tables
+-- the place of a type's table among the tables
 abbrev pub entry_place : Kind → ℕ
 entry_place User = 1
 entry_place Group = 2
 
--- the index of their keys
+-- the index of a type's keys
 abbrev pub key_tree : Kind → ℕ
 key_tree User = 2
 key_tree Group = 4
@@ -74,7 +74,7 @@ entry_columns Group =
     required (codes "name_key") Text ∷ required (codes "name") Text ∷ required (codes "revision") Integer ∷ required (codes "members") Text
     ∷ required (codes "confirmed") Integer ∷ optional (codes "id") Text ∷ []
 
--- rows are found by their key
+-- the place of the key, by which rows are found
 abbrev pub key_places : List ℕ
 key_places = 1 ∷ []
 
@@ -127,7 +127,7 @@ create_text Group = codes "CREATE TABLE group_entry (name_key TEXT PRIMARY KEY N
 abbrev pub marked_text : List ℕ
 marked_text = codes "SELECT number FROM journal_format"
 
--- the numbers of the rows
+-- the query for the numbers of the rows
 abbrev pub numbers_text : Kind → List ℕ
 numbers_text User = codes "SELECT rowid FROM user_entry ORDER BY rowid"
 numbers_text Group = codes "SELECT rowid FROM group_entry ORDER BY rowid"

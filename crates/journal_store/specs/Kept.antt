@@ -1,11 +1,13 @@
--- What a journal in SQLite keeps, and what is said of its entries.
-use Rattle.std.specs.Prelude.{◌≡◌, ℕ, Bool, IsTrue, refl}
+-- What a journal in SQLite keeps, and when its claims about the entries hold.
+use Rattle.std.specs.Prelude.{◌≡◌, ℕ, Bool, false, IsTrue, Result, Err, refl}
 use Rattle.std.specs.Coded.{Coded, code_by, coded×, coded_ℕ, coded_bool}
 use Rattle.sqlite_trees.specs.declared.store.Store.{Ghosts}
 use Rattle.sqlite_trees.specs.Tree.{Trees}
 use Rattle.sqlite.specs.Held.{Held, held_code, state}
 use Rattle.sqlite.specs.State.{HasCleanDisk}
 use Rattle.journal_core.specs.Entries.{EntryMap}
+use Rattle.journal_core.specs.declared.journals.JournalFault.{JournalFault}
+use Rattle.journal_core.specs.declared.journals.JournalFault.TheVariants.{Store}
 use Rattle.journal_store.specs.Rows.{entries_in}
 use Rattle.journal_store.specs.Connections.{HasNumbers, IsLaid}
 
@@ -23,6 +25,10 @@ kept_code {S} store =
     (λ p. record { conn = p.0; is_usable = p.1.0; faults = p.1.1.0; writes = p.1.1.1 })
     (λ _. refl)
 
+-- after a reopening that failed, a call returns only a fault of the store
+abbrev pub IsRefused : {S T : Type 0} → Kept S → Result T JournalFault → Type 0
+IsRefused k result = k.is_usable ≡ false → result ≡ Err Store
+
 module _ {S : Type 0} (g : Ghosts S) where
   -- the entries that the last commit left
   abbrev pub kept_entries : Kept S → EntryMap
@@ -37,7 +43,7 @@ module _ {S : Type 0} (g : Ghosts S) where
   abbrev pub IsHonest : Kept S → Type 0
   IsHonest k = HasCleanDisk (state g k.conn)
 
-  -- and the connection is open, and no reopening has failed
+  -- the disk has returned what was written, the connection is open, and no reopening has failed
   pub record IsFaithful (k : Kept S) : Type 0 where
     pub clean : HasCleanDisk (state g k.conn)
     pub is_open : IsTrue (state g k.conn).is_open
@@ -48,6 +54,6 @@ module _ {S : Type 0} (g : Ghosts S) where
   abbrev pub MayHold : Kept S → EntryMap → Type 0
   MayHold k found = (db : Trees) × (state g k.conn).may_leave db × (found ≡ entries_in db)
 
-  -- what is always so
+  -- what always holds
   abbrev pub IsSound : Kept S → Type 0
   IsSound k = HasCleanDisk (state g k.conn) → IsTrue (state g k.conn).is_open → IsTrue k.is_usable → IsWhole k

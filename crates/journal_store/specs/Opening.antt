@@ -1,4 +1,4 @@
--- What an opening looks for, what it finds, and what it leaves where it refuses.
+-- What an opening looks for, what it finds, and what it leaves if it refuses.
 use Rattle.std.specs.Prelude.{◌≡◌, ◌≢◌, ◌⊎◌, ◌≤◌, ℕ, ◌<◌, ℤ, pos, Bool, true, false, ◌||◌, List, [], ◌∷◌, None, IsTrue, length, map}
 use Rattle.std.specs.Prelude.{is_some}
 use Rattle.std.specs.FinMap.{empty}
@@ -37,14 +37,14 @@ use Rattle.journal_store.specs.declared.opening.OpenFault.TheVariants.{Store, Da
 abbrev pub no_stamps : Stamps
 no_stamps = record { places = []; terms = []; formats = [] }
 
--- nothing is said of the table but its columns, its keys and its CHECKs
+-- nothing is declared for the table except its columns, its keys and its CHECKs
 pub record IsPlainTable (table : Table) : Type 0 where
   pub references : table.references ≡ []
   pub computed : table.computed ≡ []
   pub stamps : table.stamps ≡ no_stamps
   pub uncounted : table.is_counted ≡ false
 
--- the table is that of the entries of a type, but for the order of its index
+-- the table is that of the entries of a type, in any order of its index
 pub record IsEntryTable (kind : Kind) (it : Table) : Type 0 where
   pub name : it.name ≡ entry_name kind
   pub tree : it.tree ≡ entry_tree kind
@@ -55,14 +55,14 @@ pub record IsEntryTable (kind : Kind) (it : Table) : Type 0 where
   pub checks : it.checks ≡ []
   pub plain : IsPlainTable it
 
--- the schema is that of the tables
+-- the schema has exactly the tables of the format
 pub record IsJournal (schema : Schema) : Type 0 where
   pub format_checks : List Term
   pub users : Order
   pub groups : Order
   pub is : schema ≡ journal_schema format_checks users groups
 
--- no table stands, and no transaction is under way
+-- there are no tables, and no transaction is open
 pub record IsBlank (s : State) : Type 0 where
   pub schema : s.now.schema ≡ no_schema
   pub committed : s.committed ≡ s.now
@@ -74,7 +74,7 @@ pub record IsBlank (s : State) : Type 0 where
 abbrev pub IsFormat : State → ℕ → Type 0
 IsFormat s number = map (λ (r : Row). column r 2) (s.now.trees format_tree) ≡ Int (pos number) ∷ []
 
--- an answer shows this number alone
+-- the result shows only this number
 abbrev pub IsMarked : List Row → ℕ → Type 0
 IsMarked rows number = (r : Row) × (rows ≡ r ∷ []) × (column r 0 ≡ Int (pos number))
 
@@ -85,26 +85,37 @@ open_fault table.Store = Store
 open_fault table.Damaged = Damaged
 open_fault table.Memory = Memory
 
--- the fault of a journal at one of an opening
+-- the journal's fault for a fault of a statement
+abbrev pub table_fault : TableFault → JournalFault
+table_fault table.Memory = journal.Memory
+table_fault fault = journal.Store
+
+-- the journal's fault for a fault of an opening
 abbrev pub journal_fault : OpenFault → JournalFault
 journal_fault Memory = journal.Memory
 journal_fault fault = journal.Store
 
--- a fault that tells of a newer format, or of damage, has its cause
+-- a fault that reports a newer format, or damage, has that cause
 abbrev pub IsFor : (newer damaged : Type 0) → OpenFault → Type 0
 IsFor newer damaged Newer = newer
 IsFor newer damaged Damaged = damaged
 IsFor newer damaged fault = Unit {0}
 
+-- the rows that were read are of another format, or damaged
+abbrev pub IsOfRows : OpenFault → Type 0
+IsOfRows Newer = Unit {0}
+IsOfRows Damaged = Unit {0}
+IsOfRows fault = ⊥
+
 -- ---- the numbers of the rows
 
--- the rows of an answer show numbers that rise
+-- the rows of a result show rising numbers
 pub record AreRising (rows : List Row) : Type 0 where
   pub numbers : List ℤ
   pub shown : map (λ (r : Row). column r 0) rows ≡ map Int numbers
   pub rising : IsStrictlySortedBy int_cmp numbers
 
--- a row shows no number, or the numbers fail to rise
+-- a row shows no number, or the numbers don't rise
 abbrev pub IsUnnumbered : List Row → Type 0
 IsUnnumbered rows = ((r : Row) × Has rows r × ((n : ℤ) → column r 0 ≡ Int n → ⊥)) ⊎ FailsToRise rows
 
@@ -118,15 +129,16 @@ is_identified entry = same_revision entry.confirmed no_revision || is_some entry
 abbrev pub keys_of : List Entry → List (List ℕ)
 keys_of entries = map (λ (entry : Entry). (row_name entry.row).key) entries
 
--- keys rise, none of them twice
+-- keys rise, none of them repeated
 abbrev pub AreInOrder : List (List ℕ) → Type 0
 AreInOrder keys = IsStrictlySortedBy (slice_cmp nat_cmp) keys
 
--- each member of a group is a user that is there
+-- each member of a group is an existing user
 abbrev pub HasMembersOf : List (List ℕ) → Entry → Type 0
 HasMembersOf keys group = AllByRecursion (Has keys) (members_of group.row)
 
--- the entries that a journal may have: as many as are allowed, with an id wherever something is confirmed, and members that are users
+-- the entries that a journal may have: as many as are allowed, each with an id if it has a confirmed revision, and with
+-- members that are users
 pub record AreLawful (users groups : List Entry) : Type 0 where
   pub few_users : length users ≤ most_records User
   pub few_groups : length groups ≤ most_records Group
@@ -134,7 +146,7 @@ pub record AreLawful (users groups : List Entry) : Type 0 where
   pub identified_groups : list_all is_identified groups ≡ true
   pub members : AllByRecursion (HasMembersOf (keys_of users)) groups
 
--- the tables show these entries, each row one, and they are lawful
+-- the tables show these entries, one for each row, and the entries are valid
 pub record HoldsEntries (db : Trees) : Type 0 where
   pub users : List Entry
   pub groups : List Entry
@@ -152,61 +164,61 @@ pub record IsStore (s : State) (entries : EntryMap) : Type 0 where
   pub holds : HoldsEntries s.now.trees
   pub are : entries_in s.now.trees ≡ entries
 
--- what stands in a store: the entries of its tables, and none where no tables stand
+-- what is in a store: the entries of its tables, or none if there are no tables
 abbrev pub Stands : State → EntryMap → Type 0
 Stands s entries = IsStore s entries ⊎ (IsBlank s × (entries ≡ empty))
 
--- a call that only looks: the connection is as it was, and nothing is committed
+-- a call that only looks: the connection is unchanged, and nothing is committed
 pub record Looks (old new : State) : Type 0 where
   pub keeps : HasCleanDisk new → Keeps old new
   pub quiet : Survives old new (λ _. ⊥)
 
--- what was committed stands
+-- what was committed stays
 pub record LeavesStore (old new : State) : Type 0 where
   pub was_open : IsTrue new.is_open → IsTrue old.is_open
   pub committed : IsTrue new.is_open → new.committed ≡ old.committed
 
 -- ---- what is refused
 
--- tables stand that aren't those of the format
+-- there are tables, but not those of the format
 pub record IsForeign (s : State) : Type 0 where
   pub stand : s.now.schema ≢ no_schema
   pub other : IsJournal s.now.schema → ⊥
 
--- the tables aren't those of the format, or a transaction is under way
+-- the tables aren't those of the format, or a transaction is open
 abbrev pub IsNotLaid : State → Type 0
 IsNotLaid s = IsJournal s.now.schema → s.in_transaction ≡ true
 
--- the table of the format doesn't show one number from that of the format on
+-- the table of the format doesn't show one number, equal to this format's or greater
 abbrev pub IsUnmarked : State → Type 0
 IsUnmarked s = (number : ℕ) → format_number ≤ number → IsFormat s number → ⊥
 
--- the rows aren't lawful: not each has a number of its own, or they don't hold lawful entries
+-- the rows are invalid: some row has no number of its own, or the entries aren't valid
 abbrev pub IsUnlawful : Trees → Type 0
 IsUnlawful db = (HasNumbers db → ⊥) ⊎ (HoldsEntries db → ⊥)
 
--- the number of the format stands, and the rows aren't lawful
+-- the tables have the number of the format, and the rows are invalid
 pub record HasUnlawful (s : State) : Type 0 where
   pub format : IsFormat s format_number
   pub rows : IsUnlawful s.now.trees
 
--- what the tables show isn't lawful: the number of their format, or their rows
+-- the number of the format is invalid, or the rows are
 abbrev pub ShowsDamage : State → Type 0
 ShowsDamage s = IsUnmarked s ⊎ HasUnlawful s
 
--- the tables are of the format, and what they show isn't lawful
+-- the tables are of the format, but something in them is invalid
 abbrev pub IsSpoilt : State → Type 0
 IsSpoilt s = IsJournal s.now.schema × ShowsDamage s
 
--- what stands is no journal
+-- the tables aren't a valid journal
 abbrev pub IsDamaged : State → Type 0
 IsDamaged s = IsForeign s ⊎ IsSpoilt s
 
--- a newer format stands in the table
+-- the table of the format has the number of a newer format
 abbrev pub IsNewer : State → Type 0
 IsNewer s = (number : ℕ) × (format_number < number) × IsFormat s number
 
--- why an opening refuses what stands
+-- why an opening refuses a store
 abbrev pub IsCause : State → OpenFault → Type 0
 IsCause s = IsFor (IsNewer s) (IsDamaged s)
 

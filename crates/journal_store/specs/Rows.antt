@@ -37,11 +37,11 @@ abbrev pub active_number : Bool → ℕ
 active_number true = 1
 active_number false = 0
 
--- the keys of the members, with a space between each two
+-- the keys of the members, separated by spaces
 abbrev pub members_text : List (List ℕ) → List ℕ
 members_text keys = join_with_byte 32 keys
 
--- the key, the fields of the row, what is confirmed, and the id
+-- the key, the fields of the row, the confirmed revision, and the id
 abbrev pub row_by : source.Row → RevisionValue → Option (List ℕ) → Row
 row_by (User u) confirmed id =
     Text (row_name (User u)).key ∷ Text u.login ∷ revision_value u.revision ∷ Text u.number ∷ Text u.given ∷ Text u.family ∷ Text u.mail
@@ -98,11 +98,11 @@ id_in (Real x) = None
 id_in (Text t) = Some (Some t)
 id_in (Blob b) = None
 
--- what stands between the spaces; an empty text has no members
+-- the texts between the spaces; an empty text has no members
 abbrev pub members_in : Value → Option (List (List ℕ))
 members_in v = option_map pieces (text_in v)
 
--- one column after the other, up to the first that isn't of its form
+-- one column after the other, up to the first without its form
 infixl 10 ◌>>=◌
 abbrev ◌>>=◌ : {A B : Type 0} → Option A → (A → Option B) → Option B
 o >>= f = option_and_then f o
@@ -141,12 +141,12 @@ abbrev pub fields_in : Kind → Row → Option Entry
 fields_in kind.User r = entry_by (user_in r) (confirmed_in (column r 8)) (id_in (column r 9))
 fields_in kind.Group r = entry_by (group_in r) (confirmed_in (column r 4)) (id_in (column r 5))
 
--- the entry, where it is that of the record with this key
+-- the entry, if it is of the record with this key
 abbrev pub keyed : Kind → List ℕ → Option Entry → Option Entry
 keyed type key None = None
 keyed type key (Some e) = if same_name (row_name e.row) (record { kind = type; key = key }) then Some e else None
 
--- The entry that a row of a query shows, if each column is of its form and the key is that of the name
+-- The entry that a row of a query shows, if each column has its form and the key is that of the name
 abbrev pub entry_in : Kind → Row → Option Entry
 entry_in type r = option_and_then (λ key. keyed type key (fields_in type r)) (text_in (column r 0))
 
@@ -165,14 +165,14 @@ abbrev pub texts_of : Kind → Row → List Value
 texts_of kind.User r = column r 1 ∷ column r 3 ∷ column r 4 ∷ column r 5 ∷ column r 6 ∷ []
 texts_of kind.Group r = column r 1 ∷ column r 3 ∷ []
 
--- an id is a lawful one
+-- a valid id, or none
 abbrev pub IsLawfulId : Option (List ℕ) → Type 0
 IsLawfulId None = Unit {0}
 IsLawfulId (Some id) = IsId id × IsUtf8 id
 
 -- ---- the entries of the tables
 
--- a row as the queries show it, without its number
+-- the columns of a row that the queries show: all but its number
 abbrev pub shown_row : Kind → Row → Row
 shown_row kind.User r =
     column r 1 ∷ column r 2 ∷ column r 3 ∷ column r 4 ∷ column r 5 ∷ column r 6 ∷ column r 7 ∷ column r 8 ∷ column r 9 ∷ column r 10 ∷ []

@@ -1,4 +1,4 @@
-//! Rows that are put by one transaction, all of them or none.
+//! Puts rows by one transaction, all of them or none.
 ghost use Rattle.std.specs.Prelude.{◌≡◌, true, IfOk, IsTrue, OnErr, OnOk};
 ghost use Rattle.sqlite.specs.Held.{state};
 ghost use Rattle.sqlite.specs.State.{HasCleanDisk, IsUnchanged, Survives};
@@ -26,7 +26,7 @@ use std::alloc::Global;
 
 // ---- inside a transaction
 
-/// Tests that the store is open, which the end of an empty transaction doesn't tell.
+/// Checks that the store is open: the end of an empty transaction doesn't show it.
 fn check_open<S: Alter>(tables: &mut Transaction<'_, S>) -> Result<(), TableFault>
     ensures same_reference { tables.new.conn.ghost_name ≡ tables.old.conn.ghost_name }
     ensures same { HasCleanDisk (state S.Store tables.new.conn.now) → OnOk result (IsUnchanged (state S.Store tables.old.conn.now) (state S.Store tables.new.conn.now)) }
@@ -39,7 +39,7 @@ fn check_open<S: Alter>(tables: &mut Transaction<'_, S>) -> Result<(), TableFaul
     }
 }
 
-/// The entry of this name.
+/// The entry with this name.
 fn find_in<S: Alter>(
     alloc: Global,
     tables: &mut Transaction<'_, S>,
@@ -105,7 +105,7 @@ fn write_user_in<S: Alter>(
     )
 }
 
-/// The same with those of a group's.
+/// Runs a write with the columns of a group's entry.
 fn write_group_in<S: Alter>(
     alloc: Global,
     tables: &mut Transaction<'_, S>,
@@ -133,8 +133,7 @@ fn write_group_in<S: Alter>(
     )
 }
 
-/// Puts an entry, by one statement: in the place of the row with its key where one is there, else as a
-/// new row.
+/// Puts an entry, by one statement: replaces the row with its key if there is one, otherwise adds a row.
 fn put_entry_in<S: Alter>(
     alloc: Global,
     tables: &mut Transaction<'_, S>,
@@ -165,7 +164,7 @@ fn put_entry_in<S: Alter>(
     }
 }
 
-/// Puts a row: the entry of its record keeps what else it had.
+/// Puts a row. The entry of its record keeps everything else.
 fn put_in<S: Alter>(
     alloc: Global,
     tables: &mut Transaction<'_, S>,

@@ -1,4 +1,4 @@
-//! The columns of a row of an answer, and the entry that they show.
+//! The columns of a result row, and the entry that they show.
 ghost use Rattle.std.specs.Prelude.{◌≡◌, ◌≤◌, ◌+◌, ℕ, ℤ, pos, false, List, Option, None, Some, IfErr, IfOk, OnErr, OnOk, IsTrue, string_bytes};
 ghost use Rattle.std.specs.List.{AllByRecursion};
 ghost use Rattle.std.specs.Str.{IsUtf8};
@@ -10,7 +10,8 @@ ghost use Rattle.source_csv.specs.Fields.{pieces};
 ghost use Rattle.source_csv.specs.Records.{IsRow, row_name};
 ghost use Rattle.source_csv.specs.Rows.{AreUserKeys, IsUserKey};
 ghost use Rattle.journal_store.specs.Connections.{Shows, ShowsNone, ShowsRest, ShowsSource};
-ghost use Rattle.journal_store.specs.Faults.{HasCause};
+ghost use Rattle.journal_store.specs.Faults.{HasCause, IsOfRow};
+ghost use Rattle.journal_store.specs.declared.statements.TableFault.TheVariants.{Damaged};
 ghost use Rattle.journal_store.specs.Rows.{IsLawfulId, IsReadable, active_in, confirmed_in, group_in, id_in, revision_in, texts_of, user_in};
 
 use crate::statements::TableFault;
@@ -26,6 +27,7 @@ use std::str;
 pub(crate) fn integer_at(row: &Row, at: usize) -> Result<i64, TableFault>
     ensures some { IfOk result (λ n. column row.now at ≡ Int n) }
     ensures none { OnErr result ((n : ℤ) → column row.now at ≡ Int n → ⊥) }
+    ensures fault { IfErr result (λ fault. fault ≡ Damaged) }
 {
     match row.get_ref(at) {
         Ok(ValueRef::Int(number)) => Ok(number),
@@ -36,6 +38,7 @@ pub(crate) fn integer_at(row: &Row, at: usize) -> Result<i64, TableFault>
 pub(crate) fn number_at(row: &Row, at: usize) -> Result<u64, TableFault>
     ensures some { IfOk result (λ n. column row.now at ≡ Int (pos n)) }
     ensures none { OnErr result ((n : ℕ) → column row.now at ≡ Int (pos n) → ⊥) }
+    ensures fault { IfErr result (λ fault. fault ≡ Damaged) }
 {
     match row.get_ref(at) {
         Ok(ValueRef::Int(number)) => match u64::try_from(number) {
@@ -49,6 +52,7 @@ pub(crate) fn number_at(row: &Row, at: usize) -> Result<u64, TableFault>
 fn bytes_at(row: &Row, at: usize) -> Result<&[u8], TableFault>
     ensures some { IfOk result (λ text. column row.now at ≡ Text text.now) }
     ensures none { OnErr result ((text : List ℕ) → column row.now at ≡ Text text → ⊥) }
+    ensures fault { IfErr result (λ fault. fault ≡ Damaged) }
 {
     match row.get_ref(at) {
         Ok(ValueRef::Text(text)) => Ok(text),
@@ -60,6 +64,7 @@ fn text_at(row: &Row, at: usize) -> Result<&str, TableFault>
     ensures some { IfOk result (λ text. column row.now at ≡ Text text.now) }
     ensures utf8 { IfOk result (λ text. IsUtf8 text.now) }
     ensures none { OnErr result ((text : List ℕ) → column row.now at ≡ Text text → IsUtf8 text → ⊥) }
+    ensures fault { IfErr result (λ fault. fault ≡ Damaged) }
 {
     match str::from_utf8(bytes_at(row, at)?) {
         Ok(text) => Ok(text),
@@ -71,6 +76,7 @@ fn value_at(alloc: Global, row: &Row, at: usize) -> Result<String, TableFault>
     ensures some { IfOk result (λ value. column row.now at ≡ Text (string_bytes value)) }
     ensures utf8 { IfOk result (λ value. IsUtf8 (string_bytes value)) }
     ensures none { IfErr result (HasCause ((text : List ℕ) → column row.now at ≡ Text text → IsUtf8 text → ⊥)) }
+    ensures read { IfErr result IsOfRow }
 {
     Ok(String::from_str(alloc, text_at(row, at)?)?)
 }
@@ -79,6 +85,7 @@ fn revision_at(row: &Row, at: usize) -> Result<Revision, TableFault>
     ensures value { IfOk result (λ revision. revision_in (column row.now at) ≡ Some revision) }
     ensures lawful { IfOk result (λ revision. IsRevision revision) }
     ensures none { OnErr result (revision_in (column row.now at) ≡ None) }
+    ensures fault { IfErr result (λ fault. fault ≡ Damaged) }
 {
     match Revision::of_number(number_at(row, at)?) {
         Some(revision) => Ok(revision),
@@ -86,10 +93,11 @@ fn revision_at(row: &Row, at: usize) -> Result<Revision, TableFault>
     }
 }
 
-/// The confirmed revision, 0 for none.
+/// The confirmed revision; 0 means none.
 fn confirmed_at(row: &Row, at: usize) -> Result<Revision, TableFault>
     ensures some { IfOk result (λ revision. confirmed_in (column row.now at) ≡ Some revision) }
     ensures none { OnErr result (confirmed_in (column row.now at) ≡ None) }
+    ensures fault { IfErr result (λ fault. fault ≡ Damaged) }
 {
     let number = number_at(row, at)?;
     if number == 0 {
@@ -104,6 +112,7 @@ fn confirmed_at(row: &Row, at: usize) -> Result<Revision, TableFault>
 fn active_at(row: &Row, at: usize) -> Result<bool, TableFault>
     ensures some { IfOk result (λ active. active_in (column row.now at) ≡ Some active) }
     ensures none { OnErr result (active_in (column row.now at) ≡ None) }
+    ensures fault { IfErr result (λ fault. fault ≡ Damaged) }
 {
     match number_at(row, at)? {
         0 => Ok(false),
@@ -112,11 +121,12 @@ fn active_at(row: &Row, at: usize) -> Result<bool, TableFault>
     }
 }
 
-/// The id, or none where the column is NULL, as one past the end is.
+/// The id; none if the column is NULL. A column beyond the end is NULL.
 fn id_at(alloc: Global, row: &Row, at: usize) -> Result<Option<ResourceId>, TableFault>
     ensures some { IfOk result (λ id. id_in (column row.now at) ≡ Some id) }
     ensures lawful { IfOk result IsLawfulId }
     ensures none { IfErr result (HasCause ((id : Option (List ℕ)) → id_in (column row.now at) ≡ Some id → IsLawfulId id → ⊥)) }
+    ensures read { IfErr result IsOfRow }
 {
     match row.get_ref(at) {
         Ok(ValueRef::Null) | Err(_) => Ok(None),
@@ -124,11 +134,12 @@ fn id_at(alloc: Global, row: &Row, at: usize) -> Result<Option<ResourceId>, Tabl
     }
 }
 
-/// The key of a member, which is written as it stands.
+/// The key of a member, which is stored unchanged.
 fn member_of(alloc: Global, text: &str) -> Result<Key, TableFault>
     ensures value { IfOk result (λ key. key ≡ text.now) }
     ensures lawful { IfOk result IsUserKey }
     ensures none { IfErr result (HasCause (IsUserKey text.now → ⊥)) }
+    ensures read { IfErr result IsOfRow }
 {
     let name = UserName::read(alloc, text)?;
     let key = name.key(alloc)?;
@@ -138,11 +149,12 @@ fn member_of(alloc: Global, text: &str) -> Result<Key, TableFault>
     Ok(key)
 }
 
-/// The keys that stand between single spaces.
+/// The keys between the single spaces.
 fn members_of(alloc: Global, text: &str) -> Result<Vec<Key>, TableFault>
     ensures value { IfOk result (λ keys. keys.items ≡ pieces text.now) }
     ensures lawful { IfOk result (λ keys. AreUserKeys keys.items) }
     ensures none { IfErr result (HasCause (AreUserKeys (pieces text.now) → ⊥)) }
+    ensures read { IfErr result IsOfRow }
 {
     let mut keys = Vec::new(alloc);
     if text.is_empty() {
@@ -158,6 +170,7 @@ fn user_at(alloc: Global, row: &Row) -> Result<SourceRow, TableFault>
     ensures some { IfOk result (λ user. user_in row.now ≡ Some user) }
     ensures texts { OnOk result (AllByRecursion IsReadable (texts_of User row.now)) }
     ensures none { IfErr result (HasCause ((user : _) → ShowsSource User row.now user → ⊥)) }
+    ensures read { IfErr result IsOfRow }
 {
     let login = UserName::read(alloc, text_at(row, 1)?)?;
     let revision = revision_at(row, 2)?;
@@ -176,6 +189,7 @@ fn group_at(alloc: Global, row: &Row) -> Result<SourceRow, TableFault>
     ensures some { IfOk result (λ group. group_in row.now ≡ Some group) }
     ensures texts { OnOk result (AllByRecursion IsReadable (texts_of Group row.now)) }
     ensures none { IfErr result (HasCause ((group : _) → ShowsSource Group row.now group → ⊥)) }
+    ensures read { IfErr result IsOfRow }
 {
     let name = GroupName::read(alloc, text_at(row, 1)?)?;
     let revision = revision_at(row, 2)?;
@@ -192,12 +206,13 @@ fn has_its_key(alloc: Global, kind: Kind, row: &Row, source: &SourceRow) -> Resu
     ensures kind { IfOk result (λ is. IsTrue is → (row_name source.now).kind ≡ kind) }
     ensures other { IfOk result (λ is. is ≡ false → column row.now 0 ≡ Text (row_name source.now).key → (row_name source.now).kind ≡ kind → ⊥) }
     ensures none { IfErr result (HasCause (column row.now 0 ≡ Text (row_name source.now).key → ⊥)) }
+    ensures read { IfErr result IsOfRow }
 {
     let name = source.record_name(alloc)?;
     Ok(name.kind == kind && name.key.as_str().as_bytes() == bytes_at(row, 0)?)
 }
 
-/// The entry of a row whose source row is this.
+/// The entry of a row, given its source row.
 fn entry_of(
     alloc: Global,
     kind: Kind,
@@ -209,6 +224,7 @@ fn entry_of(
     ensures some { IfOk result (ShowsRest kind row.now source after) }
     ensures lawful { OnOk result (IsRow source) }
     ensures none { IfErr result (HasCause ((entry : _) → ShowsRest kind row.now source after entry → ⊥)) }
+    ensures read { IfErr result IsOfRow }
 {
     let confirmed = confirmed_at(row, after)?;
     let id = id_at(alloc, row, after + 1)?;
@@ -222,10 +238,11 @@ fn entry_of(
     })
 }
 
-/// The entry that a row of an answer shows.
+/// The entry that a result row shows.
 pub(crate) fn read_entry(alloc: Global, kind: Kind, row: &Row) -> Result<Entry, TableFault>
     ensures some { IfOk result (Shows kind row.now) }
     ensures none { IfErr result (HasCause (ShowsNone kind row.now)) }
+    ensures read { IfErr result IsOfRow }
 {
     match kind {
         Kind::User => entry_of(alloc, Kind::User, row, user_at(alloc, row)?, 8),

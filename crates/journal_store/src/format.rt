@@ -1,4 +1,4 @@
-//! The format of a store: its number, and the test of a schema at run time.
+//! The format of a store: its number, and the check of a schema at run time.
 ghost use Rattle.std.specs.Prelude.{◌≡◌, false, [], ◌∷◌, None, Some, IsTrue};
 ghost use Rattle.sqlite_value.specs.declared.value.Value.TheVariants.{Null};
 ghost use Rattle.sqlite_value.specs.declared.keys.Collation.TheVariants.{Binary};
@@ -11,10 +11,10 @@ use sqlite_schema::schema::{Column, Index, Kind, Schema, Table};
 use sqlite_value::keys::Collation;
 use sqlite_value::value::Value;
 
-/// The number of the format that is written, and the only one that is read.
+/// The number of the format that is written; no other format is read.
 pub(crate) const FORMAT: u64 = 1;
 
-/// Whether no table stands.
+/// Whether there are no tables.
 pub(crate) fn is_blank(schema: &Schema) -> bool
     ensures is { IsTrue result → schema.now ≡ no_schema }
     ensures known { schema.now ≡ no_schema → IsTrue result }
@@ -22,8 +22,8 @@ pub(crate) fn is_blank(schema: &Schema) -> bool
     schema.tables.is_empty() && schema.indexes.is_empty() && schema.views.is_empty()
 }
 
-/// Whether the tables are those of the format. The terms of the format's CHECK may be any, since its
-/// row is tested.
+/// Whether the tables are those of the format. The CHECK of the format's table may have any terms, because
+/// its row is checked.
 pub(crate) fn is_journal(schema: &Schema) -> bool
     ensures is { IsTrue result → IsJournal schema.now }
     ensures known { IsJournal schema.now → IsTrue result }
@@ -44,7 +44,7 @@ pub(crate) fn is_journal(schema: &Schema) -> bool
         && has_order(groups, group_keys)
 }
 
-/// Whether the one UNIQUE of the table is in the order of the index.
+/// Whether the table's only UNIQUE has the order of the index.
 fn has_order(table: &Table, index: &Index) -> bool
     ensures is { IsTrue result → table.now.orders ≡ index.now.order ∷ [] }
     ensures known { table.now.orders ≡ index.now.order ∷ [] → IsTrue result }
@@ -164,7 +164,7 @@ fn has_group_columns(columns: &[Column]) -> bool
     }
 }
 
-/// Whether the one UNIQUE is over the key.
+/// Whether the table's only UNIQUE is over the key.
 fn has_unique(table: &Table) -> bool
     ensures is { IsTrue result → table.now.uniques ≡ key_places ∷ [] }
     ensures known { table.now.uniques ≡ key_places ∷ [] → IsTrue result }
@@ -204,7 +204,7 @@ fn is_key_index(kind: RecordKind, index: &Index) -> bool
         && index.is_unique
 }
 
-/// Whether nothing is said of the table but its columns, its keys and its CHECKs.
+/// Whether nothing is declared for the table except its columns, its keys and its CHECKs.
 fn is_plain(table: &Table) -> bool
     ensures is { IsTrue result → IsPlainTable table.now }
     ensures known { IsPlainTable table.now → IsTrue result }

@@ -5,24 +5,26 @@ ghost use Rattle.std.specs.FinMap.{insert};
 ghost use Rattle.sqlite.specs.Held.{state};
 ghost use Rattle.sqlite.specs.State.{HasCleanDisk, Survives};
 ghost use Rattle.source_csv.specs.Records.{IsRow, row_name};
+ghost use Rattle.journal_core.specs.Entries.{CanPutLearnt, CanPutRow, CanPutRows, IsListOf, with_learnt, with_row, with_rows};
 ghost use Rattle.journal_core.specs.Stores.{CountsFault, HasRisen, OnlyReads, Reopens, WritesOnce};
+ghost use Rattle.journal_core.specs.declared.journals.JournalFault.TheVariants.{Store};
 ghost use Rattle.journal_store.specs.Connections.{Finds, FindsIf, ListsAll};
-ghost use Rattle.journal_store.specs.Kept.{IsFaithful, IsHonest, MayHold, kept_entries};
-ghost use Rattle.journal_store.specs.Opening.{IsCause, LeavesNone, LeavesStore, Stands, journal_fault};
+ghost use Rattle.journal_store.specs.Kept.{IsFaithful, IsHonest, IsRefused, MayHold, kept_entries};
+ghost use Rattle.journal_store.specs.Opening.{IsCause, LeavesNone, LeavesStore, Stands, journal_fault, table_fault};
 ghost use Rattle.journal_store.specs.Rows.{entry_in, row_of};
 
 use crate::batches::put_all;
 use crate::opening::{OpenFault, check_tables, open_tables};
 use crate::statements::TableFault;
 use crate::tables::{find_entry, list_entries, put_entry, with_row};
-use journal_core::{Entry, Journal, JournalFault};
+use journal_core::{Entry, Journal, JournalFault, ReopenJournal};
 use scim_key::{Kind, RecordName, ResourceId, Revision};
 use source_csv::Row;
 use sqlite::{Alter, Connection};
 use std::alloc::Global;
 use std::marker::Model;
 
-/// A journal whose entries stand in the tables of a connection.
+/// A journal with its entries in the tables of a connection.
 pub struct SqlJournal<S: Alter> {
     conn: Connection<S>,
     alloc: Global,
@@ -43,7 +45,7 @@ impl<S: Alter> Model for SqlJournal<S> {
     ghost invariant = { λ r. IsSound S.Store (record { conn = r.conn; is_usable = r.is_usable; faults = r.faults; writes = r.writes }) };
 }
 
-/// The fault, which is counted where it is one of the store.
+/// Returns the fault, and counts it if it is a fault of the store.
 fn counted(faults: &mut u64, fault: JournalFault) -> JournalFault
     ensures same { result ≡ fault }
     ensures counts { CountsFault faults.old faults.new result }
@@ -54,8 +56,18 @@ fn counted(faults: &mut u64, fault: JournalFault) -> JournalFault
     fault
 }
 
-/// A row that isn't lawful is a fault of the store.
-fn fault_of(fault: TableFault) -> JournalFault {
+/// The fault of every call after a reopening that failed.
+fn refusal(faults: &mut u64) -> JournalFault
+    ensures is { result ≡ Store }
+    ensures counts { CountsFault faults.old faults.new result }
+{
+    counted(faults, JournalFault::Store)
+}
+
+/// The journal's fault for a fault of a statement: an invalid row is a fault of the store.
+fn fault_of(fault: TableFault) -> JournalFault
+    ensures { result ≡ table_fault fault }
+{
     match fault {
         TableFault::Memory => JournalFault::Memory,
         TableFault::Store => JournalFault::Store,
@@ -64,13 +76,14 @@ fn fault_of(fault: TableFault) -> JournalFault {
 }
 
 impl<S: Alter> SqlJournal<S> {
-    /// The entry of this name, if there is one.
+    /// The entry with this name, if there is one.
     fn look_up(&mut self, name: &RecordName) -> Result<Option<Entry>, JournalFault>
         ensures found { IsFaithful S.Store self.new → IfOk result (Finds (state S.Store self.new.conn).now.trees name.now) }
         ensures reads { OnlyReads (kept_entries S.Store) (IsFaithful S.Store) (IsHonest S.Store) (MayHold S.Store) (λ k. k.faults) (λ k. k.writes) CountsFault self.old self.new result }
+        ensures shut { IsRefused self.old result }
     {
         if !self.is_usable {
-            return Err(counted(&mut self.faults, JournalFault::Store));
+            return Err(refusal(&mut self.faults));
         }
         match find_entry(self.alloc, &mut self.conn, name) {
             Ok(held) => Ok(held),
@@ -83,9 +96,10 @@ impl<S: Alter> SqlJournal<S> {
         ensures tables { IsFaithful S.Store self.new → (state S.Store self.new.conn).now.trees ≡ (state S.Store self.old.conn).now.trees }
         ensures all { IsFaithful S.Store self.new → IfOk result (λ list. ListsAll kind (state S.Store self.new.conn).now.trees list.items) }
         ensures reads { OnlyReads (kept_entries S.Store) (IsFaithful S.Store) (IsHonest S.Store) (MayHold S.Store) (λ k. k.faults) (λ k. k.writes) CountsFault self.old self.new result }
+        ensures shut { IsRefused self.old result }
     {
         if !self.is_usable {
-            return Err(counted(&mut self.faults, JournalFault::Store));
+            return Err(refusal(&mut self.faults));
         }
         match list_entries(self.alloc, &mut self.conn, kind) {
             Ok(list) => Ok(list),
@@ -93,16 +107,17 @@ impl<S: Alter> SqlJournal<S> {
         }
     }
 
-    /// Puts an entry in the place of the one of its name, or as a new one.
+    /// Replaces the entry with the same name, or adds a new one.
     fn put(&mut self, is_there: bool, entry: &Entry) -> Result<(), JournalFault>
         requires found { IsFaithful S.Store self.old → FindsIf (state S.Store self.old.conn).now.trees (row_name entry.now.row) is_there }
         requires spelled { IsFaithful S.Store self.old → IsRow entry.now.row → entry_in (row_name entry.now.row).kind (row_of entry.now) ≡ Some entry.now }
         ensures puts { WritesOnce (kept_entries S.Store) (IsFaithful S.Store) (IsHonest S.Store) (MayHold S.Store) (λ k. k.faults) (λ k. k.writes) CountsFault self.old self.new (insert (kept_entries S.Store self.old) (row_name entry.now.row) entry.now) result }
         ensures open { IsHonest S.Store self.new → OnOk result (IsFaithful S.Store self.new) }
         ensures counted { OnOk result (HasRisen self.old.writes self.new.writes) }
+        ensures shut { IsRefused self.old result }
     {
         if !self.is_usable {
-            return Err(counted(&mut self.faults, JournalFault::Store));
+            return Err(refusal(&mut self.faults));
         }
         match put_entry(self.alloc, &mut self.conn, is_there, entry) {
             Ok(()) => {
@@ -129,14 +144,27 @@ impl<S: Alter> Journal for SqlJournal<S> {
 
     ghost writes = { λ k. k.writes };
 
-    fn load(&mut self) -> Result<Vec<Entry>, JournalFault> {
+    fn load(&mut self) -> Result<Vec<Entry>, JournalFault>
+        ensures ok { IsFaithful S.Store self.new → IfOk result (λ list. IsListOf (kept_entries S.Store self.old) list.items) }
+        ensures reads { OnlyReads (kept_entries S.Store) (IsFaithful S.Store) (IsHonest S.Store) (MayHold S.Store) (λ k. k.faults) (λ k. k.writes) CountsFault self.old self.new result }
+        ensures shut { IsRefused self.old result }
+    {
         let mut all = self.list(Kind::User)?;
         let mut groups = self.list(Kind::Group)?;
         all.append(&mut groups)?;
         Ok(all)
     }
 
-    fn put_row(&mut self, row: &Row) -> Result<(), JournalFault> {
+    fn put_row(&mut self, row: &Row) -> Result<(), JournalFault>
+        requires lawful { IsFaithful S.Store self.old → CanPutRow (kept_entries S.Store self.old) row.now }
+        ensures puts { WritesOnce (kept_entries S.Store) (IsFaithful S.Store) (IsHonest S.Store) (MayHold S.Store) (λ k. k.faults) (λ k. k.writes) CountsFault self.old self.new (with_row (kept_entries S.Store self.old) row.now) result }
+        ensures open { IsHonest S.Store self.new → OnOk result (IsFaithful S.Store self.new) }
+        ensures counted { OnOk result (HasRisen self.old.writes self.new.writes) }
+        ensures shut { IsRefused self.old result }
+    {
+        if !self.is_usable {
+            return Err(refusal(&mut self.faults));
+        }
         let name = row.record_name(self.alloc)?;
         let row = row.clone()?;
         let held = self.look_up(&name)?;
@@ -144,9 +172,15 @@ impl<S: Alter> Journal for SqlJournal<S> {
         self.put(is_there, &with_row(held, row))
     }
 
-    fn put_rows(&mut self, rows: &[Row]) -> Result<(), JournalFault> {
+    fn put_rows(&mut self, rows: &[Row]) -> Result<(), JournalFault>
+        requires lawful { IsFaithful S.Store self.old → CanPutRows (kept_entries S.Store self.old) rows.now }
+        ensures puts { WritesOnce (kept_entries S.Store) (IsFaithful S.Store) (IsHonest S.Store) (MayHold S.Store) (λ k. k.faults) (λ k. k.writes) CountsFault self.old self.new (with_rows (kept_entries S.Store self.old) rows.now) result }
+        ensures open { IsHonest S.Store self.new → OnOk result (IsFaithful S.Store self.new) }
+        ensures counted { OnOk result (HasRisen self.old.writes self.new.writes) }
+        ensures shut { IsRefused self.old result }
+    {
         if !self.is_usable {
-            return Err(counted(&mut self.faults, JournalFault::Store));
+            return Err(refusal(&mut self.faults));
         }
         match put_all(self.alloc, &mut self.conn, rows) {
             Ok(()) => {
@@ -162,7 +196,16 @@ impl<S: Alter> Journal for SqlJournal<S> {
         name: &RecordName,
         confirmed: Revision,
         id: &ResourceId,
-    ) -> Result<(), JournalFault> {
+    ) -> Result<(), JournalFault>
+        requires lawful { IsFaithful S.Store self.old → CanPutLearnt (kept_entries S.Store self.old) name.now confirmed }
+        ensures puts { WritesOnce (kept_entries S.Store) (IsFaithful S.Store) (IsHonest S.Store) (MayHold S.Store) (λ k. k.faults) (λ k. k.writes) CountsFault self.old self.new (with_learnt (kept_entries S.Store self.old) name.now confirmed id.now) result }
+        ensures open { IsHonest S.Store self.new → OnOk result (IsFaithful S.Store self.new) }
+        ensures counted { OnOk result (HasRisen self.old.writes self.new.writes) }
+        ensures shut { IsRefused self.old result }
+    {
+        if !self.is_usable {
+            return Err(refusal(&mut self.faults));
+        }
         let id = id.clone()?;
         match self.look_up(name)? {
             Some(entry) => {
@@ -189,7 +232,7 @@ impl<S: Alter> Journal for SqlJournal<S> {
 
 // ---- opening and closing
 
-/// The fault of a journal at one of an opening.
+/// The journal's fault for a fault of an opening.
 fn journal_fault(fault: OpenFault) -> JournalFault
     ensures { result ≡ journal_fault fault }
 {
@@ -200,8 +243,8 @@ fn journal_fault(fault: OpenFault) -> JournalFault
 }
 
 impl<S: Alter> SqlJournal<S> {
-    /// Opens the journal of a connection. Where no table stands the tables are made; else they are
-    /// tested, with their format and each row. A refused opening hands the connection back.
+    /// Opens the journal of a connection. If there are no tables, it makes them; otherwise it checks them,
+    /// their format and each row. If it refuses them, it hands the connection back.
     pub fn open(
         alloc: Global,
         mut conn: Connection<S>,
@@ -239,10 +282,12 @@ impl<S: Alter> SqlJournal<S> {
         } = self;
         conn
     }
+}
 
-    /// Tests the tables, their format and each row again, on the same connection. After a fault of
-    /// its own each call but this one and `close` answers a store fault.
-    pub fn reopen(&mut self) -> Result<(), JournalFault>
+impl<S: Alter> ReopenJournal for SqlJournal<S> {
+    /// Checks the tables, their format and each row again, on the same connection. If that fails, every
+    /// call except this one and `close` returns a store fault.
+    fn reopen(&mut self) -> Result<(), JournalFault>
         ensures reopens { Reopens (kept_entries S.Store) (IsFaithful S.Store) (IsHonest S.Store) (MayHold S.Store) (λ k. k.faults) (λ k. k.writes) CountsFault self.old self.new result }
         ensures usable { self.new.is_usable ≡ is_ok result }
     {

@@ -1,4 +1,4 @@
-//! What the entries of a journal must be where it is opened.
+//! What the entries of a journal must be when it is opened.
 ghost use Rattle.std.specs.Prelude.{◌≡◌, false, IfErr, IfOk, OnOk, IsTrue};
 ghost use Rattle.std.specs.List.{AllByRecursion, list_all};
 ghost use Rattle.sqlite_rules.specs.Lists.{Has};
@@ -23,7 +23,7 @@ fn are_identified(entries: &[Entry]) -> bool
     entries.iter().all(|entry| is_identified(entry))
 }
 
-/// The keys of the entries' records, in their order.
+/// The keys of the entries' records, in order.
 fn keys_of(alloc: Global, entries: &[Entry]) -> Result<Vec<Key>, AllocError>
     ensures { IfOk result (λ keys. keys.items ≡ keys_of entries.now) }
 {
@@ -78,7 +78,7 @@ fn have_members(keys: &[Key], groups: &[Entry]) -> bool
     true
 }
 
-/// Tests the entries of both types, which are in order of their keys.
+/// Checks the entries of both types, which are in order of their keys.
 pub(crate) fn check_lists(alloc: Global, users: &[Entry], groups: &[Entry]) -> Result<(), OpenFault>
     ensures lawful { OnOk result (AreLawful users.now groups.now) }
     ensures cause { IfErr result (IsFor ⊥ (AreInOrder (keys_of users.now) → AreLawful users.now groups.now → ⊥)) }

@@ -1,4 +1,4 @@
-//! The opening of a store: its tables are made, or tested with each of their rows.
+//! Opens a store: makes its tables, or checks them and each of their rows.
 ghost use Rattle.std.specs.Prelude.{◌≡◌, ◌⊎◌, ◌<◌, ◌≤◌, ℕ, false, IfErr, MatchOption, OnErr, OnOk, IsTrue};
 ghost use Rattle.std.specs.Ordering.{int_cmp, is_lt};
 ghost use Rattle.std.specs.declared.cmp.Ordering.TheVariants.{Less};
@@ -8,7 +8,7 @@ ghost use Rattle.sqlite.specs.Held.{state};
 ghost use Rattle.sqlite.specs.State.{HasCleanDisk, Survives};
 ghost use Rattle.journal_store.specs.Connections.{AreNumbered, HasNumbers, IsLaid};
 ghost use Rattle.journal_store.specs.Format.{entry_tree, format_number, numbers_text};
-ghost use Rattle.journal_store.specs.Opening.{AreRising, HoldsEntries, IsBlank, IsCause, IsFormat, IsFor, IsJournal, IsMarked, IsNewer, IsNotLaid, IsSpoilt, IsStore, IsUnmarked, IsUnnumbered, ShowsDamage, LeavesNone, LeavesStore, Looks, Stands};
+ghost use Rattle.journal_store.specs.Opening.{AreRising, HoldsEntries, IsBlank, IsCause, IsFormat, IsFor, IsJournal, IsMarked, IsNewer, IsNotLaid, IsOfRows, IsSpoilt, IsStore, IsUnmarked, IsUnnumbered, ShowsDamage, LeavesNone, LeavesStore, Looks, Stands};
 
 use crate::columns::{integer_at, number_at};
 use crate::format::{FORMAT, is_blank, is_journal};
@@ -21,13 +21,13 @@ use sqlite_value::value::ValueRef;
 use std::alloc::{AllocError, Global};
 use thiserror::Error as Fault;
 
-/// Why a journal wasn't opened. What it holds is then as it was.
+/// Why a journal couldn't be opened. Its contents are unchanged.
 #[derive(Clone, Copy, Debug, PartialEq, Eq, Fault)]
 pub enum OpenFault {
-    /// The database failed, or a transaction is under way.
+    /// The database failed, or a transaction is open.
     #[error("J1")]
     Store,
-    /// The tables aren't those of the format, or an entry isn't lawful.
+    /// The tables aren't those of the format, or an entry is invalid.
     #[error("J2")]
     Damaged,
     #[error("J3")]
@@ -61,7 +61,7 @@ impl From<TableFault> for OpenFault {
     }
 }
 
-/// A failed statement tells of no damage, and of no newer format.
+/// A failed statement never means damage or a newer format.
 impl From<Error> for OpenFault {
     ghost use Rattle.journal_store.specs.Faults.{statement_fault};
     ghost use Rattle.journal_store.specs.Opening.{open_fault};
@@ -75,7 +75,7 @@ impl From<Error> for OpenFault {
 
 // ---- the tables
 
-/// Makes the tables with the row of the format, all or none.
+/// Makes the tables and the row of the format, all or none.
 fn make_tables<S: Alter>(conn: &mut Connection<S>) -> Result<(), Error>
     requires outside { (state S.Store conn.old).in_transaction ≡ false }
     requires blank { HasCleanDisk (state S.Store conn.old) → IsTrue (state S.Store conn.old).is_open → IsBlank (state S.Store conn.old) }
@@ -103,7 +103,7 @@ fn make_tables<S: Alter>(conn: &mut Connection<S>) -> Result<(), Error>
     tables.commit()
 }
 
-/// Tests the number of the format.
+/// Checks the number of the format.
 fn check_format<S: Alter>(conn: &mut Connection<S>) -> Result<(), OpenFault>
     requires laid { HasCleanDisk (state S.Store conn.old) → IsTrue (state S.Store conn.old).is_open → IsLaid (state S.Store conn.old) }
     ensures known { HasCleanDisk (state S.Store conn.new) → OnOk result (IsFormat (state S.Store conn.old) format_number) }
@@ -117,10 +117,11 @@ fn check_format<S: Alter>(conn: &mut Connection<S>) -> Result<(), OpenFault>
     }
 }
 
-/// Tests that the rows show the number of the format, and no other.
+/// Checks that the rows show the number of the format, and no other.
 fn format_in(rows: &[Row]) -> Result<(), OpenFault>
     ensures known { OnOk result (IsMarked rows.now format_number) }
     ensures cause { IfErr result (IsFor ((number : ℕ) × (format_number < number) × IsMarked rows.now number) ((number : ℕ) → format_number ≤ number → IsMarked rows.now number → ⊥)) }
+    ensures read { IfErr result IsOfRows }
 {
     let [row] = rows else {
         return Err(OpenFault::Damaged);
@@ -154,7 +155,7 @@ fn rises(last: Option<i64>, number: i64) -> bool
     }
 }
 
-/// Tests that the rows show numbers that rise.
+/// Checks that the rows show rising numbers.
 fn check_rising(rows: &[Row]) -> Result<(), OpenFault>
     ensures rising { OnOk result (AreRising rows.now) }
     ensures cause { IfErr result (IsFor ⊥ (IsUnnumbered rows.now)) }
@@ -170,7 +171,7 @@ fn check_rising(rows: &[Row]) -> Result<(), OpenFault>
     Ok(())
 }
 
-/// Tests that each row of a table has a number that no other has.
+/// Checks that each row of a table has a number that no other row has.
 fn check_table<S: Alter>(conn: &mut Connection<S>, kind: Kind) -> Result<(), OpenFault>
     requires laid { HasCleanDisk (state S.Store conn.old) → IsTrue (state S.Store conn.old).is_open → IsLaid (state S.Store conn.old) }
     ensures numbered { HasCleanDisk (state S.Store conn.new) → OnOk result (AreNumbered ((state S.Store conn.old).now.trees (entry_tree kind))) }
@@ -184,7 +185,7 @@ fn check_table<S: Alter>(conn: &mut Connection<S>, kind: Kind) -> Result<(), Ope
     }
 }
 
-/// Tests the numbers of the rows of both tables.
+/// Checks the numbers of the rows of both tables.
 fn check_numbers<S: Alter>(conn: &mut Connection<S>) -> Result<(), OpenFault>
     requires laid { HasCleanDisk (state S.Store conn.old) → IsTrue (state S.Store conn.old).is_open → IsLaid (state S.Store conn.old) }
     ensures numbered { HasCleanDisk (state S.Store conn.new) → OnOk result (HasNumbers (state S.Store conn.old).now.trees) }
@@ -196,7 +197,7 @@ fn check_numbers<S: Alter>(conn: &mut Connection<S>) -> Result<(), OpenFault>
     check_table(conn, Kind::Group)
 }
 
-/// Tests the entries of both tables.
+/// Checks the entries of both tables.
 fn check_entries<S: Alter>(alloc: Global, conn: &mut Connection<S>) -> Result<(), OpenFault>
     requires laid { HasCleanDisk (state S.Store conn.old) → IsTrue (state S.Store conn.old).is_open → IsLaid (state S.Store conn.old) }
     ensures holds { HasCleanDisk (state S.Store conn.new) → OnOk result (HoldsEntries (state S.Store conn.old).now.trees) }
@@ -211,7 +212,7 @@ fn check_entries<S: Alter>(alloc: Global, conn: &mut Connection<S>) -> Result<()
 
 // ---- the store
 
-/// Tests the format, and each row.
+/// Checks the format and each row.
 fn check_laid<S: Alter>(alloc: Global, conn: &mut Connection<S>) -> Result<(), OpenFault>
     requires laid { HasCleanDisk (state S.Store conn.old) → IsTrue (state S.Store conn.old).is_open → IsLaid (state S.Store conn.old) }
     ensures store { HasCleanDisk (state S.Store conn.new) → OnOk result ((entries : EntryMap) × IsStore (state S.Store conn.old) entries) }
@@ -224,7 +225,7 @@ fn check_laid<S: Alter>(alloc: Global, conn: &mut Connection<S>) -> Result<(), O
     check_entries(alloc, conn)
 }
 
-/// Whether the tables are laid out, and no transaction is under way.
+/// Whether the tables are laid out and no transaction is open.
 fn is_laid<S: Alter>(conn: &Connection<S>) -> bool
     ensures is { IsTrue result → IsTrue (state S.Store conn.now).is_open → IsLaid (state S.Store conn.now) }
     ensures journal { IsTrue result → IsJournal (state S.Store conn.now).now.schema }
@@ -233,7 +234,7 @@ fn is_laid<S: Alter>(conn: &Connection<S>) -> bool
     conn.is_autocommit() && is_journal(conn.schema())
 }
 
-/// Tests the tables, their format and each row.
+/// Checks the tables, their format and each row.
 pub(crate) fn check_tables<S: Alter>(
     alloc: Global,
     conn: &mut Connection<S>,
@@ -251,7 +252,7 @@ pub(crate) fn check_tables<S: Alter>(
     }
 }
 
-/// Makes the tables where none stand, else tests them.
+/// Makes the tables if there are none, otherwise checks them.
 pub(crate) fn open_tables<S: Alter>(
     alloc: Global,
     conn: &mut Connection<S>,

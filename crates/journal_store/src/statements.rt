@@ -10,11 +10,11 @@ use sqlite::{Alter, Connection, Error, ErrorCode, Row};
 use sqlite_value::value::ValueRef;
 use std::alloc::{AllocError, AllocFailed};
 
-/// Why a statement told nothing.
+/// Why a statement gave no result.
 #[derive(Clone, Copy, Debug, PartialEq, Eq)]
 pub enum TableFault {
     Store,
-    /// A row isn't lawful.
+    /// A row is invalid.
     Damaged,
     Memory,
 }
@@ -39,11 +39,11 @@ impl<T: Drop> From<AllocFailed<T>> for TableFault {
     }
 }
 
-/// A text that is no lawful name, or no id, is damage.
+/// A text that isn't a valid name or id is damage.
 impl From<NameFault> for TableFault {
-    ghost use Rattle.journal_store.specs.Faults.{name_damage};
+    ghost use Rattle.journal_store.specs.Faults.{IsOfRow, name_damage};
 
-    ghost from_gives = { λ fault given. given ≡ name_damage fault };
+    ghost from_gives = { λ fault given. (given ≡ name_damage fault) × IsOfRow given };
 
     fn from(fault: NameFault) -> TableFault {
         match fault {
@@ -66,7 +66,7 @@ impl From<Error> for TableFault {
     }
 }
 
-/// The rows that a query answers.
+/// The rows that a query returns.
 pub(crate) fn ask<S: Alter>(
     conn: &mut Connection<S>,
     sql: &str,

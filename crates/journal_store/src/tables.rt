@@ -13,7 +13,7 @@ ghost use Rattle.source_csv.specs.Rows.{IsGroupRow, IsUserRow};
 ghost use Rattle.source_csv.specs.declared.rows.Row.TheVariants.{User, Group};
 ghost use Rattle.journal_core.specs.Entries.{entry_with};
 ghost use Rattle.journal_store.specs.Connections.{AreShown, Finds, IsLaid, IsOnly, IsUnshown, ListsAll, ListsNone, IsThere, Keeps, Makes, MayLeave, PutsIn, Ran, IsEditText, put_text};
-ghost use Rattle.journal_store.specs.Faults.{HasCause};
+ghost use Rattle.journal_store.specs.Faults.{HasCause, IsOfRow};
 ghost use Rattle.journal_store.specs.Format.{all_text, find_text};
 ghost use Rattle.journal_store.specs.Rows.{active_number, id_value, members_text, row_by};
 
@@ -60,7 +60,7 @@ fn active_param(active: bool) -> ValueRef<'static>
     }
 }
 
-/// The keys, with a space between each two.
+/// The keys, separated by spaces.
 pub(crate) fn members_text(alloc: Global, keys: &[Key]) -> Result<String, AllocError>
     ensures { IfOk result (λ text. string_bytes text ≡ members_text keys.now) }
 {
@@ -76,9 +76,10 @@ pub(crate) fn members_text(alloc: Global, keys: &[Key]) -> Result<String, AllocE
 
 // ---- one entry
 
-/// The entry that the rows of a name show.
+/// The entry that the rows with a name show.
 pub(crate) fn only(alloc: Global, kind: Kind, rows: &[Row]) -> Result<Option<Entry>, TableFault>
-    ensures { IfOk result (IsOnly kind rows.now) }
+    ensures only { IfOk result (IsOnly kind rows.now) }
+    ensures read { IfErr result IsOfRow }
 {
     match rows {
         [] => Ok(None),
@@ -100,7 +101,7 @@ pub(crate) fn find_statement(kind: Kind) -> &'static str
     }
 }
 
-/// The entry of this name.
+/// The entry with this name.
 pub(crate) fn find_entry<S: Alter>(
     alloc: Global,
     conn: &mut Connection<S>,
@@ -124,7 +125,7 @@ pub(crate) fn find_entry<S: Alter>(
 
 // ---- one write
 
-/// The entry with this row: a new one has nothing else.
+/// The entry with this row; a new entry has nothing else.
 pub(crate) fn with_row(held: Option<Entry>, row: SourceRow) -> Entry
     ensures { result ≡ entry_with row held }
 {
@@ -244,7 +245,7 @@ fn write_user<S: Alter>(
     }
 }
 
-/// The same with those of a group's.
+/// Runs a write with the columns of a group's entry.
 fn write_group<S: Alter>(
     alloc: Global,
     conn: &mut Connection<S>,
@@ -273,8 +274,7 @@ fn write_group<S: Alter>(
     }
 }
 
-/// Puts an entry, by one statement: in the place of the row with its key where one is there, else as a
-/// new row.
+/// Puts an entry, by one statement: replaces the row with its key if there is one, otherwise adds a row.
 pub(crate) fn put_entry<S: Alter>(
     alloc: Global,
     conn: &mut Connection<S>,
@@ -320,10 +320,11 @@ fn comes_after(previous: &Option<RecordName>, name: &RecordName) -> bool
     }
 }
 
-/// The entries that the rows show, which are in order of their names.
+/// The entries that the rows show, which must be in order of their names.
 fn read_all(alloc: Global, kind: Kind, rows: &[Row]) -> Result<Vec<Entry>, TableFault>
     ensures some { IfOk result (λ list. AreShown kind rows.now list.items) }
     ensures none { IfErr result (HasCause (IsUnshown kind rows.now)) }
+    ensures read { IfErr result IsOfRow }
 {
     let mut list = Vec::new(alloc);
     let mut previous = None;

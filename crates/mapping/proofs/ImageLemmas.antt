@@ -35,7 +35,7 @@ empty_is_no_text : IsText [] → ⊥
 unfolding is_short_text
 empty_is_no_text h = grind arith
 
--- a text that is there exactly where the field is a text is the field, absent where it is empty
+-- a text that is there exactly if the field is a text is the field, or absent if the field is empty
 pub present_of : (field : List ℕ) (found : Option (List ℕ)) → length field ≤ TEXT_LIMIT → SomeIff found (IsText field) field → found ≡ present field
 present_of [] None short h = refl
 present_of [] (Some found) short h = absurd (empty_is_no_text h.0)

@@ -1,4 +1,4 @@
--- The image of a row: the content that the provider is to hold.
+-- The image of a row: the content that the provider should hold.
 use Rattle.std.specs.Prelude.{ℕ, true, not, List, [], ◌∷◌, Option, Some, None, Result, Ok, Err, codes}
 use Rattle.std.specs.List.{filter}
 use Rattle.std.specs.Result.{result_ok}
@@ -16,12 +16,12 @@ use Rattle.group_sync.specs.declared.ids.Ready.TheVariants.{Ids, Waits}
 use Rattle.mapping.specs.declared.groups.ImageFault.{ImageFault}
 use Rattle.mapping.specs.declared.groups.ImageFault.TheVariants.{MemberWithoutId}
 
--- an empty field is none
+-- an empty field means none
 abbrev pub present : List ℕ → Option (List ℕ)
 present [] = None
 present (b ∷ text) = Some (b ∷ text)
 
--- a mail is the one address, of type `work`, and the primary one
+-- a mail is the only address, primary and of type `work`
 abbrev pub work_email : List ℕ → Email
 work_email mail = record { value = mail; type_text = Some (codes "work"); primary = true }
 
@@ -41,7 +41,7 @@ user_image row = contents.User (record {
   revision = Some row.revision;
 })
 
--- an id that repeats is kept once, at its first place
+-- an id that is repeated is kept once, at its first place
 abbrev pub once : List (List ℕ) → List (List ℕ)
 once [] = []
 once (id ∷ ids) = id ∷ filter (λ other. not (bytes_eq id other)) (once ids)
@@ -55,16 +55,16 @@ group_image ids row = contents.Group (record {
   revision = Some row.revision;
 })
 
--- the image of a row of a group by what is known of its members. M1: one of them has no id
+-- the image of a group's row, given what is known about its members. M1: a member has no id
 abbrev pub image_by : Ready → GroupFields → Result Content ImageFault
 image_by (Ids ids) row = Ok (group_image ids row)
 image_by (Waits place) row = Err (MemberWithoutId place)
 
--- The image of a row, of whatever kind, where records have these ids
+-- The image of a row of either kind, if records have these ids
 abbrev pub imaged : (id_of : RecordName → Option (List ℕ)) → Row → Result Content ImageFault
 imaged id_of (User row) = Ok (user_image row)
 imaged id_of (Group row) = image_by (ready id_of row.members) row
 
--- the same, none where a member has no id
+-- the same; none if a member has no id
 abbrev pub image : (id_of : RecordName → Option (List ℕ)) → Row → Option Content
 image id_of row = result_ok (imaged id_of row)

@@ -7,7 +7,7 @@ use scim_resource::{Content, Email, Emails, Text, User};
 use source_csv::UserRow;
 use std::alloc::{AllocError, Global};
 
-/// The content of a user as a row of the source has it: empty fields are absent attributes.
+/// The content for a user's row. An empty field is an absent attribute.
 pub fn user_content(alloc: Global, row: &UserRow) -> Result<Content, AllocError>
     ensures { IfOk result (λ content. content ≡ user_image row.now) }
 {
@@ -24,7 +24,7 @@ pub fn user_content(alloc: Global, row: &UserRow) -> Result<Content, AllocError>
     ))
 }
 
-/// A field as the text of an attribute, absent where it is empty.
+/// A field as the text of an attribute; absent if it is empty.
 fn text(alloc: Global, field: &str) -> Result<Option<Text>, AllocError>
     requires { length field.now ≤ TEXT_LIMIT }
     ensures { IfOk result (λ text. text ≡ present field.now) }
@@ -32,7 +32,7 @@ fn text(alloc: Global, field: &str) -> Result<Option<Text>, AllocError>
     Ok(Text::from_string(String::from_str(alloc, field)?))
 }
 
-/// The mail as the one email address, none where it is empty.
+/// The mail as the only email address; none if it is empty.
 #[tactic(auto, using(crate::proofs::ImageLemmas::few_of_one))]
 fn emails(alloc: Global, mail: &str) -> Result<Emails, AllocError>
     requires { length mail.now ≤ TEXT_LIMIT }

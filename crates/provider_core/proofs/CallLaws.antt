@@ -7,7 +7,7 @@ use Rattle.provider_core.specs.Stores.{OnlyReads, CountsFaults}
 counts-on : {U F : Type 0} (counts : ℕ → ℕ → F → Type 0) (old middle new : ℕ) (result : Result U F) → middle ≡ old → CountsFaults counts middle new result → CountsFaults counts old new result
 counts-on counts old middle new result same counted = subst (λ (n : ℕ). CountsFaults counts n new result) same counted
 
--- a call that only reads, after one that read and answered
+-- a call that only reads, after another that read and succeeded
 pub reads-on : {S T U F G : Type 0} {rows : S → List StoredRecord} {is_faithful is_honest : S → Type 0} {may_hold : S → List StoredRecord → Type 0} {faults writes : S → ℕ}
     {first_counts : ℕ → ℕ → F → Type 0} {counts : ℕ → ℕ → G → Type 0} {old middle new : S} {value : T} {result : Result U G}
     → OnlyReads rows is_faithful is_honest may_hold faults writes first_counts old middle (Ok value)

@@ -45,7 +45,7 @@ found-after : (kind : Kind) (wanted : Option Expression) (before rows : List Sto
 found-after kind wanted before rows =
     ap (map shown) (filter-append (is_hit kind wanted) before rows) ∙ map-append shown (filter (is_hit kind wanted) before) (filter (is_hit kind wanted) rows)
 
--- what is gathered of all rows is the page of the list message, and its count
+-- the state for all rows is the page of the list message, and its count
 pub listed-whole : (kind : Kind) (wanted : Option Expression) (start : ℤ) (count : Option ℤ) (rows : List StoredRecord) (first size : ℕ) (old new : Gathered)
     → first ≡ first_place start → size ≡ page_size count → IsPlace first → old ≡ gathered first size [] → Gathers kind wanted rows old new
     → listed new ≡ answers.List (listing start count (found kind wanted rows))
@@ -74,7 +74,7 @@ by-name kind wanted rows looked old new few same through = record {
   few = rw same (omega (arith, length-map (filter (is_hit kind wanted) looked) shown, found-length kind wanted looked));
 }
 
--- where a filter names one record, looking at its row is looking at all rows
+-- if a filter names one record, looking at its row is looking at all rows
 pub gathers-named : (kind : Kind) (wanted : Option Expression) (name : RecordName) (rows : List StoredRecord) (old new : Gathered)
     → option_and_then single_key wanted ≡ Some name → AreNamedApart rows → GoesThrough kind wanted (option_to_list (row_named name rows)) old new → Gathers kind wanted rows old new
 gathers-named kind None name rows old new names apart through = absurd (cc)
@@ -83,7 +83,7 @@ gathers-named kind (Some wanted) name rows old new names apart through =
 
 -- ---- pages of rows
 
--- what stands while the rows before `after` have been looked through
+-- the state after the rows before `after` were looked through
 pub record IsGathering {R : Type 0} (g : Ghosts R) (kind : Kind) (wanted : Option Expression) (all after : ℕ) (old new : R) (gathered_old gathered_new : Gathered) : Type 0 where
   pub reads : Reads g old new (Ok (tt {0}))
   pub through : g.is_faithful new → length (g.rows old) ≤ all → GoesThrough kind wanted (take after (g.rows old)) gathered_old gathered_new

@@ -32,7 +32,7 @@ none-later name (r ∷ rs) apart = here (is_named name r) apart.0 (none-later na
     here true other ih = absurd (cc)
     here false other ih = ih
 
--- what is found of this row and those after it
+-- what is found among this row and those after it
 found-here : (hit : StoredRecord → Bool) (row : StoredRecord) (named of_kind passes : Bool) (later : List StoredRecord) (next : Option StoredRecord) → hit row ≡ (of_kind && passes) → passes ≡ named
     → (named ≡ true → next ≡ None) → later ≡ filter hit (option_to_list next)
     → cond (of_kind && passes) (row ∷ later) later ≡ filter hit (option_to_list (cond named (Some row) next))

@@ -1,4 +1,4 @@
--- What the numbers and the index of a registry in memory tell of its rows.
+-- What the numbers and the index of a registry in memory say about its rows.
 use Rattle.std.proofs.Common.{◌≡◌, ◌≢◌, ◌==◌, ℕ, zero, suc, ◌+◌, ◌-◌, ◌<◌, ◌≤◌, Bool, true, false, ◌&&◌, ◌||◌, List, [], ◌∷◌, ◌++◌, Option, Some, None, length, cond, drop, take, nat_lt, refl, sym, ap, subst, ◌∙◌, arith, rules, tests, length-append, inl, inr, ◌⊎◌}
 use Rattle.std.specs.Prelude.{slice_get, slice_set}
 use Rattle.std.specs.List.{find, filter, list_any, IsDistinct}
@@ -39,7 +39,7 @@ is_eq-name_cmp a b = is_eq-parts a.kind b.kind a.key b.key
 
 -- ---- rows by number
 
--- the row that a search finds stands at the place of its number
+-- the row that a search finds is at the place of its number
 pub found-at : (p : StoredRecord → Bool) (n : ℕ) (rows : List StoredRecord) (row : StoredRecord) → IsNumberedFrom n rows → find p rows ≡ Some row → (n ≤ row.number) × (slice_get rows (row.number - n) ≡ Some row)
 found-at p n [] row numbered found = absurd (cc)
 found-at p n (r ∷ rs) row numbered found = here (p r) (λ later. found-at p (suc n) rs row numbered.1 later) found
@@ -79,7 +79,7 @@ one-found test m n (r ∷ rs) numbered low passes fails =
         let next : m - n ≡ suc (m - suc n) = omega arith in
         rw (tested, next) (ih (omega arith))
 
--- the rows with a number above `after` are those past the first `after`
+-- the rows with a number above `after` are those after the first `after`
 after-dropped : (after n : ℕ) (rows : List StoredRecord) → IsNumberedFrom n rows → filter (is_after after) rows ≡ drop (suc after - n) rows
 after-dropped after n [] numbered = sym (drop_all (suc after - n) [] (omega arith))
 after-dropped after n (r ∷ rs) numbered = here (cases_lt after n) (after-dropped after (suc n) rs numbered.1)
@@ -106,7 +106,7 @@ page-dropped after limit rows numbered =
 passes-id : (m : ℕ) → bytes_eq (id_text m) (id_text m) ≡ true
 passes-id m = (bytes_eq-Decides (id_text m) (id_text m)).1 refl
 
--- the row with the id of a number stands at its place
+-- the row with the id of a number is at its place
 pub id-at : (id : List ℕ) (m : ℕ) (rows : List StoredRecord) → length rows ≤ last_number → IsNumberedFrom 1 rows → 1 ≤ m → m ≤ last_number → id ≡ id_text m → slice_get rows (m - 1) ≡ row_with_id id rows
 id-at id m rows within numbered low high is =
     rw is (sym (one-found (λ k. bytes_eq (id_text m) (id_text k)) m 1 rows numbered low (passes-id m)

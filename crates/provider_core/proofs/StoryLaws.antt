@@ -49,7 +49,7 @@ either_way true false x y p q test same = absurd (cc)
 either_way false true x y p q test same = absurd (cc)
 either_way false false x y p q test same = same
 
--- a name is taken in the rows where it is taken in the table
+-- a name is taken in the rows if it is taken in the table
 same_taken : (k : RecordName) (n : ℕ) (es : List Entry) → IsTable es → is_some (find (is_named k) (rows_from n es)) ≡ is_some (find (is_entry_of k) es)
 same_taken k n [] table = refl
 same_taken k n (e ∷ es) table =
@@ -84,7 +84,7 @@ found-rows : (id : List ℕ) (k : ℕ) (es : List Entry) → find (has_id id) (r
 found-rows id k [] = refl
 found-rows id k (e ∷ es) = mapped-cond (bytes_eq id (id_text k)) (record { number = k; entry = e }) _ _ (found-rows id (suc k) es)
 
--- an entry that is found stands at the place of its number
+-- an entry that is found is at the place of its number
 found-place : (p : Numbered → Bool) (k : ℕ) (es : List Entry) (n : Numbered) → find p (numbered_from k es) ≡ Some n → (i : ℕ) × (n.number ≡ k + i) × (slice_get es i ≡ Some n.entry)
 found-place p k [] n found = absurd (cc)
 found-place p k (e ∷ es) n found = here (p (record { number = k; entry = e })) (found-place p (suc k) es n) found
@@ -105,7 +105,7 @@ named-at (f ∷ es) zero e table there =
     subst P same table.0
 named-at (f ∷ es) (suc i) e table there = named-at es i e table.1 there
 
--- what is known of an entry that a request speaks of
+-- what is known about an entry that a request is about
 record Spoken (es : List Entry) (n : Numbered) : Type 0 where
   place : ℕ
   number : n.number ≡ 1 + place

@@ -27,7 +27,7 @@ use Rattle.provider_core.proofs.RowLaws.{same_name-eq, find-passes}
 
 -- ---- lists
 
--- what stands in a list with one more at its end
+-- what is in a list with one more element at its end
 pub at_push : {X : Type 0} (xs : List X) (x : X) (i : ℕ) (y : X) → slice_get (xs ++ x ∷ []) i ≡ Some y → (slice_get xs i ≡ Some y) ⊎ ((i ≡ length xs) × (x ≡ y))
 at_push [] x zero y at = inr (refl, cc)
 at_push [] x (suc i) y at = absurd (cc)
@@ -129,7 +129,7 @@ none_of (Some n) none = absurd (cc)
 abbrev row_at : Numbered → StoredRecord
 row_at n = row_of n.number n.entry
 
--- an entry that is found stands at the place of its number
+-- an entry that is found is at the place of its number
 pub found_at : (p : Numbered → Bool) (m : ℕ) (es : List Entry) (n : Numbered) → find p (numbered_from m es) ≡ Some n → (i : ℕ) × (n.number ≡ m + i) × (slice_get es i ≡ Some n.entry)
 found_at p m [] n found = absurd (cc)
 found_at p m (e ∷ es) n found = here (p (record { number = m; entry = e })) (found_at p (suc m) es n) found
@@ -198,7 +198,7 @@ entries_are_found name es whole = record { found = named_found name es; here = �
 
 -- ---- what a request writes
 
--- where the entry of an id stands
+-- where the entry with an id is
 record Placed (id : List ℕ) (es : List Entry) (n : Numbered) : Type 0 where
   place : ℕ
   number : n.number ≡ suc place

@@ -5,10 +5,10 @@ use Rattle.provider_core.specs.Stores.{OnlyReads, WritesOnce, CountsProviderFaul
 use Rattle.provider_core.specs.declared.provider.ProviderFault.{ProviderFault}
 use Rattle.provider_core.specs.declared.registry.Registry.{Ghosts}
 
--- it only reads
+-- the call only reads
 abbrev pub Reads : {R T : Type 0} → Ghosts R → (old new : R) → Result T ProviderFault → Type 0
 Reads g old new result = OnlyReads g.rows g.is_faithful g.is_honest g.may_hold g.faults g.writes CountsProviderFault old new result
 
--- it makes the rows these by one write at most
+-- the call changes the rows to `later` by one write at most
 abbrev pub Writes : {R T : Type 0} → Ghosts R → (old new : R) → (later : List StoredRecord) → Result T ProviderFault → Type 0
 Writes g old new later result = WritesOnce g.rows g.is_faithful g.is_honest g.may_hold g.faults g.writes CountsProviderFault old new later result

@@ -1,4 +1,4 @@
--- What stands gathered of a search while the rows are looked through: one page beside a count.
+-- The state of a search while it looks through the rows: one page and a count.
 use Rattle.std.specs.Prelude.{◌≡◌, ℕ, ◌≤◌, ◌-◌, ◌^◌, min, List, [], ◌∷◌, ◌++◌, length, Option}
 use Rattle.scim_key.specs.declared.records.Kind.{Kind}
 use Rattle.scim_resource.specs.Rows.{StoredRecord, ShownRecord}
@@ -13,7 +13,7 @@ pub record Gathered : Type 0 where
   pub total : ℕ
   pub page : List ShownRecord
 
--- the count stays at the greatest number that it has
+-- no count goes above this
 abbrev pub greatest_total : ℕ
 greatest_total = 2 ^ 64 - 1
 
@@ -21,7 +21,7 @@ greatest_total = 2 ^ 64 - 1
 abbrev pub IsPlace : ℕ → Type 0
 IsPlace first = (1 ≤ first) × (first ≤ greatest_total)
 
--- what is gathered of these resources, for the page from a place on
+-- the state of a search that found these resources, for the page from a place on
 abbrev pub gathered : ℕ → ℕ → List ShownRecord → Gathered
 gathered first size resources = record {
   first = first;
@@ -35,16 +35,16 @@ abbrev pub Adds : ShownRecord → Gathered → Gathered → Type 0
 Adds resource old new = (first size : ℕ) (resources : List ShownRecord)
     → IsPlace first → old ≡ gathered first size resources → new ≡ gathered first size (resources ++ resource ∷ [])
 
--- where these rows come after others, what was gathered of the others became what is gathered of all
+-- if these rows come after others, the state for the others became the state for all of them
 abbrev pub GoesThrough : Kind → Option Expression → List StoredRecord → Gathered → Gathered → Type 0
 GoesThrough kind wanted rows old new = (first size : ℕ) (before : List StoredRecord)
     → IsPlace first → old ≡ gathered first size (found kind wanted before) → new ≡ gathered first size (found kind wanted (before ++ rows))
 
--- the rows were all looked through, and what was found can be counted
+-- all rows were looked through, and the rows that were found can be counted
 pub record Gathers (kind : Kind) (wanted : Option Expression) (rows : List StoredRecord) (old new : Gathered) : Type 0 where
   pub through : GoesThrough kind wanted rows old new
   pub few : length (found kind wanted rows) ≤ greatest_total
 
--- the list message with what is gathered
+-- the list message of a state
 abbrev pub listed : Gathered → Answer
 listed g = answers.List (record { total = g.total; start = g.first; resources = g.page })

@@ -17,7 +17,7 @@ pub record MemoryRecord : Type 0 where
 abbrev pub name_cmp : RecordName → RecordName → Ordering
 name_cmp = names.name_cmp
 
--- The rows are numbered from 1, no two of one record, and the index has for every name the number of its row
+-- The rows are numbered from 1, no two are of the same record, and the index has the number of each name's row
 pub record IsIndexed (numbers : BTreeMap RecordName ℕ) (rows : List StoredRecord) : Type 0 where
   pub within : length rows ≤ last_number
   pub numbered : IsNumberedFrom 1 rows

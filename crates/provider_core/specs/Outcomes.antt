@@ -1,4 +1,4 @@
--- What the provider answers to a request, and what becomes of its rows.
+-- What the provider answers to a request, and how its rows change.
 use Rattle.std.specs.Prelude.{◌≡◌, ℕ, suc, ◌&&◌, Bool, true, false, List, [], ◌∷◌, ◌++◌, Option, Some, None, length, nat_le}
 use Rattle.scim_key.specs.Identifiers.{id_text}
 use Rattle.scim_version.specs.Tags.{version_tag}
@@ -26,7 +26,7 @@ pub record Outcome : Type 0 where
   pub change : Change
   pub answer : Answer
 
--- how many resources a provider holds at most
+-- the most resources that a provider holds
 abbrev pub most_resources : ℕ
 most_resources = MOST_RESOURCES
 
@@ -39,11 +39,11 @@ refused refusal = replied (Error (error_of refusal))
 
 -- ---- Create
 
--- the row of a new resource, where there are `count` of them
+-- the row of a new resource, after `count` others
 abbrev pub first_row : ℕ → Content → StoredRecord
 first_row count content = record { number = suc count; version = 1; content = content }
 
--- by the row that has the name, if there is one, and whether there is no room
+-- by the row with this name, if there is one, and by whether the provider is full
 abbrev pub creating : (taken : Option StoredRecord) → (full : Bool) → (count : ℕ) → Content → Outcome
 creating (Some row) full count content = refused NameTaken
 creating None true count content = refused LimitReached
@@ -55,7 +55,7 @@ creating None false count content = record { change = Insert (first_row count co
 abbrev pub next_row : StoredRecord → Content → StoredRecord
 next_row row content = record { number = row.number; version = suc row.version; content = content }
 
--- by whether the name is the same, the version is the last, and both conditions hold
+-- by whether the name stays the same, the version is the last, and both conditions hold
 abbrev pub writing : (keeps_name : Bool) → (at_last : Bool) → (holds : Bool) → StoredRecord → Content → Outcome
 writing false at_last holds row content = refused NameFixed
 writing true true holds row content = refused LimitReached
@@ -74,7 +74,7 @@ replacing (Some row) content if_match if_none_match =
 abbrev pub not_modified : StoredRecord → Answer
 not_modified row = NotModified (content_kind row.content) (id_text row.number) (version_tag row.version)
 
--- by whether `If-Match` holds, and whether `If-None-Match` does
+-- by whether `If-Match` and `If-None-Match` hold
 abbrev pub reading : (matches : Bool) → (fresh : Bool) → StoredRecord → Outcome
 reading false fresh row = refused OtherVersion
 reading true false row = replied (not_modified row)
@@ -87,7 +87,7 @@ retrieving (Some row) if_match if_none_match = reading (holds_match if_match (So
 
 -- ---- all requests
 
--- What the provider does at a request, on the rows that stand
+-- What the provider does for a request, given its rows
 abbrev pub outcome : List StoredRecord → Request → Outcome
 outcome rows (Create content) = creating (row_named (content_name content) rows) (nat_le most_resources (length rows)) (length rows) content
 outcome rows (Retrieve kind id if_match if_none_match) = retrieving (resource kind id rows) if_match if_none_match

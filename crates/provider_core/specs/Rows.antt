@@ -49,20 +49,20 @@ has_number number row = row.number == number
 abbrev pub row_numbered : ℕ → List StoredRecord → Option StoredRecord
 row_numbered number rows = find (has_number number) rows
 
--- the rows with this one in the place of the row with its number
+-- the rows, with this row in place of the one with the same number
 abbrev pub with_row : StoredRecord → List StoredRecord → List StoredRecord
 with_row row [] = []
 with_row row (r ∷ rs) = if has_number row.number r then row ∷ rs else r ∷ with_row row rs
 
--- each row has the number after that of the row before it
+-- the rows are numbered one after the other, from this number on
 abbrev pub IsNumberedFrom : ℕ → List StoredRecord → Type 0
 IsNumberedFrom number [] = Unit {0}
 IsNumberedFrom number (row ∷ rows) = (row.number ≡ number) × IsNumberedFrom (suc number) rows
 
--- the records of these rows
+-- the names of these rows' records
 abbrev pub names_of : List StoredRecord → List RecordName
 names_of rows = map (λ row. content_name row.content) rows
 
--- no two rows are of one record
+-- no two rows are of the same record
 abbrev pub AreNamedApart : List StoredRecord → Type 0
 AreNamedApart rows = IsDistinct same_name (names_of rows)

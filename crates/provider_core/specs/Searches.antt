@@ -10,7 +10,7 @@ use Rattle.scim_message.specs.declared.lists.ListResponse.{ListResponse}
 use Rattle.provider_core.specs.Rows.{same_kind}
 use Rattle.provider_core.specs.declared.searching.TheConstants.{MOST_LISTED}
 
--- whether a filter holds of a row; where there is none, all rows are wanted
+-- whether a filter holds for a row; without a filter, all rows are wanted
 abbrev pub is_wanted : Option Expression → StoredRecord → Bool
 is_wanted None row = true
 is_wanted (Some wanted) row = satisfies wanted row
@@ -22,22 +22,22 @@ is_hit kind wanted row = same_kind kind (content_kind row.content) && is_wanted 
 abbrev pub found : Kind → Option Expression → List StoredRecord → List ShownRecord
 found kind wanted rows = map shown (filter (is_hit kind wanted) rows)
 
--- the place of the first that is shown, counted from 1: a start below 1 counts as 1
+-- the place of the first resource on the page, counted from 1; a start below 1 counts as 1
 abbrev pub first_place : ℤ → ℕ
 first_place (pos n) = max 1 n
 first_place (negsuc n) = 1
 
--- how many are shown at most: where no count is given, as many as there may be; a count below 0 counts as 0
+-- the most resources on the page; without a count, as many as a list may show; a count below 0 counts as 0
 abbrev pub page_size : Option ℤ → ℕ
 page_size None = MOST_LISTED
 page_size (Some (pos n)) = min n MOST_LISTED
 page_size (Some (negsuc n)) = 0
 
--- those at the places from `first` on, counted from 1, `size` of them at most
+-- at most `size` resources, from the place `first` on, counted from 1
 abbrev pub page_from : ℕ → ℕ → List ShownRecord → List ShownRecord
 page_from first size resources = take size (drop (first - 1) resources)
 
--- The list message of what was found: how many there are, and one page of them
+-- The list message for the resources that were found: how many there are, and one page of them
 abbrev pub listing : ℤ → Option ℤ → List ShownRecord → ListResponse
 listing start count resources = record {
   total = length resources;

@@ -1,4 +1,4 @@
--- What each call of a store of rows keeps, and what the store counts.
+-- What each call of a store of rows keeps, and which faults the store counts.
 use Rattle.std.specs.Prelude.{◌≡◌, ℕ, ◌≤◌, List, Some}
 pub use Rattle.scim_key.specs.Stores.{HasRisen, CountsFaults, LeavesNoMore, LeavesOr, OnlyReads, WritesOnce, Reopens, IsQuiet}
 use Rattle.scim_resource.specs.Contents.{content_name}
@@ -9,7 +9,7 @@ use Rattle.provider_core.specs.declared.registry.RegistryFault.TheVariants as re
 use Rattle.provider_core.specs.declared.provider.ProviderFault.{ProviderFault}
 use Rattle.provider_core.specs.declared.provider.ProviderFault.TheVariants as provider
 
--- a fault of the store is counted, and out of memory is none
+-- a fault of the store is counted; out of memory isn't
 abbrev pub CountsFault : (old new : ℕ) → RegistryFault → Type 0
 CountsFault old new registry.Store = (old ≤ new) × HasRisen old new
 CountsFault old new registry.Memory = new ≡ old
@@ -18,12 +18,12 @@ abbrev pub CountsProviderFault : (old new : ℕ) → ProviderFault → Type 0
 CountsProviderFault old new provider.Store = (old ≤ new) × HasRisen old new
 CountsProviderFault old new provider.Memory = new ≡ old
 
--- the provider's fault at a fault of its registry
+-- the provider's fault for a fault of its registry
 abbrev pub provider_fault : RegistryFault → ProviderFault
 provider_fault registry.Store = provider.Store
 provider_fault registry.Memory = provider.Memory
 
--- a row with this number is there, and is of the same record
+-- a row with this number is there, and it is of the same record
 pub record HoldsNumber (rows : List StoredRecord) (row : StoredRecord) : Type 0 where
   pub held : StoredRecord
   pub there : row_numbered row.number rows ≡ Some held

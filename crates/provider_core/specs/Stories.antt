@@ -24,7 +24,8 @@ use Rattle.provider_core.specs.Rows.{same_kind, same_name}
 use Rattle.provider_core.specs.Searches.{is_wanted, listing}
 use Rattle.provider_core.specs.Outcomes.{outcome, changed_rows, most_resources}
 
--- A record's entry: what it held before, in order, and what it holds. All of this is its story, which is never empty
+-- A record's entry: the contents that it held before, in order, and the one that it holds. Together they are its story,
+-- which is never empty
 pub record Entry : Type 0 where
   pub name : RecordName
   pub earlier : List Content
@@ -37,11 +38,11 @@ story e = e.earlier ++ e.held ∷ []
 abbrev pub first_entry : Content → Entry
 first_entry content = record { name = content_name content; earlier = []; held = content }
 
--- the entry whose story goes on with this content
+-- the entry after its story goes on with this content
 abbrev pub renewed : Entry → Content → Entry
 renewed e content = record { name = e.name; earlier = story e; held = content }
 
--- an entry's row: its place makes its number, and its story's length its version
+-- an entry's row: its number is its place, and its version is the length of its story
 abbrev pub row_of : ℕ → Entry → StoredRecord
 row_of number e = record { number = number; version = suc (length e.earlier); content = e.held }
 
@@ -78,13 +79,13 @@ if_entry_of_kind kind (Some n) = if same_kind kind n.entry.name.kind then Some n
 abbrev pub entry_with_id : Kind → List ℕ → List Entry → Option Numbered
 entry_with_id kind id es = if_entry_of_kind kind (find (has_entry_id id) (numbered_from 1 es))
 
--- the entries where the story at this place, counted from 0, goes on with this content
+-- the entries after the story at this place, counted from 0, goes on with this content
 abbrev pub renew_at : ℕ → Content → List Entry → List Entry
 renew_at place content [] = []
 renew_at zero content (e ∷ es) = renewed e content ∷ es
 renew_at (suc place) content (e ∷ es) = e ∷ renew_at place content es
 
--- the entries of this type that a filter finds, as they are shown, in their order
+-- the entries of this type that a filter finds, as they are shown, in order
 abbrev pub is_entry_hit : Kind → Option Expression → Numbered → Bool
 is_entry_hit kind wanted n = same_kind kind n.entry.name.kind && is_wanted wanted (row_of n.number n.entry)
 
@@ -93,7 +94,7 @@ found_entries kind wanted es = map (λ n. shown (row_of n.number n.entry)) (filt
 
 -- ---- what a request does
 
--- what becomes of the table at a request, and what is answered
+-- the table after a request, and the answer
 pub record Step : Type 0 where
   pub entries : List Entry
   pub answer : Answer
@@ -110,7 +111,7 @@ creating_entry (Some e) full es content = refused_on es NameTaken
 creating_entry None true es content = refused_on es LimitReached
 creating_entry None false es content = record { entries = es ++ first_entry content ∷ []; answer = Created (shown (row_of (suc (length es)) (first_entry content))) }
 
--- by whether the name is the same, the story is as long as it can be, and both conditions hold
+-- by whether the name stays the same, the story has its greatest length, and both conditions hold
 abbrev pub writing_entry : (keeps_name : Bool) → (at_last : Bool) → (holds : Bool) → Numbered → List Entry → Content → Step
 writing_entry false at_last holds n es content = refused_on es NameFixed
 writing_entry true true holds n es content = refused_on es LimitReached
@@ -123,7 +124,7 @@ replacing_entry (Some n) es content if_match if_none_match =
     writing_entry (same_name n.entry.name (content_name content)) (nat_le last_version (length (story n.entry)))
     (holds_match if_match (Some (length (story n.entry))) && holds_none_match if_none_match (Some (length (story n.entry)))) n es content
 
--- by whether `If-Match` holds, and whether `If-None-Match` does
+-- by whether `If-Match` and `If-None-Match` hold
 abbrev pub reading_entry : (matches : Bool) → (fresh : Bool) → Numbered → List Entry → Step
 reading_entry false fresh n es = refused_on es OtherVersion
 reading_entry true false n es = replied_on es (NotModified n.entry.name.kind (id_text n.number) (version_tag (length (story n.entry))))
@@ -134,7 +135,7 @@ retrieving_entry None es if_match if_none_match = refused_on es NoSuchResource
 retrieving_entry (Some n) es if_match if_none_match =
     reading_entry (holds_match if_match (Some (length (story n.entry)))) (holds_none_match if_none_match (Some (length (story n.entry)))) n es
 
--- What the provider does at a request, on entries
+-- What the provider does for a request, given its entries
 abbrev pub step : List Entry → Request → Step
 step es (Create content) = creating_entry (find (is_entry_of (content_name content)) es) (nat_le most_resources (length es)) es content
 step es (Retrieve kind id if_match if_none_match) = retrieving_entry (entry_with_id kind id es) es if_match if_none_match
@@ -147,7 +148,8 @@ step es (Replace id content if_match if_none_match) = replacing_entry (entry_wit
 abbrev pub IsTable : List Entry → Type 0
 IsTable es = AllByRecursion (λ e. content_name e.held ≡ e.name) es
 
--- On the rows of a table the provider answers what the table answers, and the changed rows are those of the changed table
+-- On the rows of a table, the provider answers what the table answers, and the changed rows are the rows of the changed
+-- table
 pub record Agrees (es : List Entry) (request : Request) : Type 0 where
   pub answer : (outcome (rows_of es) request).answer ≡ (step es request).answer
   pub rows : changed_rows (rows_of es) (outcome (rows_of es) request).change ≡ rows_of (step es request).entries
@@ -156,7 +158,7 @@ pub record Agrees (es : List Entry) (request : Request) : Type 0 where
 abbrev pub RowsFollowStories : Type 0
 RowsFollowStories = (es : List Entry) (request : Request) → IsTable es → Agrees es request
 
--- an entry goes on: its name stays, and its story is a prefix of the later one
+-- an entry goes on: its name stays, and its story is a prefix of the later story
 pub record GoesOn (e later : Entry) : Type 0 where
   pub name : later.name ≡ e.name
   pub more : List Content

@@ -1,4 +1,5 @@
--- What holds of the provider's table of whole stories: how an entry is found, what a request writes, and what an answer shows.
+-- Laws of the provider's table of whole stories: how an entry is found, what a request writes, and what an answer
+-- shows.
 use Rattle.std.specs.Prelude.{◌≡◌, ℕ, suc, ◌<◌, Bool, true, List, [], ◌∷◌, ◌++◌, Option, Some, None, length, slice_get}
 use Rattle.std.specs.List.{find}
 use Rattle.std.specs.Option.{option_map}
@@ -27,20 +28,20 @@ is_numbered_of name n = is_entry_of name n.entry
 abbrev pub entry_named : RecordName → List Entry → Option Numbered
 entry_named name es = find (is_numbered_of name) (numbered_from 1 es)
 
--- a table: every content of a story is of its entry's record, and no two entries are of one record
+-- a table: every content of a story is of its entry's record, and no two entries are of the same record
 pub record IsWholeTable (es : List Entry) : Type 0 where
   pub named : (i j : ℕ) (e : Entry) (c : Content) → slice_get es i ≡ Some e → slice_get (story e) j ≡ Some c → content_name c ≡ e.name
   pub distinct : (i j : ℕ) (d e : Entry) → slice_get es i ≡ Some d → slice_get es j ≡ Some e → d.name ≡ e.name → i ≡ j
 
--- every request leaves a table
+-- after every request, the table is still whole
 abbrev pub TablesStayWhole : Type 0
 TablesStayWhole = (es : List Entry) (request : Request) → IsWholeTable es → IsWholeTable (step es request).entries
 
--- the row of a record is that of its entry
+-- the row of a record is the row of its entry
 abbrev pub FoundByName : Type 0
 FoundByName = (name : RecordName) (es : List Entry) → IsWholeTable es → row_named name (rows_of es) ≡ option_map (λ n. row_of n.number n.entry) (entry_named name es)
 
--- the entry that is found is of the record, and an entry of the record is the one that is found
+-- the entry that is found is of this record, and the entry of this record is found
 pub record FindsByName (name : RecordName) (es : List Entry) : Type 0 where
   pub found : (n : Numbered) → entry_named name es ≡ Some n → (i : ℕ) × (n.number ≡ suc i) × (slice_get es i ≡ Some n.entry) × (n.entry.name ≡ name)
   pub here : (i : ℕ) (e : Entry) → slice_get es i ≡ Some e → e.name ≡ name → entry_named name es ≡ Some (record { number = suc i; entry = e })
@@ -50,7 +51,7 @@ EntriesAreFound = (name : RecordName) (es : List Entry) → IsWholeTable es → 
 
 -- ---- what a request writes
 
--- nothing, the first content under a free name, or the next content of a story whose version the condition holds of
+-- nothing, the first content under a free name, or the next content of a story, if the condition holds for its version
 pub data Writes : List Entry → Request → List Entry → Type 0 where
   nothing : {es : List Entry} {r : Request} → Writes es r es
   created : {es : List Entry} (content : Content) → entry_named (content_name content) es ≡ None → Writes es (Create content) (es ++ first_entry content ∷ [])
@@ -62,7 +63,7 @@ StepsWrite = (es : List Entry) (request : Request) → Writes es request (step e
 
 -- ---- what an answer shows
 
--- some turn of the story of the entry that has the id
+-- a content in the story of the entry with this id, with the tag of its version
 pub record IsFact (es : List Entry) (s : ShownRecord) : Type 0 where
   pub place : ℕ
   pub turn : ℕ
@@ -85,14 +86,14 @@ ShowsFacts = (es : List Entry) (request : Request) (i : ℕ) (s : ShownRecord) �
 
 -- ---- entries that go on
 
--- read at a place
+-- if all entries go on, the entry at each place does
 abbrev pub GoOnAt : Type 0
 GoOnAt = (es fs : List Entry) (i : ℕ) (e : Entry) → AllGoOn es fs → slice_get es i ≡ Some e → (f : Entry) × (slice_get fs i ≡ Some f) × GoesOn e f
 
--- all go on where nothing changes
+-- all entries go on if nothing changes
 abbrev pub GoOnStaying : Type 0
 GoOnStaying = (es : List Entry) → AllGoOn es es
 
--- and over two steps
+-- all entries go on over two steps
 abbrev pub GoOnFurther : Type 0
 GoOnFurther = (es fs gs : List Entry) → AllGoOn es fs → AllGoOn fs gs → AllGoOn es gs

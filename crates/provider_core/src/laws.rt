@@ -8,7 +8,7 @@ pub fn rows_follow_stories()
     ensures { RowsFollowStories }
 {}
 
-/// Over a registry in memory a request meets no store fault: what gets no answer is out of memory.
+/// Over a registry in memory, a request fails only if it is out of memory.
 pub fn memory_never_faults()
     ensures { OnlyMemoryWants }
 {}
@@ -18,36 +18,37 @@ pub fn memory_is_faithful()
     ensures { AlwaysFaithful }
 {}
 
-/// A request adds contents to stories at most, and a version is the length of its story.
+/// A request only adds contents to stories, and a version is the length of its story.
 pub fn stories_only_grow()
     ensures grow { StoriesGrow }
     ensures counted { VersionsCount }
 {}
 
-/// After every request no two entries of the table are of one record, and each content of a story is of its
-/// entry's record.
+/// After every request, no two entries of the table are of the same record, and each content of a story is
+/// of its entry's record.
 pub fn tables_stay_whole()
     ensures { TablesStayWhole }
 {}
 
-/// A record's row is that of its entry: the one that has its name.
+/// The row of a record, found by its name, is the row of its entry.
 pub fn records_are_found_by_name()
     ensures rows { FoundByName }
     ensures entries { EntriesAreFound }
 {}
 
-/// What a request writes: nothing, a first content under a free name, or the next content of the story with
-/// the id and the name, whose version the condition holds of.
+/// A request writes nothing, a first content under a free name, or the next content of a story. The entry
+/// of that story has the request's id and name, and the condition holds for its version.
 pub fn requests_write_one_content()
     ensures { StepsWrite }
 {}
 
-/// Each resource that an answer shows is a content that the entry with its id held, under that version's tag.
+/// Each resource that an answer shows is a content that the entry with its id held, with the tag of that
+/// version.
 pub fn answers_show_facts()
     ensures { ShowsFacts }
 {}
 
-/// Entries that go on, read at a place, where nothing changes, and over two steps.
+/// Entries go on: read at a place, if nothing changes, and over two steps.
 pub fn entries_go_on()
     ensures at { GoOnAt }
     ensures staying { GoOnStaying }

@@ -1,4 +1,4 @@
-//! The provider over a registry: what each request answers and changes.
+//! The provider over a registry: its answer to each request, and what it changes.
 #![tactic(auto)]
 
 mod laws;

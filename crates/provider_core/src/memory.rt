@@ -8,7 +8,7 @@ use std::alloc::{AllocError, Global};
 use std::collections::BTreeMap;
 use std::marker::Model;
 
-/// A registry whose rows stand in memory, with an index by name.
+/// A registry with its rows in memory, and an index by name.
 #[derive(Debug, Drop)]
 pub struct MemoryRegistry {
     rows: Vec<Stored>,

@@ -1,4 +1,4 @@
-//! What a request would answer and change, by the row that it speaks of.
+//! What a request would answer and change, given the row that it is about.
 ghost use Rattle.std.specs.Prelude.{◌≡◌, ◌<◌, None, Some, false, IfOk};
 ghost use Rattle.scim_resource.specs.Contents.{content_kind, content_name};
 ghost use Rattle.provider_core.specs.Rows.{same_kind, same_name};
@@ -11,10 +11,10 @@ use scim_resource::{Content, LAST_VERSION, Shown, Stored};
 use scim_version::{Condition, EntityTag};
 use std::alloc::{AllocError, Global};
 
-/// How many resources a provider holds at most: one for each number.
+/// The most resources that a provider holds: one for each number.
 pub const MOST_RESOURCES: u32 = LAST_NUMBER;
 
-/// What is pending where a request is refused.
+/// The pending outcome of a refusal.
 pub(crate) fn refusal(alloc: Global, refusal: Refusal) -> Result<Pending, AllocError>
     ensures { IfOk result (λ pending. pending ≡ refused refusal) }
 {
@@ -24,7 +24,7 @@ pub(crate) fn refusal(alloc: Global, refusal: Refusal) -> Result<Pending, AllocE
     })
 }
 
-/// What is pending where a content becomes a new row, `count` of them being there.
+/// The pending outcome if a content becomes a new row after `count` others.
 pub(crate) fn insertion(alloc: Global, count: u32, content: &Content) -> Result<Pending, AllocError>
     requires { count < MOST_RESOURCES }
     ensures { IfOk result (λ pending. pending ≡ creating None false count content.now) }
@@ -44,14 +44,14 @@ pub(crate) fn is_of_kind(row: &Stored, kind: Kind) -> bool
     row.content().kind() == kind
 }
 
-/// Whether the content is of the row's record.
+/// Whether the content is of the same record as the row.
 fn keeps_name(row: &Stored, content: &Content) -> bool
     ensures { result ≡ same_name (content_name row.now.content) (content_name content.now) }
 {
     row.content().has_name_of(content)
 }
 
-/// What is pending where a content replaces that of a row, if both conditions hold.
+/// The pending outcome of replacing a row's content, by whether both conditions hold.
 pub(crate) fn replacement(
     alloc: Global,
     row: &Stored,
@@ -90,7 +90,7 @@ fn unmodified(alloc: Global, row: &Stored) -> Result<Answer, AllocError>
     })
 }
 
-/// What is pending where a row is asked for, if `If-Match` holds and `If-None-Match` does.
+/// The pending outcome of retrieving a row, by whether `If-Match` and `If-None-Match` hold.
 pub(crate) fn retrieval(
     alloc: Global,
     row: &Stored,

@@ -3,18 +3,18 @@ use scim_message::Answer;
 use scim_resource::Stored;
 use std::marker::Model;
 
-/// What becomes of the rows.
+/// How the rows change.
 #[derive(Debug, Drop)]
 pub enum Change {
     /// Nothing.
     Unchanged,
-    /// A row joins.
+    /// A row is added.
     Insert(Stored),
-    /// A row takes the place of the one with its number.
+    /// A row replaces the row with the same number.
     Update(Stored),
 }
 
-/// The answer to a request, and the change that goes with it and isn't made yet.
+/// The answer to a request and its change, which isn't made yet.
 #[derive(Debug, Drop)]
 pub struct Pending {
     pub(crate) change: Change,
@@ -32,7 +32,7 @@ impl Model for Pending {
 impl Pending {
     ghost use Rattle.std.specs.Prelude.{◌≡◌};
 
-    /// What is answered once the change is committed.
+    /// The answer to give once the change is committed.
     pub fn answer(&self) -> &Answer
         ensures { result.now ≡ self.now.answer }
     {

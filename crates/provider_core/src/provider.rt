@@ -23,10 +23,10 @@ use std::alloc::{AllocError, Global};
 use std::marker::Model;
 use thiserror::Error;
 
-/// How many rows a search asks the store for at a time.
+/// How many rows a search reads from the store at a time.
 const ROWS_AT_ONCE: u32 = 200;
 
-/// Why a request got no answer. Nothing has changed then.
+/// Why a request got no answer. Nothing was changed.
 #[derive(Clone, Copy, Debug, PartialEq, Eq, Error)]
 pub enum ProviderFault {
     #[error("P10")]
@@ -56,7 +56,7 @@ impl From<RegistryFault> for ProviderFault {
     }
 }
 
-/// A provider (RFC 7644 section 3), which answers over the rows of a registry.
+/// A provider (RFC 7644 section 3) over the rows of a registry.
 #[derive(Debug, Drop)]
 pub struct Provider<R: Registry> {
     registry: R,
@@ -76,7 +76,7 @@ impl<R: Registry> Provider<R> {
         Provider { registry }
     }
 
-    /// The registry, with the rows as they stand.
+    /// Gives the registry back.
     pub fn close(self) -> R
         ensures { result ≡ self }
     {
@@ -84,7 +84,7 @@ impl<R: Registry> Provider<R> {
         registry
     }
 
-    /// Forms the answer to a request and the change that goes with it. It changes nothing.
+    /// Forms the answer to a request and the change that goes with it. It doesn't make the change.
     pub fn prepare(&mut self, alloc: Global, request: &Request) -> Result<Pending, ProviderFault>
         ensures ok { R.is_faithful self.new →
             IfOk result (λ pending. pending ≡ outcome (R.rows self.old) request.now) }
@@ -179,7 +179,7 @@ impl<R: Registry> Provider<R> {
         Ok(gathered.into_pending())
     }
 
-    /// Looks for the rows of a type that a filter finds: by the index where it names one record.
+    /// Looks for the rows of a type that a filter finds; by the index, if the filter names one record.
     fn gather(
         &mut self,
         alloc: Global,
@@ -216,7 +216,7 @@ impl<R: Registry> Provider<R> {
         }
     }
 
-    /// Looks through all rows, some at a time.
+    /// Looks through all rows, `ROWS_AT_ONCE` at a time.
     fn gather_all(
         &mut self,
         kind: Kind,
@@ -273,8 +273,8 @@ impl<R: Registry> Provider<R> {
         }
     }
 
-    /// Makes the change of what was prepared on the rows that now stand, and gives the answer.
-    /// It writes once at most, and takes no memory of its own.
+    /// Makes a prepared change on the current rows, and gives the answer. It writes at most once, and
+    /// allocates nothing itself.
     pub fn commit(&mut self, pending: Pending) -> Result<Answer, ProviderFault>
         requires { R.is_faithful self.old → IsOutcome (R.rows self.old) pending }
         ensures answer { IfOk result (λ answer. answer ≡ pending.answer) }
@@ -287,7 +287,7 @@ impl<R: Registry> Provider<R> {
         Ok(pending.answer)
     }
 
-    /// Makes a change on the rows that now stand.
+    /// Makes a change on the current rows.
     fn make(&mut self, change: Change) -> Result<(), RegistryFault>
         requires { R.is_faithful self.old → IsChange (R.rows self.old) change }
         ensures writes { WritesOnce R.rows R.is_faithful R.is_honest R.may_hold R.faults R.writes

@@ -1,5 +1,5 @@
 //! What a provider asks of the store of its rows.
-ghost use Rattle.std.specs.Prelude.{◌≡◌, ℕ, ◌+◌, List, [], ◌∷◌, ◌++◌, length, IfOk, OnOk, None};
+ghost use Rattle.std.specs.Prelude.{◌≡◌, ℕ, ◌+◌, ◌≤◌, List, [], ◌∷◌, ◌++◌, length, IfOk, OnOk, None};
 ghost use Rattle.scim_resource.specs.Rows.{StoredRecord};
 ghost use Rattle.scim_resource.specs.Contents.{content_name};
 ghost use Rattle.provider_core.specs.Rows.{row_named, row_with_id, page_after, with_row, IsNumberedFrom, AreNamedApart};
@@ -10,7 +10,7 @@ use scim_resource::Stored;
 use std::alloc::{AllocError, AllocFailed};
 use thiserror::Error;
 
-/// Why a call of a registry failed. The rows are then as they were.
+/// Why a call of a registry failed. The rows are unchanged.
 #[derive(Clone, Copy, Debug, PartialEq, Eq, Error)]
 pub enum RegistryFault {
     #[error("store")]
@@ -39,10 +39,10 @@ impl<T: Drop> From<AllocFailed<T>> for RegistryFault {
     }
 }
 
-/// The rows of a provider, in order of creation, numbered from 1, no two of one record.
+/// The rows of a provider in order of creation, numbered from 1, at most one for each record.
 ///
-/// What is said of the rows holds while the store is faithful: it returned what was committed, and
-/// is open. A registry in memory always is. A fault of the store is counted, and may shut it.
+/// The claims about rows hold while the store is faithful: it returned what was committed, and is open. A
+/// registry in memory is always faithful. A fault of the store is counted, and may close the store.
 pub trait Registry {
     ghost rows: { Self → List StoredRecord };
 
@@ -52,7 +52,7 @@ pub trait Registry {
     /// The store returned what was committed.
     ghost is_honest: { Self → Type 0 };
 
-    /// The rows that may be found where the store is opened again after a stop at this moment.
+    /// The rows that may be found if the store is opened again after a stop at this moment.
     ghost may_hold: { Self → List StoredRecord → Type 0 };
 
     ghost faults: { Self → ℕ };
@@ -77,12 +77,13 @@ pub trait Registry {
 
     /// At most `limit` rows, in order, from the first with a number above `after`.
     fn scan(&mut self, after: u32, limit: usize) -> Result<Vec<Stored>, RegistryFault>
+        requires few { limit ≤ 200 }
         ensures ok { is_faithful self.new → IfOk result (λ page. page.items ≡ page_after after limit (rows self.old)) }
         ensures numbered { is_faithful self.new → IsNumberedFrom 1 (rows self.old) }
         ensures apart { is_faithful self.new → AreNamedApart (rows self.old) }
         ensures reads { OnlyReads rows is_faithful is_honest may_hold faults writes CountsFault self.old self.new result };
 
-    /// Adds a row with the next number and a free name.
+    /// Adds a row, with the next number and a free name.
     fn insert(&mut self, row: Stored) -> Result<(), RegistryFault>
         requires next { is_faithful self.old → row.number ≡ length (rows self.old) + 1 }
         requires free { is_faithful self.old → row_named (content_name row.content) (rows self.old) ≡ None }
@@ -90,19 +91,19 @@ pub trait Registry {
         ensures open { is_honest self.new → OnOk result (is_faithful self.new) }
         ensures counted { OnOk result (HasRisen (writes self.old) (writes self.new)) };
 
-    /// Puts a row in the place of the one with its number, which has its name too.
+    /// Replaces the row with the same number, which must have the same name.
     fn update(&mut self, row: &Stored) -> Result<(), RegistryFault>
         requires there { is_faithful self.old → HoldsNumber (rows self.old) row.now }
         ensures replaces { WritesOnce rows is_faithful is_honest may_hold faults writes CountsFault self.old self.new (with_row row.now (rows self.old)) result }
         ensures open { is_honest self.new → OnOk result (is_faithful self.new) }
         ensures counted { OnOk result (HasRisen (writes self.old) (writes self.new)) };
 
-    /// A faithful store is an honest one.
+    /// A faithful store is honest.
     ghost is_so: { (s : Self) → is_faithful s → is_honest s };
 
-    /// After a stop at this moment a faithful store holds its rows.
+    /// A stop at this moment leaves nothing but the rows of a faithful store.
     ghost settled: { (s : Self) (found : List StoredRecord) → is_faithful s → may_hold s found → found ≡ rows s };
 
-    /// A stop at this moment may leave a faithful store.
+    /// A stop at this moment may leave the rows of a faithful store.
     ghost stays: { (s : Self) → is_faithful s → may_hold s (rows s) };
 }

@@ -5,15 +5,15 @@ ghost use Rattle.provider_core.specs.Stores.{CountsFault, Reopens};
 use crate::memory::MemoryRegistry;
 use crate::registry::{Registry, RegistryFault};
 
-/// A registry that can be opened again, as after a stop of the program that held it.
+/// A registry that can be opened again, for example after a stop of its program.
 pub trait Reopen: Registry {
-    /// Opens the store again. After a stop it holds what the stop left.
+    /// Opens the store again. After a stop, it holds what the stop left.
     fn reopen(&mut self) -> Result<(), RegistryFault>
         ensures reopens { Reopens Self.rows Self.is_faithful Self.is_honest Self.may_hold Self.faults Self.writes CountsFault self.old self.new result };
 }
 
 impl Reopen for MemoryRegistry {
-    /// The rows stand in memory, and stay.
+    /// The rows are in memory, and stay.
     fn reopen(&mut self) -> Result<(), RegistryFault>
         ensures kept { self.new ≡ self.old }
         ensures done { IsOk result }

@@ -1,4 +1,4 @@
-//! What a search finds: how many resources, and the page of them that is shown.
+//! What a search finds: the number of resources, and the page that is shown.
 ghost use Rattle.std.specs.Prelude.{◌≡◌, ◌∷◌, ◌++◌, [], IfOk, OnOk};
 ghost use Rattle.std.specs.Option.{option_and_then};
 ghost use Rattle.scim_filter.specs.Names as names;
@@ -16,10 +16,10 @@ use scim_resource::{Shown, Stored};
 use std::alloc::{AllocError, Global};
 use std::marker::Model;
 
-/// How many resources one list shows at most.
+/// The most resources that one list shows.
 pub const MOST_LISTED: usize = 200;
 
-/// The place of the first resource that is shown, counted from 1.
+/// The place of the first resource on the page, counted from 1.
 pub(crate) fn first_place(start: i64) -> u64
     ensures place { result ≡ spec.first_place start }
     ensures lawful { IsPlace result }
@@ -27,7 +27,7 @@ pub(crate) fn first_place(start: i64) -> u64
     if start < 1 { 1 } else { start as u64 }
 }
 
-/// How many resources are shown at most.
+/// The most resources on the page.
 pub(crate) fn page_size(count: Option<i64>) -> usize
     ensures { result ≡ spec.page_size count }
 {
@@ -42,7 +42,7 @@ pub(crate) fn page_size(count: Option<i64>) -> usize
     }
 }
 
-/// What stands gathered of a search: one page beside a count.
+/// The state of a search: one page and a count.
 #[derive(Debug, Drop)]
 pub(crate) struct Gathered {
     first: u64,
@@ -60,7 +60,7 @@ impl Model for Gathered {
 }
 
 impl Gathered {
-    /// Nothing, of a page that begins at this place, counted from 1, and has this size at most.
+    /// An empty page that begins at this place, counted from 1, and has at most this size.
     pub(crate) fn new(alloc: Global, first: u64, size: usize) -> Gathered
         ensures { result ≡ gathered first size [] }
     {
@@ -72,7 +72,7 @@ impl Gathered {
         }
     }
 
-    /// Looks through rows for those of a type that a filter finds.
+    /// Looks through rows for the ones of this type that the filter finds.
     pub(crate) fn look_through(
         &mut self,
         kind: Kind,
@@ -103,7 +103,7 @@ impl Gathered {
         }
     }
 
-    /// Counts a row that was found, and keeps it where it is on the page.
+    /// Counts a row that was found, and keeps it if it is on the page.
     fn add(&mut self, row: &Stored) -> Result<(), AllocError>
         ensures { OnOk result (Adds (shown row.now) self.old self.new) }
     {
@@ -115,7 +115,7 @@ impl Gathered {
         Ok(())
     }
 
-    /// The list of what was found. Nothing changes.
+    /// The list of the resources that were found, without a change.
     pub(crate) fn into_pending(self) -> Pending
         ensures { result ≡ replied (listed self) }
     {
@@ -137,7 +137,7 @@ impl Gathered {
     }
 }
 
-/// Whether a row is of this type, and a filter holds of it.
+/// Whether a row is of this type and the filter holds for it.
 fn is_hit(kind: Kind, filter: &Option<Filter>, row: &Stored) -> bool
     ensures { result ≡ spec.is_hit kind filter.now row.now }
 {
@@ -153,7 +153,7 @@ fn is_wanted(filter: &Option<Filter>, row: &Stored) -> bool
     }
 }
 
-/// The record that a filter names, where it tests one name alone.
+/// The record that a filter names, if the filter is one test of a name.
 pub(crate) fn single_key(
     alloc: Global,
     filter: &Option<Filter>,

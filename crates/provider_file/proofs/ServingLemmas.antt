@@ -1,4 +1,4 @@
--- One connection more, from where the rows are kept.
+-- One more connection, from stored rows.
 use Rattle.std.proofs.Common.{◌≡◌, ℕ, suc, ◌+◌, arith, List, [], ◌∷◌, Option, Result, Ok, refl, ap, ◌∙◌}
 use Rattle.std.specs.Result.{result_and}
 use Rattle.provider_core.specs.declared.registry.Registry.{Ghosts}

@@ -14,12 +14,12 @@ abbrev pub registry_fault : RegistryFault → ShowFault
 registry_fault registry.Store = Store opening.Store
 registry_fault registry.Memory = Store opening.Memory
 
--- a call that only reads: a store that is faithful after it was so before, and the rows are the same
+-- a call that only reads: if the store is faithful after it, it was faithful before, and the rows are the same
 pub record ReadsOn {R : Type 0} (g : Ghosts R) (old new : R) : Type 0 where
   pub was : g.is_faithful new → g.is_faithful old
   pub same : g.is_faithful new → g.rows new ≡ g.rows old
 
--- a line of each row that was opened, in their order, is written
+-- a line for each row that was opened is written, in order
 pub record ShowsFrom {R : Type 0} (g : Ghosts R) (before after : Option (List ℕ)) : Type 0 where
   pub first : R
   pub last : R

@@ -1,16 +1,16 @@
-//! A file as the place of the rows.
+//! A file that keeps the rows.
 ghost use Rattle.std.specs.Prelude.{IfOk};
 ghost use Rattle.provider_file.specs.Opened.{IsOpened};
 
 use crate::storage::{Storage, StoredRows};
 use provider_core::Registry;
 use provider_store::{OpenFault, SqlRegistry};
-use sqlite::{Alter, Connection, File, FileStore, Unknown};
-use sqlite_disk::Disk;
+use sqlite::{Alter, Connection, Error, File, FileStore, Unknown};
+use sqlite_disk::{Disk, Files};
 use std::alloc::Global;
 use std::rt::HostRuntime;
 
-/// A file that keeps the rows of a provider. Where it isn't there, opening makes it.
+/// A file that keeps the rows of a provider. Opening makes the file if there is none.
 #[derive(Clone, Copy)]
 pub struct StoreFile<'a> {
     pub rt: &'a HostRuntime,
@@ -20,10 +20,10 @@ pub struct StoreFile<'a> {
 impl<'a> Storage for StoreFile<'a> {
     type Rows = SqlRegistry<FileStore<File>>;
 
-    /// What a file holds that was there before isn't known.
+    /// It isn't known what an existing file contains.
     ghost refuses = { λ _ _. Unit {0} };
 
-    /// A file that is refused is closed as it stands, and what it holds is as it was.
+    /// If the file is refused, it is closed unchanged.
     fn open(&self) -> Result<Self::Rows, OpenFault> {
         match Connection::open_from(self.rt, self.path, false, Unknown) {
             Ok(conn) => rows_over(self.rt.alloc(), conn),
@@ -33,16 +33,23 @@ impl<'a> Storage for StoreFile<'a> {
 }
 
 impl<D: Disk + Drop> StoredRows for SqlRegistry<FileStore<D>> {
+    ghost use Rattle.provider_file.specs.Closed.{ClosesFiles};
+
+    type Left = Result<Files<D>, (Error, FileStore<D>)>;
+
+    ghost is_closed = { λ s left. ClosesFiles D.Disk s.conn left };
+
     fn has_failed(&self) -> bool {
         SqlRegistry::has_failed(self)
     }
 
-    fn close(self) {
-        let _ = SqlRegistry::close(self).close();
+    /// Copies the log into the main file.
+    fn close(self) -> Self::Left {
+        SqlRegistry::close(self).close_files()
     }
 }
 
-/// The registry of a connection. One that is refused is dropped with no write.
+/// The registry of a connection. If it is refused, the connection is dropped without a write.
 fn rows_over<S: Alter + Drop>(
     alloc: Global,
     conn: Connection<S>,

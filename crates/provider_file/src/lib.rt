@@ -1,4 +1,4 @@
-//! The rows of a provider in a file: opened, served from, shown, and opened anew after a fault.
+//! The rows of a provider in a file: opened, served, shown, and opened again after a fault.
 #![tactic(auto)]
 
 mod file;

@@ -6,7 +6,7 @@ use scim_key::{RecordName, Revision};
 use scim_resource::{Content, Stored};
 use std::alloc::{AllocError, Global};
 
-/// The line of a row, with its end: `user bob held=1 version=1 active=true`.
+/// The line of a row, with its line end: `user bob held=1 version=1 active=true`.
 pub fn row_line(alloc: Global, row: &Stored) -> Result<String, AllocError>
     ensures { IfOk result (λ line. string_bytes line ≡ row_line row.now) }
 {

@@ -1,10 +1,10 @@
-//! Memory as the place of the rows.
+//! Memory that keeps the rows.
 use crate::storage::{Storage, StoredRows};
 use provider_core::MemoryRegistry;
 use provider_store::OpenFault;
 use std::alloc::Global;
 
-/// Rows that are in memory, and gone once they are closed.
+/// Rows in memory, which are gone once they are closed.
 #[derive(Clone, Copy)]
 pub struct InMemory {
     pub alloc: Global,
@@ -22,6 +22,10 @@ impl Storage for InMemory {
 }
 
 impl StoredRows for MemoryRegistry {
+    type Left = ();
+
+    ghost is_closed = { λ _ _. Unit {0} };
+
     fn has_failed(&self) -> bool {
         false
     }

@@ -1,4 +1,4 @@
-//! Connections served from where the rows are kept.
+//! Serves connections from stored rows.
 ghost use Rattle.std.specs.Prelude.{◌≡◌, ◌<◌, IfErr, IfOk, OnErr};
 ghost use Rattle.provider_file.specs.Opened.{IsMended};
 ghost use Rattle.provider_file.specs.Serving.{AnswersFrom, IsRefused, ServesEach, ServesFrom, ServesNext};
@@ -31,9 +31,9 @@ pub fn serve_one<K: Storage, I: Read, O: Write>(
     Ok(served)
 }
 
-/// Serves so many connections, as `serve_connections` does, from rows that were opened here, and
-/// closes them. After a fault of the store the rows are opened anew before the next connection is
-/// taken, and it ends where that is refused.
+/// Opens the rows, serves `count` connections from them as `serve_connections` does, and closes them. After
+/// a fault of the store, it opens the rows again before it accepts the next connection, and ends if that is
+/// refused.
 pub fn serve_stored<K: Storage, L: Listen>(
     rt: &impl Eprint,
     alloc: Global,
@@ -60,7 +60,7 @@ pub fn serve_stored<K: Storage, L: Listen>(
     Ok(outcome)
 }
 
-/// The provider, over rows that are opened anew where a fault of their store was counted.
+/// The provider; if a fault of its store was counted, its rows are opened again.
 fn mended<K: Storage>(
     storage: &K,
     provider: Provider<K::Rows>,

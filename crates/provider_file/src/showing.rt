@@ -22,7 +22,7 @@ const ROWS_AT_ONCE: u32 = 100;
 /// Why the lines of a store weren't written whole.
 #[derive(Clone, Copy, Debug, PartialEq, Eq, Error)]
 pub enum ShowFault {
-    /// The store wasn't opened, it failed, or memory ran out.
+    /// The store couldn't be opened, it failed, or memory ran out.
     #[error("store {0}")]
     Store(OpenFault),
     /// A write or the flush failed.
@@ -67,7 +67,7 @@ impl From<io::Error> for ShowFault {
     }
 }
 
-/// Why lines couldn't be written.
+/// The fault for a failed write.
 fn output_fault(kind: ErrorKind) -> ShowFault
     ensures memory { kind ≡ ErrorKind.OutOfMemory → result ≡ ShowFault.Store Memory }
     ensures output { kind ≢ ErrorKind.OutOfMemory → result ≡ Output }
@@ -78,7 +78,7 @@ fn output_fault(kind: ErrorKind) -> ShowFault
     }
 }
 
-/// Opens the rows, writes a line of each in order of creation, and closes them.
+/// Opens the rows, writes a line for each in order of creation, and closes them.
 pub fn show_rows<K: Storage, W: Write>(
     alloc: Global,
     storage: &K,
@@ -92,8 +92,8 @@ pub fn show_rows<K: Storage, W: Write>(
     shown
 }
 
-/// Writes a line of each row in order of creation, and flushes. After a fault any part may be
-/// written.
+/// Writes a line for each row in order of creation, and flushes. After a fault, any part of the lines may
+/// be written.
 pub fn write_rows<R: Registry, W: Write>(
     alloc: Global,
     rows: &mut R,

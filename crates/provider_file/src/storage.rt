@@ -6,21 +6,27 @@ ghost use Rattle.provider_store.specs.declared.opening.OpenFault.{OpenFault as R
 use provider_core::Registry;
 use provider_store::OpenFault;
 
-/// The rows of a provider, open where they are kept.
+/// The rows of a provider, opened where they are kept.
 pub trait StoredRows: Registry {
     /// Whether a fault of the store was counted since the rows were opened.
     fn has_failed(&self) -> bool
         ensures { IsTrue result ↔ (0 < Self.faults self.now) };
 
-    /// Closes the rows. What was committed stands, whether or not this succeeds.
-    fn close(self);
+    /// What remains after the rows are closed.
+    type Left: Drop;
+
+    ghost is_closed: { Self → Self.Left → Type 0 };
+
+    /// Closes the rows. What was committed stays, even if closing fails.
+    fn close(self) -> Self::Left
+        ensures { is_closed self result };
 }
 
 /// Where the rows of a provider are kept, open or not.
 pub trait Storage {
     type Rows: StoredRows;
 
-    /// What it may refuse to open them with.
+    /// The refusals with which opening may fail.
     ghost refuses: { Self → Refusal → Type 0 };
 
     /// Opens the rows.

@@ -65,12 +65,12 @@ is_damage P D E h (Damaged n) it = h n it
 is_damage P D E h Newer it = absurd it
 is_damage P D E h Memory it = tt
 
--- a fault that is handed on tells of both, where both hold
+-- a fault that is handed on reports both, if both hold
 pub both_of : {T : Type 0} (P Q : Type 0) (D E F : ℕ → Type 0) (h : (n : ℕ) → D n → E n → F n) (r : Result T OpenFault) (fault : OpenFault) → IsErrAnd r (λ given. given ≡ fault) → IsFor P D fault → IsFor Q E fault → IfErr r (IsFor P F)
 both_of P Q D E F h (Ok x) fault is it other = tt
 both_of P Q D E F h (Err given) fault is it other = subst (IsFor P F) (sym is) (is_for_both P Q D E F h fault it other)
 
--- and one that tells of no newer format tells of this damage
+-- and a fault that reports no newer format reports this damage
 pub damage_of : {T : Type 0} (P : Type 0) (D E : ℕ → Type 0) (h : (n : ℕ) → D n → E n) (r : Result T OpenFault) (fault : OpenFault) → IsErrAnd r (λ given. given ≡ fault) → IsFor ⊥ D fault → IfErr r (IsFor P E)
 damage_of P D E h (Ok x) fault is it = tt
 damage_of P D E h (Err given) fault is it = subst (IsFor P E) (sym is) (is_damage P D E h fault it)
@@ -152,7 +152,7 @@ one_mapped f [] y is = absurd (cc)
 one_mapped f (x ∷ []) y is = (x, refl, cc)
 one_mapped f (x ∷ z ∷ xs) y is = absurd (cc)
 
--- and what stands in the table is what its rows show
+-- and what is in the table is what its rows show
 pub found_marked : (s : State) (rows given : List Row) (number : ℕ) → given ≡ rows → IsLaid s → Answers marked_text [] s rows → IsFormat s number → IsMarked given number
 found_marked s rows given number same laid answers format =
     let all = answered_by s marked_text 0 (λ _. refl) [] marked_shown (codes "number" ∷ []) [] rows marked_is marked_query laid answers in
@@ -262,7 +262,7 @@ first_all table rows first none = record {
 
 -- ---- the store
 
--- where tables stand and no transaction is under way, what isn't laid out is foreign
+-- if there are tables and no transaction is open, tables that aren't laid out are foreign
 pub opening_cause : {T : Type 0} (s : State) (r : Result T OpenFault) → s.now.schema ≢ no_schema → s.in_transaction ≡ false → IfErr r (IsFor (IsNewer s) (λ told. ((told ≡ 0) × IsNotLaid s) ⊎ IsSpoilt s told)) → IfErr r (IsCause s)
 opening_cause s r stand outside = if_err r (λ fault it. is_for {P = IsNewer s} {Q = IsNewer s} (λ newer. newer) step fault it)
   where

@@ -138,7 +138,7 @@ only_one xs x y is there = elim (subst (λ l. Has l y) is there) [ inl same ↦ 
 by_name : (table : List Row) (name : RecordName) → filter (passes name_terms (name_params name)) table ≡ filter (has_name name) table
 by_name table name = filter_same (passes name_terms (name_params name)) (has_name name) table (all_of (λ x. passes name_terms (name_params name) x ≡ has_name name x) (λ x. name_tests name x) table)
 
--- a row of this name is among those that have its kind and its key
+-- a row with this name is among those with its kind and its key
 pub has_named : (table : List Row) (name : RecordName) (r : Row) (s : StoredRecord) → IsNamed table name r s → Has (filter (has_name name) table) r
 has_named table name r s it = has_kept (has_name name) table r it.there (sym (name_tests name r) ∙ named_passes table name r s it)
 

@@ -1,4 +1,4 @@
--- What a call leaves of a connection: it is as it was where the call only reads or fails.
+-- What a call leaves of a connection: it is unchanged if the call only reads or fails.
 use Rattle.std.proofs.Common.{ℕ, false, List, Option, Some, None, Err, IsTrue, sym, ap, ◌∙◌, inl, inr}
 use Rattle.std.proofs.lemmas.Bool.{cases_Bool}
 use Rattle.sqlite_value.specs.Order.{Row}

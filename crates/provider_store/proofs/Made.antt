@@ -14,7 +14,7 @@ use Rattle.provider_store.proofs.Refusing.{none_lawful}
 use Rattle.provider_store.proofs.Holding.{holds_nothing}
 use Rattle.provider_store.proofs.Making.{format_schema, format_made, resource_made, resource_schema, creates, marks}
 
--- both tables stand, the one with the number of the format, the other empty
+-- both tables are there: the one with the number of the format, the other empty
 pub record AreMade (db : Database) (mark : ℤ) : Type 0 where
   pub format_checks : List Term
   pub resource_checks : List Term

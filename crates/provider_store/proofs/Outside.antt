@@ -1,4 +1,4 @@
--- A row with a higher number passes the test for what stands outside the first numbers.
+-- A row with a higher number passes the test for numbers outside the first ones.
 use Rattle.std.proofs.Common.{◌≡◌, ◌<◌, ℕ, nat_lt, pos, Bool, true, false, ◌||◌, cond, List, [], ◌∷◌, filter, Ordering, Less, Equal, Greater, int_cmp, Option, None, Some, refl, sym, ap, ◌∙◌, arith}
 use Rattle.std.specs.Ordering.{is_eq, is_lt, is_gt}
 use Rattle.std.proofs.lemmas.Bool.{false_from_ne_true}
@@ -60,7 +60,7 @@ either_is count (Real x) = or_is (is_lt (value_cmp (Real x) (Int (pos 1)))) (is_
 either_is count (Text t) = or_is (is_lt (value_cmp (Text t) (Int (pos 1)))) (is_gt (value_cmp (Text t) (Int (pos count))))
 either_is count (Blob b) = or_is (is_lt (value_cmp (Blob b) (Int (pos 1)))) (is_gt (value_cmp (Blob b) (Int (pos count))))
 
--- the test of what stands outside is that of the definition
+-- the test for numbers outside is the one of the definition
 pub outside_tests : (count : ℕ) (r : Row) → passes (outside_term ∷ []) (Int (pos count) ∷ []) r ≡ is_outside count (rowid r)
 outside_tests count r = and_true _ ∙ either_is count (column r 0)
 
@@ -69,7 +69,7 @@ outside_passes count k r low has =
     let over = above (column r 0) k count low has in
     rw (over, either (binary (Compare Lt Binary) (column r 0) (Int (pos 1)))) refl
 
--- where nothing passes a weaker test, nothing passes this one
+-- if nothing passes a weaker test, nothing passes this one
 pub none_passes : (p q : Row → Bool) (rows : List Row) → ((r : Row) → q r ≡ true → p r ≡ true) → filter p rows ≡ [] → filter q rows ≡ []
 none_passes p q [] weaker none = refl
 none_passes p q (r ∷ rows) weaker none = go (p r) (q r) refl refl (none_passes p q rows weaker) none

@@ -38,7 +38,7 @@ numbered_there table number row only = (has_filtered (has_rowid (pos number)) ta
 none_none : (table : List Row) (name : RecordName) → FindsName table name Nothing → NoneNamed table name
 none_none table name none r s one shows = absurd (let clash : [] ≡ r ∷ [] = sym none ∙ one in cc)
 
--- a look-up of a name that found no row, or not one that shows a record
+-- a look-up of a name that found no row, or found one that shows no record
 pub none_by : (table : List Row) (name : RecordName) (found : Found) → (found ≡ Nothing) ⊎ (found ≡ Damaged) → FindsName table name found → NoneNamed table name
 none_by table name found (inl nothing) it = none_none table name (subst (FindsName table name) nothing it)
 none_by table name found (inr damaged) it = (let rows : AreDamaged (filter (has_name name) table) = subst (FindsName table name) damaged it in rows.unread)
@@ -59,7 +59,7 @@ module _ (table : List Row) (number : ℕ) (row : Row) (held : StoredRecord) (on
         none it.row it.held (ap (λ (h : StoredRecord). filter (has_name (content_name h.content)) table) (sym held_is) ∙ it.named) it.shows;
   }
 
-  -- a row that is alone with its name is lawful
+  -- a row that is the only one with its name is valid
   pub lawful_alone : (r : Row) → Has (filter (has_name (content_name held.content)) table) row → filter (has_name (content_name held.content)) table ≡ r ∷ [] → IsLawfulAt table number
   lawful_alone r there alone = record { row = row; held = held; only = only; shows = shows; named = alone ∙ ap (λ x. x ∷ []) (sym (only_one _ r row alone there)) }
 
@@ -131,7 +131,7 @@ module _ (table : List Row) (rows : List StoredRecord) (holds : Holds table rows
 
 -- ---- the store
 
--- a store that an opening takes isn't one that it refuses
+-- a store that an opening accepts isn't one that it refuses
 module _ (s : State) (rows : List StoredRecord) (store : IsStore s rows) where
   provider : IsProvider s.now.schema
   provider = provider_of s store.laid

@@ -29,7 +29,7 @@ one_kind User Group same = absurd (omega (arith, same))
 one_kind Group User same = absurd (omega (arith, same))
 one_kind Group Group same = refl
 
--- a row alone that shows no record is damaged
+-- a single row that shows no record is damaged
 pub row_damaged : (rows : List Row) (row : Row) → rows ≡ row ∷ [] → ((s : StoredRecord) → IsRowOf row s → ⊥) → (rows ≡ [] → ⊥) × ((r : Row) (s : StoredRecord) → rows ≡ r ∷ [] → IsRowOf r s → ⊥)
 row_damaged rows row is unread = (
   λ none. absurd (let clash : [] ≡ row ∷ [] = sym none ∙ is in cc),
@@ -56,7 +56,7 @@ module _ (row : Row) (n k v : ℕ) (key text : List ℕ) (kind : Kind) (content 
     lawful = subst IsStored is lawful;
   })
 
-  -- and where it isn't within its limits, the row shows none
+  -- and if it isn't within its limits, the row shows none
   pub row_unread : (o : Option StoredRecord) → IfNone o (IsStored (record { number = n; version = v; content = content }) → ⊥) → IfNone o ((s : StoredRecord) → IsRowOf row s → ⊥)
   row_unread (Some s) unlawful = tt
   row_unread None unlawful = λ s it. unlawful (subst IsStored (same_made s it) it.lawful)

@@ -56,7 +56,7 @@ module _ {S : Type 0} {rows : S → List StoredRecord} {is_faithful is_honest : 
   pub answered_so : {T U : Type 0} {old new : S} {x : T} (y : U) → OnlyReads rows is_faithful is_honest may_hold faults writes CountsFault old new (Ok x) → OnlyReads rows is_faithful is_honest may_hold faults writes CountsFault old new (Ok y)
   answered_so y r = record { was = r.was; same = r.same; honest = r.honest; opened = r.opened; stop = r.stop; counted = r.counted; unwritten = r.unwritten }
 
-  -- a call that fails, after one that read
+  -- a call that fails, after another that read
   pub fails_so : {T : Type 0} (U : Type 0) {old new : S} {x : T} (fault : RegistryFault) → OnlyReads rows is_faithful is_honest may_hold faults writes CountsFault old new (Ok x) → CountsFault (faults old) (faults new) fault
       → OnlyReads rows is_faithful is_honest may_hold faults writes CountsFault old new (failing {T = U} fault)
   fails_so U fault r counts = record { was = r.was; same = r.same; honest = r.honest; opened = λ _. tt; stop = r.stop; counted = counts; unwritten = r.unwritten }

@@ -20,7 +20,7 @@ use Rattle.provider_store.specs.Lawful.{has_name}
 use Rattle.provider_store.specs.Rows.{kind_code}
 use Rattle.provider_store.proofs.Values.{equal_rowid, equal_numbers, equal_texts, equal_number_at, equal_text_at}
 
--- the row is shown so where it passes each test
+-- the row is shown if it passes each test
 abbrev pub passes : List Term → Row → Row → Bool
 passes terms params r = list_all (holds (params ∷ r ∷ [])) terms
 
@@ -58,7 +58,7 @@ module _ (tree : ℕ) (terms shown : List Term) (params : Row) where
 pub selected : (terms shown : List Term) (params : Row) (db : Database) (rows : List Row) → Answers db (record { lets = []; body = query terms shown }) params rows → IsPermutation (map (shows shown params) (filter (passes terms params) (db.trees 1))) rows
 selected terms shown params = selected_over 1 terms shown params (λ _. refl)
 
--- ---- what stands in an answer
+-- ---- what is in a result
 
 permuted : {X : Type 0} (xs ys : List X) (x : X) → IsPermutation xs ys → Has ys x → Has xs x
 permuted xs ys x same = all_has (Has xs) ys x (all-permutation (Has xs) xs ys same (all_from (Has xs) xs (λ e h. h)))
@@ -97,6 +97,6 @@ number_passes n rest r = and_true _ ∙ equal_rowid (column r 0) n
 pub name_tests : (name : RecordName) (r : Row) → passes name_terms (Int (pos (kind_code name.kind)) ∷ Text name.key ∷ []) r ≡ has_name name r
 name_tests name r = rw (equal_number_at (column r 2) (pos (kind_code name.kind)), equal_text_at (column r 3) name.key, and_true (is_eq (value_cmp (column r 3) (Text name.key)))) refl
 
--- a row passes the test of a name where it has its kind and its key
+-- a row passes the test for a name if it has its kind and its key
 pub name_passes : (k m : ℤ) (key other : List ℕ) (r : Row) → column r 2 ≡ Int m → column r 3 ≡ Text other → passes name_terms (Int k ∷ Text key ∷ []) r ≡ (int_eq m k && bytes_eq other key)
 name_passes k m key other r kind text = rw (kind, text, equal_numbers m k, equal_texts other key, and_true (bytes_eq other key)) refl

@@ -37,7 +37,7 @@ none_after p r rows none = go (p r) refl none
     go true is e = absurd (cc)
     go false is e = (is, e)
 
--- and one that it alone passes finds it
+-- and a test that only it passes finds it
 pub put_here : (p : Row → Bool) (new : Row) (rows : List Row) → p new ≡ true → filter p rows ≡ [] → filter p (put_row new rows) ≡ new ∷ []
 put_here p new [] passes none = rw passes refl
 put_here p new (r ∷ rows) passes none =
@@ -61,7 +61,7 @@ without_here id (r ∷ rows) = go (has_rowid id r) refl (without_here id rows)
 pub without_other : (p : Row → Bool) (id : ℤ) → ((r : Row) → p r ≡ true → has_rowid id r ≡ false) → (rows : List Row) → filter p (without_rowid id rows) ≡ filter p rows
 without_other p id apart rows = filter-filter p (λ r. not (has_rowid id r)) (λ r is. ap not (apart r is)) rows
 
--- nothing is taken where no row has the number
+-- nothing is taken if no row has the number
 pub free : (id : ℤ) (new : Row) (rows : List Row) → rowid new ≡ Int id → filter (has_rowid id) rows ≡ [] → is_taken rows new ≡ false
 free id new [] is none = refl
 free id new (r ∷ rows) is none =

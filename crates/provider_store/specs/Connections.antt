@@ -1,4 +1,4 @@
--- What the calls of the statements ask of a connection, and what they leave of it.
+-- What the statements require of a connection, and what they leave of it.
 use Rattle.std.specs.Prelude.{◌≡◌, ◌≢◌, ℕ, pos, false, List, [], ◌∷◌, Option, None, Ok, IsTrue, filter}
 use Rattle.sqlite_value.specs.declared.keys.Order.{Order}
 use Rattle.sqlite_value.specs.Order.{Row}
@@ -33,7 +33,7 @@ use Rattle.provider_store.specs.declared.tables.Found.TheVariants.{Nothing, Dama
 
 -- ---- the tables of a connection
 
--- the tables are laid out, and no transaction is under way
+-- the tables are laid out, and no transaction is open
 pub record IsLaid (s : State) : Type 0 where
   pub format_checks : List Term
   pub resource_checks : List Term
@@ -46,25 +46,25 @@ pub record IsLaid (s : State) : Type 0 where
 abbrev pub resources : State → List Row
 resources s = s.now.trees resource_tree
 
--- the connection is as it was, if it is still open
+-- the connection is unchanged, if it is still open
 pub record Keeps (old new : State) : Type 0 where
   pub was_open : IsTrue new.is_open → IsTrue old.is_open
   pub same : IsTrue new.is_open → IsLaid old → (new.now ≡ old.now) × (new.committed ≡ new.now) × (new.in_transaction ≡ false)
 
 -- ---- a query
 
--- the text is a query over the tables alone
+-- the text is a query that only reads the tables
 abbrev pub IsQuery : List ℕ → Type 0
 IsQuery sql = (format_checks resource_checks : List Term) (order : Order)
     → IsPlain (understood (provider_schema format_checks resource_checks order) sql) × (reads_listing (provider_schema format_checks resource_checks order) sql ≡ false)
 
--- the rows are what the text asks for
+-- the rows are the result of the query
 abbrev pub Answers : List ℕ → Row → State → List Row → Type 0
 Answers sql params s rows = (c : Compiled) → understood s.now.schema sql ≡ Ok c → Reads c.command s.now params rows
 
 -- ---- one resource
 
--- rows are there, and aren't one that shows a record
+-- there are rows, but they aren't one row that shows a record
 pub record AreDamaged (rows : List Row) : Type 0 where
   pub some : rows ≢ []
   pub unread : (r : Row) (s : StoredRecord) → rows ≡ r ∷ [] → IsRowOf (shown_row r) s → ⊥
@@ -87,7 +87,7 @@ FindsName table name Nothing = filter (has_name name) table ≡ []
 FindsName table name Damaged = AreDamaged (filter (has_name name) table)
 FindsName table name (There s) = (r : Row) × (filter (has_name name) table ≡ r ∷ []) × IsRowOf (shown_row r) s × (content_name s.content ≡ name)
 
--- what the rows of an answer show of a look-up
+-- what a look-up found, given the rows of the result
 abbrev pub IsOnly : List Row → Found → Type 0
 IsOnly rows Nothing = rows ≡ []
 IsOnly rows Damaged = (rows ≢ []) × ((r : Row) (s : StoredRecord) → rows ≡ r ∷ [] → IsRowOf r s → ⊥)
@@ -99,19 +99,19 @@ IsOnly rows (There s) = (r : Row) × (rows ≡ r ∷ []) × IsRowOf r s
 abbrev pub content_text : Content → List ℕ
 content_text content = compact_text (content_data content)
 
--- it reads as that content
+-- the text of the record's content is read as that content
 abbrev pub IsSpelled : StoredRecord → Type 0
 IsSpelled s = content_in (content_kind s.content) (content_text s.content) ≡ Ok s.content
 
--- the row of this record is put among the rows
+-- the rows after the row of this record is added
 abbrev pub added : StoredRecord → List Row → List Row
 added s table = put_row (stored_row s (content_text s.content)) table
 
--- and the one with its number is taken out before
+-- the rows after the row of this record replaces the one with its number
 abbrev pub renewed : StoredRecord → List Row → List Row
 renewed s table = put_row (stored_row s (content_text s.content)) (without_rowid (pos s.number) table)
 
--- no key waits for a commit
+-- keys are checked at once, and none waits for a commit
 abbrev pub plain_mode : Mode
 plain_mode = record { keys = Enforced; in_doubt = false; may_wait = false }
 
@@ -137,7 +137,7 @@ pub record Ran (sql : List ℕ) (params : Row) (old new : State) : Type 0 where
   pub does : Does limit plain_mode params old.now text None compiled.command (Ok (tally, new.now))
   pub settled : IsLaid old → (new.committed ≡ new.now) × (new.in_transaction ≡ false)
 
--- what a stop within the statement may leave beside what was there
+-- what a stop during the statement may leave, other than what was there before
 pub record MayLeave (sql : List ℕ) (params : Row) (s : State) (db : Trees) : Type 0 where
   pub was_open : IsTrue s.is_open
   pub compiled : Compiled
@@ -149,7 +149,7 @@ pub record MayLeave (sql : List ℕ) (params : Row) (s : State) (db : Trees) : T
   pub does : Does limit plain_mode params s.now text None compiled.command (Ok (tally, after))
   pub trees : db ≡ after.trees
 
--- the resources are these now, and committed
+-- the resources are now these, and committed
 pub record Makes (old new : State) (s : StoredRecord) (later : List Row) : Type 0 where
   pub was_open : IsTrue old.is_open
   pub is_open : IsTrue new.is_open
@@ -164,7 +164,7 @@ pub record Leaves (s : StoredRecord) (later : List Row) (db : Trees) : Type 0 wh
   pub spelled : IsSpelled s
   pub rows : db resource_tree ≡ later
 
--- the row with this record's number is there, and shows a record of its name
+-- the row with this record's number is there, and shows a record with the same name
 pub record IsThere (table : List Row) (s : StoredRecord) : Type 0 where
   pub row : Row
   pub held : StoredRecord

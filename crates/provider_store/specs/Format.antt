@@ -20,7 +20,7 @@ format_number = 1
 abbrev pub required : List ℕ → Kind → Column
 required name kind = record { name = name; kind = kind; is_strict = false; not_null = true; default = Null; collation = Binary }
 
--- the column that stands for the number of the row
+-- the column that is the number of the row
 abbrev pub numbering : List ℕ → Column
 numbering name = record { name = name; kind = Integer; is_strict = false; not_null = false; default = Null; collation = Binary }
 
@@ -51,7 +51,7 @@ format_table checks = record {
   is_counted = false;
 }
 
--- rows are found by kind and key
+-- the places of kind and key, by which rows are found
 abbrev pub name_places : List ℕ
 name_places = 2 ∷ 3 ∷ []
 
@@ -110,6 +110,6 @@ numbered_text = codes "SELECT number, kind, name_key, version, content FROM reso
 abbrev pub marked_text : List ℕ
 marked_text = codes "SELECT number FROM provider_format"
 
--- the numbers outside the first ones
+-- the query for numbers other than the first ones
 abbrev pub outside_text : List ℕ
 outside_text = codes "SELECT number FROM resource WHERE number < 1 OR number > ?1"

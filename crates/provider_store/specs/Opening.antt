@@ -1,4 +1,4 @@
--- What an opening looks for, what it finds, and what it leaves where it refuses.
+-- What an opening looks for, what it finds, and what it leaves if it refuses.
 use Rattle.std.specs.Prelude.{◌≡◌, ◌≢◌, ◌⊎◌, ℕ, suc, ◌<◌, ◌≤◌, pos, true, false, List, [], ◌∷◌, Some, IsTrue, length, map, filter, slice_get, codes}
 use Rattle.sqlite_value.specs.declared.keys.Order.{Order}
 use Rattle.sqlite_value.specs.declared.value.Value.TheVariants.{Int}
@@ -26,7 +26,7 @@ use Rattle.provider_core.specs.declared.registry.RegistryFault.TheVariants as re
 abbrev pub no_stamps : Stamps
 no_stamps = record { places = []; terms = []; formats = [] }
 
--- the first column stands for the number of the row, and nothing else is said of the table
+-- the first column is the number of the row, and nothing else is declared for the table
 pub record IsPlainTable (table : Table) : Type 0 where
   pub key : table.key ≡ Some 0
   pub primary : table.primary ≡ 0 ∷ []
@@ -35,7 +35,7 @@ pub record IsPlainTable (table : Table) : Type 0 where
   pub stamps : table.stamps ≡ no_stamps
   pub uncounted : table.is_counted ≡ false
 
--- the table is that of the resources, but for the order of its index
+-- the table is that of the resources, in any order of its index
 pub record IsResourceTable (table : Table) : Type 0 where
   pub name : table.name ≡ codes "resource"
   pub tree : table.tree ≡ resource_tree
@@ -43,14 +43,14 @@ pub record IsResourceTable (table : Table) : Type 0 where
   pub plain : IsPlainTable table
   pub uniques : table.uniques ≡ name_places ∷ []
 
--- the schema is that of the tables
+-- the schema has exactly the tables of the format
 pub record IsProvider (schema : Schema) : Type 0 where
   pub format_checks : List Term
   pub resource_checks : List Term
   pub order : Order
   pub is : schema ≡ provider_schema format_checks resource_checks order
 
--- no table stands, and no transaction is under way
+-- there are no tables, and no transaction is open
 pub record IsBlank (s : State) : Type 0 where
   pub schema : s.now.schema ≡ no_schema
   pub committed : s.committed ≡ s.now
@@ -62,7 +62,7 @@ pub record IsBlank (s : State) : Type 0 where
 abbrev pub IsFormat : State → ℕ → Type 0
 IsFormat s number = map (λ (r : Row). column r 2) (s.now.trees format_tree) ≡ Int (pos number) ∷ []
 
--- an answer shows this number alone
+-- the result shows only this number
 abbrev pub IsMarked : List Row → ℕ → Type 0
 IsMarked rows number = (r : Row) × (rows ≡ r ∷ []) × (column r 0 ≡ Int (pos number))
 
@@ -72,7 +72,18 @@ abbrev pub open_fault : RegistryFault → OpenFault
 open_fault registry.Store = Store
 open_fault registry.Memory = Memory
 
--- a fault that tells of a newer format, or of damage with its number, has its cause
+-- the registry's fault for a fault of an opening
+abbrev pub registry_fault : OpenFault → RegistryFault
+registry_fault Memory = registry.Memory
+registry_fault fault = registry.Store
+
+-- the rows that were read are of another format, or damaged
+abbrev pub IsOfRows : OpenFault → Type 0
+IsOfRows Newer = Unit {0}
+IsOfRows (Damaged number) = Unit {0}
+IsOfRows fault = ⊥
+
+-- a fault that reports a newer format, or damage with its number, has that cause
 abbrev pub IsFor : Type 0 → (ℕ → Type 0) → OpenFault → Type 0
 IsFor newer damaged Newer = newer
 IsFor newer damaged (Damaged number) = damaged number
@@ -80,11 +91,11 @@ IsFor newer damaged fault = Unit {0}
 
 -- ---- the rows
 
--- no two rows show resources of this name
+-- no two rows show resources with this name
 abbrev pub IsAlone : List Row → RecordName → Type 0
 IsAlone table name = (q r : Row) (s t : StoredRecord) → IsNamed table name q s → IsNamed table name r t → shown_row q ≡ shown_row r
 
--- the rows with the first numbers show these records, no two of one name
+-- the rows with the first numbers show these records, no two of them with the same name
 pub record HoldsFirst (table : List Row) (rows : List StoredRecord) : Type 0 where
   pub numbered : IsNumberedFrom 1 rows
   pub apart : AreNamedApart rows
@@ -99,53 +110,53 @@ pub record IsStore (s : State) (rows : List StoredRecord) : Type 0 where
   pub holds : Holds (resources s) rows
   pub lawful : AreAllLawful (resources s) (length rows)
 
--- what stands in a store: the records of its tables, and none where no tables stand
+-- what is in a store: the records of its tables, or none if there are no tables
 abbrev pub Stands : State → List StoredRecord → Type 0
 Stands s rows = IsStore s rows ⊎ (IsBlank s × (rows ≡ []))
 
--- a call that only looks: the connection is as it was, and nothing is committed
+-- a call that only looks: the connection is unchanged, and nothing is committed
 pub record Looks (old new : State) : Type 0 where
   pub keeps : HasCleanDisk new → Keeps old new
   pub quiet : Survives old new (λ _. ⊥)
 
--- what was committed stands
+-- what was committed stays
 pub record LeavesStore (old new : State) : Type 0 where
   pub was_open : IsTrue new.is_open → IsTrue old.is_open
   pub committed : IsTrue new.is_open → new.committed ≡ old.committed
 
 -- ---- what is refused
 
--- tables stand that aren't those of the format
+-- there are tables, but not those of the format
 pub record IsForeign (s : State) : Type 0 where
   pub stand : s.now.schema ≢ no_schema
   pub other : IsProvider s.now.schema → ⊥
 
--- the tables aren't those of the format, or a transaction is under way
+-- the tables aren't those of the format, or a transaction is open
 abbrev pub IsNotLaid : State → Type 0
 IsNotLaid s = IsProvider s.now.schema → s.in_transaction ≡ true
 
--- the table of the format doesn't show one number from that of the format on
+-- the table of the format doesn't show one number, equal to this format's or greater
 abbrev pub IsUnmarked : State → Type 0
 IsUnmarked s = (number : ℕ) → format_number ≤ number → IsFormat s number → ⊥
 
--- the number of the format stands, and the row that an opening refuses has this number
+-- the tables have the number of the format, and the row that an opening refuses has this number
 pub record HasUnlawful (s : State) (number : ℕ) : Type 0 where
   pub format : IsFormat s format_number
   pub row : IsUnlawfulAt (resources s) number
 
--- the tables are of the format, and its number isn't lawful, or the row with this number
+-- the tables are of the format, but the number of the format isn't valid, or the row with this number isn't
 abbrev pub IsSpoilt : State → ℕ → Type 0
 IsSpoilt s number = IsProvider s.now.schema × (((number ≡ 0) × IsUnmarked s) ⊎ HasUnlawful s number)
 
--- what stands is no store
+-- the tables aren't a valid store
 abbrev pub IsDamaged : State → ℕ → Type 0
 IsDamaged s number = ((number ≡ 0) × IsForeign s) ⊎ IsSpoilt s number
 
--- a newer format stands in the table
+-- the table of the format has the number of a newer format
 abbrev pub IsNewer : State → Type 0
 IsNewer s = (number : ℕ) × (format_number < number) × IsFormat s number
 
--- why an opening refuses what stands
+-- why an opening refuses a store
 abbrev pub IsCause : State → OpenFault → Type 0
 IsCause s = IsFor (IsNewer s) (IsDamaged s)
 

@@ -22,19 +22,20 @@ abbrev pub kind_code : Kind → ℕ
 kind_code User = 1
 kind_code Group = 2
 
--- a row as the queries show it: number, kind, key, version and text
+-- the columns of a row that the queries show: number, kind, key, version and text
 abbrev pub shown_row : Row → Row
 shown_row r = column r 0 ∷ column r 2 ∷ column r 3 ∷ column r 4 ∷ column r 5 ∷ []
 
--- how a record is shown whose content has this text
+-- a record as queries show it, with this text of its content
 abbrev pub row_of : StoredRecord → List ℕ → Row
 row_of s text = Int (pos s.number) ∷ Int (pos (kind_code (content_kind s.content))) ∷ Text (content_name s.content).key ∷ Int (pos s.version) ∷ Text text ∷ []
 
--- how it is stored: the column of the number is NULL, and the rowid stands for it
+-- a record as it is stored: the column of the number is NULL, and the rowid is the number
 abbrev pub stored_row : StoredRecord → List ℕ → Row
 stored_row s text = Int (pos s.number) ∷ Null ∷ Int (pos (kind_code (content_kind s.content))) ∷ Text (content_name s.content).key ∷ Int (pos s.version) ∷ Text text ∷ []
 
--- the row shows this record: its number, the code of its kind, the key of its name, its version, and a text that reads as its content
+-- the row shows this record: its number, the code of its kind, the key of its name, its version, and a text that is
+-- read as its content
 pub record IsRowOf (shown : Row) (s : StoredRecord) : Type 0 where
   pub text : List ℕ
   pub shows : shown ≡ row_of s text
@@ -79,7 +80,8 @@ rows_from (suc most) number table = listed (record_at number table) (rows_from m
 unfoldable pub rows_of : List Row → List StoredRecord
 rows_of table = rows_from last_number 1 table
 
--- The table holds these records and no others, each in the one row that has its number, numbered from 1, no two of one name
+-- The table holds exactly these records, each in the only row with its number. They are numbered from 1, and no two
+-- have the same name
 pub record Holds (table : List Row) (rows : List StoredRecord) : Type 0 where
   pub numbered : IsNumberedFrom 1 rows
   pub apart : AreNamedApart rows

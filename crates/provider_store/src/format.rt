@@ -1,4 +1,4 @@
-//! The format of a store: its number, its tables, and the test of a schema at run time.
+//! The format of a store: its number, its tables, and the check of a schema at run time.
 ghost use Rattle.std.specs.Prelude.{◌≡◌, false, [], ◌∷◌, IsTrue};
 ghost use Rattle.sqlite_value.specs.declared.value.Value.TheVariants.{Null};
 ghost use Rattle.sqlite_value.specs.declared.keys.Collation.TheVariants.{Binary};
@@ -9,10 +9,10 @@ use sqlite_schema::schema::{Column, Index, Kind, Schema, Table};
 use sqlite_value::keys::Collation;
 use sqlite_value::value::Value;
 
-/// The number of the format that is written, and the only one that is read.
+/// The number of the format that is written; no other format is read.
 pub(crate) const FORMAT: u64 = 1;
 
-/// Whether no table stands.
+/// Whether there are no tables.
 pub(crate) fn is_blank(schema: &Schema) -> bool
     ensures is { IsTrue result → schema.now ≡ no_schema }
     ensures known { schema.now ≡ no_schema → IsTrue result }
@@ -20,8 +20,8 @@ pub(crate) fn is_blank(schema: &Schema) -> bool
     schema.tables.is_empty() && schema.indexes.is_empty() && schema.views.is_empty()
 }
 
-/// Whether the tables are those of the format. The terms of their CHECKs may be any, since each row
-/// is tested.
+/// Whether the tables are those of the format. Their CHECKs may have any terms, because each row is checked
+/// when a store is opened.
 pub(crate) fn is_provider(schema: &Schema) -> bool
     ensures is { IsTrue result → IsProvider schema.now }
     ensures known { IsProvider schema.now → IsTrue result }
@@ -39,7 +39,7 @@ pub(crate) fn is_provider(schema: &Schema) -> bool
         && has_order(resource, index)
 }
 
-/// Whether the one UNIQUE of the table is in the order of the index.
+/// Whether the table's only UNIQUE has the order of the index.
 fn has_order(table: &Table, index: &Index) -> bool
     ensures is { IsTrue result → table.now.orders ≡ index.now.order ∷ [] }
     ensures known { table.now.orders ≡ index.now.order ∷ [] → IsTrue result }
@@ -96,7 +96,7 @@ fn has_columns(columns: &[Column]) -> bool
     }
 }
 
-/// Whether the one UNIQUE is over kind and key.
+/// Whether the table's only UNIQUE is over kind and key.
 fn has_unique(table: &Table) -> bool
     ensures is { IsTrue result → table.now.uniques ≡ name_places ∷ [] }
     ensures known { table.now.uniques ≡ name_places ∷ [] → IsTrue result }
@@ -118,7 +118,7 @@ fn is_name_index(index: &Index) -> bool
         && index.is_unique
 }
 
-/// Whether the first column stands for the number of the row, and nothing else is said of the table.
+/// Whether the first column is the number of the row, and nothing else is declared for the table.
 fn is_plain(table: &Table) -> bool
     ensures is { IsTrue result → IsPlainTable table.now }
     ensures known { IsPlainTable table.now → IsTrue result }

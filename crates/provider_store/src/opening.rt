@@ -1,4 +1,4 @@
-//! The opening of a store: its tables are made, or tested with each of their rows.
+//! Opens a store: makes its tables, or checks them and each of their rows.
 ghost use Rattle.std.specs.Prelude.{◌≡◌, ◌⊎◌, ◌<◌, ◌≤◌, ℕ, false, List, [], ◌∷◌, length, pos, IfErr, IfOk, OnErr, OnOk, IsTrue, filter};
 ghost use Rattle.sqlite_value.specs.Order.{column};
 ghost use Rattle.sqlite_trees.specs.Tree.{has_rowid};
@@ -11,7 +11,7 @@ ghost use Rattle.provider_store.specs.Format.{format_number};
 ghost use Rattle.provider_store.specs.Connections.{IsLaid, resources};
 ghost use Rattle.provider_store.specs.Lawful.{AreLawfulTo, AreWithin, EndsAt, IsFirstWrong, IsLawfulAt, IsOutside, IsWrong, NoneNamed, has_name};
 ghost use Rattle.provider_store.specs.Rows.{number_at};
-ghost use Rattle.provider_store.specs.Opening.{HoldsFirst, IsAlone, IsBlank, IsCause, IsDamaged, IsFormat, IsFor, IsMarked, IsNewer, IsNotLaid, IsSpoilt, IsStore, IsUnmarked, LeavesNone, LeavesStore, Looks, Stands};
+ghost use Rattle.provider_store.specs.Opening.{HoldsFirst, IsAlone, IsBlank, IsCause, IsDamaged, IsFormat, IsFor, IsMarked, IsNewer, IsNotLaid, IsOfRows, IsSpoilt, IsStore, IsUnmarked, LeavesNone, LeavesStore, Looks, Stands};
 
 use crate::format::{FORMAT, is_blank, is_provider};
 use crate::tables::{Found, ask, fault_of, find_named, find_numbered, number_at};
@@ -23,14 +23,14 @@ use sqlite_value::value::ValueRef;
 use std::alloc::{AllocError, Global};
 use thiserror::Error as Fault;
 
-/// Why a store wasn't opened. What it holds is then as it was.
+/// Why a store couldn't be opened. Its contents are unchanged.
 #[derive(Clone, Copy, Debug, PartialEq, Eq, Fault)]
 pub enum OpenFault {
-    /// The database failed, or a transaction is under way.
+    /// The database failed, or a transaction is open.
     #[error("Y1")]
     Store,
-    /// The row with this number isn't lawful, or isn't to be there. The number is 0 where the tables
-    /// aren't those of the format.
+    /// The row with this number is invalid, or shouldn't be there. The number is 0 if the tables aren't
+    /// those of the format.
     #[error("Y2")]
     Damaged(u64),
     /// The tables are of a newer format.
@@ -63,7 +63,7 @@ impl From<RegistryFault> for OpenFault {
     }
 }
 
-/// A failed statement tells of no damage, and of no newer format.
+/// A failed statement never means damage or a newer format.
 impl From<Error> for OpenFault {
     ghost use Rattle.provider_store.specs.Faults.{statement_fault};
     ghost use Rattle.provider_store.specs.Opening.{open_fault};
@@ -77,7 +77,7 @@ impl From<Error> for OpenFault {
 
 // ---- the tables
 
-/// Makes the tables with the row of the format, all or none.
+/// Makes the tables and the row of the format, all or none.
 fn make_tables<S: Alter>(conn: &mut Connection<S>) -> Result<(), Error>
     requires outside { (state S.Store conn.old).in_transaction ≡ false }
     requires blank { HasCleanDisk (state S.Store conn.old) → IsTrue (state S.Store conn.old).is_open → IsBlank (state S.Store conn.old) }
@@ -101,7 +101,7 @@ fn make_tables<S: Alter>(conn: &mut Connection<S>) -> Result<(), Error>
     tables.commit()
 }
 
-/// Tests the number of the format.
+/// Checks the number of the format.
 fn check_format<S: Alter>(conn: &mut Connection<S>) -> Result<(), OpenFault>
     requires laid { HasCleanDisk (state S.Store conn.old) → IsTrue (state S.Store conn.old).is_open → IsLaid (state S.Store conn.old) }
     ensures known { HasCleanDisk (state S.Store conn.new) → OnOk result (IsFormat (state S.Store conn.old) format_number) }
@@ -116,10 +116,11 @@ fn check_format<S: Alter>(conn: &mut Connection<S>) -> Result<(), OpenFault>
     }
 }
 
-/// Tests that the rows show the number of the format, and no other.
+/// Checks that the rows show the number of the format, and no other.
 fn format_in(rows: &[Row]) -> Result<(), OpenFault>
     ensures known { OnOk result (IsMarked rows.now format_number) }
     ensures cause { IfErr result (IsFor ((number : ℕ) × (format_number < number) × IsMarked rows.now number) (λ told. (told ≡ 0) × ((number : ℕ) → format_number ≤ number → IsMarked rows.now number → ⊥))) }
+    ensures read { IfErr result IsOfRows }
 {
     let [row] = rows else {
         return Err(OpenFault::Damaged(0));
@@ -133,7 +134,7 @@ fn format_in(rows: &[Row]) -> Result<(), OpenFault>
 
 // ---- the rows
 
-/// Tests the row with this number, if it is there.
+/// Checks the row with this number, if there is one.
 fn check_row<S: Alter>(
     alloc: Global,
     conn: &mut Connection<S>,
@@ -156,7 +157,7 @@ fn check_row<S: Alter>(
     }
 }
 
-/// Tests that no other row has the name of this one.
+/// Checks that no other row has this row's name.
 fn check_name<S: Alter>(
     alloc: Global,
     conn: &mut Connection<S>,
@@ -176,7 +177,7 @@ fn check_name<S: Alter>(
     }
 }
 
-/// Tests the rows in order of their numbers, and tells how many follow each other from 1.
+/// Checks the rows in order of their numbers, and returns how many follow each other from 1.
 fn check_rows<S: Alter>(alloc: Global, conn: &mut Connection<S>) -> Result<u32, OpenFault>
     requires laid { HasCleanDisk (state S.Store conn.old) → IsTrue (state S.Store conn.old).is_open → IsLaid (state S.Store conn.old) }
     ensures first { HasCleanDisk (state S.Store conn.new) → IfOk result (λ count. (rows : List StoredRecord) × HoldsFirst (resources (state S.Store conn.old)) rows × (length rows ≡ count)) }
@@ -193,7 +194,7 @@ fn check_rows<S: Alter>(alloc: Global, conn: &mut Connection<S>) -> Result<u32, 
     Ok(LAST_NUMBER)
 }
 
-/// Tests that no row stands outside the first ones.
+/// Checks that there is no row other than the first `count`.
 fn check_rest<S: Alter>(conn: &mut Connection<S>, count: u32) -> Result<(), OpenFault>
     requires laid { HasCleanDisk (state S.Store conn.old) → IsTrue (state S.Store conn.old).is_open → IsLaid (state S.Store conn.old) }
     ensures none { HasCleanDisk (state S.Store conn.new) → OnOk result ((n : ℕ) → count < n → filter (has_rowid (pos n)) (resources (state S.Store conn.old)) ≡ []) }
@@ -212,7 +213,7 @@ fn check_rest<S: Alter>(conn: &mut Connection<S>, count: u32) -> Result<(), Open
     }
 }
 
-/// Tests that there is no row, or tells the number of the first.
+/// Checks that there is no row; otherwise the fault has the number of the first.
 fn none_in(rows: &[Row]) -> Result<(), OpenFault>
     ensures none { OnOk result (rows.now ≡ []) }
     ensures cause { IfErr result (IsFor ⊥ (λ told. (r : _) × Has rows.now r × (told ≡ number_at (column r 0)))) }
@@ -225,7 +226,7 @@ fn none_in(rows: &[Row]) -> Result<(), OpenFault>
 
 // ---- the store
 
-/// Tests the format and each row, and tells how many rows there are.
+/// Checks the format and each row, and returns how many rows there are.
 fn check_laid<S: Alter>(alloc: Global, conn: &mut Connection<S>) -> Result<u32, OpenFault>
     requires laid { HasCleanDisk (state S.Store conn.old) → IsTrue (state S.Store conn.old).is_open → IsLaid (state S.Store conn.old) }
     ensures store { HasCleanDisk (state S.Store conn.new) → IfOk result (λ count. (rows : List StoredRecord) × IsStore (state S.Store conn.old) rows × (length rows ≡ count)) }
@@ -239,7 +240,7 @@ fn check_laid<S: Alter>(alloc: Global, conn: &mut Connection<S>) -> Result<u32, 
     Ok(count)
 }
 
-/// Whether the tables are laid out, and no transaction is under way.
+/// Whether the tables are laid out and no transaction is open.
 fn is_laid<S: Alter>(conn: &Connection<S>) -> bool
     ensures is { IsTrue result → IsTrue (state S.Store conn.now).is_open → IsLaid (state S.Store conn.now) }
     ensures not { result ≡ false → IsNotLaid (state S.Store conn.now) }
@@ -247,7 +248,7 @@ fn is_laid<S: Alter>(conn: &Connection<S>) -> bool
     conn.is_autocommit() && is_provider(conn.schema())
 }
 
-/// Tests the tables, their format and each row, and tells how many rows there are.
+/// Checks the tables, their format and each row, and returns how many rows there are.
 pub(crate) fn check_tables<S: Alter>(
     alloc: Global,
     conn: &mut Connection<S>,
@@ -265,7 +266,7 @@ pub(crate) fn check_tables<S: Alter>(
     }
 }
 
-/// Makes the tables where none stand, else tests them, and tells how many rows there are.
+/// Makes the tables if there are none, otherwise checks them, and returns how many rows there are.
 pub(crate) fn open_tables<S: Alter>(
     alloc: Global,
     conn: &mut Connection<S>,

@@ -1,10 +1,13 @@
 //! A registry in SQLite.
-ghost use Rattle.std.specs.Prelude.{◌≡◌, ℕ, ◌<◌, ◌≤◌, ◌+◌, ◌-◌, ◌↔◌, min, Ok, IfErr, IfOk, IsTrue, slice_get};
-ghost use Rattle.provider_core.specs.Rows.{row_named};
-ghost use Rattle.provider_core.specs.Stores.{CountsFault, CountsFaults, OnlyReads};
-ghost use Rattle.provider_store.specs.Kept.{IsFaithful, IsHonest, MayHold, kept_rows};
-ghost use Rattle.provider_store.specs.Lookups.{found_of};
-ghost use Rattle.provider_store.specs.Opening.{IsCause, IsDamaged, LeavesNone, LeavesStore, Stands};
+ghost use Rattle.std.specs.Prelude.{◌≡◌, ℕ, ◌<◌, ◌≤◌, ◌+◌, ◌-◌, ◌↔◌, ◌++◌, ◌∷◌, [], length, min, None, Ok, IfErr, IfOk, OnOk, IsTrue, slice_get};
+ghost use Rattle.std.specs.Result.{is_ok};
+ghost use Rattle.scim_resource.specs.Contents.{content_name};
+ghost use Rattle.provider_core.specs.Rows.{AreNamedApart, IsNumberedFrom, page_after, row_named, row_with_id, with_row};
+ghost use Rattle.provider_core.specs.Stores.{CountsFault, CountsFaults, HasRisen, HoldsNumber, OnlyReads, Reopens, WritesOnce};
+ghost use Rattle.provider_core.specs.declared.registry.RegistryFault.TheVariants.{Store};
+ghost use Rattle.provider_store.specs.Kept.{IsFaithful, IsHonest, IsRefused, MayHold, kept_rows};
+ghost use Rattle.provider_store.specs.Lookups.{found_of, look_up_fault};
+ghost use Rattle.provider_store.specs.Opening.{IsCause, IsDamaged, LeavesNone, LeavesStore, Stands, registry_fault};
 ghost use Rattle.sqlite.specs.Held.{state};
 ghost use Rattle.sqlite.specs.State.{HasCleanDisk, Survives};
 
@@ -17,7 +20,7 @@ use sqlite::{Alter, Connection};
 use std::alloc::Global;
 use std::marker::Model;
 
-/// A registry whose rows stand in the tables of a connection.
+/// A registry with its rows in the tables of a connection.
 pub struct SqlRegistry<S: Alter> {
     conn: Connection<S>,
     alloc: Global,
@@ -39,7 +42,7 @@ impl<S: Alter> Model for SqlRegistry<S> {
     ghost invariant = { λ r. IsSound S.Store (record { conn = r.conn; is_usable = r.is_usable; count = r.count; faults = r.faults; writes = r.writes }) };
 }
 
-/// The fault, which is counted where it is one of the store.
+/// Returns the fault, and counts it if it is a fault of the store.
 fn counted(faults: &mut u64, fault: RegistryFault) -> RegistryFault
     ensures same { result ≡ fault }
     ensures counts { CountsFault faults.old faults.new result }
@@ -50,20 +53,31 @@ fn counted(faults: &mut u64, fault: RegistryFault) -> RegistryFault
     fault
 }
 
-/// The fault of a registry at one of an opening.
-fn registry_fault(fault: OpenFault) -> RegistryFault {
+/// The fault of every call after a reopening that failed.
+fn refusal(faults: &mut u64) -> RegistryFault
+    ensures is { result ≡ Store }
+    ensures counts { CountsFault faults.old faults.new result }
+{
+    counted(faults, RegistryFault::Store)
+}
+
+/// The registry's fault for a fault of an opening.
+fn registry_fault(fault: OpenFault) -> RegistryFault
+    ensures { result ≡ registry_fault fault }
+{
     match fault {
         OpenFault::Memory => RegistryFault::Memory,
         OpenFault::Store | OpenFault::Damaged(_) | OpenFault::Newer => RegistryFault::Store,
     }
 }
 
-/// What a look-up found; a row that isn't lawful is a fault of the store.
+/// The row that a look-up found; an invalid row is a fault of the store.
 fn one_of(
     faults: &mut u64,
     found: Result<Found, RegistryFault>,
 ) -> Result<Option<Stored>, RegistryFault>
     ensures found { IfOk result (λ row. found ≡ Ok (found_of row)) }
+    ensures fault { IfErr result (λ fault. fault ≡ look_up_fault found) }
     ensures counts { CountsFaults CountsFault faults.old faults.new result }
 {
     match found {
@@ -75,8 +89,8 @@ fn one_of(
 }
 
 impl<S: Alter> SqlRegistry<S> {
-    /// Opens the store of a connection. Where no table stands the tables are made; else they are
-    /// tested, with their format and each row. A refused opening hands the connection back.
+    /// Opens the store of a connection. If there are no tables, it makes them; otherwise it checks them,
+    /// their format and each row. If it refuses them, it hands the connection back.
     pub fn open(
         alloc: Global,
         mut conn: Connection<S>,
@@ -130,10 +144,11 @@ impl<S: Alter> SqlRegistry<S> {
         requires { 1 ≤ number }
         ensures ok { IsFaithful S.Store self.new → IfOk result (λ row. row ≡ slice_get (kept_rows S.Store self.old) (number - 1)) }
         ensures reads { OnlyReads (kept_rows S.Store) (IsFaithful S.Store) (IsHonest S.Store) (MayHold S.Store) (λ k. k.faults) (λ k. k.writes) CountsFault self.old self.new result }
+        ensures shut { IsRefused self.old result }
         ensures counted { self.new.count ≡ self.old.count }
     {
         if !self.is_usable {
-            return Err(counted(&mut self.faults, RegistryFault::Store));
+            return Err(refusal(&mut self.faults));
         }
         let found = find_numbered(self.alloc, &mut self.conn, number);
         one_of(&mut self.faults, found)
@@ -143,9 +158,10 @@ impl<S: Alter> SqlRegistry<S> {
     fn row_of(&mut self, name: &RecordName) -> Result<Option<Stored>, RegistryFault>
         ensures ok { IsFaithful S.Store self.new → IfOk result (λ row. row ≡ row_named name.now (kept_rows S.Store self.old)) }
         ensures reads { OnlyReads (kept_rows S.Store) (IsFaithful S.Store) (IsHonest S.Store) (MayHold S.Store) (λ k. k.faults) (λ k. k.writes) CountsFault self.old self.new result }
+        ensures shut { IsRefused self.old result }
     {
         if !self.is_usable {
-            return Err(counted(&mut self.faults, RegistryFault::Store));
+            return Err(refusal(&mut self.faults));
         }
         let found = find_named(self.alloc, &mut self.conn, name);
         one_of(&mut self.faults, found)
@@ -175,16 +191,29 @@ impl<S: Alter> Registry for SqlRegistry<S> {
 
     ghost writes = { λ k. k.writes };
 
-    fn count(&mut self) -> Result<u32, RegistryFault> {
+    fn count(&mut self) -> Result<u32, RegistryFault>
+        ensures ok { IsFaithful S.Store self.new → IfOk result (λ n. n ≡ length (kept_rows S.Store self.old)) }
+        ensures reads { OnlyReads (kept_rows S.Store) (IsFaithful S.Store) (IsHonest S.Store) (MayHold S.Store) (λ k. k.faults) (λ k. k.writes) CountsFault self.old self.new result }
+        ensures shut { IsRefused self.old result }
+    {
         self.row_at(1)?;
         Ok(self.count)
     }
 
-    fn by_key(&mut self, name: &RecordName) -> Result<Option<Stored>, RegistryFault> {
+    fn by_key(&mut self, name: &RecordName) -> Result<Option<Stored>, RegistryFault>
+        ensures ok { IsFaithful S.Store self.new → IfOk result (λ row. row ≡ row_named name.now (kept_rows S.Store self.old)) }
+        ensures apart { IsFaithful S.Store self.new → AreNamedApart (kept_rows S.Store self.old) }
+        ensures reads { OnlyReads (kept_rows S.Store) (IsFaithful S.Store) (IsHonest S.Store) (MayHold S.Store) (λ k. k.faults) (λ k. k.writes) CountsFault self.old self.new result }
+        ensures shut { IsRefused self.old result }
+    {
         self.row_of(name)
     }
 
-    fn by_id(&mut self, id: &ResourceId) -> Result<Option<Stored>, RegistryFault> {
+    fn by_id(&mut self, id: &ResourceId) -> Result<Option<Stored>, RegistryFault>
+        ensures ok { IsFaithful S.Store self.new → IfOk result (λ row. row ≡ row_with_id id.now (kept_rows S.Store self.old)) }
+        ensures reads { OnlyReads (kept_rows S.Store) (IsFaithful S.Store) (IsHonest S.Store) (MayHold S.Store) (λ k. k.faults) (λ k. k.writes) CountsFault self.old self.new result }
+        ensures shut { IsRefused self.old result }
+    {
         match id.number() {
             Some(number) => self.row_at(number),
             None => {
@@ -194,7 +223,14 @@ impl<S: Alter> Registry for SqlRegistry<S> {
         }
     }
 
-    fn scan(&mut self, after: u32, limit: usize) -> Result<Vec<Stored>, RegistryFault> {
+    fn scan(&mut self, after: u32, limit: usize) -> Result<Vec<Stored>, RegistryFault>
+        requires few { limit ≤ 200 }
+        ensures ok { IsFaithful S.Store self.new → IfOk result (λ page. page.items ≡ page_after after limit (kept_rows S.Store self.old)) }
+        ensures numbered { IsFaithful S.Store self.new → IsNumberedFrom 1 (kept_rows S.Store self.old) }
+        ensures apart { IsFaithful S.Store self.new → AreNamedApart (kept_rows S.Store self.old) }
+        ensures reads { OnlyReads (kept_rows S.Store) (IsFaithful S.Store) (IsHonest S.Store) (MayHold S.Store) (λ k. k.faults) (λ k. k.writes) CountsFault self.old self.new result }
+        ensures shut { IsRefused self.old result }
+    {
         self.row_at(1)?;
         let mut page = Vec::new(self.alloc);
         let last = self.last_of(after, limit);
@@ -207,9 +243,16 @@ impl<S: Alter> Registry for SqlRegistry<S> {
         Ok(page)
     }
 
-    fn insert(&mut self, row: Stored) -> Result<(), RegistryFault> {
+    fn insert(&mut self, row: Stored) -> Result<(), RegistryFault>
+        requires next { IsFaithful S.Store self.old → row.number ≡ length (kept_rows S.Store self.old) + 1 }
+        requires free { IsFaithful S.Store self.old → row_named (content_name row.content) (kept_rows S.Store self.old) ≡ None }
+        ensures adds { WritesOnce (kept_rows S.Store) (IsFaithful S.Store) (IsHonest S.Store) (MayHold S.Store) (λ k. k.faults) (λ k. k.writes) CountsFault self.old self.new (kept_rows S.Store self.old ++ row ∷ []) result }
+        ensures open { IsHonest S.Store self.new → OnOk result (IsFaithful S.Store self.new) }
+        ensures counted { OnOk result (HasRisen self.old.writes self.new.writes) }
+        ensures shut { IsRefused self.old result }
+    {
         if !self.is_usable {
-            return Err(counted(&mut self.faults, RegistryFault::Store));
+            return Err(refusal(&mut self.faults));
         }
         match insert_row(self.alloc, &mut self.conn, &row) {
             Ok(()) => {
@@ -221,9 +264,15 @@ impl<S: Alter> Registry for SqlRegistry<S> {
         }
     }
 
-    fn update(&mut self, row: &Stored) -> Result<(), RegistryFault> {
+    fn update(&mut self, row: &Stored) -> Result<(), RegistryFault>
+        requires there { IsFaithful S.Store self.old → HoldsNumber (kept_rows S.Store self.old) row.now }
+        ensures replaces { WritesOnce (kept_rows S.Store) (IsFaithful S.Store) (IsHonest S.Store) (MayHold S.Store) (λ k. k.faults) (λ k. k.writes) CountsFault self.old self.new (with_row row.now (kept_rows S.Store self.old)) result }
+        ensures open { IsHonest S.Store self.new → OnOk result (IsFaithful S.Store self.new) }
+        ensures counted { OnOk result (HasRisen self.old.writes self.new.writes) }
+        ensures shut { IsRefused self.old result }
+    {
         if !self.is_usable {
-            return Err(counted(&mut self.faults, RegistryFault::Store));
+            return Err(refusal(&mut self.faults));
         }
         match update_row(self.alloc, &mut self.conn, row) {
             Ok(()) => {
@@ -242,9 +291,12 @@ impl<S: Alter> Registry for SqlRegistry<S> {
 }
 
 impl<S: Alter> Reopen for SqlRegistry<S> {
-    /// Tests the tables, their format and each row again, on the same connection. After a fault of
-    /// its own each call but this one and `close` answers a store fault.
-    fn reopen(&mut self) -> Result<(), RegistryFault> {
+    /// Checks the tables, their format and each row again, on the same connection. If that fails, every
+    /// call except this one and `close` returns a store fault.
+    fn reopen(&mut self) -> Result<(), RegistryFault>
+        ensures reopens { Reopens (kept_rows S.Store) (IsFaithful S.Store) (IsHonest S.Store) (MayHold S.Store) (λ k. k.faults) (λ k. k.writes) CountsFault self.old self.new result }
+        ensures usable { self.new.is_usable ≡ is_ok result }
+    {
         match check_tables(self.alloc, &mut self.conn) {
             Ok(count) => {
                 self.is_usable = true;

@@ -23,12 +23,12 @@ use std::alloc::{AllocError, Global};
 #[derive(Debug, Drop)]
 pub enum Found {
     Nothing,
-    /// A row that holds no resource, or more than one row.
+    /// A row without a valid resource, or more than one row.
     Damaged,
     There(Stored),
 }
 
-/// The fault of a registry at an error of the database.
+/// The registry's fault for an error of the database.
 pub(crate) fn fault_of(error: Error) -> RegistryFault
     ensures { result ≡ statement_fault error }
 {
@@ -40,7 +40,7 @@ pub(crate) fn fault_of(error: Error) -> RegistryFault
 
 // ---- statements
 
-/// The rows that a query answers.
+/// The rows that a query returns.
 pub(crate) fn ask<S: Alter>(
     conn: &mut Connection<S>,
     sql: &str,
@@ -76,7 +76,7 @@ fn write<S: Alter>(
 
 // ---- rows
 
-/// The number in a column, if one is there and isn't negative.
+/// The number in a column, if there is one and it isn't negative.
 pub(crate) fn number_at(row: &Row, at: usize) -> Option<u64>
     ensures some { IfSome result (λ n. column row.now at ≡ Int (pos n)) }
     ensures none { IfNone result ((n : ℕ) → column row.now at ≡ Int (pos n) → ⊥) }
@@ -87,7 +87,7 @@ pub(crate) fn number_at(row: &Row, at: usize) -> Option<u64>
     }
 }
 
-/// The text in a column, if one is there.
+/// The text in a column, if there is one.
 fn text_at(row: &Row, at: usize) -> Option<&[u8]>
     ensures some { IfSome result (λ text. column row.now at ≡ Text text.now) }
     ensures none { IfNone result ((text : List ℕ) → column row.now at ≡ Text text → ⊥) }
@@ -131,7 +131,7 @@ fn read_content(alloc: Global, text: &[u8], kind: Kind) -> Result<Option<Content
     }
 }
 
-/// Whether the content is of this kind, under a name with this key.
+/// Whether the content is of this kind and its name has this key.
 fn has_key(alloc: Global, content: &Content, kind: Kind, key: &[u8]) -> Result<bool, AllocError>
     ensures same { IfOk result (λ is. IsTrue is → content_name content.now ≡ record { kind = kind; key = key.now }) }
     ensures other { IfOk result (λ is. is ≡ false → content_name content.now ≡ record { kind = kind; key = key.now } → ⊥) }
@@ -140,7 +140,7 @@ fn has_key(alloc: Global, content: &Content, kind: Kind, key: &[u8]) -> Result<b
     Ok(name.kind == kind && name.key.as_str().as_bytes() == key)
 }
 
-/// The resource that a row of the answer shows, or none where the row isn't lawful.
+/// The resource that a row of a result shows, or none if the row is invalid.
 fn read_row(alloc: Global, row: &Row) -> Result<Option<Stored>, AllocError>
     ensures some { IfOk result (λ stored. IfSome stored (IsRowOf row.now)) }
     ensures none { IfOk result (λ stored. IfNone stored ((s : StoredRecord) → IsRowOf row.now s → ⊥)) }
@@ -166,7 +166,7 @@ fn read_row(alloc: Global, row: &Row) -> Result<Option<Stored>, AllocError>
     Ok(stored(number, version, content))
 }
 
-/// A row with this number and version, where both are within their limits.
+/// A row with this number and version, if both are within their limits.
 fn stored(number: u64, version: u64, content: Content) -> Option<Stored>
     ensures value { IfSome result (λ s. s ≡ record { number = number; version = version; content = content }) }
     ensures lawful { IfSome result IsStored }
@@ -179,7 +179,7 @@ fn stored(number: u64, version: u64, content: Content) -> Option<Stored>
     Some(Stored::new(number, version, content))
 }
 
-/// The one resource that the rows show.
+/// The only resource that the rows show.
 fn only(alloc: Global, rows: &[Row]) -> Result<Found, AllocError>
     ensures { IfOk result (IsOnly rows.now) }
 {
@@ -215,7 +215,7 @@ pub(crate) fn find_numbered<S: Alter>(
     }
 }
 
-/// The resource of this name.
+/// The resource with this name.
 pub(crate) fn find_named<S: Alter>(
     alloc: Global,
     conn: &mut Connection<S>,

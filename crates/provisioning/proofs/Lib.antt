@@ -2,3 +2,5 @@ mod OnwardLemmas
 mod RestLemmas
 mod RunLemmas
 mod TurnLemmas
+mod CarryLemmas
+mod OfferLemmas

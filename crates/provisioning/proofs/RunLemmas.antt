@@ -15,10 +15,10 @@ use Rattle.provisioning.proofs.TurnLemmas.{pushed_onward, run_onward}
 use Rattle.provisioning.specs.Onward.{Onward}
 use Rattle.provisioning.specs.declared.records.Pushed.{Pushed}
 use Rattle.provisioning.specs.Runs.{AllDone, AreDone, Done, EndsAt, IsUntold, PartDone, PushesEach, Tells, greatest_count, is_confirmed, tally_of, tally_with}
-use Rattle.provisioning.specs.declared.faults.PushFault.{PushFault}
+use Rattle.provisioning.specs.declared.faults.RunFault.{RunFault}
 use Rattle.provisioning.specs.declared.pushing.Tally.{Tally}
 
--- ---- telling
+-- ---- reporting
 
 pub told_nothing : (told : Option (List Done)) → Tells told told []
 told_nothing None = tt
@@ -86,9 +86,9 @@ module _ {I O J : Type 0} (remaining : I → Option (List ℕ)) (contents : O �
   pub all_onward : (names : List RecordName) (old new : State J) (before after : Option (List Done)) (tally : Tally) → AllDone {I = I} {O = O} remaining contents g base names old new before after tally → Onward old.book new.book
   all_onward names old new before after tally all = done_onward all.done old new all.are
 
-  -- ---- where the run ends
+  -- ---- if the run ends early
 
-  pub part_at_record : (names : List RecordName) (i : ℕ) (name : RecordName) (old between new : State J) (before after : Option (List Done)) (tally : Tally) (fault : PushFault)
+  pub part_at_record : (names : List RecordName) (i : ℕ) (name : RecordName) (old between new : State J) (before after : Option (List Done)) (tally : Tally) (fault : RunFault)
       → i < length names → name ≡ get_or names i name → AllDone {I = I} {O = O} remaining contents g base (take i names) old between before after tally
       → EndsRun {I = I} {O = O} remaining contents g base name between new fault → PartDone {I = I} {O = O} remaining contents g base names old new fault
   part_at_record names i name old between new before after tally fault less is all ends = record {
@@ -100,7 +100,7 @@ module _ {I O J : Type 0} (remaining : I → Option (List ℕ)) (contents : O �
     ends = inl ends;
   }
 
-  pub part_at_telling : (names : List RecordName) (i : ℕ) (name : RecordName) (pushed : Pushed) (old between new : State J) (before after : Option (List Done)) (tally : Tally) (fault : PushFault)
+  pub part_at_telling : (names : List RecordName) (i : ℕ) (name : RecordName) (pushed : Pushed) (old between new : State J) (before after : Option (List Done)) (tally : Tally) (fault : RunFault)
       → i < length names → name ≡ get_or names i name → AllDone {I = I} {O = O} remaining contents g base (take i names) old between before after tally
       → IsPushed {I = I} {O = O} remaining contents g base name between new pushed → IsUntold fault → PartDone {I = I} {O = O} remaining contents g base names old new fault
   part_at_telling names i name pushed old between new before after tally fault less is all one untold = record {
@@ -115,11 +115,11 @@ module _ {I O J : Type 0} (remaining : I → Option (List ℕ)) (contents : O �
     ends = inr (refl, untold);
   }
 
-  ends_onward : (rest : List RecordName) (between new : State J) (fault : PushFault) → EndsAt {I = I} {O = O} remaining contents g base rest between new fault → Onward between.book new.book
+  ends_onward : (rest : List RecordName) (between new : State J) (fault : RunFault) → EndsAt {I = I} {O = O} remaining contents g base rest between new fault → Onward between.book new.book
   ends_onward [] between new fault ends = absurd ends
   ends_onward (name ∷ names) between new fault ends = run_onward remaining contents g base name fault between new ends
 
-  pub part_onward : (names : List RecordName) (old new : State J) (fault : PushFault) → PartDone {I = I} {O = O} remaining contents g base names old new fault → Onward old.book new.book
+  pub part_onward : (names : List RecordName) (old new : State J) (fault : RunFault) → PartDone {I = I} {O = O} remaining contents g base names old new fault → Onward old.book new.book
   part_onward names old new fault part = go part.ends
     where
       go : EndsAt {I = I} {O = O} remaining contents g base part.rest part.between new fault ⊎ ((new ≡ part.between) × IsUntold fault) → Onward old.book new.book
@@ -142,7 +142,7 @@ module _ {I O J : Type 0} (remaining : I → Option (List ℕ)) (contents : O �
       (subst (λ (ns : List RecordName). AllDone {I = I} {O = O} remaining contents g base ns old new before after (tally_with tally pushed)) (names_next names i name less is)
       (one_done remaining contents g base (take i names) name pushed old between new before mid after tally all one told))
 
-  pub each_onward : (names : List RecordName) (old new : State J) (before after : Option (List Done)) (result : Result Tally PushFault)
+  pub each_onward : (names : List RecordName) (old new : State J) (before after : Option (List Done)) (result : Result Tally RunFault)
       → PushesEach {I = I} {O = O} remaining contents g base names old new before after result → Onward old.book new.book
   each_onward names old new before after (Ok tally) all = all_onward remaining contents g base names old new before after tally all
   each_onward names old new before after (Err fault) part = part_onward remaining contents g base names old new fault part

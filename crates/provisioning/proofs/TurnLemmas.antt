@@ -15,11 +15,11 @@ use Rattle.provisioning.specs.Exchanges.{Exchange, IsExchange, IsSent, IsWithout
 use Rattle.provisioning.specs.Onward.{Onward}
 use Rattle.provisioning.specs.Records.{AreExchanges, Ends, EndsRun, IsPushed, PushesRecord, Rests, Stands, fault_in, last_fault}
 use Rattle.provisioning.specs.Turns.{TakesTurn, exchanged}
-use Rattle.provisioning.specs.declared.faults.PushFault.{PushFault}
+use Rattle.provisioning.specs.declared.faults.RunFault.{RunFault}
 use Rattle.provisioning.specs.declared.faults.RecordFault.{RecordFault}
 use Rattle.provisioning.specs.declared.records.Pushed.{Pushed}
 use Rattle.provisioning.specs.declared.records.Standing.{Standing}
-use Rattle.provisioning.specs.declared.records.TheConstants.{MOST_EXCHANGES}
+use Rattle.world_sim.specs.declared.settling.TheConstants.{MOST_EXCHANGES}
 use Rattle.provisioning.specs.declared.turns.Turn.{Turn}
 use Rattle.provisioning.specs.declared.turns.Turn.TheVariants.{Resting, Exchanged}
 
@@ -40,7 +40,7 @@ last_fault_more (first ∷ es) e = ap (λ o. option_or o (fault_in (outcome firs
 
 -- ---- the exchanges so far
 
--- so many exchanges, with this as their last fault
+-- the exchanges so far, with this as their last fault
 pub record IsSoFar {I O J : Type 0} (remaining : I → Option (List ℕ)) (contents : O → Option (List ℕ)) (g : Ghosts J) (base : List ℕ) (name : RecordName) (old new : State J) (count : ℕ) (last : Option RecordFault) : Type 0 where
   pub exchanges : List (Exchange I O)
   pub are : AreExchanges remaining contents g base name exchanges old new
@@ -62,7 +62,7 @@ module _ {I O J : Type 0} (remaining : I → Option (List ℕ)) (contents : O �
       → IsSoFar {I = I} {O = O} remaining contents g base name old new (count + 1) (option_or fault last)
   one_more old between new count last e fault so is went = record {
     exchanges = so.exchanges ++ e ∷ [];
-    are = exchanges_more so.exchanges e old between new so.are is (subst (λ (r : Result (Option RecordFault) PushFault). IsOk r) (sym went) refl);
+    are = exchanges_more so.exchanges e old between new so.are is (subst (λ (r : Result (Option RecordFault) RunFault). IsOk r) (sym went) refl);
     count_is = length-append so.exchanges (e ∷ []) ∙ ap (λ n. n + 1) so.count_is;
     last_is = ap (option_or fault) so.last_is ∙ ap (λ r. option_or (fault_in r) (last_fault so.exchanges)) (sym went) ∙ sym (last_fault_more so.exchanges e);
   }
@@ -73,7 +73,7 @@ module _ {I O J : Type 0} (remaining : I → Option (List ℕ)) (contents : O �
   exchanges_onward [] old new are = subst (λ (s : State J). Onward old.book s.book) (sym are) (onward_still old.book)
   exchanges_onward (e ∷ es) old new are = onward_more old.book are.0.book new.book (becomes_onward g e.request e.came old are.0 are.1.becomes) (exchanges_onward es are.0 new are.3)
 
-  pub ends_onward : (old new : State J) (fault : PushFault) → Ends {I = I} {O = O} remaining contents g base name old new fault → Onward old.book new.book
+  pub ends_onward : (old new : State J) (fault : RunFault) → Ends {I = I} {O = O} remaining contents g base name old new fault → Onward old.book new.book
   ends_onward old new fault (inl made) = becomes_onward g made.0.request made.0.came old new made.1.becomes
   ends_onward old new fault (inr unmade) = subst (λ (s : State J). Onward old.book s.book) (sym unmade.0) (onward_still old.book)
 
@@ -81,7 +81,7 @@ module _ {I O J : Type 0} (remaining : I → Option (List ℕ)) (contents : O �
 
 module _ {I O J : Type 0} (remaining : I → Option (List ℕ)) (contents : O → Option (List ℕ)) (g : Ghosts J) (base : List ℕ) (name : RecordName) where
   -- a turn that is an exchange
-  pub turn_taken : (old new : State J) (request : Request) (made : Result (Option RecordFault) PushFault) → asking (book_of old.book) name ≡ Some (Send request)
+  pub turn_taken : (old new : State J) (request : Request) (made : Result (Option RecordFault) RunFault) → asking (book_of old.book) name ≡ Some (Send request)
       → IsSent {I = I} {O = O} remaining contents g base request old new made ⊎ ((new ≡ old) × IsWithoutStream made)
       → TakesTurn {I = I} {O = O} remaining contents g base name old new (exchanged made)
   turn_taken old new request (Ok fault) asked (inl s) =
@@ -106,7 +106,7 @@ module _ {I O J : Type 0} (remaining : I → Option (List ℕ)) (contents : O �
     stands = inl (subst (λ (s : State J). Rests (book_of s.book) name standing) (sym t.0) t.1);
   }
 
-  pub turn_ends : (old between new : State J) (count : ℕ) (last : Option RecordFault) (fault : PushFault) → IsSoFar {I = I} {O = O} remaining contents g base name old between count last → count < MOST_EXCHANGES
+  pub turn_ends : (old between new : State J) (count : ℕ) (last : Option RecordFault) (fault : RunFault) → IsSoFar {I = I} {O = O} remaining contents g base name old between count last → count < MOST_EXCHANGES
       → Ends {I = I} {O = O} remaining contents g base name between new fault → EndsRun {I = I} {O = O} remaining contents g base name old new fault
   turn_ends old between new count last fault so less ends = record {
     exchanges = so.exchanges;
@@ -130,15 +130,15 @@ module _ {I O J : Type 0} (remaining : I → Option (List ℕ)) (contents : O �
   pub pushed_onward : (pushed : Pushed) (old new : State J) → IsPushed {I = I} {O = O} remaining contents g base name old new pushed → Onward old.book new.book
   pushed_onward pushed old new is = exchanges_onward remaining contents g base name is.exchanges old new is.are
 
-  pub run_onward : (fault : PushFault) (old new : State J) → EndsRun {I = I} {O = O} remaining contents g base name old new fault → Onward old.book new.book
+  pub run_onward : (fault : RunFault) (old new : State J) → EndsRun {I = I} {O = O} remaining contents g base name old new fault → Onward old.book new.book
   run_onward fault old new e = onward_more old.book e.between.book new.book (exchanges_onward remaining contents g base name e.exchanges old e.between e.are) (ends_onward remaining contents g base name e.between new fault e.ends)
 
-  pub record_onward : (result : Result Pushed PushFault) (old new : State J) → PushesRecord {I = I} {O = O} remaining contents g base name old new result → Onward old.book new.book
+  pub record_onward : (result : Result Pushed RunFault) (old new : State J) → PushesRecord {I = I} {O = O} remaining contents g base name old new result → Onward old.book new.book
   record_onward (Ok pushed) old new is = pushed_onward pushed old new is
   record_onward (Err fault) old new e = run_onward fault old new e
 
 module _ {I O J : Type 0} (remaining : I → Option (List ℕ)) (contents : O → Option (List ℕ)) (g : Ghosts J) (base : List ℕ) (name : RecordName) where
-  pub turn_onward : (old new : State J) (result : Result Turn PushFault) → TakesTurn {I = I} {O = O} remaining contents g base name old new result → Onward old.book new.book
+  pub turn_onward : (old new : State J) (result : Result Turn RunFault) → TakesTurn {I = I} {O = O} remaining contents g base name old new result → Onward old.book new.book
   turn_onward old new (Ok (Resting standing)) t = subst (λ (s : State J). Onward old.book s.book) (sym t.0) (onward_still old.book)
   turn_onward old new (Ok (Exchanged fault)) t = becomes_onward g t.0.request t.0.came old new t.1.becomes
   turn_onward old new (Err fault) t = ends_onward remaining contents g base name old new fault t
@@ -150,7 +150,7 @@ module _ {I O J : Type 0} (remaining : I → Option (List ℕ)) (contents : O �
       subst (λ (l : Option RecordFault). IsSoFar {I = I} {O = O} remaining contents g base name old new (count + 1) l) (sym result_is)
       (turn_more remaining contents g base name old between new count last fault so (subst (λ (x : Turn). TakesTurn {I = I} {O = O} remaining contents g base name between new (Ok x)) is t))
 
-  pub so_far_onward : (old between new : State J) (count : ℕ) (last : Option RecordFault) (result : Result Turn PushFault) → IsSoFar {I = I} {O = O} remaining contents g base name old between count last
+  pub so_far_onward : (old between new : State J) (count : ℕ) (last : Option RecordFault) (result : Result Turn RunFault) → IsSoFar {I = I} {O = O} remaining contents g base name old between count last
       → TakesTurn {I = I} {O = O} remaining contents g base name between new result → Onward old.book new.book
   so_far_onward old between new count last result so t =
       onward_more old.book between.book new.book (exchanges_onward remaining contents g base name so.exchanges old between so.are) (turn_onward between new result t)

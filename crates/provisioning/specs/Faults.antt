@@ -1,5 +1,7 @@
--- Which faults are a record's, and which end the run.
-use Rattle.std.specs.Prelude.{Option, Some, Result, Ok, Err}
+-- Which faults are a record's, and which end a run.
+use Rattle.std.specs.Prelude.{◌≡◌, ◌⊎◌, Option, Some, Result, Ok, Err}
+use Rattle.std.specs.IoError.{error_kind}
+use Rattle.std.specs.declared.io.Error.{Error}
 use Rattle.std.specs.declared.io.ErrorKind.{ErrorKind}
 use Rattle.std.specs.declared.io.ErrorKind.TheVariants as kinds
 use Rattle.scim_client.specs.declared.answers.AnswerFault.TheVariants as answers
@@ -9,23 +11,33 @@ use Rattle.connector_core.specs.declared.learning.LearnFault.{LearnFault}
 use Rattle.connector_core.specs.declared.learning.LearnFault.TheVariants as learning
 use Rattle.connector_core.specs.declared.opening.OpenFault.{OpenFault}
 use Rattle.connector_core.specs.declared.opening.OpenFault.TheVariants as opening
-use Rattle.provisioning.specs.declared.faults.PushFault.{PushFault}
-use Rattle.provisioning.specs.declared.faults.PushFault.TheVariants.{Connection, Journal, Memory}
+use Rattle.provider_core.specs.declared.registry.RegistryFault.{RegistryFault}
+use Rattle.provider_core.specs.declared.registry.RegistryFault.TheVariants as registry
+use Rattle.provisioning.specs.declared.faults.LoopFault.{LoopFault}
+use Rattle.provisioning.specs.declared.faults.LoopFault.TheVariants as loop
+use Rattle.provisioning.specs.declared.faults.OfferFault.{OfferFault}
+use Rattle.provisioning.specs.declared.faults.OfferFault.TheVariants as offer
+use Rattle.provisioning.specs.declared.faults.RunFault.{RunFault}
+use Rattle.provisioning.specs.declared.faults.RunFault.TheVariants.{Connection, Journal, Untold, Memory}
 use Rattle.provisioning.specs.declared.faults.RecordFault.{RecordFault}
 use Rattle.provisioning.specs.declared.faults.RecordFault.TheVariants.{Unanswered, Unfit, Unversioned, Refused, NoSuchRecord}
 
--- a connector that isn't opened
-abbrev pub unopened : OpenFault → PushFault
+-- the fault of a connector that couldn't be opened
+abbrev pub unopened : OpenFault → RunFault
 unopened opening.Store = Journal
 unopened opening.Memory = Memory
 
--- a stream that can't be opened
-abbrev pub open_fault : ErrorKind → PushFault
-open_fault kinds.OutOfMemory = Memory
-open_fault _ = Connection
+-- the fault for a failed call of the system
+abbrev pub failed : ErrorKind → (otherwise : RunFault) → RunFault
+failed kinds.OutOfMemory otherwise = Memory
+failed _ otherwise = otherwise
 
--- An exchange without an answer. Out of memory ends the run
-abbrev pub unanswered : ExchangeFault → Result (Option RecordFault) PushFault
+-- the fault of a stream that couldn't be opened
+abbrev pub open_fault : Error → RunFault
+open_fault error = failed (error_kind error) (Connection error)
+
+-- The fault of an exchange without an answer. Out of memory ends the run
+abbrev pub unanswered : ExchangeFault → Result (Option RecordFault) RunFault
 unanswered (Unsent fault) = Ok (Some (Unanswered (Unsent fault)))
 unanswered EndedEarly = Ok (Some (Unanswered EndedEarly))
 unanswered ReadFailed = Ok (Some (Unanswered ReadFailed))
@@ -36,11 +48,34 @@ unanswered (NoAnswer answers.NotJson) = Ok (Some (Unanswered (NoAnswer answers.N
 unanswered (NoAnswer answers.WrongShape) = Ok (Some (Unanswered (NoAnswer answers.WrongShape)))
 unanswered (NoAnswer answers.OutOfMemory) = Err Memory
 
--- An answer from which nothing is learnt. A fault of the journal, or out of memory, ends the run
-abbrev pub unlearnt : LearnFault → Result (Option RecordFault) PushFault
+-- The fault of an answer that teaches nothing. A fault of the journal, or out of memory, ends the run
+abbrev pub unlearnt : LearnFault → Result (Option RecordFault) RunFault
 unlearnt learning.Unfit = Ok (Some Unfit)
 unlearnt learning.Unversioned = Ok (Some Unversioned)
 unlearnt (learning.Refused status) = Ok (Some Refused)
 unlearnt learning.NoSuchRecord = Ok (Some NoSuchRecord)
 unlearnt learning.Store = Err Journal
 unlearnt learning.Memory = Err Memory
+
+-- ---- offering
+
+-- the fault of a row that can't be reported
+abbrev pub unheard_fault : ErrorKind → OfferFault
+unheard_fault kinds.OutOfMemory = offer.Memory
+unheard_fault _ = offer.Untold
+
+abbrev pub IsUntold : OfferFault → Type 0
+IsUntold fault = (fault ≡ offer.Untold) ⊎ (fault ≡ offer.Memory)
+
+-- the fault for one that ended the run while rows were offered
+abbrev pub run_fault : OfferFault → RunFault
+run_fault offer.Journal = Journal
+run_fault offer.Untold = Untold
+run_fault offer.Memory = Memory
+
+-- ---- with a provider in the same program
+
+-- the fault for a fault of the provider's store
+abbrev pub registry_fault : RegistryFault → LoopFault
+registry_fault registry.Store = loop.Store
+registry_fault registry.Memory = loop.Ended Memory

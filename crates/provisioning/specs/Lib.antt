@@ -1,7 +1,10 @@
+pub mod Carrying
 pub mod Exchanges
 pub mod Faults
+pub mod Lines
+pub mod Offering
 pub mod Onward
 pub mod Records
 pub mod Runs
+pub mod Sources
 pub mod Turns
-pub mod Lines

@@ -1,4 +1,4 @@
--- The exchanges for one record, and how it stands after them.
+-- The exchanges for one record, and its state after them.
 use Rattle.std.specs.Prelude.{◌≡◌, ◌≢◌, ◌⊎◌, ◌<◌, ◌≤◌, ℕ, List, [], ◌∷◌, length, Option, Some, None, Result, Ok, Err, IsOk}
 use Rattle.std.specs.Option.{option_or}
 use Rattle.scim_key.specs.declared.records.RecordName.{RecordName}
@@ -9,36 +9,37 @@ use Rattle.connector_core.specs.Maps.{book_of}
 use Rattle.connector_core.specs.State.{State}
 use Rattle.connector_core.specs.declared.asking.Ask.TheVariants as asks
 use Rattle.provisioning.specs.Exchanges.{Exchange, IsExchange, IsUnmade, outcome}
-use Rattle.provisioning.specs.declared.faults.PushFault.{PushFault}
+use Rattle.provisioning.specs.declared.faults.RunFault.{RunFault}
 use Rattle.provisioning.specs.declared.faults.RecordFault.{RecordFault}
 use Rattle.provisioning.specs.declared.faults.RecordFault.TheVariants.{NoSuchRecord}
 use Rattle.provisioning.specs.declared.records.Pushed.{Pushed}
 use Rattle.provisioning.specs.declared.records.Standing.{Standing}
 use Rattle.provisioning.specs.declared.records.Standing.TheVariants.{Confirmed, Waits, Unconfirmed}
-use Rattle.provisioning.specs.declared.records.TheConstants.{MOST_EXCHANGES}
+use Rattle.world_sim.specs.declared.settling.TheConstants.{MOST_EXCHANGES}
 
 -- ---- exchanges
 
 module _ {I O J : Type 0} (remaining : I → Option (List ℕ)) (contents : O → Option (List ℕ)) (g : Ghosts J) (base : List ℕ) (name : RecordName) where
-  -- exchanges for a record, one after another on the connector that the one before left, of which none ended the run
+  -- exchanges for a record, one after another, each on the connector that the one before left; none of them ended the
+  -- run
   abbrev pub AreExchanges : List (Exchange I O) → (old new : State J) → Type 0
   AreExchanges [] old new = new ≡ old
   AreExchanges (e ∷ es) old new = (between : State J) × IsExchange remaining contents g base name e old between × IsOk (outcome e.came) × AreExchanges es between new
 
 -- the fault of the record
-abbrev pub fault_in : Result (Option RecordFault) PushFault → Option RecordFault
+abbrev pub fault_in : Result (Option RecordFault) RunFault → Option RecordFault
 fault_in (Ok fault) = fault
 fault_in (Err end) = None
 
--- the last fault of these exchanges, which stays though a later one is clean
+-- the last fault of these exchanges, even if a later one has none
 abbrev pub last_fault : {I O : Type 0} → List (Exchange I O) → Option RecordFault
 last_fault [] = None
 last_fault (e ∷ es) = option_or (last_fault es) (fault_in (outcome e.came))
 
--- ---- how a record stands
+-- ---- the state of a record
 
--- Nothing is asked for of the record: its wanted revision, this one, is confirmed; or it waits for this member; or there is
--- no such record
+-- There is nothing to ask for: the wanted revision, this one, is confirmed; or the record waits for this member; or
+-- there is no such record
 abbrev pub Rests : Book → RecordName → Standing → Type 0
 Rests book name (Confirmed revision) = (revision ≡ confirmed_of book name) × (revision ≡ wanted_of book name)
 Rests book name (Waits member) = asking book name ≡ Some (asks.Waits member)
@@ -55,7 +56,7 @@ Stands book name count last standing = Rests book name standing ⊎ IsSpent book
 
 -- ---- a record
 
--- So many exchanges for a record, and it stands so after them
+-- `count` exchanges for a record, and its state after them
 pub record IsPushed {I O J : Type 0} (remaining : I → Option (List ℕ)) (contents : O → Option (List ℕ)) (g : Ghosts J) (base : List ℕ) (name : RecordName) (old new : State J) (pushed : Pushed) : Type 0 where
   pub exchanges : List (Exchange I O)
   pub are : AreExchanges remaining contents g base name exchanges old new
@@ -63,18 +64,18 @@ pub record IsPushed {I O J : Type 0} (remaining : I → Option (List ℕ)) (cont
   pub most : length exchanges ≤ MOST_EXCHANGES
   pub stands : Stands (book_of new.book) name pushed.exchanges (last_fault exchanges) pushed.standing
 
--- the next exchange ended the run, or it wasn't made
-abbrev pub Ends : {I O J : Type 0} → (I → Option (List ℕ)) → (O → Option (List ℕ)) → Ghosts J → List ℕ → RecordName → (old new : State J) → PushFault → Type 0
+-- the next exchange ended the run, or couldn't be made
+abbrev pub Ends : {I O J : Type 0} → (I → Option (List ℕ)) → (O → Option (List ℕ)) → Ghosts J → List ℕ → RecordName → (old new : State J) → RunFault → Type 0
 Ends {I} {O} remaining contents g base name old new fault = ((e : Exchange I O) × IsExchange remaining contents g base name e old new × (outcome e.came ≡ Err fault)) ⊎ ((new ≡ old) × IsUnmade fault)
 
--- Exchanges for a record, until this ended the run
-pub record EndsRun {I O J : Type 0} (remaining : I → Option (List ℕ)) (contents : O → Option (List ℕ)) (g : Ghosts J) (base : List ℕ) (name : RecordName) (old new : State J) (fault : PushFault) : Type 0 where
+-- Exchanges for a record, until this fault ended the run
+pub record EndsRun {I O J : Type 0} (remaining : I → Option (List ℕ)) (contents : O → Option (List ℕ)) (g : Ghosts J) (base : List ℕ) (name : RecordName) (old new : State J) (fault : RunFault) : Type 0 where
   pub exchanges : List (Exchange I O)
   pub between : State J
   pub are : AreExchanges remaining contents g base name exchanges old between
   pub most : length exchanges < MOST_EXCHANGES
   pub ends : Ends remaining contents g base name between new fault
 
-abbrev pub PushesRecord : {I O J : Type 0} → (I → Option (List ℕ)) → (O → Option (List ℕ)) → Ghosts J → List ℕ → RecordName → (old new : State J) → Result Pushed PushFault → Type 0
+abbrev pub PushesRecord : {I O J : Type 0} → (I → Option (List ℕ)) → (O → Option (List ℕ)) → Ghosts J → List ℕ → RecordName → (old new : State J) → Result Pushed RunFault → Type 0
 PushesRecord remaining contents g base name old new (Ok pushed) = IsPushed remaining contents g base name old new pushed
 PushesRecord remaining contents g base name old new (Err fault) = EndsRun remaining contents g base name old new fault

@@ -1,4 +1,4 @@
--- Every record in its turn.
+-- Every record, one after another.
 use Rattle.std.specs.Prelude.{◌≡◌, ◌⊎◌, ◌+◌, ◌^◌, ◌-◌, ◌&&◌, ⊤, ℕ, Bool, true, false, List, [], ◌∷◌, ◌++◌, map, Option, Some, None, Result, Ok, Err, min}
 use Rattle.std.specs.FinMap.{keys}
 use Rattle.std.specs.List.{list_all, sum_by}
@@ -7,27 +7,27 @@ use Rattle.group_sync.specs.Settling.{IsSettleOrder}
 use Rattle.journal_core.specs.declared.journals.Journal.{Ghosts}
 use Rattle.connector_core.specs.State.{State}
 use Rattle.provisioning.specs.Records.{EndsRun, IsPushed}
-use Rattle.provisioning.specs.declared.faults.PushFault.{PushFault}
-use Rattle.provisioning.specs.declared.faults.PushFault.TheVariants.{Untold, Memory}
+use Rattle.provisioning.specs.declared.faults.RunFault.{RunFault}
+use Rattle.provisioning.specs.declared.faults.RunFault.TheVariants.{Untold, Memory}
 use Rattle.provisioning.specs.declared.pushing.Tally.{Tally}
 use Rattle.provisioning.specs.declared.records.Pushed.{Pushed}
 use Rattle.provisioning.specs.declared.records.Standing.{Standing}
 use Rattle.provisioning.specs.declared.records.Standing.TheVariants.{Confirmed, Waits, Unconfirmed}
 
--- a record, and what became of it
+-- a record and its result
 abbrev pub Done : Type 0
 Done = RecordName × Pushed
 
--- ---- telling
+-- ---- reporting
 
--- where it is known what was told, these records were told after it
+-- if it is known what was reported before, these records were reported after it
 abbrev pub Tells : (old new : Option (List Done)) → List Done → Type 0
 Tells None new done = ⊤
 Tells (Some all) None done = ⊥
 Tells (Some all) (Some more) done = more ≡ all ++ done
 
--- a record can't be told
-abbrev pub IsUntold : PushFault → Type 0
+-- a record can't be reported
+abbrev pub IsUntold : RunFault → Type 0
 IsUntold fault = (fault ≡ Untold) ⊎ (fault ≡ Memory)
 
 -- ---- counting
@@ -47,7 +47,7 @@ tally_of done = record {
   is_settled = list_all (λ d. is_confirmed d.1.standing) done;
 }
 
--- with one record more
+-- the result with one more record
 abbrev pub tally_with : Tally → Pushed → Tally
 tally_with tally pushed = record {
   exchanges = min greatest_count (tally.exchanges + pushed.exchanges);
@@ -63,11 +63,11 @@ module _ {I O J : Type 0} (remaining : I → Option (List ℕ)) (contents : O �
   AreDone (d ∷ done) old new = (between : State J) × IsPushed remaining contents g base d.0 old between d.1 × AreDone done between new
 
   -- the first of the other records ended the run
-  abbrev pub EndsAt : List RecordName → (old new : State J) → PushFault → Type 0
+  abbrev pub EndsAt : List RecordName → (old new : State J) → RunFault → Type 0
   EndsAt [] old new fault = ⊥
   EndsAt (name ∷ names) old new fault = EndsRun remaining contents g base name old new fault
 
--- each of these records was done, told and counted
+-- each of these records was done, reported and counted
 pub record AllDone {I O J : Type 0} (remaining : I → Option (List ℕ)) (contents : O → Option (List ℕ)) (g : Ghosts J) (base : List ℕ) (names : List RecordName) (old new : State J) (before after : Option (List Done)) (tally : Tally) : Type 0 where
   pub done : List Done
   pub names_are : map (λ d. d.0) done ≡ names
@@ -75,8 +75,8 @@ pub record AllDone {I O J : Type 0} (remaining : I → Option (List ℕ)) (conte
   pub tells : Tells before after done
   pub tally_is : tally ≡ tally_of done
 
--- the first of these records were done, until the next one, or telling the last of them, ended the run
-pub record PartDone {I O J : Type 0} (remaining : I → Option (List ℕ)) (contents : O → Option (List ℕ)) (g : Ghosts J) (base : List ℕ) (names : List RecordName) (old new : State J) (fault : PushFault) : Type 0 where
+-- the first of these records were done, until the next one, or reporting the last of them, ended the run
+pub record PartDone {I O J : Type 0} (remaining : I → Option (List ℕ)) (contents : O → Option (List ℕ)) (g : Ghosts J) (base : List ℕ) (names : List RecordName) (old new : State J) (fault : RunFault) : Type 0 where
   pub done : List Done
   pub rest : List RecordName
   pub between : State J
@@ -84,10 +84,10 @@ pub record PartDone {I O J : Type 0} (remaining : I → Option (List ℕ)) (cont
   pub are : AreDone remaining contents g base done old between
   pub ends : EndsAt remaining contents g base rest between new fault ⊎ ((new ≡ between) × IsUntold fault)
 
-abbrev pub PushesEach : {I O J : Type 0} → (I → Option (List ℕ)) → (O → Option (List ℕ)) → Ghosts J → List ℕ → List RecordName → (old new : State J) → (before after : Option (List Done)) → Result Tally PushFault → Type 0
+abbrev pub PushesEach : {I O J : Type 0} → (I → Option (List ℕ)) → (O → Option (List ℕ)) → Ghosts J → List ℕ → List RecordName → (old new : State J) → (before after : Option (List Done)) → Result Tally RunFault → Type 0
 PushesEach remaining contents g base names old new before after (Ok tally) = AllDone remaining contents g base names old new before after tally
 PushesEach remaining contents g base names old new before after (Err fault) = PartDone remaining contents g base names old new fault
 
--- The records of the connector in the order in which they settle; or it was out of memory before the first of them
-abbrev pub PushesAll : {I O J : Type 0} → (I → Option (List ℕ)) → (O → Option (List ℕ)) → Ghosts J → List ℕ → (old new : State J) → (before after : Option (List Done)) → Result Tally PushFault → Type 0
+-- The records of the connector in the order in which they settle; or memory ran out before the first of them
+abbrev pub PushesAll : {I O J : Type 0} → (I → Option (List ℕ)) → (O → Option (List ℕ)) → Ghosts J → List ℕ → (old new : State J) → (before after : Option (List Done)) → Result Tally RunFault → Type 0
 PushesAll remaining contents g base old new before after result = ((names : List RecordName) × IsSettleOrder (keys old.book) names × PushesEach remaining contents g base names old new before after result) ⊎ ((result ≡ Err Memory) × (new ≡ old))

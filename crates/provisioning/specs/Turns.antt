@@ -1,4 +1,4 @@
--- One turn of a record: it rests, or there is an exchange for it.
+-- One turn of a record: there is nothing to send, or there is an exchange.
 use Rattle.std.specs.Prelude.{◌≡◌, ℕ, List, Option, Result, Ok, Err}
 use Rattle.scim_key.specs.declared.records.RecordName.{RecordName}
 use Rattle.journal_core.specs.declared.journals.Journal.{Ghosts}
@@ -6,18 +6,18 @@ use Rattle.connector_core.specs.Maps.{book_of}
 use Rattle.connector_core.specs.State.{State}
 use Rattle.provisioning.specs.Exchanges.{Exchange, IsExchange, outcome}
 use Rattle.provisioning.specs.Records.{Ends, Rests}
-use Rattle.provisioning.specs.declared.faults.PushFault.{PushFault}
+use Rattle.provisioning.specs.declared.faults.RunFault.{RunFault}
 use Rattle.provisioning.specs.declared.faults.RecordFault.{RecordFault}
 use Rattle.provisioning.specs.declared.turns.Turn.{Turn}
 use Rattle.provisioning.specs.declared.turns.Turn.TheVariants.{Resting, Exchanged}
 
--- the turn that an exchange is
-abbrev pub exchanged : Result (Option RecordFault) PushFault → Result Turn PushFault
+-- the turn of an exchange
+abbrev pub exchanged : Result (Option RecordFault) RunFault → Result Turn RunFault
 exchanged (Ok fault) = Ok (Exchanged fault)
 exchanged (Err fault) = Err fault
 
--- Nothing is sent, and the record stands so; or there was an exchange, which had this fault or ended the run
-abbrev pub TakesTurn : {I O J : Type 0} → (I → Option (List ℕ)) → (O → Option (List ℕ)) → Ghosts J → List ℕ → RecordName → (old new : State J) → Result Turn PushFault → Type 0
+-- Nothing is sent, and the record has this state; or there was an exchange, which had this fault or ended the run
+abbrev pub TakesTurn : {I O J : Type 0} → (I → Option (List ℕ)) → (O → Option (List ℕ)) → Ghosts J → List ℕ → RecordName → (old new : State J) → Result Turn RunFault → Type 0
 TakesTurn remaining contents g base name old new (Ok (Resting standing)) = (new ≡ old) × Rests (book_of old.book) name standing
 TakesTurn {I} {O} remaining contents g base name old new (Ok (Exchanged fault)) = (e : Exchange I O) × IsExchange remaining contents g base name e old new × (outcome e.came ≡ Ok fault)
 TakesTurn remaining contents g base name old new (Err fault) = Ends remaining contents g base name old new fault

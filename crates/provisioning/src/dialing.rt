@@ -2,8 +2,8 @@
 use std::io;
 use std::io::{Read, Write};
 
-/// What opens streams to a provider, one for each exchange. A stream is a reader of what the
-/// provider answers and a writer of what is asked.
+/// What opens streams to a provider, one for each exchange. A stream is a reader of the provider's answer
+/// and a writer of the request.
 pub trait Dial {
     type Reader: Read + Drop;
 

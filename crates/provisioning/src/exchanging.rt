@@ -1,9 +1,9 @@
-//! One exchange for a record, on a stream of its own.
+//! One exchange for a record, on its own stream.
 ghost use Rattle.std.specs.Prelude.{◌≡◌, ◌⊎◌, Ok};
 ghost use Rattle.provisioning.specs.Exchanges.{IsAsked, IsSent, IsTaken, IsWithoutStream};
 
 use crate::dialing::Dial;
-use crate::faults::{PushFault, RecordFault, open_fault, unanswered, unlearnt};
+use crate::faults::{RecordFault, RunFault, open_fault, unanswered, unlearnt};
 use connector_core::Connector;
 use http_text::{Input, Output};
 use journal_core::Journal;
@@ -12,29 +12,29 @@ use scim_message::{Answer, Request};
 use std::alloc::Global;
 use std::io::{Read, Write};
 
-/// Sends a request on a new stream, reads the answer to it, and learns from that. It tells the
-/// fault of the record, if there is one.
+/// Sends a request on a new stream, reads its answer, and learns from it. It returns the fault of the
+/// record, if there is one.
 pub(crate) fn exchange<J: Journal, D: Dial>(
     alloc: Global,
     service: &ScimService,
     connector: &mut Connector<J>,
     dial: &mut D,
     request: &Request,
-) -> Result<Option<RecordFault>, PushFault>
+) -> Result<Option<RecordFault>, RunFault>
     ensures { IsSent D.Reader.remaining D.Writer.contents J.Journal service.now request.now
         connector.old connector.new result
         ⊎ ((connector.new ≡ connector.old) × IsWithoutStream result) }
 {
     let (reader, writer) = match dial.dial() {
         Ok(stream) => stream,
-        Err(error) => return Err(open_fault(error.kind())),
+        Err(error) => return Err(open_fault(error)),
     };
     let (came, reader, writer) = exchange_on(alloc, service, request, reader, writer);
     dial.end(reader, writer);
     take(connector, request, came)
 }
 
-/// Sends a request on a stream, and reads the answer to it. The stream is given back.
+/// Sends a request on a stream and reads its answer. It returns the stream too.
 fn exchange_on<I: Read, O: Write>(
     alloc: Global,
     service: &ScimService,
@@ -50,12 +50,12 @@ fn exchange_on<I: Read, O: Write>(
     (came, input.into_inner(), output.into_inner())
 }
 
-/// Takes what came of an exchange.
+/// Takes the result of an exchange.
 fn take<J: Journal>(
     connector: &mut Connector<J>,
     request: &Request,
     came: Result<Answer, ExchangeFault>,
-) -> Result<Option<RecordFault>, PushFault>
+) -> Result<Option<RecordFault>, RunFault>
     ensures { IsTaken J.Journal request.now came connector.old connector.new result }
 {
     match came {
@@ -69,7 +69,7 @@ fn learn<J: Journal>(
     connector: &mut Connector<J>,
     request: &Request,
     answer: &Answer,
-) -> Result<Option<RecordFault>, PushFault>
+) -> Result<Option<RecordFault>, RunFault>
     ensures { IsTaken J.Journal request.now (Ok answer.now) connector.old connector.new result }
 {
     match connector.learn(request, answer) {

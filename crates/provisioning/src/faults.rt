@@ -1,89 +1,94 @@
 //! Why a record isn't confirmed, and what ends a run.
 ghost use Rattle.std.specs.Prelude.{◌≡◌};
-ghost use Rattle.provisioning.specs.Faults.{open_fault, unanswered, unlearnt};
+ghost use Rattle.provisioning.specs.Exchanges.{IsUnmade};
+ghost use Rattle.provisioning.specs.Faults.{failed, open_fault, run_fault, unanswered, unheard_fault, unlearnt};
+ghost use Rattle.provisioning.specs.declared.faults.RunFault.TheVariants.{Untold};
 
 use connector_core::{LearnFault, OpenFault};
+use provider_core::RegistryFault;
 use scim_client::{AnswerFault, ExchangeFault};
 use std::alloc::AllocError;
+use std::io;
 use std::io::ErrorKind;
 use thiserror::Error;
 
-/// Why nothing was learnt from an exchange. The next one goes on. Its text is its code.
+/// Why nothing was learnt from an exchange. The run goes on. Its text is its code.
 #[derive(Clone, Copy, Debug, PartialEq, Eq, Error)]
 pub enum RecordFault {
     /// No answer came (H10, H11, H12, H14, K1 to K3).
     #[error("{0}")]
     Unanswered(ExchangeFault),
-    /// The answer isn't one that the connector can use.
+    /// The connector can't use the answer.
     #[error("C1")]
     Unfit,
     /// The resource is shown without an entity tag.
     #[error("C2")]
     Unversioned,
-    /// The provider refuses, whatever the status.
+    /// The provider refuses, with any status.
     #[error("C4")]
     Refused,
-    /// The source gave no row of such a record.
+    /// The source gave no row of this record.
     #[error("C7")]
     NoSuchRecord,
 }
 
-/// What ends a run before it is done. Its text is what standard error is told.
-#[derive(Clone, Copy, Debug, PartialEq, Eq, Error)]
-pub enum PushFault {
-    /// A stream couldn't be opened.
+/// What ends a run early. Its text is printed on standard error.
+#[derive(Clone, Copy, Debug, Error)]
+pub enum RunFault {
+    /// A stream couldn't be opened, or the provider couldn't listen; with the system's error.
     #[error("connection fault")]
-    Connection,
+    Connection(io::Error),
     /// The journal's store failed.
     #[error("journal fault J1")]
     Journal,
-    /// Who is to be told of a record can't be.
+    /// The line of a record couldn't be written.
     #[error("file fault")]
     Untold,
     #[error("memory fault")]
     Memory,
 }
 
-impl From<AllocError> for PushFault {
-    ghost use Rattle.provisioning.specs.declared.faults.PushFault.TheVariants.{Memory};
+impl From<AllocError> for RunFault {
+    ghost use Rattle.provisioning.specs.declared.faults.RunFault.TheVariants.{Memory};
 
     ghost from_gives = { λ _ fault. fault ≡ Memory };
 
-    fn from(_: AllocError) -> PushFault {
-        PushFault::Memory
+    fn from(_: AllocError) -> RunFault {
+        RunFault::Memory
     }
 }
 
-impl From<OpenFault> for PushFault {
+impl From<OpenFault> for RunFault {
     ghost use Rattle.provisioning.specs.Faults.{unopened};
 
     ghost from_gives = { λ opening fault. fault ≡ unopened opening };
 
-    fn from(fault: OpenFault) -> PushFault {
+    fn from(fault: OpenFault) -> RunFault {
         match fault {
-            OpenFault::Store => PushFault::Journal,
-            OpenFault::Memory => PushFault::Memory,
+            OpenFault::Store => RunFault::Journal,
+            OpenFault::Memory => RunFault::Memory,
         }
     }
 }
 
-/// A stream that can't be opened.
-pub(crate) fn open_fault(kind: ErrorKind) -> PushFault
-    ensures { result ≡ open_fault kind }
+/// The fault of a stream that couldn't be opened, or of a port that couldn't be listened on.
+pub(crate) fn open_fault(error: io::Error) -> RunFault
+    ensures exact { result ≡ open_fault error }
+    ensures unmade { IsUnmade result }
 {
-    match kind {
-        ErrorKind::OutOfMemory => PushFault::Memory,
-        _ => PushFault::Connection,
+    match error.kind() {
+        ErrorKind::OutOfMemory => RunFault::Memory,
+        _ => RunFault::Connection(error),
     }
 }
 
-/// What an exchange without an answer is: the record's fault, or out of memory, which ends the run.
-pub(crate) fn unanswered(fault: ExchangeFault) -> Result<Option<RecordFault>, PushFault>
+/// The fault of an exchange without an answer: the record's, or out of memory, which ends the run.
+pub(crate) fn unanswered(fault: ExchangeFault) -> Result<Option<RecordFault>, RunFault>
     ensures { result ≡ unanswered fault }
 {
     match fault {
         ExchangeFault::OutOfMemory | ExchangeFault::NoAnswer(AnswerFault::OutOfMemory) => {
-            Err(PushFault::Memory)
+            Err(RunFault::Memory)
         }
         ExchangeFault::Unsent(_)
         | ExchangeFault::EndedEarly
@@ -93,8 +98,8 @@ pub(crate) fn unanswered(fault: ExchangeFault) -> Result<Option<RecordFault>, Pu
     }
 }
 
-/// What an answer is from which nothing is learnt: the record's fault, or one that ends the run.
-pub(crate) fn unlearnt(fault: LearnFault) -> Result<Option<RecordFault>, PushFault>
+/// The fault of an answer that teaches nothing: the record's, or one that ends the run.
+pub(crate) fn unlearnt(fault: LearnFault) -> Result<Option<RecordFault>, RunFault>
     ensures { result ≡ unlearnt fault }
 {
     match fault {
@@ -102,7 +107,100 @@ pub(crate) fn unlearnt(fault: LearnFault) -> Result<Option<RecordFault>, PushFau
         LearnFault::Unversioned => Ok(Some(RecordFault::Unversioned)),
         LearnFault::Refused { status: _ } => Ok(Some(RecordFault::Refused)),
         LearnFault::NoSuchRecord => Ok(Some(RecordFault::NoSuchRecord)),
-        LearnFault::Store => Err(PushFault::Journal),
-        LearnFault::Memory => Err(PushFault::Memory),
+        LearnFault::Store => Err(RunFault::Journal),
+        LearnFault::Memory => Err(RunFault::Memory),
+    }
+}
+
+/// What ends a run while the rows of its files are offered. Its text is printed on standard error.
+#[derive(Clone, Copy, Debug, PartialEq, Eq, Error)]
+pub enum OfferFault {
+    /// The journal's store failed.
+    #[error("journal fault J1")]
+    Journal,
+    /// The report of a row can't be written.
+    #[error("file fault")]
+    Untold,
+    #[error("memory fault")]
+    Memory,
+}
+
+impl From<AllocError> for OfferFault {
+    ghost use Rattle.provisioning.specs.declared.faults.OfferFault.TheVariants.{Memory};
+
+    ghost from_gives = { λ _ fault. fault ≡ Memory };
+
+    fn from(_: AllocError) -> OfferFault {
+        OfferFault::Memory
+    }
+}
+
+/// The fault that ends a run if a row can't be reported for this reason.
+pub(crate) fn unheard_fault(kind: ErrorKind) -> OfferFault
+    ensures { result ≡ unheard_fault kind }
+{
+    match kind {
+        ErrorKind::OutOfMemory => OfferFault::Memory,
+        _ => OfferFault::Untold,
+    }
+}
+
+/// What ends a run with its own provider. Its text is printed on standard error.
+#[derive(Clone, Copy, Debug, Error)]
+pub enum LoopFault {
+    /// A fault of the connector's side.
+    #[error("{0}")]
+    Ended(RunFault),
+    /// The provider's store failed.
+    #[error("store fault")]
+    Store,
+}
+
+impl From<RunFault> for LoopFault {
+    ghost use Rattle.provisioning.specs.declared.faults.LoopFault.TheVariants.{Ended};
+
+    ghost from_gives = { λ push fault. fault ≡ Ended push };
+
+    fn from(fault: RunFault) -> LoopFault {
+        LoopFault::Ended(fault)
+    }
+}
+
+impl From<RegistryFault> for LoopFault {
+    ghost use Rattle.provisioning.specs.Faults.{registry_fault};
+
+    ghost from_gives = { λ registry fault. fault ≡ registry_fault registry };
+
+    fn from(fault: RegistryFault) -> LoopFault {
+        match fault {
+            RegistryFault::Store => LoopFault::Store,
+            RegistryFault::Memory => LoopFault::Ended(RunFault::Memory),
+        }
+    }
+}
+
+/// The fault of a run whose rows couldn't all be offered.
+pub(crate) fn run_fault(fault: OfferFault) -> RunFault
+    ensures { result ≡ run_fault fault }
+{
+    match fault {
+        OfferFault::Journal => RunFault::Journal,
+        OfferFault::Untold => RunFault::Untold,
+        OfferFault::Memory => RunFault::Memory,
+    }
+}
+
+/// The fault of a run if a line can't be written.
+pub(crate) fn unwritten(error: io::Error) -> RunFault {
+    unwritten_fault(error.kind())
+}
+
+/// The fault that ends a run if a line can't be written for this reason.
+fn unwritten_fault(kind: ErrorKind) -> RunFault
+    ensures { result ≡ failed kind Untold }
+{
+    match kind {
+        ErrorKind::OutOfMemory => RunFault::Memory,
+        _ => RunFault::Untold,
     }
 }

@@ -1,19 +1,35 @@
-//! The connector against a provider: exchanges for each record, a stream each, until its wanted
-//! revision is confirmed.
+//! A run of the connector over files. It offers the rows of the files to the connector, then carries
+//! each record to a provider, at an address or in the same program. Each exchange has its own stream;
+//! exchanges go on until the wanted revision is confirmed.
 #![tactic(auto)]
 
+mod carrying;
 mod dialing;
 mod exchanging;
 mod faults;
+mod lines;
+mod looping;
+mod offering;
+mod over_tcp;
+mod own;
 mod pushing;
 mod records;
 mod sockets;
+mod sources;
 mod telling;
 mod turns;
+mod views;
 
+pub use carrying::{Outcome, carry};
 pub use dialing::Dial;
-pub use faults::{PushFault, RecordFault};
+pub use faults::{LoopFault, OfferFault, RecordFault, RunFault};
+pub use lines::Lines;
+pub use looping::{OWN_ADDRESS, run_loop};
+pub use offering::{Hear, Judged, offer_all};
+pub use over_tcp::{CONNECTION_SECONDS, push};
+pub use own::{OwnProvider, OwnReader};
 pub use pushing::{Tally, push_all};
-pub use records::{MOST_EXCHANGES, Pushed, Standing, push_record};
+pub use records::{Pushed, Standing, push_record};
 pub use sockets::Remote;
+pub use sources::{Source, Sources, UnreadFile, label, read_source, read_sources, tell_multiline};
 pub use telling::Tell;

@@ -1,13 +1,13 @@
-//! Every record in its turn.
+//! Pushes every record, one after another.
 ghost use Rattle.std.specs.Prelude.{◌≡◌, ◌∷◌, [], IfErr, IfOk, OnOk};
 ghost use Rattle.std.specs.FinMap.{keys};
 ghost use Rattle.group_sync.specs.Settling.{IsSettleOrder};
-ghost use Rattle.provisioning.specs.declared.faults.PushFault.TheVariants.{Memory};
+ghost use Rattle.provisioning.specs.declared.faults.RunFault.TheVariants.{Memory};
 ghost use Rattle.provisioning.specs.Onward.{Onward};
 ghost use Rattle.provisioning.specs.Runs.{IsUntold, PushesAll, PushesEach, Tells, is_confirmed, tally_with};
 
 use crate::dialing::Dial;
-use crate::faults::PushFault;
+use crate::faults::RunFault;
 use crate::records::{Pushed, Standing, push_record};
 use crate::telling::Tell;
 use connector_core::Connector;
@@ -18,17 +18,17 @@ use scim_key::RecordName;
 use std::alloc::Global;
 use std::io::ErrorKind;
 
-/// What became of all records.
+/// The result for all records.
 #[derive(Clone, Copy, Debug, PartialEq, Eq)]
 pub struct Tally {
-    /// How many exchanges there were, up to the greatest number.
+    /// How many exchanges there were, up to the greatest `u32`.
     pub exchanges: u32,
     /// Every record's wanted revision is confirmed.
     pub is_settled: bool,
 }
 
 impl Tally {
-    /// With what became of one more record.
+    /// The result with one more record.
     fn with(self, pushed: &Pushed) -> Tally
         ensures { result ≡ tally_with self pushed.now }
     {
@@ -49,16 +49,16 @@ fn is_confirmed(standing: &Standing) -> bool
     }
 }
 
-/// Exchanges for every record of the connector, users by key, then groups by key. Each is told as
-/// soon as it is done. A stream that can't be opened, a fault of the journal, a record that can't be told,
-/// and out of memory end the run.
+/// Makes exchanges for every record of the connector: users by key, then groups by key. It reports each
+/// record as soon as the record is done. The run ends early if a stream can't be opened, the journal fails,
+/// a record can't be reported, or memory runs out.
 pub fn push_all<J: Journal, D: Dial, T: Tell>(
     alloc: Global,
     service: &ScimService,
     connector: &mut Connector<J>,
     dial: &mut D,
     teller: &mut T,
-) -> Result<Tally, PushFault>
+) -> Result<Tally, RunFault>
     ensures pushes { PushesAll D.Reader.remaining D.Writer.contents J.Journal service.now
         connector.old connector.new (T.told teller.old) (T.told teller.new) result }
     ensures onward { Onward connector.old.book connector.new.book }
@@ -68,7 +68,7 @@ pub fn push_all<J: Journal, D: Dial, T: Tell>(
 }
 
 /// The names of all records, in the order in which they settle.
-fn names_in_order<J: Journal>(connector: &Connector<J>) -> Result<Vec<RecordName>, PushFault>
+fn names_in_order<J: Journal>(connector: &Connector<J>) -> Result<Vec<RecordName>, RunFault>
     ensures order { IfOk result (λ names. IsSettleOrder (keys connector.now.book) names.items) }
     ensures fault { IfErr result (λ fault. fault ≡ Memory) }
 {
@@ -77,7 +77,7 @@ fn names_in_order<J: Journal>(connector: &Connector<J>) -> Result<Vec<RecordName
     Ok(names)
 }
 
-/// Exchanges for these records, one after another.
+/// Makes exchanges for these records, one after another.
 fn push_each<J: Journal, D: Dial, T: Tell>(
     alloc: Global,
     service: &ScimService,
@@ -85,7 +85,7 @@ fn push_each<J: Journal, D: Dial, T: Tell>(
     dial: &mut D,
     teller: &mut T,
     names: &[RecordName],
-) -> Result<Tally, PushFault>
+) -> Result<Tally, RunFault>
     ensures pushes { PushesEach D.Reader.remaining D.Writer.contents J.Journal service.now
         names.now connector.old connector.new (T.told teller.old) (T.told teller.new) result }
     ensures onward { Onward connector.old.book connector.new.book }
@@ -102,8 +102,8 @@ fn push_each<J: Journal, D: Dial, T: Tell>(
     Ok(tally)
 }
 
-/// Tells what became of a record.
-fn tell<T: Tell>(teller: &mut T, name: &RecordName, pushed: &Pushed) -> Result<(), PushFault>
+/// Reports the result for a record.
+fn tell<T: Tell>(teller: &mut T, name: &RecordName, pushed: &Pushed) -> Result<(), RunFault>
     ensures told { OnOk result (Tells (T.told teller.old) (T.told teller.new) ((name.now, pushed.now) ∷ [])) }
     ensures fault { IfErr result IsUntold }
 {
@@ -112,12 +112,12 @@ fn tell<T: Tell>(teller: &mut T, name: &RecordName, pushed: &Pushed) -> Result<(
         .map_err(|error| untold_fault(error.kind()))
 }
 
-/// What a record that can't be told ends the run with.
-fn untold_fault(kind: ErrorKind) -> PushFault
+/// The fault that ends a run if a record can't be reported.
+fn untold_fault(kind: ErrorKind) -> RunFault
     ensures { IsUntold result }
 {
     match kind {
-        ErrorKind::OutOfMemory => PushFault::Memory,
-        _ => PushFault::Untold,
+        ErrorKind::OutOfMemory => RunFault::Memory,
+        _ => RunFault::Untold,
     }
 }

@@ -4,7 +4,7 @@ ghost use Rattle.provisioning.specs.Onward.{Onward};
 ghost use Rattle.provisioning.specs.Records.{PushesRecord, Stands};
 
 use crate::dialing::Dial;
-use crate::faults::{PushFault, RecordFault};
+use crate::faults::{RecordFault, RunFault};
 use crate::turns::{Turn, take_turn};
 use connector_core::Connector;
 use journal_core::Journal;
@@ -12,11 +12,9 @@ use scim_client::ScimService;
 use scim_key::{Key, RecordName, Revision};
 use std::alloc::Global;
 use std::fmt;
+use world_sim::MOST_EXCHANGES;
 
-/// How many exchanges there are for a record at most.
-pub const MOST_EXCHANGES: u32 = 3;
-
-/// How a record stands.
+/// The state of a record after its exchanges.
 #[derive(Debug, Drop)]
 pub enum Standing {
     /// The wanted revision, this one, is confirmed.
@@ -32,8 +30,8 @@ impl fmt::Display for Standing {
 
     ghost output = { standing_text };
 
-    /// How it stands, in a few words: `confirmed 2`, `unconfirmed C4`, `unconfirmed waits ann`, and
-    /// `unconfirmed -` where there was no fault.
+    /// The state in a few words: `confirmed 2`, `unconfirmed C4`, `unconfirmed waits ann`, or `unconfirmed
+    /// -` if there was no fault.
     fn fmt<W: fmt::Write>(&self, f: &mut fmt::Formatter<W>) -> fmt::Result {
         match self {
             Standing::Confirmed(revision) => write!(f, "confirmed {revision}"),
@@ -44,22 +42,22 @@ impl fmt::Display for Standing {
     }
 }
 
-/// What became of a record.
+/// The result for a record.
 #[derive(Debug, Drop)]
 pub struct Pushed {
     pub exchanges: u32,
     pub standing: Standing,
 }
 
-/// Exchanges for a record, each on a stream of its own, until nothing is asked for of it: at most
-/// three. A fault of one doesn't end the others, but for those that end the run.
+/// Makes exchanges for a record, each on its own stream, until there is nothing to ask for: at most three.
+/// After the fault of one, the others follow, unless the fault ends the run.
 pub fn push_record<J: Journal, D: Dial>(
     alloc: Global,
     service: &ScimService,
     connector: &mut Connector<J>,
     dial: &mut D,
     name: &RecordName,
-) -> Result<Pushed, PushFault>
+) -> Result<Pushed, RunFault>
     ensures pushes { PushesRecord D.Reader.remaining D.Writer.contents J.Journal service.now
         name.now connector.old connector.new result }
     ensures onward { Onward connector.old.book connector.new.book }
@@ -82,7 +80,7 @@ pub fn push_record<J: Journal, D: Dial>(
     })
 }
 
-/// How a record stands after all its exchanges.
+/// The state of a record after all its exchanges.
 fn standing_after<J: Journal>(
     connector: &Connector<J>,
     name: &RecordName,

@@ -7,10 +7,10 @@ use std::io::ErrorKind;
 use std::net::{Net, TcpStream, ToSocketAddrs};
 use std::time::{Clock, Duration};
 
-/// For how many seconds one address of a host is waited for at most.
+/// The most seconds that the connector waits for one address of a host.
 const ADDRESS_SECONDS: u64 = 10;
 
-/// A provider at an address, HOST:PORT. Each stream has this time in all, from before it is opened.
+/// A provider at an address, HOST:PORT. Each stream has this time in all, counted from before it is opened.
 #[derive(Drop)]
 pub struct Remote<'a, R> {
     pub alloc: Global,
@@ -19,7 +19,7 @@ pub struct Remote<'a, R> {
     pub limit: Duration,
 }
 
-/// Opens a stream to the first address of a host that answers in time.
+/// Opens a stream to the first address of the host that answers in time.
 fn connect<R: Net + Clock>(
     runtime: &R,
     address: &str,

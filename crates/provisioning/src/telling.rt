@@ -1,4 +1,4 @@
-//! Who is told of each record.
+//! What reports each record.
 ghost use Rattle.std.specs.Prelude.{◌∷◌, [], List, Option, None, OnOk};
 ghost use Rattle.provisioning.specs.Runs.{Done, Tells};
 
@@ -6,9 +6,9 @@ use crate::records::Pushed;
 use scim_key::RecordName;
 use std::io;
 
-/// Who is told of each record as soon as its exchanges are done.
+/// What reports each record as soon as its exchanges are done.
 pub trait Tell {
-    /// What was told so far, where it is known.
+    /// What was reported so far, if it is known.
     ghost told: { Self → Option (List Done) } = { λ _. None };
 
     fn tell(&mut self, name: &RecordName, pushed: &Pushed) -> io::Result<()>

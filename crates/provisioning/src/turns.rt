@@ -4,7 +4,7 @@ ghost use Rattle.provisioning.specs.Turns.{TakesTurn, exchanged};
 
 use crate::dialing::Dial;
 use crate::exchanging::exchange;
-use crate::faults::{PushFault, RecordFault};
+use crate::faults::{RecordFault, RunFault};
 use crate::records::Standing;
 use connector_core::{Ask, AskFault, Connector};
 use journal_core::Journal;
@@ -15,20 +15,20 @@ use std::alloc::Global;
 /// One turn of a record.
 #[derive(Debug, Drop)]
 pub(crate) enum Turn {
-    /// Nothing is sent: it stands so.
+    /// Nothing is sent; the record has this state.
     Resting(Standing),
     /// There was an exchange, with its fault if it had one.
     Exchanged(Option<RecordFault>),
 }
 
-/// Sends what the connector asks for next of a record, if it does, and learns from what comes.
+/// Sends the connector's next request for a record, if there is one, and learns from the answer.
 pub(crate) fn take_turn<J: Journal, D: Dial>(
     alloc: Global,
     service: &ScimService,
     connector: &mut Connector<J>,
     dial: &mut D,
     name: &RecordName,
-) -> Result<Turn, PushFault>
+) -> Result<Turn, RunFault>
     ensures { TakesTurn D.Reader.remaining D.Writer.contents J.Journal service.now name.now
         connector.old connector.new result }
 {
@@ -39,12 +39,12 @@ pub(crate) fn take_turn<J: Journal, D: Dial>(
         Err(AskFault::NoSuchRecord) => Ok(Turn::Resting(Standing::Unconfirmed(Some(
             RecordFault::NoSuchRecord,
         )))),
-        Err(AskFault::Memory) => Err(PushFault::Memory),
+        Err(AskFault::Memory) => Err(RunFault::Memory),
     }
 }
 
-/// The turn that an exchange is.
-fn exchanged(made: Result<Option<RecordFault>, PushFault>) -> Result<Turn, PushFault>
+/// The turn of an exchange.
+fn exchanged(made: Result<Option<RecordFault>, RunFault>) -> Result<Turn, RunFault>
     ensures { result ≡ exchanged made }
 {
     match made {

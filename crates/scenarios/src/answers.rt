@@ -1,4 +1,4 @@
-//! What a provider answers to each kind of request, for users and groups, as responses.
+//! A provider's answers to each kind of request, for users and groups, as responses.
 use crate::support::{BOB_CREATED, assert_that, base, empty};
 use provider_core::{Answer, MemoryRegistry, Provider, Request};
 use scim_filter::Filter;
@@ -59,7 +59,7 @@ pub fn creation(rt: &impl Abort, alloc: Global, text: &str, kind: Kind) -> Reque
     }
 }
 
-/// A replacement by this content, under no condition.
+/// A replacement by this content, without a condition.
 pub fn replacement(rt: &impl Abort, alloc: Global, id: &str, text: &str, kind: Kind) -> Request {
     Request::Replace {
         id: ResourceId::read(alloc, id).expect(rt, "an id"),
@@ -69,7 +69,7 @@ pub fn replacement(rt: &impl Abort, alloc: Global, id: &str, text: &str, kind: K
     }
 }
 
-/// A retrieval, where its version isn't one of these.
+/// A retrieval, unless the version is one of these.
 pub fn retrieval(
     rt: &impl Abort,
     alloc: Global,
@@ -85,7 +85,7 @@ pub fn retrieval(
     }
 }
 
-/// A search for all resources of a type that a filter hits.
+/// A search for all resources of a type that a filter finds.
 pub fn search(kind: Kind, filter: Option<Filter>) -> Request {
     Request::Search {
         kind,
@@ -95,12 +95,12 @@ pub fn search(kind: Kind, filter: Option<Filter>) -> Request {
     }
 }
 
-/// The response with an answer.
+/// The response for an answer.
 fn written(rt: &impl Abort, alloc: Global, answer: &Answer) -> Vec<u8> {
     response_of(alloc, answer, &base(rt, alloc)).expect(rt, "a response")
 }
 
-/// Asserts that a request is answered so.
+/// Asserts the answer to a request.
 fn answers(
     rt: &impl Abort,
     alloc: Global,
@@ -123,7 +123,7 @@ fn with_both(rt: &impl Abort, alloc: Global) -> Provider<MemoryRegistry> {
     provider
 }
 
-/// Asserts that a provider with both answers a request so.
+/// Asserts how a provider with both answers a request.
 fn both_answer(rt: &impl Abort, alloc: Global, request: Request, expected: &[u8]) {
     let mut provider = with_both(rt, alloc);
     answers(rt, alloc, &mut provider, request, expected)
@@ -161,7 +161,7 @@ fn resources_are_listed(rt: HostRuntime) {
     both_answer(&rt, rt.alloc(), search(Kind::Group, None), CREW_LISTED)
 }
 
-/// The filter for the crew's name, in other letters.
+/// The filter for the crew's name, in another case.
 fn crew_filter(rt: &impl Abort, alloc: Global) -> Filter {
     let name = GroupName::read(alloc, "CREW").expect(rt, "a name");
     Filter::eq_display_name(alloc, &name).expect(rt, "memory")

@@ -1,4 +1,4 @@
-//! Requests as the client writes them, and what the server makes of them.
+//! Requests as the client writes them, and the server's answers.
 use crate::support::{
     BOB_FOUND, CREATE_BOB, answers, assert_that, base, empty, ends, joined, tells, with_bob,
 };
@@ -40,7 +40,7 @@ fn written(rt: &impl Abort, alloc: Global, request: &Request) -> Vec<u8> {
         .expect(rt, "a request")
 }
 
-/// Asserts that a provider with bob answers a request with this status, by bytes that end so.
+/// Asserts that a provider with bob answers a request with this status, and with bytes that end like this.
 fn bob_ends(rt: &impl Abort, alloc: Global, request: &[u8], status: u16, end: &str) {
     let mut provider = with_bob(rt, alloc);
     ends(rt, alloc, &mut provider, request, status, end)
@@ -100,7 +100,7 @@ fn all_groups_are_asked_for_without_a_query(rt: HostRuntime) {
     gets(&rt, alloc, &built, "/v2/Groups", "")
 }
 
-/// A search for a page of the users that a filter hits.
+/// A search for a page of the users that a filter finds.
 fn page(rt: &impl Abort, alloc: Global) -> Request {
     let filter = Filter::read(alloc, "not(externalId sw \"a&b=%\")").expect(rt, "a filter");
     Request::Search {

@@ -1,4 +1,4 @@
-//! The worked examples of the connector, as tests over its calls.
+//! The worked examples of the connector, as tests of its calls.
 mod asking;
 mod changing;
 mod codes;

@@ -1,4 +1,4 @@
-//! Exchanges of the client, over bytes and over streams that follow a script.
+//! Exchanges of the client, with bytes and with streams that follow a script.
 use crate::answers::{BOB, creation};
 use crate::responses::padded;
 use crate::sayings::{Ask, line, request_for, response};
@@ -12,7 +12,7 @@ use std::alloc::Global;
 use std::io::{ErrorKind, Read, Write};
 use std::process::Abort;
 
-/// An answer in a line, or the code of a fault.
+/// An answer as a line, or the code of a fault.
 fn told(rt: &impl Abort, alloc: Global, outcome: &Result<Answer, ExchangeFault>) -> String {
     match outcome {
         Ok(answer) => line(rt, alloc, answer),
@@ -28,7 +28,7 @@ const BROKEN: Turn = Turn::Fails(ErrorKind::BrokenPipe);
 
 // ---- readers
 
-/// Asks for something over these streams.
+/// Sends a request over these streams.
 fn exchanged<R: Read, W: Write>(
     rt: &impl Abort,
     alloc: Global,
@@ -40,7 +40,7 @@ fn exchanged<R: Read, W: Write>(
     service.exchange(alloc, request, reader, writer)
 }
 
-/// Asks for bob's creation over these streams, and asserts what comes.
+/// Asks for bob's creation over these streams, and asserts the result.
 fn creates<R: Read, W: Write>(
     rt: &impl Abort,
     alloc: Global,
@@ -54,8 +54,8 @@ fn creates<R: Read, W: Write>(
     outcome
 }
 
-/// Asserts what comes where bob's creation is asked for and these bytes are read by a script. The
-/// request is written whole.
+/// Asks for bob's creation, reads these bytes by a script, and asserts the result. The request is written
+/// whole.
 fn is_read(rt: &impl Abort, alloc: Global, bytes: &[u8], script: Script<'_>, expected: &str) {
     let mut reader = Input::new(ScriptedReader { bytes, script });
     let mut writer = Output::new(Vec::new(alloc));
@@ -63,10 +63,10 @@ fn is_read(rt: &impl Abort, alloc: Global, bytes: &[u8], script: Script<'_>, exp
     assert_that(rt, writer.into_inner().as_slice() == CREATE_BOB);
 }
 
-/// At most how many bytes a read gives, what happens at which byte, and what comes.
+/// The most bytes of a read, what happens at which byte, and the result.
 type Reading = (usize, &'static [Event], &'static str);
 
-/// A head of 278 bytes and a body of 388 take 666 reads of a byte, of 100,000 in all.
+/// A head of 278 bytes and a body of 388 take 666 reads of one byte; 100,000 are allowed.
 static READINGS: &[Reading] = &[
     (1, &[], CREATED),
     (7, &[], CREATED),
@@ -124,8 +124,8 @@ fn a_part_of_a_response_is_no_answer(rt: HostRuntime) {
 
 // ---- writers
 
-/// At most how many bytes a write takes, what happens at which byte, with what the first flushes
-/// fail, what comes, and how many bytes of the request are written.
+/// The most bytes of a write, what happens at which byte, the faults of the first flushes, the result, and
+/// how many bytes of the request are written.
 type Writing = (
     usize,
     &'static [Event],
@@ -134,7 +134,7 @@ type Writing = (
     usize,
 );
 
-/// How many bytes were sent, where the request wasn't sent whole.
+/// How many bytes were sent, if the request wasn't sent whole.
 fn sent(outcome: &Result<Answer, ExchangeFault>) -> Option<usize> {
     match outcome {
         Err(ExchangeFault::Unsent(SendFault::WriteFailed { sent })) => Some(*sent),
@@ -143,7 +143,7 @@ fn sent(outcome: &Result<Answer, ExchangeFault>) -> Option<usize> {
     }
 }
 
-/// Asserts that where no answer came so many bytes were sent, and the reader wasn't called.
+/// Asserts that, if no answer came, this many bytes were sent and the reader wasn't called.
 fn is_unsent(rt: &impl Abort, outcome: &Result<Answer, ExchangeFault>, bytes: usize, calls: u64) {
     if outcome.is_err() {
         assert_same(rt, sent(outcome), Some(bytes));
@@ -151,8 +151,8 @@ fn is_unsent(rt: &impl Abort, outcome: &Result<Answer, ExchangeFault>, bytes: us
     }
 }
 
-/// Asserts what comes where bob's creation is asked for through a writer that follows a script. The
-/// answer is read only where the request was sent.
+/// Asks for bob's creation through a writer that follows a script, and asserts the result. The answer is
+/// read only if the request was sent.
 fn is_written(rt: &impl Abort, alloc: Global, writing: &Writing, events: &[Event]) {
     let (step, _, flush_faults, expected, bytes) = writing;
     let mut reader = Input::new(BOB_CREATED);
@@ -163,7 +163,7 @@ fn is_written(rt: &impl Abort, alloc: Global, writing: &Writing, events: &[Event
     assert_that(rt, Some(taken.as_slice()) == CREATE_BOB.get(..*bytes));
 }
 
-/// A request that is taken whole by one write takes two turns of 100,000.
+/// A request that one write takes whole needs two of 100,000 turns.
 static WRITINGS: &[Writing] = &[
     (1, &[], &[], CREATED, 371),
     (7, &[], &[], CREATED, 371),
@@ -215,7 +215,7 @@ fn a_write_that_fails_once_at_each_place(rt: HostRuntime) {
 
 // ---- responses of other providers
 
-/// What is left of the bytes of a reader.
+/// The remaining bytes of a reader.
 fn rest(rt: &impl Abort, alloc: Global, reader: Input<&[u8]>) -> Vec<u8> {
     let mut rest = Vec::from_slice(alloc, reader.ahead()).expect(rt, "memory");
     rest.extend_from_slice(reader.into_inner())
@@ -223,7 +223,7 @@ fn rest(rt: &impl Abort, alloc: Global, reader: Input<&[u8]>) -> Vec<u8> {
     rest
 }
 
-/// Asks for something over a reader, and asserts what comes.
+/// Sends a request, reads the answer from a reader, and asserts the result.
 fn says(rt: &impl Abort, alloc: Global, ask: Ask, reader: &mut Input<&[u8]>, expected: &str) {
     let request = request_for(rt, alloc, ask);
     let mut writer = Output::new(Vec::new(alloc));
@@ -231,14 +231,14 @@ fn says(rt: &impl Abort, alloc: Global, ask: Ask, reader: &mut Input<&[u8]>, exp
     assert_same(rt, told(rt, alloc, &outcome).as_str(), expected);
 }
 
-/// Asserts what comes where these bytes are read, and what is left of them.
+/// Reads these bytes, and asserts the result and the remaining bytes.
 fn comes(rt: &impl Abort, alloc: Global, ask: Ask, bytes: &[u8], expected: &str, left: &[u8]) {
     let mut reader = Input::new(bytes);
     says(rt, alloc, ask, &mut reader, expected);
     assert_that(rt, rest(rt, alloc, reader).as_slice() == left);
 }
 
-/// What is asked for, the bytes that are read, what comes, and what is left.
+/// The request, the bytes that are read, the result, and the remaining bytes.
 type Coming = (Ask, &'static [u8], &'static str, &'static [u8]);
 
 static COMINGS: &[Coming] = &[

@@ -1,4 +1,4 @@
-//! A Search for one name is answered by the index of names.
+//! A Search for one name uses the index of names.
 ghost use Rattle.std.specs.Prelude.{◌≡◌, refl};
 
 use crate::support::{CREATE_BOB, assert_same, ends, exchange, joined};
@@ -8,7 +8,7 @@ use scim_resource::Stored;
 use std::alloc::Global;
 use std::process::Abort;
 
-/// A registry in memory that counts how often its rows are gone through.
+/// A registry in memory that counts how often its rows are scanned.
 #[derive(Drop)]
 struct CountingRegistry {
     registry: MemoryRegistry,
@@ -60,7 +60,7 @@ impl Registry for CountingRegistry {
     ghost stays = { λ _ _. refl };
 }
 
-/// What GET of a target answers last, and how often the rows are gone through.
+/// The last answer to GET of a target, and how often the rows are scanned.
 type Found = (&'static str, &'static str, u64);
 
 static FOUND: &[Found] = &[

@@ -1,4 +1,4 @@
-//! The worked examples, as tests over texts, whole connections, the connector's calls, stores and streams.
+//! The worked examples, as tests of texts, whole connections, the connector's calls, stores and streams.
 #![tactic(auto)]
 
 #[cfg(test)]

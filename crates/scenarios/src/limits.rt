@@ -1,4 +1,4 @@
-//! Each limit is met exactly, and passed by one.
+//! Each limit is met exactly, and exceeded by one.
 use crate::registries::FullRegistry;
 use crate::support::{
     CREATE_BOB, assert_same, empty, ends, joined, printed, push_all, repeated, tells,
@@ -7,8 +7,8 @@ use provider_core::Provider;
 use std::alloc::Global;
 use std::process::Abort;
 
-/// A text whose piece may stand so many times between two others, and what is told of both sides of
-/// the limit: the status, and a part of the answer.
+/// A text between two others that may be repeated up to a limit, and the answers at the limit and above it:
+/// the status, and a part of the answer.
 type Limit = (
     &'static str,
     (&'static str, usize),
@@ -19,14 +19,14 @@ type Limit = (
 
 type Told = (u16, &'static str);
 
-/// Asserts what an empty provider tells of a request.
+/// Asserts the answer of an empty provider to a request.
 fn is_told(rt: &impl Abort, alloc: Global, request: &str, told: Told) {
     let (status, part) = told;
     let mut provider = empty(alloc);
     tells(rt, alloc, &mut provider, request.as_bytes(), status, part)
 }
 
-/// A POST of this body, to the collection that its schema says.
+/// A POST of this body, to the collection of its schema.
 fn post_of(rt: &impl Abort, alloc: Global, body: &str) -> String {
     let line = if body.starts_with(GROUP) {
         "POST /v2/Groups"
@@ -46,7 +46,7 @@ const VALUE: Told = (400, "\"scimType\":\"invalidValue\"");
 
 const SYNTAX: Told = (400, "\"scimType\":\"invalidSyntax\"");
 
-/// Bodies, of which a part may be so long, or stand so many times.
+/// Bodies with a part that may be repeated up to a limit.
 static BODIES: &[Limit] = &[
     (
         "{\"schemas\":[\"urn:ietf:params:scim:schemas:core:2.0:User\"],\"userName\":\"",
@@ -127,20 +127,20 @@ static BODIES: &[Limit] = &[
     ),
 ];
 
-/// The text in which the piece stands so many times.
+/// The text with the piece repeated `count` times.
 fn text_of(rt: &impl Abort, alloc: Global, limit: &Limit, count: usize) -> String {
     let (before, (piece, _), after, _, _) = limit;
     let pieces = repeated(rt, alloc, piece, count);
     joined(rt, alloc, &[before, pieces.as_str(), after])
 }
 
-/// Asserts what an empty provider tells of a POST of this body.
+/// Asserts the answer of an empty provider to a POST of this body.
 fn body_is_told(rt: &impl Abort, alloc: Global, body: &str, told: Told) {
     let request = post_of(rt, alloc, body);
     is_told(rt, alloc, request.as_str(), told)
 }
 
-/// Asserts what is told of a body in which the piece stands so many times.
+/// Asserts the answer to a body with the piece repeated `count` times.
 fn bodies_have(rt: &impl Abort, alloc: Global, limit: &Limit, count: usize, told: Told) {
     let body = text_of(rt, alloc, limit, count);
     body_is_told(rt, alloc, body.as_str(), told)
@@ -156,7 +156,7 @@ fn parts_of_bodies(rt: HostRuntime) {
     }
 }
 
-/// Whole requests, of which a part may be so long, or stand so many times.
+/// Whole requests with a part that may be repeated up to a limit.
 static REQUESTS: &[Limit] = &[
     (
         "GET /v2/Users HTTP/1.1\r\nHost: h\r\nX: ",
@@ -223,7 +223,7 @@ static REQUESTS: &[Limit] = &[
     ),
 ];
 
-/// Asserts what is told of a request in which the piece stands so many times.
+/// Asserts the answer to a request with the piece repeated `count` times.
 fn requests_have(rt: &impl Abort, alloc: Global, limit: &Limit, count: usize, told: Told) {
     let request = text_of(rt, alloc, limit, count);
     is_told(rt, alloc, request.as_str(), told)
@@ -239,7 +239,7 @@ fn parts_of_requests(rt: HostRuntime) {
     }
 }
 
-/// A body of so many bytes, with an attribute that is disregarded.
+/// A body with `length` bytes, with an attribute that is ignored.
 fn body_of_length(rt: &impl Abort, alloc: Global, length: usize) -> String {
     let before =
         "{\"schemas\":[\"urn:ietf:params:scim:schemas:core:2.0:User\"],\"userName\":\"a\",\"x\":\"";
@@ -262,7 +262,7 @@ fn bodies_have_at_most_32768_bytes(rt: HostRuntime) {
     length_is_told(&rt, alloc, 32_769, (413, "the body is too long"))
 }
 
-/// A body with so many arrays, one in the other.
+/// A body with `count` arrays, one within the other.
 fn body_of_depth(rt: &impl Abort, alloc: Global, count: usize) -> String {
     let before =
         "{\"schemas\":[\"urn:ietf:params:scim:schemas:core:2.0:User\"],\"userName\":\"a\",\"x\":";
@@ -280,7 +280,7 @@ fn json_is_at_most_127_deep(rt: HostRuntime) {
     body_is_told(&rt, alloc, deeper.as_str(), SYNTAX)
 }
 
-/// Appends the member of this number, and a comma where one stands before it.
+/// Appends the member with this number, after a comma unless it is the first.
 fn push_member(rt: &impl Abort, alloc: Global, text: &mut String, number: usize) {
     if number > 1 {
         push_all(rt, text, &[","]);

@@ -1,4 +1,4 @@
-//! The lines of a file's images, through writers that follow a script.
+//! The lines of a file's images, written by writers that follow a script.
 use crate::scripts::{Event, ScriptedWriter, Turn};
 use crate::support::{assert_same, assert_that};
 use mapping::{WriteFault, write_images};
@@ -13,8 +13,8 @@ static USERS: &[u8] =
 static LINES: &[u8] =
     b"{\"active\":true,\"emails\":[{\"primary\":true,\"type\":\"work\",\"value\":\"ann@example.com\"}],\"externalId\":\"1001\",\"name\":{\"familyName\":\"Lee\",\"givenName\":\"Ann\"},\"schemas\":[\"urn:ietf:params:scim:schemas:core:2.0:User\",\"urn:example:params:scim:schemas:extension:source:1.0\"],\"urn:example:params:scim:schemas:extension:source:1.0\":{\"revision\":7},\"userName\":\"ann\"}\n{\"active\":false,\"schemas\":[\"urn:ietf:params:scim:schemas:core:2.0:User\",\"urn:example:params:scim:schemas:extension:source:1.0\"],\"urn:example:params:scim:schemas:extension:source:1.0\":{\"revision\":1},\"userName\":\"bob\"}\n";
 
-/// At most how many bytes a write takes, what happens at which byte, with what the first flushes
-/// fail, how many bytes are written, and what `write_images` answers.
+/// The most bytes of a write, what happens at which byte, the faults of the first flushes, how many bytes
+/// are written, and the result of `write_images`.
 type Writing = (
     usize,
     &'static [Event],
@@ -48,7 +48,7 @@ static WRITINGS: &[Writing] = &[
     (1_000, &[], &[ErrorKind::OutOfMemory], 565, NO_MEMORY),
 ];
 
-/// What `write_images` answers for both users.
+/// The result of `write_images` for both users.
 fn written<W: Write>(rt: &impl Abort, alloc: Global, out: &mut W) -> Result<(), WriteFault> {
     let rows = read_users(alloc, USERS).expect(rt, "a file");
     write_images(alloc, rows.as_slice(), out)

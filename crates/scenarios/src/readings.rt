@@ -1,4 +1,4 @@
-//! What texts are read as, and how it is written again: tests by tables.
+//! How texts are read and written again: tests by tables.
 mod answers_back;
 mod codes;
 mod copies;

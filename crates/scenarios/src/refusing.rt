@@ -4,7 +4,7 @@ use scim_server::Served;
 use std::alloc::Global;
 use std::process::Abort;
 
-/// Asserts that an empty provider answers a request with this status by these bytes, and stores nothing.
+/// Asserts that an empty provider answers a request with this status and these bytes, and stores nothing.
 fn answers(rt: &impl Abort, alloc: Global, request: &[u8], status: u16, expected: &[u8]) {
     let (served, written, rows) = asked(rt, alloc, request);
     assert_same(rt, served, Served::Answered { status });
@@ -45,14 +45,14 @@ static BAD_SYNTAX: &[&str] = &[
     "{\"schemas\":[\"urn:ietf:params:scim:schemas:core:2.0:User\"],\"userName\":\"x\",\"USERNAME\":\"y\"}",
 ];
 
-/// Asserts that a POST of this body is refused so.
+/// Asserts the refusal of a POST with this body.
 fn refuses_body(rt: &impl Abort, alloc: Global, body: &str, refusal: &str) {
     let request = post(rt, alloc, body);
     let asked = request.as_slice();
     refuses(rt, alloc, asked, 400, "400 Bad Request", refusal)
 }
 
-/// Asserts that a POST of each of these bodies is refused so.
+/// Asserts the refusal of a POST with each of these bodies.
 fn refuses_bodies(rt: &impl Abort, alloc: Global, bodies: &[&str], refusal: &str) {
     for body in bodies {
         refuses_body(rt, alloc, body, refusal);
@@ -65,7 +65,7 @@ fn bodies(rt: HostRuntime) {
     refuses_bodies(&rt, rt.alloc(), BAD_SYNTAX, SYNTAX)
 }
 
-/// A request, and the status line and the detail that it is refused with.
+/// A request, and the status line and the detail of its refusal.
 type Refused = (&'static str, u16, &'static str, &'static str);
 
 fn is_refused(rt: &impl Abort, alloc: Global, refused: &Refused) {
@@ -233,7 +233,7 @@ fn heads(rt: HostRuntime) {
     refuses_all(&rt, rt.alloc(), HEADS)
 }
 
-/// Asserts that a request is refused for the length of its head.
+/// Asserts that a request is refused because its head is too long.
 fn refuses_head(rt: &impl Abort, alloc: Global, request: &[u8]) {
     let body = message(rt, alloc, "the head is too long", 431);
     let line = "431 Request Header Fields Too Large";
@@ -246,7 +246,7 @@ fn long_heads(rt: HostRuntime) {
     refuses_head(&rt, rt.alloc(), letters.as_slice())
 }
 
-/// A GET with so many field lines more.
+/// A GET with `count` more field lines.
 fn with_lines(rt: &impl Abort, alloc: Global, count: usize) -> String {
     let head = "GET /v2/Users HTTP/1.1\r\nHost: h\r\n";
     let lines = repeated(rt, alloc, "X: y\r\n", count);

@@ -1,4 +1,4 @@
-//! Registries of which a test knows what they answer.
+//! Registries whose answers a test knows.
 ghost use Rattle.std.specs.Prelude.{[], ◌≤◌, IsErrOf};
 ghost use Rattle.provider_core.specs.Stores.{HasRisen};
 
@@ -6,7 +6,7 @@ use provider_core::{Registry, RegistryFault};
 use scim_key::{RecordName, ResourceId};
 use scim_resource::Stored;
 
-/// Holds as many rows as a provider may but for so many, and finds none of them.
+/// Holds one row less than a provider may, until `room` rows were added, and finds no row.
 #[derive(Drop)]
 pub struct FullRegistry {
     pub inserts: u64,

@@ -75,7 +75,7 @@ const MALFORMED: Said = Said::Ends(
     "{\"detail\":\"a value is missing or not allowed\",\"schemas\":[\"urn:ietf:params:scim:api:messages:2.0:Error\"],\"scimType\":\"invalidValue\",\"status\":\"400\"}",
 );
 
-/// Each for a provider of its own.
+/// Each is for a provider of its own.
 static CONDITIONS: &[Round] = &[
     (PUT_BOB, "If-Match: W/\"1\"\r\n", BOB_2, 412, OTHER),
     (PUT_BOB, "If-Match: *\r\n", BOB_2, 200, REPLACED),
@@ -197,7 +197,7 @@ fn a_lower_revision_replaces_too(rt: HostRuntime) {
     converse(&rt, rt.alloc(), &mut provider, LOWER)
 }
 
-/// A provider with bob at the last version but one.
+/// A provider with bob at the version before the last.
 fn with_bob_before_last(rt: &impl Abort, alloc: Global) -> Provider<MemoryRegistry> {
     let mut registry = MemoryRegistry::new(alloc);
     let name = UserName::read(alloc, "bob").expect(rt, "a name");

@@ -6,7 +6,7 @@ use scim_message::Answer;
 use std::alloc::Global;
 use std::process::Abort;
 
-/// An answer in a line, or the code of a fault.
+/// An answer as a line, or the code of a fault.
 fn told(rt: &impl Abort, alloc: Global, outcome: &Result<Answer, AnswerFault>) -> String {
     match outcome {
         Ok(answer) => line(rt, alloc, answer),
@@ -14,14 +14,14 @@ fn told(rt: &impl Abort, alloc: Global, outcome: &Result<Answer, AnswerFault>) -
     }
 }
 
-/// Asserts that these bytes are this answer, or are refused by this code.
+/// Asserts that these bytes are this answer, or are refused with this code.
 fn says(rt: &impl Abort, alloc: Global, ask: Ask, bytes: &[u8], expected: &str) {
     let request = request_for(rt, alloc, ask);
     let outcome = read_answer(alloc, &request, bytes);
     assert_same(rt, told(rt, alloc, &outcome).as_str(), expected);
 }
 
-/// What is asked for, a status, a body, and what they say.
+/// The request, a status, a body, and what they say.
 type Said = (Ask, &'static str, &'static str, &'static str);
 
 fn say(rt: &impl Abort, alloc: Global, table: &[Said]) {
@@ -246,7 +246,7 @@ static LISTS: &[(&str, &str)] = &[
     ("", "K2"),
 ];
 
-/// Asserts what a Search that is answered by this body with 200 says.
+/// Asserts what a Search says if its answer is 200 with this body.
 fn list_says(rt: &impl Abort, alloc: Global, body: &str, expected: &str) {
     let bytes = response(rt, alloc, "200 OK", "", body);
     says(rt, alloc, Ask::Search, bytes.as_slice(), expected)
@@ -259,7 +259,7 @@ fn lists(rt: HostRuntime) {
     }
 }
 
-/// Appends a user of this number, and a comma where one stands before it.
+/// Appends a user with this number, after a comma unless it is the first.
 fn push_resource(rt: &impl Abort, alloc: Global, text: &mut String, number: u32) {
     if number > 0 {
         push_all(rt, text, &[","]);
@@ -281,13 +281,13 @@ fn body_of_200(rt: &impl Abort, alloc: Global) -> String {
     body
 }
 
-/// Appends what is said of the user of this number.
+/// Appends the line of the user with this number.
 fn push_said(rt: &impl Abort, alloc: Global, text: &mut String, number: u32) {
     let number = printed(rt, alloc, number);
     push_all(rt, text, &[", ", number.as_str(), " - u", number.as_str()])
 }
 
-/// What the list says.
+/// The line of the list.
 fn line_of_200(rt: &impl Abort, alloc: Global) -> String {
     let mut text = joined(rt, alloc, &["list 201 1"]);
     for number in 0..200u32 {
@@ -306,7 +306,7 @@ fn a_list_of_200_resources(rt: HostRuntime) {
 
 // ---- whole bytes
 
-/// What is asked for, bytes, and what they say.
+/// The request, the bytes, and what they say.
 type Bytes = (Ask, &'static [u8], &'static str);
 
 static BYTES: &[Bytes] = &[
@@ -448,7 +448,7 @@ fn no_part_of_a_response_is_one(rt: HostRuntime) {
 
 // ---- limits
 
-/// A list message, with white space up to so many bytes.
+/// A list message, with white space up to `length` bytes.
 pub fn padded(rt: &impl Abort, alloc: Global, length: usize) -> String {
     let list = "{\"totalResults\":0}";
     let spaces = repeated(rt, alloc, " ", length.saturating_sub(list.len()));
@@ -463,7 +463,7 @@ fn a_body_at_its_limit(rt: HostRuntime) {
     }
 }
 
-/// A response with so many field lines more than its length, of which one has so long a value.
+/// A response with `lines` field lines beside its length, one of them with a value of this length.
 fn headed(rt: &impl Abort, alloc: Global, lines: usize, value_length: usize) -> Vec<u8> {
     let value = repeated(rt, alloc, "f", value_length);
     let others = repeated(rt, alloc, "A: b\r\n", lines.saturating_sub(1));
@@ -484,7 +484,7 @@ fn headed_says(
     says(rt, alloc, Ask::Search, bytes.as_slice(), expected)
 }
 
-/// A head has 44 bytes beside the value, and its body 18.
+/// A head has 44 bytes besides the value, and its body has 18.
 #[test]
 fn heads_at_their_limits(rt: HostRuntime) {
     let alloc = rt.alloc();

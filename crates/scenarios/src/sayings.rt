@@ -1,4 +1,4 @@
-//! Requests for a user, responses as texts, and what an answer says in a line.
+//! Requests for a user, responses as texts, and answers as lines.
 use crate::answers::{creation, replacement, retrieval, search};
 use crate::support::{joined, printed, push_all};
 use scim_key::{Kind, ResourceId};
@@ -8,7 +8,7 @@ use scim_version::{Condition, EntityTag};
 use std::alloc::Global;
 use std::process::Abort;
 
-/// What is asked for: each of a user, or of users.
+/// The request: each is about a user, or about users.
 #[derive(Clone, Copy)]
 pub enum Ask {
     Create,
@@ -30,7 +30,7 @@ pub fn request_for(rt: &impl Abort, alloc: Global, ask: Ask) -> Request {
     }
 }
 
-/// A response with this status, these field lines and this body, whose length it states.
+/// A response with this status, these field lines and this body, whose length is stated.
 pub fn response(rt: &impl Abort, alloc: Global, status: &str, fields: &str, body: &str) -> Vec<u8> {
     let length = printed(rt, alloc, body.len());
     let head = "\r\nContent-Length: ";
@@ -43,7 +43,7 @@ pub fn response(rt: &impl Abort, alloc: Global, status: &str, fields: &str, body
     text.into_bytes()
 }
 
-// ---- answers in a line
+// ---- answers as lines
 
 fn text_of(rt: &impl Abort, alloc: Global, bytes: &[u8]) -> String {
     let text = Vec::from_slice(alloc, bytes).expect(rt, "memory");

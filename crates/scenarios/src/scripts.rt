@@ -1,23 +1,23 @@
-//! Readers and writers that do at each byte what a script says.
+//! Readers and writers that follow a script, byte by byte.
 ghost use Rattle.std.specs.Prelude.{◌≤◌, IfOk};
 
 use std::alloc::Global;
 use std::io;
 use std::io::{Read, Write};
 
-/// What a stream does where its script says so.
+/// What a stream does at a place of its script.
 #[derive(Clone, Copy)]
 pub enum Turn {
-    /// A call fails so.
+    /// A call fails with this kind of error.
     Fails(io::ErrorKind),
     /// A call gives or takes no byte.
     Nothing,
 }
 
-/// A turn, after how many bytes it comes, and for how many calls.
+/// After how many bytes a turn comes, for how many calls, and the turn.
 pub type Event = (usize, usize, Turn);
 
-/// How bytes pass: at most so many a call, but for what happens at some places, in their order.
+/// How bytes pass: at most `step` for each call, except for the events, in order.
 #[derive(Drop)]
 pub struct Script<'a> {
     step: usize,
@@ -36,7 +36,7 @@ impl<'a> Script<'a> {
         }
     }
 
-    /// How many of so many bytes pass at this call.
+    /// How many of the bytes asked for pass at this call.
     fn next(&mut self, asked: usize) -> io::Result<usize>
         ensures { IfOk result (λ count. count ≤ asked) }
     {
@@ -89,7 +89,7 @@ impl<'a> Read for ScriptedReader<'a> {
     }
 }
 
-/// Takes bytes by a script. So many of its first flushes fail, and it counts them all.
+/// Takes bytes by a script. Its first flushes fail with these faults, and it counts all flushes.
 #[derive(Drop)]
 pub struct ScriptedWriter<'a> {
     pub taken: Vec<u8>,
@@ -99,7 +99,7 @@ pub struct ScriptedWriter<'a> {
 }
 
 impl<'a> ScriptedWriter<'a> {
-    /// A writer that nothing was written to yet.
+    /// A writer with nothing written yet.
     pub fn new(
         alloc: Global,
         step: usize,

@@ -17,7 +17,7 @@ const BOB: Named = (2, "bob");
 
 const CID: Named = (3, "cid");
 
-/// The creation of a user that is active and has nothing but its name.
+/// The creation of an active user with nothing but a name.
 fn creation(rt: &impl Abort, alloc: Global, name: &str) -> Vec<u8> {
     let before = "{\"schemas\":[\"urn:ietf:params:scim:schemas:core:2.0:User\"],\"userName\":\"";
     let body = joined(rt, alloc, &[before, name, "\"}"]);
@@ -29,7 +29,7 @@ fn create(rt: &impl Abort, alloc: Global, provider: &mut Provider<MemoryRegistry
     exchange(rt, alloc, provider, request.as_slice());
 }
 
-/// A provider with these users, who are active and have nothing but their names.
+/// A provider with these active users, who have nothing but names.
 fn with_users(rt: &impl Abort, alloc: Global, users: &[Named]) -> Provider<MemoryRegistry> {
     let mut provider = empty(alloc);
     for (_, name) in users {
@@ -75,7 +75,7 @@ fn list(
     text
 }
 
-/// Asserts that GET of a target is answered by this body.
+/// Asserts that this body answers GET of a target.
 fn is_answered(
     rt: &impl Abort,
     alloc: Global,
@@ -95,7 +95,7 @@ fn is_answered(
     )
 }
 
-/// A resource of a list, and a comma where one stands before it.
+/// A resource of a list, after a comma unless it is the first.
 fn shown(rt: &impl Abort, alloc: Global, user: &Named, is_first: bool) -> String {
     let (number, name) = user;
     let comma = if is_first { "" } else { "," };
@@ -126,7 +126,7 @@ fn page_of(rt: &impl Abort, alloc: Global, page: &[Named]) -> String {
 /// What GET of the users with a query finds: a page, its start, and how many there are in all.
 type Found = (&'static str, &'static [Named], u64, u64);
 
-/// The list message of what is found.
+/// The list message for what is found.
 fn list_of(rt: &impl Abort, alloc: Global, found: &Found) -> String {
     let (_, page, start, total) = found;
     let resources = page_of(rt, alloc, page);
@@ -143,7 +143,7 @@ fn finds(rt: &impl Abort, alloc: Global, provider: &mut Provider<MemoryRegistry>
     is_answered(rt, alloc, provider, target.as_str(), body.as_str())
 }
 
-/// Asserts that a provider with these users finds all this.
+/// Asserts everything that a provider with these users finds.
 fn finds_all(rt: &impl Abort, alloc: Global, users: &[Named], table: &[Found]) {
     let mut provider = with_users(rt, alloc, users);
     for found in table {
@@ -164,7 +164,7 @@ fn refusal(rt: &impl Abort, alloc: Global, scim_type: &str, detail: &str) -> Str
     response(rt, alloc, "400 Bad Request", body.as_str())
 }
 
-/// Asserts that GET of the users with a query is refused so.
+/// Asserts the refusal of GET of the users with a query.
 fn refuses(
     rt: &impl Abort,
     alloc: Global,
@@ -177,7 +177,7 @@ fn refuses(
     answers(rt, alloc, provider, asked.as_bytes(), 400, expected)
 }
 
-/// Asserts that GET of the users with these queries is refused.
+/// Asserts the refusal of GET of the users with each of these queries.
 fn refuses_all(rt: &impl Abort, alloc: Global, scim_type: &str, detail: &str, queries: &[&str]) {
     let expected = refusal(rt, alloc, scim_type, detail);
     let mut provider = empty(alloc);
@@ -360,7 +360,7 @@ fn with_many(rt: &impl Abort, alloc: Global) -> Provider<MemoryRegistry> {
     provider
 }
 
-/// Asserts that GET of a target answers the first 200 of 201 users.
+/// Asserts that the answer to GET of a target has the first 200 of 201 users.
 fn has_200(rt: &impl Abort, alloc: Global, provider: &mut Provider<MemoryRegistry>, target: &str) {
     let asked = request(rt, alloc, target);
     let last = "\"userName\":\"u200\"}],\"itemsPerPage\":200,";

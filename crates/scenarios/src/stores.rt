@@ -1,4 +1,4 @@
-//! Both stores in SQLite, as tests over memory.
+//! Both stores in SQLite, as tests in memory.
 mod connections;
 mod entries;
 mod exchanges;

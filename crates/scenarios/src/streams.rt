@@ -11,7 +11,7 @@ use std::alloc::Global;
 use std::io::{ErrorKind, Read, Write};
 use std::process::Abort;
 
-/// Creates bob over these streams: what became of it, and how many rows there are.
+/// Creates bob over these streams; returns the result and how many rows there are.
 fn created<R: Read, W: Write>(
     rt: &impl Abort,
     alloc: Global,
@@ -24,7 +24,7 @@ fn created<R: Read, W: Write>(
     (served, provider.close().count().expect(rt, "a count"))
 }
 
-/// Asserts that a request that is read by a script comes to this, with this answer and so many rows.
+/// Reads a request by a script, and asserts the result, the answer and the number of rows.
 fn comes(
     rt: &impl Abort,
     alloc: Global,
@@ -39,7 +39,7 @@ fn comes(
     assert_that(rt, writer.into_inner().as_slice() == answer);
 }
 
-/// Asserts that bob is created, or that nothing is, by a fault.
+/// Asserts that bob is created, or that a fault left no row.
 fn is_read(
     rt: &impl Abort,
     alloc: Global,
@@ -54,14 +54,14 @@ fn is_read(
     comes(rt, alloc, (step, events), wanted, bytes)
 }
 
-/// At most how many bytes a read gives, what happens at which byte, and the fault that it leads to.
+/// The most bytes of a read, what happens at which byte, and the fault that follows from it.
 type Reading = (usize, &'static [Event], Option<ReadFault>);
 
 const INTERRUPTED: Turn = Turn::Fails(ErrorKind::Interrupted);
 
 const BROKEN: Turn = Turn::Fails(ErrorKind::BrokenPipe);
 
-/// A head of 157 bytes and a body of 214 take 371 reads of a byte, of 100,000 in all.
+/// A head of 157 bytes and a body of 214 take 371 reads of one byte; 100,000 are allowed.
 static READINGS: &[Reading] = &[
     (1, &[], None),
     (7, &[], None),
@@ -141,7 +141,7 @@ fn a_read_that_fails_once_at_each_place(rt: HostRuntime) {
     }
 }
 
-/// Asserts that a part of a request is none.
+/// Asserts that a part of a request isn't a request.
 fn is_none(rt: &impl Abort, alloc: Global, part: &[u8]) {
     let (served, written, rows) = asked(rt, alloc, part);
     assert_same(rt, served, Served::NoRequest(ReadFault::EndedEarly));
@@ -157,7 +157,7 @@ fn no_part_of_a_request_is_one(rt: HostRuntime) {
     }
 }
 
-/// The request that creates bob, and the first bytes of another one.
+/// The request that creates bob, and the first bytes of another.
 fn two_requests(rt: &impl Abort, alloc: Global) -> Vec<u8> {
     let mut both = Vec::from_slice(alloc, CREATE_BOB).expect(rt, "memory");
     both.extend_from_slice(b"GET").expect(rt, "memory");
@@ -175,8 +175,8 @@ fn what_follows_a_request_stays_unread(rt: HostRuntime) {
     assert_that(&rt, reader.ahead() == b"GET".as_slice());
 }
 
-/// Asserts that bob is created with a writer that follows a script, and that so many bytes of the
-/// answer are written and so many flushes made: all 666 and one, or the answer is lost.
+/// Asserts that bob is created with a writer that follows a script, and how many bytes of the answer and
+/// how many flushes are made: all 666 and one, or the answer is lost.
 fn is_written(rt: &impl Abort, alloc: Global, writing: &Writing, events: &[Event]) {
     let (step, _, flush_faults, is_whole, bytes, flush_count) = writing;
     let wanted = if *is_whole {
@@ -199,8 +199,8 @@ fn is_written(rt: &impl Abort, alloc: Global, writing: &Writing, events: &[Event
     );
 }
 
-/// At most how many bytes a write takes, what happens at which byte, with what the first flushes
-/// fail, whether the answer is written whole, and how many bytes and flushes there are.
+/// The most bytes of a write, what happens at which byte, the faults of the first flushes, whether the
+/// answer is written whole, and how many bytes and flushes there are.
 type Writing = (
     usize,
     &'static [Event],
@@ -210,7 +210,7 @@ type Writing = (
     usize,
 );
 
-/// An answer that is taken whole by one write takes two turns of 100,000.
+/// An answer that one write takes whole needs two of 100,000 turns.
 static WRITINGS: &[Writing] = &[
     (1, &[], &[], true, 666, 1),
     (7, &[], &[], true, 666, 1),
@@ -257,7 +257,7 @@ fn writers_that_follow_a_script(rt: HostRuntime) {
     }
 }
 
-/// What is interrupted twice at the first byte, and three times at the next one.
+/// Two interruptions at the first byte, and three at the next.
 static INTERRUPTIONS: &[Event] = &[(0, 2, INTERRUPTED), (1, 3, INTERRUPTED)];
 
 #[test]

@@ -1,4 +1,4 @@
-//! Whole exchanges, and what they are answered by.
+//! Whole exchanges, and their answers.
 use http_text::{Input, Output};
 use provider_core::{MemoryRegistry, Provider, Registry};
 use scim_key::Base;
@@ -11,30 +11,30 @@ use std::process::Abort;
 pub const CREATE_BOB: &[u8] =
     b"POST /v2/Users HTTP/1.1\r\nHost: localhost:8080\r\nAccept: application/scim+json\r\nConnection: close\r\nContent-Length: 214\r\nContent-Type: application/scim+json\r\n\r\n{\"active\":true,\"schemas\":[\"urn:ietf:params:scim:schemas:core:2.0:User\",\"urn:example:params:scim:schemas:extension:source:1.0\"],\"urn:example:params:scim:schemas:extension:source:1.0\":{\"revision\":1},\"userName\":\"bob\"}";
 
-/// The answer to it.
+/// The answer to `CREATE_BOB`.
 pub const BOB_CREATED: &[u8] =
     b"HTTP/1.1 201 Created\r\nConnection: close\r\nContent-Length: 388\r\nContent-Location: http://localhost:8080/v2/Users/5c1a0000-0000-8000-8000-000000000001\r\nContent-Type: application/scim+json\r\nETag: \"1\"\r\nLocation: http://localhost:8080/v2/Users/5c1a0000-0000-8000-8000-000000000001\r\n\r\n{\"active\":true,\"id\":\"5c1a0000-0000-8000-8000-000000000001\",\"meta\":{\"location\":\"http://localhost:8080/v2/Users/5c1a0000-0000-8000-8000-000000000001\",\"resourceType\":\"User\",\"version\":\"\\\"1\\\"\"},\"schemas\":[\"urn:ietf:params:scim:schemas:core:2.0:User\",\"urn:example:params:scim:schemas:extension:source:1.0\"],\"urn:example:params:scim:schemas:extension:source:1.0\":{\"revision\":1},\"userName\":\"bob\"}";
 
-/// The answer to a GET of bob then.
+/// The answer to a GET of bob after `CREATE_BOB`.
 pub const BOB_FOUND: &[u8] =
     b"HTTP/1.1 200 OK\r\nConnection: close\r\nContent-Length: 388\r\nContent-Location: http://localhost:8080/v2/Users/5c1a0000-0000-8000-8000-000000000001\r\nContent-Type: application/scim+json\r\nETag: \"1\"\r\n\r\n{\"active\":true,\"id\":\"5c1a0000-0000-8000-8000-000000000001\",\"meta\":{\"location\":\"http://localhost:8080/v2/Users/5c1a0000-0000-8000-8000-000000000001\",\"resourceType\":\"User\",\"version\":\"\\\"1\\\"\"},\"schemas\":[\"urn:ietf:params:scim:schemas:core:2.0:User\",\"urn:example:params:scim:schemas:extension:source:1.0\"],\"urn:example:params:scim:schemas:extension:source:1.0\":{\"revision\":1},\"userName\":\"bob\"}";
 
-/// The fixed response, which takes no memory.
+/// The fixed response, which needs no memory.
 pub const GIVEN_UP: &[u8] =
     b"HTTP/1.1 500 Internal Server Error\r\nConnection: close\r\nContent-Length: 129\r\nContent-Type: application/scim+json\r\n\r\n{\"detail\":\"the provider could not complete the request\",\"schemas\":[\"urn:ietf:params:scim:api:messages:2.0:Error\"],\"status\":\"500\"}";
 
-/// Asserts that two values are the same. Where `assert_eq!` itself stands, it costs a proof twenty
-/// times what a call of this does.
+/// Asserts that two values are the same. A call of this function costs a proof a twentieth of an
+/// `assert_eq!`.
 pub fn assert_same<T: PartialEq + Debug + Drop>(rt: &impl Abort, value: T, wanted: T) {
     assert_eq!(rt; value, wanted);
 }
 
-/// Asserts that this is so.
+/// Asserts a condition.
 pub fn assert_that(rt: &impl Abort, is_so: bool) {
     assert!(rt; is_so);
 }
 
-/// Asserts that each of these is printed as the text beside it.
+/// Asserts that each of these values is printed as the text beside it.
 pub fn are_printed<F: Display>(rt: &impl Abort, alloc: Global, table: &[(F, &str)]) {
     for (fault, code) in table {
         let text = fault.to_string(alloc).expect(rt, "memory");
@@ -54,7 +54,7 @@ pub fn push_all(rt: &impl Abort, text: &mut String, parts: &[&str]) {
     }
 }
 
-/// These texts, one after the other. Where `format!` itself stands, each part costs a proof.
+/// These texts, one after the other. Each part of a `format!` would cost a proof.
 pub fn joined(rt: &impl Abort, alloc: Global, parts: &[&str]) -> String {
     let mut text = String::new(alloc);
     push_all(rt, &mut text, parts);
@@ -73,7 +73,7 @@ pub fn response(rt: &impl Abort, alloc: Global, line: &str, body: &str) -> Strin
     )
 }
 
-/// A piece so many times.
+/// A piece, repeated `count` times.
 pub fn repeated(rt: &impl Abort, alloc: Global, piece: &str, count: usize) -> String {
     let mut text = String::new(alloc);
     for _ in 0..count {
@@ -113,7 +113,7 @@ pub fn exchange<R: Registry>(
     (served, writer.into_inner())
 }
 
-/// The bytes of the answer to a request, whose status is this.
+/// The bytes of the answer to a request, whose status must be this.
 fn answer_to<R: Registry>(
     rt: &impl Abort,
     alloc: Global,
@@ -126,7 +126,7 @@ fn answer_to<R: Registry>(
     written
 }
 
-/// Asserts that a request is answered with this status, by these bytes.
+/// Asserts that a request is answered with this status and these bytes.
 pub fn answers<R: Registry>(
     rt: &impl Abort,
     alloc: Global,
@@ -139,7 +139,7 @@ pub fn answers<R: Registry>(
     assert_that(rt, written.as_slice() == expected);
 }
 
-/// Asserts that a request is answered with this status, by bytes that end so.
+/// Asserts that a request is answered with this status, and with bytes that end like this.
 pub fn ends<R: Registry>(
     rt: &impl Abort,
     alloc: Global,
@@ -152,7 +152,7 @@ pub fn ends<R: Registry>(
     assert_that(rt, written.as_slice().ends_with(end.as_bytes()));
 }
 
-/// Asserts that a request is answered with this status, by a text in which this stands.
+/// Asserts that a request is answered with this status, and with a text that contains this.
 pub fn tells<R: Registry>(
     rt: &impl Abort,
     alloc: Global,
@@ -166,7 +166,7 @@ pub fn tells<R: Registry>(
     assert_that(rt, text.as_str().contains(part));
 }
 
-/// What an empty provider answers to these bytes, and how many rows it then has.
+/// An empty provider's answer to these bytes, and how many rows it then has.
 pub fn asked(rt: &impl Abort, alloc: Global, request: &[u8]) -> (Served, Vec<u8>, u32) {
     let mut provider = empty(alloc);
     let (served, written) = exchange(rt, alloc, &mut provider, request);
@@ -181,7 +181,7 @@ pub fn post(rt: &impl Abort, alloc: Global, body: &str) -> Vec<u8> {
 
 // ---- requests by their parts
 
-/// What an answer is: these bytes, or bytes that end so, or a text in which this stands.
+/// What an answer is: these bytes, bytes that end like this, or a text that contains this.
 #[derive(Clone, Copy)]
 pub enum Said {
     Whole(&'static [u8]),
@@ -189,8 +189,8 @@ pub enum Said {
     Tells(&'static str),
 }
 
-/// A request, as its method and target, further field lines and body, and the status and the words of
-/// its answer.
+/// A request, as its method and target, further field lines and body; and the status and the text of its
+/// answer.
 pub type Round = (&'static str, &'static str, &'static str, u16, Said);
 
 fn request(rt: &impl Abort, alloc: Global, line: &str, fields: &str, body: &str) -> Vec<u8> {
@@ -205,7 +205,7 @@ fn request(rt: &impl Abort, alloc: Global, line: &str, fields: &str, body: &str)
     text.into_bytes()
 }
 
-/// Asserts what a provider answers to these requests, one after the other.
+/// Asserts a provider's answers to these requests, one after the other.
 pub fn converse<R: Registry>(
     rt: &impl Abort,
     alloc: Global,

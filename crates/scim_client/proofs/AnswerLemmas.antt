@@ -50,7 +50,7 @@ not_both r x y = subst IsWrongShape (ap (fault_or bodies.NotJson) (sym x ∙ y))
 -- ---- what one response says
 
 module _ (text : List ℕ) (request : Request) where
-  -- what is said of a response is said of the bytes that it is
+  -- what is said about a response is said about its bytes
   pub says_ok : (m : Message) → IsResponseMessage text m → (r : Result Answer AnswerFault) → SaysSo request m r → IfOk r (AnswersSo text request)
   says_ok m is (Ok a) h = record { message = m; is_message = is; says = h }
   says_ok m is (Err fault) h = tt

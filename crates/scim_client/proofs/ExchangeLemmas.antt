@@ -1,4 +1,4 @@
--- From what was read and what came of it to what an exchange promises.
+-- From what was read, and its result, to what an exchange promises.
 use Rattle.std.proofs.Common.{◌≡◌, ℕ, ◌⊎◌, inl, inr, List, ◌++◌, Option, Some, Result, Ok, Err, refl, ap, sym, ◌∙◌, subst}
 use Rattle.scim_message.specs.declared.answers.BodyFault.TheVariants as bodies
 use Rattle.scim_message.specs.declared.messages.Answer.{Answer}
@@ -81,7 +81,7 @@ module _ (request : Request) (old new : Reading) where
   reads (Ok m) read (Err (NoAnswer answers.OutOfMemory)) h =
       inl (answer_in request m, record { message = m; takes = read.message; says = refl; clean = read.clean })
 
--- ---- what stands at the front
+-- ---- what is at the front
 
 module _ (request : Request) where
   -- a fault of the stream hinders
@@ -98,7 +98,7 @@ module _ (request : Request) where
   hinders faults.OutOfMemory s result h = subst IsHindered (sym h) tt
   hinders faults.TurnsExhausted s result h = subst IsHindered (sym h) tt
 
-  -- where this fault or one of the stream is what was read
+  -- if this fault, or one of the stream, is what was read
   meets : (fault : ReadFault) (r : Result Message ReadFault) → heads.Answers fault r → (result : Result Answer ExchangeFault) → ComesOf request r result
       → (result ≡ Err (fault_of fault)) ⊎ IsHindered result
   meets fault (Ok m) a result h = absurd a
@@ -238,7 +238,7 @@ module _ (request : Request) where
   refused_head faults.OutOfMemory k r a result h = absurd k
   refused_head faults.TurnsExhausted k r a result h = absurd k
 
-  -- whatever stands at the front
+  -- whatever is at the front
   pub exchanges_known : (old new : Reading) (r : Result Message ReadFault) → HasRead old new r → (result : Result Answer ExchangeFault) → ComesOf request r result
       → ExchangesKnown request old.remaining new.remaining result
   exchanges_known old new r read result h = record {
@@ -255,7 +255,7 @@ module _ (request : Request) where
     malformed = λ bytes rest at within never. malformed (bytes ++ rest) r (read.malformed bytes rest at within never) result h;
   }
 
-  -- where nothing was sent or read
+  -- if nothing was sent or read
   pub hindered_known : (remaining left : Option (List ℕ)) (result : Result Answer ExchangeFault) → IsHindered result → ExchangesKnown request remaining left result
   hindered_known remaining left result h = record {
     answer = λ bytes rest a at so. inr h;

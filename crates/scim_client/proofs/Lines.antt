@@ -100,7 +100,7 @@ begins tag more is =
     let P : List ℕ → Type 0 = λ text. skip_ows (text ++ more) ≡ text ++ more in
     elim is.2 [ inl strong ↦ subst P (sym strong) refl | inr weak ↦ subst P (sym weak) refl ]
 
--- what stands behind the first tag
+-- the text after the first tag
 abbrev behind : List (List ℕ) → List ℕ
 behind tags = flat_map (λ tag. codes ", " ++ tag) tags
 
@@ -212,7 +212,7 @@ lines_are host length_ if_match if_none_match at long first second =
     (more (codes "If-Match") if_match (line_with (codes "If-None-Match") if_none_match ++ []) (token (codes "If-Match") (omega arith) refl) first
     (more (codes "If-None-Match") if_none_match [] (token (codes "If-None-Match") (omega arith) refl) second (All-nil IsFieldLine)))))))
 
--- what is found of each field that the server looks at
+-- what is found for each field that the server looks at
 pub record Finds (lines : List NamedValue) (host : List ℕ) (length_ if_match if_none_match : Option (List ℕ)) : Type 0 where
   pub at : values (codes "host") lines ≡ host ∷ []
   pub long : values (codes "content-length") lines ≡ option_to_list length_

@@ -9,7 +9,7 @@ use Rattle.scim_key.specs.declared.records.Kind.TheVariants as kinds
 use Rattle.scim_resource.specs.Locations.{collection_path, escaped, location_text}
 use Rattle.scim_server.specs.Laws.{resource_path}
 
--- what stands behind the base
+-- the text after the base
 abbrev pub below : Kind → List ℕ → List ℕ
 below kind id = collection_path kind ++ escaped id
 

@@ -1,4 +1,4 @@
--- One exchange: what is sent, what is read, and what comes of both.
+-- One exchange: what is sent, what is read, and the result.
 use Rattle.std.specs.Prelude.{◌≡◌, ℕ, ◌≤◌, ◌⊎◌, List, ◌++◌, length, Option, Some, Result, Ok, Err, IfOk, IfErr, OnOk, ⊤}
 use Rattle.std.specs.Io.KnownBytes.{Appends}
 use Rattle.scim_message.specs.declared.answers.BodyFault.{BodyFault}
@@ -28,8 +28,8 @@ pub record IsSent (old new : Writing) (text : List ℕ) : Type 0 where
   pub flushed : new.flushes ≡ count_up old.flushes 1
   pub clean : new.failures ≡ old.failures
 
--- What was written of a request's text, by what came of the exchange: all of it; or as much as the fault tells, as the
--- writer's counts allow; or nothing, where it was out of memory before
+-- What was written of a request's text, by the result of the exchange: all of it; or as much as the fault reports, in
+-- agreement with the writer's counts; or nothing, if memory ran out first
 abbrev pub Sends : List ℕ → Writing → Writing → Result Answer ExchangeFault → Type 0
 Sends text old new (Ok a) = IsSent old new text
 Sends text old new (Err (Unsent fault)) = IsLost old new text fault × EndsSending old new fault
@@ -44,7 +44,7 @@ Sends text old new (Err (NoAnswer answers.OutOfMemory)) = IsSent old new text �
 
 -- ---- what is read
 
--- what a fault of reading a response is as one of an exchange
+-- the fault of an exchange for a fault of reading a response
 abbrev pub fault_of : ReadFault → ExchangeFault
 fault_of faults.Malformed = NoAnswer NotOneResponse
 fault_of (faults.HostMissingOrRepeated is_head) = NoAnswer NotOneResponse
@@ -58,20 +58,20 @@ fault_of faults.ReadFailed = ReadFailed
 fault_of faults.OutOfMemory = OutOfMemory
 fault_of faults.TurnsExhausted = TurnsExhausted
 
--- exactly the bytes of one response were taken, which says this to the request
+-- exactly the bytes of one response were taken, and it answers this to the request
 pub record TakesAnswer (request : Request) (old new : Reading) (said : Result Answer BodyFault) : Type 0 where
   pub message : Message
   pub takes : TakesResponse old.remaining new.remaining message
   pub says : answer_in request message ≡ said
   pub clean : new.failures ≡ old.failures
 
--- what was taken is refused so, as the reader's counts allow
+-- the bytes that were taken are refused with this fault, in agreement with the reader's counts
 pub record StopsReading (old new : Reading) (fault : ReadFault) : Type 0 where
   pub takes : TakesRefusedResponse old.remaining new.remaining fault
   pub counts : EndsReading old new fault
 
--- What was taken from the reader, by what came of the exchange: one response, which is the answer or is refused by its
--- body; or what reading refused; or nothing, where the request wasn't sent
+-- What was taken from the reader, by the result of the exchange: one response, which is the answer or is refused for
+-- its body; or what reading refused; or nothing, if the request wasn't sent
 abbrev pub Reads : Request → Reading → Reading → Result Answer ExchangeFault → Type 0
 Reads request old new (Ok a) = TakesAnswer request old new (Ok a)
 Reads request old new (Err (Unsent fault)) = new ≡ old
@@ -84,9 +84,9 @@ Reads request old new (Err (NoAnswer NotJson)) = TakesAnswer request old new (Er
 Reads request old new (Err (NoAnswer WrongShape)) = TakesAnswer request old new (Err bodies.WrongShape)
 Reads request old new (Err (NoAnswer answers.OutOfMemory)) = ((said : Result Answer BodyFault) × TakesAnswer request old new said) ⊎ (new ≡ old)
 
--- ---- from what stands at the reader's front
+-- ---- from what is at the reader's front
 
--- the request wasn't sent, the reader failed or gave no whole response in all its turns, or it was out of memory
+-- the request wasn't sent, the reader failed or gave no whole response within its turns, or memory ran out
 abbrev pub IsHindered : Result Answer ExchangeFault → Type 0
 IsHindered (Ok a) = ⊥
 IsHindered (Err (Unsent fault)) = ⊤
@@ -103,9 +103,9 @@ IsHindered (Err (NoAnswer answers.OutOfMemory)) = ⊤
 abbrev pub IsWithout : Result Answer ExchangeFault → Type 0
 IsWithout result = (result ≡ Err (NoAnswer NotOneResponse)) ⊎ (result ≡ Err EndedEarly)
 
--- What comes of an exchange where the reader's bytes are known
+-- The result of an exchange if the reader's bytes are known
 pub record ExchangesKnown (request : Request) (remaining left : Option (List ℕ)) (result : Result Answer ExchangeFault) : Type 0 where
-  -- the answer at the front comes, and what follows it is left
+  -- the answer at the front is the result, and what follows it is left
   pub answer : (bytes rest : List ℕ) (a : Answer) → remaining ≡ Some (bytes ++ rest) → AnswersSo bytes request a
       → ((result ≡ Ok a) × (left ≡ Some rest)) ⊎ IsHindered result
   -- a response at the front whose body is refused
@@ -113,12 +113,12 @@ pub record ExchangesKnown (request : Request) (remaining left : Option (List ℕ
       → ((result ≡ Err (NoAnswer NotJson)) × (left ≡ Some rest)) ⊎ IsHindered result
   pub wrong_shape : (bytes rest : List ℕ) → remaining ≡ Some (bytes ++ rest) → RefusesBody bytes request bodies.WrongShape
       → ((result ≡ Err (NoAnswer WrongShape)) × (left ≡ Some rest)) ⊎ IsHindered result
-  -- no response comes only where none stands at the front
+  -- no response comes only if there is none at the front
   pub without : (bytes rest : List ℕ) → remaining ≡ Some (bytes ++ rest) → IsWithout result → IsNoResponse bytes
-  -- a part of a response alone
+  -- only a part of a response
   pub part : (bytes : List ℕ) → remaining ≡ Some bytes → IsPartOfHead response_form bytes ⊎ IsPartOfBody response_form bytes
       → (result ≡ Err EndedEarly) ⊎ IsHindered result
-  -- a head that is refused, one past a limit, and what no bytes make a head
+  -- a refused head, a head beyond a limit, and bytes that no bytes complete to a head
   pub refused_head : (front rest : List ℕ) (head : Head) (fault : ReadFault) → remaining ≡ Some (front ++ rest) → IsResponseHead front head
       → judge_response head ≡ Err fault
       → (result ≡ Err (NoAnswer NotOneResponse)) ⊎ IsHindered result
@@ -129,7 +129,7 @@ pub record ExchangesKnown (request : Request) (remaining left : Option (List ℕ
 
 -- ---- the steps of an exchange
 
--- what was read, as the reader of responses tells it
+-- what was read, as the reader of responses reports it
 pub record HasRead (old new : Reading) (r : Result Message ReadFault) : Type 0 where
   pub message : IfOk r (TakesResponse old.remaining new.remaining)
   pub refused : IfErr r (TakesRefusedResponse old.remaining new.remaining)
@@ -142,7 +142,7 @@ pub record HasRead (old new : Reading) (r : Result Message ReadFault) : Type 0 w
   pub clean : OnOk r (new.failures ≡ old.failures)
   pub fault : IfErr r (EndsReading old new)
 
--- what comes of what was read
+-- the result that follows from what was read
 abbrev pub ComesOf : Request → Result Message ReadFault → Result Answer ExchangeFault → Type 0
 ComesOf request (Ok m) (Ok a) = answer_in request m ≡ Ok a
 ComesOf request (Ok m) (Err (Unsent fault)) = ⊥

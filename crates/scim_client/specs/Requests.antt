@@ -24,12 +24,12 @@ use Rattle.scim_server.specs.Routes.{collection_path}
 
 -- ---- the target
 
--- a query with one parameter more, where that has a value
+-- a query with one more parameter, if that has a value
 abbrev pub with_parameter : List ℕ → List ℕ → Option (List ℕ) → List ℕ
 with_parameter query name None = query
 with_parameter query name (Some value) = append_pair query name value
 
--- the start is written where it isn't the first place
+-- the start is written unless it is the first place
 abbrev pub start_value : ℤ → Option (List ℕ)
 start_value start = if int_eq start (pos 1) then None else Some (signed_decimal start)
 
@@ -40,7 +40,7 @@ query_text filter start count =
     (with_parameter (with_parameter [] (codes "filter") (option_map filter_text filter)) (codes "startIndex") (start_value start))
     (codes "count") (option_map signed_decimal count)
 
--- a path, and the query behind a `?` where it isn't empty
+-- a path, and the query after a `?` if it isn't empty
 abbrev pub with_query : List ℕ → List ℕ → List ℕ
 with_query path [] = path
 with_query path (byte ∷ query) = path ++ (codes "?" ++ byte ∷ query)
@@ -78,13 +78,13 @@ body_sent request = option_map content_text (content_sent request)
 abbrev pub body_text : Request → List ℕ
 body_text request = option_map_or (λ text. text) (body_sent request) []
 
--- and states no length
+-- a request that sends no content states no length
 abbrev pub stated_length : Request → Option (List ℕ)
 stated_length request = option_map (λ text. decimal (length text)) (body_sent request)
 
 -- ---- the field lines
 
--- a condition as a field's value: a comma and a space stand between tags
+-- a condition as a field's value; a comma and a space separate the tags
 abbrev pub condition_value : Condition → Option (List ℕ)
 condition_value Always = None
 condition_value AnyTag = Some (codes "*")
@@ -102,7 +102,7 @@ if_none_match_of (Retrieve kind id if_match if_none_match) = if_none_match
 if_none_match_of (Search kind filter start count) = Always
 if_none_match_of (Replace id content if_match if_none_match) = if_none_match
 
--- the field lines of a request to this host, each where it has a value
+-- the field lines of a request to this host; each is there if it has a value
 abbrev pub lines_of : List ℕ → Option (List ℕ) → Option (List ℕ) → Option (List ℕ) → List Line
 lines_of host length_ if_match if_none_match =
     (codes "Host", Some host)
@@ -125,17 +125,17 @@ abbrev pub text_of : List ℕ → Request → List ℕ
 text_of base request =
     request_text (method_text request) (target_text request) (written_lines (request_lines base request)) (body_text request)
 
--- a request that is being planned, and the base of its service
+-- a request that is being built, and the base of its service
 pub record Planned : Type 0 where
   pub base : List ℕ
   pub request : Request
 
--- the condition of one tag alone, where there is one
+-- the condition of only this tag, if there is one
 abbrev pub tag_alone : Option (List ℕ) → Condition
 tag_alone None = Always
 tag_alone (Some tag) = Tags (tag ∷ [])
 
--- a Replace with this tag alone in `If-Match`
+-- a Replace with only this tag in `If-Match`
 abbrev pub under_tag : List ℕ → Request → Request
 under_tag tag (Create content) = Create content
 under_tag tag (Retrieve kind id if_match if_none_match) = Retrieve kind id if_match if_none_match

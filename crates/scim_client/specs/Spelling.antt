@@ -1,4 +1,4 @@
--- Which texts spell a request, by the server's own reading, and that the client's text does.
+-- Which texts spell a request, as the server reads them, and that the client's text does.
 use Rattle.std.specs.Prelude.{◌≡◌, ℕ, ℤ, pos, negsuc, suc, ◌+◌, ◌^◌, ◌<◌, ◌≤◌, List, length, Ok, IfSome, ⊤}
 use Rattle.std.specs.List.{AllByRecursion}
 use Rattle.std.specs.Str.{IsUtf8}
@@ -19,20 +19,20 @@ use Rattle.http_text.specs.Forms.{IsRequestMessage, IsAccepted}
 use Rattle.scim_server.specs.Meaning.{Asks}
 use Rattle.scim_client.specs.Requests.{content_sent, content_text, body_text, if_match_of, if_none_match_of, text_of}
 
--- the text is a message that isn't refused, and what it asks for is this request
+-- the text is a message that isn't refused, and it asks for this request
 pub record SpellsRequest (text : List ℕ) (request : Request) : Type 0 where
   pub message : Message
   pub is : IsRequestMessage text message
   pub accepted : IsAccepted message
   pub asks : Asks message (Ok request)
 
--- ---- what the types of a request's parts say of them
+-- ---- what the types of a request's parts guarantee
 
--- a content that some reading gives, whose text is UTF-8
+-- a valid content whose text is UTF-8
 abbrev pub IsSentContent : Content → Type 0
 IsSentContent content = IsContent content × IsUtf8 (content_text content)
 
--- an id, in UTF-8
+-- a valid id in UTF-8
 abbrev pub IsIdText : List ℕ → Type 0
 IsIdText id = IsUtf8 id × IsId id
 
@@ -46,7 +46,7 @@ HasEntityTags (Tags tags) = AllByRecursion IsEntityTag tags
 abbrev pub IsFilterText : Expression → Type 0
 IsFilterText filter = IsUtf8 (filter_text filter)
 
--- the id or the filter that its target tells
+-- the id or the filter in the request's target is valid
 abbrev pub HasLawfulTarget : Request → Type 0
 HasLawfulTarget (Create content) = ⊤
 HasLawfulTarget (Retrieve kind id if_match if_none_match) = IsIdText id
@@ -57,7 +57,7 @@ abbrev pub HasLawfulParts : Request → Type 0
 HasLawfulParts request =
     HasLawfulTarget request × IfSome (content_sent request) IsSentContent × HasEntityTags (if_match_of request) × HasEntityTags (if_none_match_of request)
 
--- ---- what the one who sends it sees to
+-- ---- what the sender must ensure
 
 -- a list of tags isn't empty
 abbrev pub HasSomeTag : Condition → Type 0
@@ -70,7 +70,7 @@ abbrev pub IsShortNumber : ℤ → Type 0
 IsShortNumber (pos n) = n < 10 ^ 18
 IsShortNumber (negsuc n) = suc n < 10 ^ 18
 
--- a filter's text keeps the two limits of filters
+-- a filter's text is within the two limits of filters
 abbrev pub KeepsFilterLimits : Expression → Type 0
 KeepsFilterLimits filter = (length (filter_text filter) ≤ text_limit) × (nesting filter ≤ depth_limit)
 
@@ -80,7 +80,7 @@ IsWritable (Retrieve kind id if_match if_none_match) = HasSomeTag if_match × Ha
 IsWritable (Search kind filter start count) = IfSome filter KeepsFilterLimits × IsShortNumber start × IfSome count IsShortNumber
 IsWritable (Replace id content if_match if_none_match) = HasSomeTag if_match × HasSomeTag if_none_match
 
--- the head and the body keep the limits of requests
+-- the head and the body are within the limits of requests
 abbrev pub KeepsLimits : List ℕ → Request → Type 0
 KeepsLimits base request =
     (length (text_of base request) ≤ head_limit + length (body_text request)) × (length (body_text request) ≤ body_limit)
@@ -91,6 +91,6 @@ RequestsAreSpelled =
     (base : List ℕ) (request : Request) → IsBase base → HasLawfulParts request → IsWritable request → KeepsLimits base request
     → SpellsRequest (text_of base request) request
 
--- A text spells one request
+-- A text spells at most one request
 abbrev pub OneRequest : Type 0
 OneRequest = (text : List ℕ) (one two : Request) → SpellsRequest text one → SpellsRequest text two → one ≡ two

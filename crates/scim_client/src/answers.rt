@@ -1,4 +1,4 @@
-//! Answers read from the bytes of responses (RFC 7644 section 3, RFC 9112).
+//! Reads answers from the bytes of responses (RFC 7644 section 3, RFC 9112).
 ghost use Rattle.std.specs.Prelude.{◌≡◌, ◌≢◌, option_map, Ok, Err, IfOk, IfErr};
 ghost use Rattle.scim_message.specs.declared.messages.Answer.{Answer};
 ghost use Rattle.scim_client.specs.declared.answers.AnswerFault.{AnswerFault};
@@ -11,29 +11,29 @@ use scim_message::{Answer, BodyFault, Request, read_body};
 use std::alloc::Global;
 use thiserror::Error;
 
-/// Why bytes are no answer. Its text is its code.
+/// Why bytes aren't an answer. Its text is its code.
 #[derive(Clone, Copy, Debug, PartialEq, Eq, Error)]
 pub enum AnswerFault {
-    /// They aren't exactly one whole response: a part of one, or more than one, or one without a
-    /// readable length, with a transfer coding or past a limit.
+    /// The bytes aren't exactly one whole response: only a part, more than one, without a readable length,
+    /// with a transfer coding, or beyond a limit.
     #[error("K1")]
     NotOneResponse,
-    /// The body isn't JSON in UTF-8. It is looked at before the status.
+    /// The body isn't JSON in UTF-8. This is checked before the status.
     #[error("K2")]
     NotJson,
-    /// The body isn't what was asked for, or the status doesn't fit the request.
+    /// The body isn't an answer to the request, or the status doesn't fit the request.
     #[error("K3")]
     WrongShape,
     #[error("K4")]
     OutOfMemory,
 }
 
-/// The answer to a request that these bytes are, from the first to the last.
+/// Reads the answer to a request that is exactly these bytes.
 pub fn read_answer(alloc: Global, request: &Request, bytes: &[u8]) -> Result<Answer, AnswerFault>
     ensures ok { IfOk result (AnswersSo bytes.now request.now) }
     ensures refused { IfErr result (RefusesSo bytes.now request.now) }
 
-    // What the bytes say is what comes, or out of memory.
+    // The result is what the bytes say, or out of memory.
     ensures only { (a : Answer) → AnswersSo bytes.now request.now a → IsOrMemory (Ok a) result }
     ensures only_refusal { (fault : AnswerFault) → fault ≢ OutOfMemory
         → RefusesSo bytes.now request.now fault → IsOrMemory (Err fault) result }
@@ -45,7 +45,7 @@ pub fn read_answer(alloc: Global, request: &Request, bytes: &[u8]) -> Result<Ans
     }
 }
 
-/// What a response says to a request.
+/// What a response answers to a request.
 pub(crate) fn answer_in(
     alloc: Global,
     request: &Request,
@@ -62,7 +62,7 @@ pub(crate) fn answer_in(
     }
 }
 
-/// The entity tag that a response states once.
+/// The entity tag of a response, if it states exactly one.
 fn etag_of(response: &Incoming) -> Option<&[u8]>
     ensures { option_map (λ t. t.now) result ≡ spec.etag_of response.now.head }
 {

@@ -1,4 +1,4 @@
-//! One exchange with a service: a request is sent, and one response is read.
+//! One exchange with a service: sends a request and reads one response.
 ghost use Rattle.std.specs.Prelude.{◌≡◌, Result};
 ghost use Rattle.http_text.specs.Counts.{CountsTurns};
 ghost use Rattle.http_text.specs.Message.{Message};
@@ -29,18 +29,19 @@ pub enum ExchangeFault {
     /// Out of memory while the response was read.
     #[error("H13")]
     OutOfMemory,
-    /// 100,000 reads didn't give the whole response.
+    /// The response wasn't complete after 100,000 reads.
     #[error("H14")]
     TurnsExhausted,
-    /// What came is no answer (K1 to K3), or it was out of memory before the request was sent or
-    /// after the response was read (K4).
+    /// The response isn't an answer (K1 to K3), or memory ran out before the request was sent or after the
+    /// response was read (K4).
     #[error("{0}")]
     NoAnswer(AnswerFault),
 }
 
 impl ScimService {
-    /// Sends a request, and reads the one response to it; what follows that is left. The fault tells
-    /// how far both came. Out of memory before anything is sent, it leaves both streams as they were.
+    /// Sends a request and reads one response to it; bytes after the response stay in the reader. The fault
+    /// says how much was sent and read. If memory runs out before anything is sent, both streams are
+    /// unchanged.
     pub fn exchange<R: Read, W: Write>(
         &self,
         alloc: Global,
@@ -48,15 +49,16 @@ impl ScimService {
         reader: &mut Input<R>,
         writer: &mut Output<W>,
     ) -> Result<Answer, ExchangeFault>
-        // What was written, and what was taken from the reader; the answer is that of these bytes.
+        // What was written, and what was taken from the reader; the answer is the one in these bytes.
         ensures sent { spec.Sends (text_of self.now request.now) writer.old writer.new result }
         ensures read { spec.Reads request.now reader.old reader.new result }
 
-        // What stands at the reader's front is what comes, whatever follows, but where it is hindered.
+        // The response at the reader's front is the result, whatever follows it, unless something hinders
+        // the exchange.
         ensures known { spec.ExchangesKnown request.now reader.old.remaining reader.new.remaining
             result }
 
-        // The turns of each stream.
+        // The turns of both streams.
         ensures writes { CountsTurns writer.old.calls writer.new.calls }
         ensures reads { CountsTurns reader.old.calls reader.new.calls }
     {
@@ -106,7 +108,7 @@ fn receive<R: Read>(
     }
 }
 
-/// What a fault of reading a response is as one of an exchange.
+/// The fault of an exchange for a fault of reading a response.
 fn fault_of(fault: ReadFault) -> ExchangeFault
     ensures { result ≡ spec.fault_of fault }
 {

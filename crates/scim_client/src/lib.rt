@@ -1,4 +1,5 @@
-//! The client of a SCIM provider (RFC 7644): what is sent for a request, and what comes back for it.
+//! The client of a SCIM provider (RFC 7644): the bytes that it sends for a request, and how it reads the
+//! answer.
 #![tactic(auto)]
 
 mod answer_laws;

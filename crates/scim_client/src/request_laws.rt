@@ -1,12 +1,12 @@
 //! Laws of the texts of requests.
 ghost use Rattle.scim_client.specs.Spelling.{OneRequest, RequestsAreSpelled};
 
-/// A text spells one request.
+/// A text spells at most one request.
 pub fn one_request()
     ensures { OneRequest }
 {}
 
-/// The text of a request is a message that asks for that request, by the server's own reading.
+/// The server reads the text of a request as a message that asks for that request.
 pub fn requests_are_spelled()
     ensures { RequestsAreSpelled }
 {}

@@ -70,7 +70,7 @@ fn lent(bytes: &Option<Vec<u8>>) -> Option<&[u8]>
     }
 }
 
-/// The field lines of a request, each where it has a value.
+/// The field lines of a request; each is there if it has a value.
 fn fields_of<'a>(
     alloc: Global,
     host: &'a [u8],
@@ -124,7 +124,7 @@ fn if_none_match_of(request: &Request) -> Option<&Condition>
     }
 }
 
-/// The value of the field that has a condition, where there is one.
+/// The value of the field for a condition, if there is one.
 fn condition_value(
     alloc: Global,
     condition: Option<&Condition>,
@@ -140,7 +140,7 @@ fn condition_value(
     }
 }
 
-/// The tags, with a comma and a space between two of them.
+/// The tags, separated by a comma and a space.
 fn tags_text(alloc: Global, tags: &[EntityTag]) -> Result<Vec<u8>, AllocError>
     ensures text { IfOk result (λ text. text.items ≡ join_by (λ tag. tag) (codes ", ") tags.now) }
     ensures lawful { OnOk result (AllByRecursion IsEntityTag tags.now) }
@@ -174,7 +174,7 @@ fn push_tag(text: &mut Vec<u8>, tag: &EntityTag) -> Result<(), AllocError>
     text.extend_from_slice(tag.text())
 }
 
-/// The compact text of the content that a request sends, where it sends one.
+/// The compact text of the content that a request sends, if it sends one.
 fn body_of(alloc: Global, request: &Request) -> Result<Option<Vec<u8>>, AllocError>
     ensures text { IfOk result (λ body. option_map (λ t. t.items) body ≡ spec.body_sent request.now) }
     ensures lawful { OnOk result (IfSome (spec.content_sent request.now) IsSentContent) }
@@ -246,7 +246,7 @@ fn resource_path(
     Ok(path)
 }
 
-/// The path of a collection, and the query where it isn't empty.
+/// The path of a collection, and the query if it isn't empty.
 fn search_target(alloc: Global, kind: Kind, query: &str) -> Result<String, AllocError>
     ensures { IfOk result (λ text. string_bytes text
         ≡ spec.with_query (routes.collection_path kind) query.now) }
@@ -282,7 +282,7 @@ fn query_of(
     Ok(form.finish())
 }
 
-/// Adds a parameter where it has a value.
+/// Adds a parameter, if it has a value.
 fn push_parameter(form: &mut Serializer, name: &str, value: Option<&str>) -> Result<(), AllocError>
     ensures { OnOk result (form.new ≡ record {
       prefix = form.old.prefix;
@@ -315,7 +315,7 @@ fn lent_text(text: &Option<String>) -> Option<&str>
     }
 }
 
-/// The start, where it isn't the first place.
+/// The start, unless it is the first place.
 fn start_value(start: i64, buffer: &mut Buffer) -> Option<&str>
     ensures { option_map (λ t. t.now) result ≡ spec.start_value start }
 {

@@ -1,4 +1,4 @@
-//! The service, and the requests that are built for it.
+//! A service, and the requests to it.
 ghost use Rattle.std.specs.Prelude.{◌≡◌, None, IfOk, option_map, pos};
 ghost use Rattle.scim_message.specs.declared.messages.Request.TheVariants as requests;
 ghost use Rattle.scim_version.specs.declared.conditions.Condition.TheVariants.{Always};
@@ -36,17 +36,16 @@ impl ScimService {
         ScimService { base }
     }
 
-    /// Its base.
     pub fn base(&self) -> &Base
         ensures { result.now ≡ self.now }
     {
         &self.base
     }
 
-    /// The bytes of a request to it.
+    /// The bytes of a request to this service.
     pub fn bytes_of(&self, alloc: Global, request: &Request) -> Result<Vec<u8>, AllocError>
         ensures text { IfOk result (λ text. text.items ≡ text_of self.now request.now) }
-        // It spells the request and no other, where it keeps the limits.
+        // The bytes spell this request and no other, if they are within the limits.
         ensures spelled { IfOk result (λ text. IsWritable request.now → KeepsLimits self.now request.now
             → SpellsRequest text.items request.now) }
     {
@@ -74,7 +73,7 @@ impl ScimService {
         }
     }
 
-    /// The resources of this type: from the first one on, as many as the provider gives at once.
+    /// The resources of this type, from the first on, as many as the provider lists at once.
     pub fn search_request(&self, kind: Kind) -> SearchRequest<'_>
         ensures { result ≡ record { base = self.now; request = requests.Search kind None (pos 1) None } }
     {
@@ -85,7 +84,7 @@ impl ScimService {
         }
     }
 
-    /// Another content for the resource with this id, whatever its version.
+    /// A new content for the resource with this id, whatever its version.
     pub fn replace_request<'a>(
         &'a self,
         content: &'a Content,
@@ -278,7 +277,7 @@ impl<'a> Model for ReplaceRequest<'a> {
 }
 
 impl<'a> ReplaceRequest<'a> {
-    /// Only where the resource has the version with this tag (RFC 7232 section 3.1).
+    /// Replaces only if the resource has the version with this tag (RFC 7232 section 3.1).
     pub fn if_match(mut self, tag: &'a EntityTag) -> ReplaceRequest<'a>
         ensures { result ≡ record { base = self.entry.base; request = under_tag tag.now self.entry.request } }
     {
@@ -309,7 +308,7 @@ impl<'a> ReplaceRequest<'a> {
     }
 }
 
-/// The condition of one tag alone, where there is one.
+/// The condition of only this tag, if there is one.
 fn tag_alone(alloc: Global, tag: Option<&EntityTag>) -> Result<Condition, AllocError>
     ensures { IfOk result (λ condition. condition ≡ tag_alone (option_map (λ t. t.now) tag.entry)) }
 {

@@ -162,7 +162,7 @@ completes outer l extra us p b h i = record {
   is = ap (λ x. x ++ us) h.is ∙ simp (append_assoc, append-nil);
 }
 
--- what stands between two parentheses, or in the whole text, is a filter
+-- the text between two parentheses, or the whole text, is a filter
 level_spelled : {d : ℕ} {left : Option Expression} {lefts : List Token} → Left d left lefts → (items : List Token) (last : Expression) → IsAll d items last → IsFilter d (lefts ++ items) (join Either left last)
 level_spelled {d} (no_left none) items last a = let P : Option Expression → Type 0 = λ x. IsFilter d items (join Either x last) in subst P (sym none) (all a)
 level_spelled {d} (before_or {ts} {e} some f) items last a =

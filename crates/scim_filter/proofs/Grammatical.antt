@@ -58,7 +58,7 @@ past_not false outer l gap rest d h =
     let t : nat_lt (length outer) depth_limit ≡ true = grind (arith, nat_tests) in
     rw t refl
 
--- The tokens of a filter, between parentheses or alone, leave a level that says the filter
+-- The tokens of a filter, in parentheses or not, leave a level that spells the filter
 record FilterIsRead (d : ℕ) (ts : List Token) (e : Expression) : Type 0 where
   left : Option Expression
   last : Expression

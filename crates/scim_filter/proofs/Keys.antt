@@ -1,4 +1,4 @@
--- A filter that names one record holds of the rows of that record alone.
+-- A filter that names one record holds only for the rows of that record.
 use Rattle.std.proofs.Common.{◌≡◌, ◌↔◌, ℕ, Bool, true, false, cond, List, [], ◌∷◌, Some, None, ◌||◌, refl, sym, ap, ◌∙◌}
 use Rattle.std.specs.Str.{bytes_eq}
 use Rattle.std.proofs.lemmas.Slice.Eq.{bytes_eq-Decides}
@@ -26,7 +26,7 @@ or-false : (b : Bool) → (b || false) ≡ b
 or-false true = refl
 or-false false = refl
 
--- one text is equal to the given one where their keys are
+-- a text is equal to the given one if their keys are
 one-compares : (given text : List ℕ) → some_compares false Equal given (text ∷ []) ≡ bytes_eq (key_of text) (key_of given)
 unfolding some_compares
 one-compares given text = or-false (bytes_eq (key_of text) (key_of given))
@@ -35,7 +35,7 @@ none-compares : (given : List ℕ) → some_compares false Equal given [] ≡ fa
 unfolding some_compares
 none-compares given = refl
 
--- a record of this type is the named one where their names are equal
+-- a record of this type is the named one if their names are equal
 same-name : (kind : Kind) (given text : List ℕ) → (some_compares false Equal given (text ∷ []) ≡ true) ↔ (name_of kind (key_of text) ≡ name_of kind (key_of given))
 same-name kind given text = (
   λ passes. ap (λ key. name_of kind key) ((bytes_eq-Decides (key_of text) (key_of given)).0 (sym (one-compares given text) ∙ passes)),
@@ -57,7 +57,7 @@ on-group : (given : List ℕ) (c : Content) → (some_compares false Equal given
 on-group given (User u) = other-kind kinds.Group kinds.User given (key_of u.user_name) (λ same. cc)
 on-group given (Group g) = same-name kinds.Group given g.display_name
 
--- the record that a lawful name names
+-- the record of a valid name
 named : (kind : Kind) (given : List ℕ) (name : RecordName) → record_named given kind ≡ Some name → name_of kind (key_of given) ≡ name
 named kind given name is = here (is_lawful kind given) is
   where

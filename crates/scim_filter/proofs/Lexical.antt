@@ -138,7 +138,7 @@ quote_kept false [] rest h = refl
 quote_kept true (b ∷ body) rest h = ap (option_map suc) (quote_kept false body rest (one_less (quote_at false (body ++ 34 ∷ [])) (length body) h))
 quote_kept false (b ∷ body) rest h = kept_step b body rest (b == 92) refl (b == 34) refl h (λ e g. quote_kept e body rest g)
 
--- ---- what a token may stand before
+-- ---- what may follow a token
 
 not_this : (b x : ℕ) → is_word_byte b ≡ true → is_word_byte x ≡ false → (b == x) ≡ false
 not_this b x h f = go (b == x) refl where
@@ -247,7 +247,7 @@ word_leads_to l (Some w) e = λ ts c.
     let q : Consists (take n l ++ drop n l) (Plain w ∷ ts) = token (take n l) (Plain w) (prefix_passes is_word_byte l, e) (word_ends w c (prefix_ends is_word_byte l)) c in
     subst (λ (x : List ℕ). Consists x (Plain w ∷ ts)) (take-append-drop n l) q
 
--- where no word begins there is none
+-- where no word begins, there is none
 pub no_word_at : (l : List ℕ) → prefix_len is_word_byte l ≡ 0 → word_at l ≡ Err Unsupported
 unfolding word_at word_named joining_word comparing_word attribute_word text_attribute_named flag_attribute_named
 no_word_at l e = ap (λ n. or_unsupported (option_map (λ w. (Plain w, drop n l)) (word_named (take n l)))) e

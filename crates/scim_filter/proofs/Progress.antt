@@ -1,4 +1,4 @@
--- Reading token by token: what is left of the text decides as all of it does.
+-- Reading token by token: the remaining text decides as all of it does.
 use Rattle.std.proofs.Common.{◌≡◌, ℕ, ◌<◌, ◌≤◌, List, [], ◌∷◌, length, Option, Some, None, refl, sym, ap, ◌∙◌, subst, inl, inr, arith}
 use Rattle.std.specs.Prelude.{Result, Ok, Err, IfOk, ◌⊎◌}
 use Rattle.scim_key.specs.Outcome.{Gives}
@@ -73,7 +73,7 @@ keeps_step text rest more s r t h e f k = record {
       record { tokens = m.tokens; consists = m.consists; answers = m.answers ∙ run_step s r t us f };
 }
 
--- no filter is spelled where no token stands
+-- no filter is spelled if there is no token
 pub no_token : (text rest : List ℕ) (s : State) (x : FilterFault) (e : Expression) → 0 < length rest → token_at rest ≡ Err x → Keeps text rest s → Spells text e → ⊥
 no_token text rest s x e h f k w =
     let m = k.onward w.tokens w.consists in
@@ -87,7 +87,7 @@ no_step text rest more s t e h f g k w =
     let q : Some e ≡ None = sym (reads_text w.grammatical) ∙ m.answers ∙ ap (run s) p.is ∙ run_stuck s t p.others g in
     cc
 
--- where nothing is left, what the state says is what the text spells
+-- if nothing remains, the text spells what the state says
 pub spelled_at_end : (text : List ℕ) (s : State) (e : Expression) → length text ≤ text_limit → finish s.outer s ≡ Some e → Keeps text [] s → Spells text e
 spelled_at_end text s e short f k =
     let m = k.back [] nothing in

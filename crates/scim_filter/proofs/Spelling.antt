@@ -226,7 +226,7 @@ grouped_writes : (c : Bool) (text : List ℕ) (ts : List Token) → Writes text 
 grouped_writes true text ts w = record { begin = refl; on = λ rest us c m. grouped_on text ts w rest us c }
 grouped_writes false text ts w = w
 
--- two operands and what stands between them
+-- two operands and the tokens between them
 joined_writes : (k : Word) (bs : List ℕ) → IsWord k bs → (text more : List ℕ) (ts us : List Token) → Writes text ts → Writes more us
     → Writes (text ++ ((32 ∷ (bs ++ 32 ∷ [])) ++ more)) (ts ++ (Gap ∷ Plain k ∷ Gap ∷ us))
 joined_writes k bs is text more ts us v w = record {
@@ -255,7 +255,7 @@ writes (Either a b) =
     (writes a) (grouped_writes (is_either b) (filter_text b) (tokens_of b) (writes b))
 writes (Negated a) = negated_writes (filter_text a) (tokens_of a) (writes a)
 
--- The text spells the filter, where it keeps the limits
+-- The text spells the filter, if it is within the limits
 pub text_spells : (e : Expression) → length (filter_text e) ≤ text_limit → nesting e ≤ depth_limit → Spells (filter_text e) e
 text_spells e short shallow = record {
   short = short;

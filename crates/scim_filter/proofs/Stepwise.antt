@@ -21,7 +21,7 @@ use Rattle.scim_filter.specs.declared.reader.Level.{Level}
 use Rattle.std.proofs.lemmas.Option.{option_and_then_some, cond_some}
 use Rattle.scim_filter.proofs.Consumed.{Outside, outermost, Opening, alone, after_not, Half_way, Complete, StandsAt, Stands, extend, from_fresh, from_fresh_gap, completes, closes, opens, and_follows, or_follows, level_filter}
 
--- the state that came is this one
+-- the resulting state is this one
 reached : {x y : State} (p : List Token) → Some x ≡ Some y → Stands x p → Stands y p
 reached {x} {y} p e h = let k : x ≡ y = cc in let P : State → Type 0 = λ s. Stands s p in subst P k h
 
@@ -106,7 +106,7 @@ abbrev IfTest : List Token → Option Test → Type 0
 IfTest ts None = Unit {0}
 IfTest ts (Some t) = IsTest ts t
 
--- a test that came of a value is spelled so
+-- a test that comes from a value is spelled like this
 text_spelled : (a : Attribute) (o : TextOperator) (s : List ℕ) (t : Test) → machine.text_test a o s ≡ Some t → IsTest (Plain (Name a) ∷ Gap ∷ Plain (Compare o) ∷ Gap ∷ Quoted s ∷ []) t
 text_spelled (OfText a) o s t e = subst (IfTest (Plain (Name (OfText a)) ∷ Gap ∷ Plain (Compare o) ∷ Gap ∷ Quoted s ∷ [])) e (text_test a o s)
 text_spelled (OfFlag a) o s t e = absurd (cc)

@@ -30,7 +30,7 @@ read-quoted s = ap (λ ts. option_and_then of_json (option_and_then (λ p. json.
 
 -- ---- no quote of an escaped text ends the string
 
--- the next quote stands as far behind these bytes as in what follows them
+-- the next quote is as far after these bytes as in what follows them
 record Passes (front : List ℕ) : Type 0 where
   on : (bs : List ℕ) → quote_at false (front ++ bs) ≡ option_map (λ n. length front + n) (quote_at false bs)
 
@@ -87,7 +87,7 @@ passes : (s : List ℕ) → Passes (escape s)
 passes [] = record { on = λ bs. none_added (quote_at false bs) }
 passes (b ∷ bs) = passes_both (escape_byte b) (escape bs) (byte_passes b) (passes bs)
 
--- what is written for a text is a JSON string of it
+-- the text that is written is a JSON string of it
 pub quoted_is_string : (s : List ℕ) → IsString s (quoted s)
 unfolding quote_at
 quoted_is_string s = record {

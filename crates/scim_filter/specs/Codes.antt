@@ -140,7 +140,7 @@ put_part-test (Flag a o false) xs =
     ap (λ x. Only (Flag x (flag_operator_at (flag_operator_number o)) false) ∷ xs) (flag_attribute_at-number a)
     ∙ ap (λ x. Only (Flag a x false) ∷ xs) (flag_operator_at-number o)
 
--- the parts of an expression put it on what stands there
+-- the parts of an expression put it on top of what is there
 put_parts-parts : (e : Expression) (ps : List Part) (xs : List Expression) → put_parts (parts e ++ ps) xs ≡ put_parts ps (e ∷ xs)
 put_parts-parts (Only t) ps xs = ap (put_parts ps) (put_part-test t xs)
 put_parts-parts (Both a b) ps xs =

@@ -18,7 +18,7 @@ use Rattle.scim_filter.specs.declared.words.Word.TheVariants.{Not, And, Or, Pres
 use Rattle.scim_filter.specs.declared.tokens.Token.{Token}
 use Rattle.scim_filter.specs.declared.tokens.Token.TheVariants.{Gap, Open, Close, Plain, Quoted}
 
--- A text has at most so many bytes, and its parentheses are at most so deep
+-- The most bytes that a text may have, and how deep its parentheses may be nested
 abbrev pub text_limit : ℕ
 text_limit = TEXT_LIMIT
 
@@ -30,18 +30,18 @@ abbrev pub spaces : Bool → List Token
 spaces false = []
 spaces true = Gap ∷ []
 
--- booleans are compared by `eq` and `ne` alone
+-- booleans are compared only by `eq` and `ne`
 abbrev pub as_text : FlagOperator → TextOperator
 as_text Is = Equal
 as_text IsNot = NotEqual
 
--- a test: an attribute and `pr`; or an attribute, an operator that its values take, and such a value
+-- a test: an attribute and `pr`; or an attribute, an operator for its type, and a value of that type
 pub data IsTest : List Token → Test → Type 0 where
   presence : (a : Attribute) → IsTest (Plain (Name a) ∷ Gap ∷ Plain Present ∷ []) (tests.Present a)
   text_test : (a : TextAttribute) (o : TextOperator) (s : List ℕ) → IsTest (Plain (Name (OfText a)) ∷ Gap ∷ Plain (Compare o) ∷ Gap ∷ Quoted s ∷ []) (tests.Text a o s)
   flag_test : (a : FlagAttribute) (o : FlagOperator) (v : Bool) → IsTest (Plain (Name (OfFlag a)) ∷ Gap ∷ Plain (Compare (as_text o)) ∷ Gap ∷ Plain (Truth v) ∷ []) (tests.Flag a o v)
 
--- The number says how many parentheses deep the tokens may go
+-- The number says how deep the parentheses of the tokens may be nested
 mutual
   -- "not" sp "(" sp filter sp ")" | "(" sp filter sp ")" | test
   pub data IsItem : ℕ → List Token → Expression → Type 0 where

@@ -11,7 +11,7 @@ use Rattle.scim_filter.specs.declared.tokens.Token.TheVariants.{Gap, Open, Close
 use Rattle.scim_filter.specs.declared.filters.FilterFault.{FilterFault}
 use Rattle.scim_filter.specs.declared.filters.FilterFault.TheVariants.{Unsupported}
 
--- the value, or P3 where there is none
+-- the value, or P3 if there is none
 abbrev pub or_unsupported : {A : Type 0} → Option A → Result A FilterFault
 or_unsupported None = Err Unsupported
 or_unsupported (Some x) = Ok x
@@ -35,7 +35,7 @@ word_at bs = or_unsupported (option_map (λ w. (Plain w, drop (prefix_len is_wor
 unfoldable pub gap_at : List ℕ → Token × List ℕ
 gap_at bs = (Gap, drop (prefix_len is_space bs) bs)
 
--- the text begins with a quote; n is the place of the next after it
+-- the text begins with a quote; n is the place of the next quote, counted from the byte after the first
 abbrev pub quoted_to : List ℕ → Option ℕ → Result (Token × List ℕ) FilterFault
 quoted_to bs None = Err Unsupported
 quoted_to bs (Some n) = text_of (take (n + 2) bs) >>= λ s. Ok (Quoted s, drop (n + 2) bs)

@@ -1,4 +1,4 @@
--- The reader's steps over tokens, as the code makes them.
+-- The steps of the reader over tokens, as the code makes them.
 use Rattle.std.specs.Prelude.{ℕ, List, [], ◌∷◌, length, Bool, true, false, Option, Some, None, option_map, nat_lt, if◌then◌else◌, reverse}
 use Rattle.std.specs.Option.{option_and_then}
 use Rattle.scim_filter.specs.Expressions.{Expression, Only, Both, Either, Negated}
@@ -20,7 +20,7 @@ use Rattle.scim_filter.specs.declared.reader.Place.TheVariants.{BeforeItem, Befo
 use Rattle.scim_filter.specs.declared.reader.Level.{Level}
 use Rattle.scim_filter.specs.declared.reader.Reader.{Reader}
 
--- the levels outside of the innermost, from the innermost of them
+-- the outer levels, innermost first; the current level; and the place
 pub record State : Type 0 where
   pub outer : List Level
   pub level : Level
@@ -55,7 +55,7 @@ place_after_gap AfterConnective = Some (BeforeItem false)
 
 -- ---- items
 
--- what stands left of a connective, joined with what stands right of it
+-- the left operand of a connective, if there is one, joined with the right operand
 abbrev pub join : (Expression → Expression → Expression) → Option Expression → Expression → Expression
 join f None e = e
 join f (Some left) e = f left e
@@ -63,7 +63,7 @@ join f (Some left) e = f left e
 abbrev pub with_item : Level → Expression → Level
 with_item l e = record { negated = l.negated; either = l.either; both = Some (join Both l.both e) }
 
--- the item has been read
+-- an item was read
 abbrev pub item_taken : State → Expression → State
 item_taken s e = record { outer = s.outer; level = with_item s.level e; place = AfterItem false }
 
@@ -92,7 +92,7 @@ flag_test (OfFlag a) o v = option_map (λ p. tests.Flag a p v) (flag_operator o)
 abbrev pub opened : State → Bool → Option State
 opened s negated = if nat_lt (length s.outer) depth_limit then Some (record { outer = s.level ∷ s.outer; level = level_start negated; place = BeforeItem true }) else None
 
--- what a whole level says
+-- the filter that a whole level spells
 abbrev pub whole_of : Level → Option Expression
 whole_of l = option_map (join Either l.either) l.both
 
@@ -106,7 +106,7 @@ closed (l ∷ ls) negated e = option_map (λ e. record { outer = ls; level = wit
 
 -- ---- words
 
--- the whole level so far is the left operand of an `or`
+-- the whole level so far becomes the left operand of an `or`
 abbrev pub after_or : State → Option State
 after_or s = option_map (λ e. record { outer = s.outer; level = record { negated = s.level.negated; either = Some e; both = None }; place = AfterConnective }) (whole_of s.level)
 
@@ -146,7 +146,7 @@ word_after_item s (Compare o) = None
 word_after_item s (Truth v) = None
 word_after_item s (Name a) = None
 
--- ---- tokens, by the place where they stand
+-- ---- tokens, by the place where they come
 
 abbrev pub after_gap : State → Option State
 after_gap s = option_map (at_place s) (place_after_gap s.place)
@@ -211,7 +211,7 @@ finished_at s (BeforeValue a o) = None
 finished_at s (AfterItem gap) = whole_of s.level
 finished_at s AfterConnective = None
 
--- the filter, where no parenthesis is open
+-- the filter, if no parenthesis is open
 abbrev pub finish : List Level → State → Option Expression
 finish [] s = finished_at s s.place
 finish (l ∷ ls) s = None

@@ -1,4 +1,4 @@
--- What a filter means on a row of the provider.
+-- What a filter means for a row of the provider.
 use Rattle.std.specs.Prelude.{ℕ, List, [], ◌∷◌, length, map, Bool, true, false, not, ◌&&◌, ◌||◌, nat_lt}
 use Rattle.std.specs.List.{list_any, filter_map}
 use Rattle.std.specs.Option.{option_to_list}
@@ -24,7 +24,7 @@ use Rattle.scim_filter.specs.declared.terms.FlagOperator.TheVariants.{Is, IsNot}
 use Rattle.scim_filter.specs.declared.terms.Test.{Test}
 use Rattle.scim_filter.specs.declared.terms.Test.TheVariants as tests
 
--- The values of an attribute. One that the type of resource lacks has none, and so is absent
+-- The values of an attribute. An attribute that the type of resource lacks has no value, and so is absent
 abbrev pub user_texts : TextAttribute → UserRecord → List (List ℕ)
 user_texts UserName u = u.user_name ∷ []
 user_texts DisplayName u = []
@@ -72,7 +72,7 @@ content_flags Active (Group g) = []
 content_flags EmailPrimary (User u) = map (λ e. e.primary) u.emails
 content_flags EmailPrimary (Group g) = []
 
--- whether an attribute is compared byte for byte, or with letters lowered
+-- whether an attribute is compared byte for byte, or in any case
 abbrev pub is_exact : TextAttribute → Bool
 is_exact UserName = false
 is_exact DisplayName = false
@@ -85,11 +85,11 @@ is_exact Id = true
 is_exact ExternalId = true
 is_exact Version = true
 
--- some of these texts compares so with the given one
+-- the comparison with the given text holds for some of these texts
 unfoldable pub some_compares : Bool → TextOperator → List ℕ → List (List ℕ) → Bool
 some_compares exact operator given texts = list_any (λ text. compares operator (folded exact text) (folded exact given)) texts
 
--- some value is equal to, contains, begins with, ends with the text; `ne` is the negation of `eq`
+-- some value is equal to, contains, begins with or ends with the text; `ne` is the negation of `eq`
 abbrev pub text_holds : TextOperator → Bool → List ℕ → List (List ℕ) → Bool
 text_holds Equal exact given texts = some_compares exact Equal given texts
 text_holds NotEqual exact given texts = not (some_compares exact Equal given texts)

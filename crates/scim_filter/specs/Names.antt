@@ -1,4 +1,4 @@
--- The record that a filter names, where it tests one name alone.
+-- The record that a filter names, if the filter is one test of a name.
 use Rattle.std.specs.Prelude.{ℕ, List, Bool, Option, Some, None, is_none, if◌then◌else◌}
 use Rattle.std.specs.Option.{option_and_then}
 use Rattle.scim_key.specs.Names.{key_of, user_name_fault, group_name_fault}
@@ -12,11 +12,11 @@ use Rattle.scim_filter.specs.declared.terms.TextOperator.TheVariants.{Equal, Not
 use Rattle.scim_filter.specs.declared.terms.Test.{Test}
 use Rattle.scim_filter.specs.declared.terms.Test.TheVariants.{Present, Text, Flag}
 
--- the test that this attribute is equal to this name, alone
+-- the only test is that this attribute is equal to this name
 abbrev pub name_filter : TextAttribute → List ℕ → Expression
 name_filter a name = Only (Text a Equal name)
 
--- a lawful name of this type
+-- a valid name for this type
 abbrev pub is_lawful : Kind → List ℕ → Bool
 is_lawful User text = is_none (user_name_fault text)
 is_lawful Group text = is_none (group_name_fault text)
@@ -46,7 +46,7 @@ test_key (Text a StartsWith text) = None
 test_key (Text a EndsWith text) = None
 test_key (Flag a o v) = None
 
--- `userName eq` or `displayName eq` alone, with a lawful name
+-- the only test is `userName eq` or `displayName eq` with a valid name
 abbrev pub single_key : Expression → Option RecordName
 single_key (Only test) = test_key test
 single_key (Both a b) = None

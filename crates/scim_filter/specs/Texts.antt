@@ -45,7 +45,7 @@ abbrev pub truth_name : Bool → List ℕ
 truth_name true = codes "true"
 truth_name false = codes "false"
 
--- one space where the grammar asks for one or more, and strings as JSON writes them
+-- one space where the grammar allows more, and strings as JSON writes them
 abbrev pub test_text : Test → List ℕ
 test_text (Present a) = attribute_name a ++ codes " pr"
 test_text (Text a o s) = text_attribute_name a ++ (codes " " ++ (operator_name o ++ (codes " " ++ quoted s)))
@@ -67,8 +67,8 @@ abbrev pub in_parentheses_if : Bool → List ℕ → List ℕ
 in_parentheses_if true text = codes "(" ++ (text ++ codes ")")
 in_parentheses_if false text = text
 
--- Parentheses stand round a left operand of `and` that is an `or`, a right operand of `and` that is an
--- `and` or an `or`, and a right operand of `or` that is an `or`
+-- These operands are in parentheses: a left operand of `and` that is an `or`, a right operand of `and` that is an `and`
+-- or an `or`, and a right operand of `or` that is an `or`
 abbrev pub filter_text : Expression → List ℕ
 filter_text (Only t) = test_text t
 filter_text (Both a b) = in_parentheses_if (is_either a) (filter_text a) ++ (codes " and " ++ in_parentheses_if (is_joined b) (filter_text b))

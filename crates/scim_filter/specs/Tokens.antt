@@ -15,7 +15,7 @@ is_space b = b == 32
 abbrev pub is_word_byte : ℕ → Bool
 is_word_byte b = (nat_le 65 b && nat_le b 90) || (nat_le 97 b && nat_le b 122) || (b == 46)
 
--- the place of the first quote that no backslash escapes; whether one escapes the first byte
+-- the place of the first quote that no backslash escapes; the boolean says whether one escapes the first byte
 unfoldable pub quote_at : Bool → List ℕ → Option ℕ
 quote_at escaped [] = None
 quote_at true (b ∷ bs) = option_map suc (quote_at false bs)
@@ -25,11 +25,11 @@ quote_at false (b ∷ bs) = if b == 92 then option_map suc (quote_at true bs) el
 abbrev pub IsGap : List ℕ → Type 0
 IsGap bs = (0 < length bs) × (list_all is_space bs ≡ true)
 
--- letters and points that are this word, in any case
+-- letters and points that spell this word, in any case
 abbrev pub IsWord : Word → List ℕ → Type 0
 IsWord w bs = (list_all is_word_byte bs ≡ true) × (word_named bs ≡ Some w)
 
--- from a quote to the next that no backslash escapes, a JSON string of this text
+-- a JSON string of this text, from a quote to the next quote that no backslash escapes
 pub record IsString (text : List ℕ) (bs : List ℕ) : Type 0 where
   pub body : List ℕ
   pub quoted : bs ≡ 34 ∷ (body ++ 34 ∷ [])
@@ -43,7 +43,7 @@ IsToken Close bs = bs ≡ 41 ∷ []
 IsToken (Plain w) bs = IsWord w bs
 IsToken (Quoted text) bs = IsString text bs
 
--- two gaps side by side are one gap, and two words one word
+-- two adjacent gaps are one gap, and two adjacent words are one word
 abbrev pub runs_on : Token → Token → Bool
 runs_on Gap Gap = true
 runs_on (Plain v) (Plain w) = true

@@ -1,4 +1,4 @@
--- The words of a filter. A text is a word if it is equal to it in lowered letters.
+-- The words of a filter. A text is a word if both are equal in lower case.
 use Rattle.std.specs.Prelude.{ℕ, List, Bool, true, false, Option, Some, None, option_map, if◌then◌else◌, codes}
 use Rattle.std.specs.Str.{str_eq_ignore_ascii_case}
 use Rattle.scim_filter.specs.declared.terms.TextAttribute.{TextAttribute}
@@ -55,7 +55,7 @@ flag_attribute_named text =
     else if is_named text (codes "emails.primary") then Some EmailPrimary
     else None
 
--- the first that there is
+-- the first value, if there is one, else the other
 abbrev pub or_else : {A : Type 0} → Option A → Option A → Option A
 or_else None other = other
 or_else (Some x) other = Some x

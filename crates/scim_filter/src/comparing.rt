@@ -1,11 +1,11 @@
-//! Comparing a text of a resource with the text of a filter. It takes no memory.
+//! Compares a text of a resource with the text of a filter. It allocates nothing.
 ghost use Rattle.std.specs.Prelude.{◌≡◌};
 ghost use Rattle.std.specs.Str.{bytes_eq};
 ghost use Rattle.scim_filter.specs.Comparing as spec;
 
 use crate::terms::TextOperator;
 
-/// Whether both texts are the same, byte for byte where `exact`, else but for the case of letters.
+/// Whether both texts are the same: byte for byte if `exact`, otherwise in any case.
 fn is_same(exact: bool, text: &[u8], given: &[u8]) -> bool
     ensures { result ≡ bytes_eq (spec.folded exact text.now) (spec.folded exact given.now) }
 {
@@ -45,7 +45,7 @@ fn contains(exact: bool, text: &[u8], given: &[u8]) -> bool
     given.is_empty()
 }
 
-/// Whether the text compares so with the given one.
+/// Whether the comparison of the text with the given one holds.
 pub(crate) fn compares(exact: bool, operator: TextOperator, text: &str, given: &str) -> bool
     ensures { result ≡ spec.compares operator (spec.folded exact text.now) (spec.folded exact given.now) }
 {

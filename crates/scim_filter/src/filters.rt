@@ -15,10 +15,10 @@ use std::alloc::{AllocError, AllocFailed, Global};
 use std::marker::Model;
 use thiserror::Error;
 
-/// How many bytes a filter's text may have.
+/// The most bytes that a filter's text may have.
 pub const TEXT_LIMIT: usize = 2_048;
 
-/// Why a text is no filter.
+/// Why a text isn't a filter.
 #[derive(Clone, Copy, Debug, PartialEq, Eq, Error)]
 pub enum FilterFault {
     #[error("P3")]
@@ -80,8 +80,8 @@ impl Filter {
     ghost use Rattle.scim_filter.specs.Matching as meaning;
     ghost use Rattle.scim_filter.specs.declared.terms.TextAttribute.TheVariants as tests;
 
-    /// Reads a filter (RFC 7644 section 3.4.2.2). `Unsupported` comes where the text spells none:
-    /// also where it is above `TEXT_LIMIT` bytes, or its parentheses are deeper than `DEPTH_LIMIT`.
+    /// Reads a filter (RFC 7644 section 3.4.2.2). The fault is `Unsupported` if the text spells none, has
+    /// more than `TEXT_LIMIT` bytes, or nests parentheses deeper than `DEPTH_LIMIT`.
     pub fn read(alloc: Global, text: &str) -> Result<Filter, FilterFault>
         ensures found { IfOk result (λ f. Spells text.now f) }
         ensures only { (f : Expression) → Spells text.now f → Gives FilterFault.Memory result (Ok f) }
@@ -115,11 +115,11 @@ impl Filter {
         Ok(Filter::of_test(Test::Text(TextAttribute::DisplayName, TextOperator::Equal, text)))
     }
 
-    /// The filter's text, with one space where there may be more, lower-case words, and no
-    /// parentheses but those that the filter's meaning asks for.
+    /// The filter's text: one space where more are allowed, words in lower case, and only the parentheses
+    /// that the filter's meaning needs.
     pub fn to_text(&self, alloc: Global) -> Result<String, AllocError>
         ensures text { IfOk result (λ s. string_bytes s ≡ filter_text self.now) }
-        // Where it keeps the two limits it spells the filter.
+        // If the text is within both limits, it spells the filter.
         ensures spells { IfOk result (λ s. length (string_bytes s) ≤ text_limit → nesting self.now ≤ depth_limit
             → Spells (string_bytes s) self.now) }
     {
@@ -128,16 +128,16 @@ impl Filter {
         Ok(out)
     }
 
-    /// Whether a row of the provider satisfies the filter (RFC 7644 section 3.4.2.2). It takes no
-    /// memory. An attribute that the type of resource lacks is absent.
+    /// Whether a row of the provider satisfies the filter (RFC 7644 section 3.4.2.2). An attribute that the
+    /// type of resource lacks is absent. It allocates nothing.
     pub fn matches(&self, row: &Stored) -> bool
         ensures { result ≡ meaning.satisfies self.now row.now }
     {
         satisfies(&self.root, row)
     }
 
-    /// The record that the filter names: where it is `userName eq` or `displayName eq` alone, with
-    /// a lawful name.
+    /// The record that the filter names, if its only test is `userName eq` or `displayName eq` with a valid
+    /// name.
     pub fn single_key(&self, alloc: Global) -> Result<Option<RecordName>, AllocError>
         ensures { IfOk result (λ name. name ≡ single_key self.now) }
     {
@@ -147,7 +147,7 @@ impl Filter {
         }
     }
 
-    /// The filter of one test.
+    /// The filter with this one test.
     pub(crate) fn of_test(test: Test) -> Filter
         ensures { result ≡ Only test }
     {
@@ -156,7 +156,7 @@ impl Filter {
         }
     }
 
-    /// Both filters at once.
+    /// The filter that holds if both of these hold.
     pub(crate) fn both(alloc: Global, left: Filter, right: Filter) -> Result<Filter, AllocError>
         ensures { IfOk result (λ f. f ≡ Both left right) }
     {
@@ -169,7 +169,7 @@ impl Filter {
         })
     }
 
-    /// One of both filters, or both.
+    /// The filter that holds if at least one of these holds.
     pub(crate) fn either(alloc: Global, left: Filter, right: Filter) -> Result<Filter, AllocError>
         ensures { IfOk result (λ f. f ≡ Either left right) }
     {
@@ -182,7 +182,7 @@ impl Filter {
         })
     }
 
-    /// What the filter doesn't hold of.
+    /// The filter that holds if this one doesn't.
     pub(crate) fn negated(alloc: Global, inner: Filter) -> Result<Filter, AllocError>
         ensures { IfOk result (λ f. f ≡ Negated inner) }
     {

@@ -1,4 +1,4 @@
-//! Facts about the definitions, with nothing to run.
+//! Laws of the definitions, with nothing to run.
 ghost use Rattle.std.specs.Prelude.{◌≡◌, ◌≤◌, List, ℕ, length};
 ghost use Rattle.scim_filter.specs.Expressions.{Expression};
 ghost use Rattle.scim_filter.specs.Grammar.{Spells, text_limit, depth_limit};
@@ -10,12 +10,12 @@ pub fn one_filter()
     ensures { (text : List ℕ) (e f : Expression) → Spells text e → Spells text f → e ≡ f }
 {}
 
-/// The text that is written for a filter spells it, where it keeps the limits.
+/// The text that is written for a filter spells it, if the text is within the limits.
 pub fn text_spells()
     ensures { (e : Expression) → length (filter_text e) ≤ text_limit → nesting e ≤ depth_limit → Spells (filter_text e) e }
 {}
 
-/// A filter that names one record holds of that record's rows alone.
+/// A filter that names one record holds only for that record's rows.
 pub fn keys_decide()
     ensures { KeysDecide }
 {}

@@ -1,5 +1,5 @@
-//! What a filter means on a row. It takes no memory: an id and a version are written into
-//! buffers of fixed size.
+//! What a filter means for a row. It allocates nothing: an id and a version are written into buffers of
+//! fixed size.
 ghost use Rattle.std.specs.Prelude.{◌≡◌, ◌≤◌, [], ◌∷◌, map};
 ghost use Rattle.std.specs.List.{list_any};
 ghost use Rattle.std.specs.Option.{option_to_list, option_copied};
@@ -26,7 +26,7 @@ struct Question<'a> {
 }
 
 impl Question<'_> {
-    /// Whether a text compares so.
+    /// Whether the comparison holds for a text.
     fn compares(&self, text: &str) -> bool
         ensures { result ≡ compares self.now.operator (folded self.now.exact text.now) (folded self.now.exact self.now.given.now) }
     {
@@ -81,7 +81,7 @@ impl Question<'_> {
     }
 }
 
-/// Whether the id of the n-th resource compares so.
+/// Whether the comparison holds for the id of the n-th resource.
 fn asks_id(question: &Question, number: u32) -> bool
     requires { number ≤ last_number }
     ensures { result ≡ spec.some_compares question.now.exact question.now.operator question.now.given.now
@@ -91,7 +91,7 @@ fn asks_id(question: &Question, number: u32) -> bool
     question.of_one(ResourceId::spell(number, &mut buffer))
 }
 
-/// Whether the entity tag of a version compares so.
+/// Whether the comparison holds for the entity tag of a version.
 fn asks_version(question: &Question, version: u64) -> bool
     ensures { result ≡ spec.some_compares question.now.exact question.now.operator question.now.given.now
         (version_tag version ∷ []) }
@@ -141,7 +141,7 @@ fn asks_content(question: &Question, attribute: TextAttribute, content: &Content
     }
 }
 
-/// Whether some value of the attribute compares so.
+/// Whether the comparison holds for some value of the attribute.
 fn asks_row(question: &Question, attribute: TextAttribute, row: &Stored) -> bool
     ensures { result ≡ spec.some_compares question.now.exact question.now.operator question.now.given.now
         (spec.texts_of attribute row.now) }
@@ -225,8 +225,7 @@ fn flag_holds(attribute: FlagAttribute, operator: FlagOperator, value: bool, row
     }
 }
 
-/// Whether there is a value: each text begins with the empty one, and each boolean is true or
-/// false.
+/// Whether the attribute has a value: a text begins with the empty text, and a boolean is true or false.
 fn is_present(attribute: Attribute, row: &Stored) -> bool
     ensures { result ≡ spec.is_present attribute row.now }
 {
@@ -250,7 +249,7 @@ fn test_holds(test: &Test, row: &Stored) -> bool
     }
 }
 
-/// Whether the row satisfies the filter with this tree.
+/// Whether the row satisfies the filter of this tree.
 pub(crate) fn satisfies(node: &Node, row: &Stored) -> bool
     ensures { result ≡ spec.satisfies (expression_of node.now) row.now }
 {

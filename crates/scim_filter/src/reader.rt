@@ -1,4 +1,4 @@
-//! Reading a filter, token by token.
+//! Reads a filter, token by token.
 ghost use Rattle.std.specs.Prelude.{◌≡◌, IfOk};
 ghost use Rattle.scim_key.specs.Outcome.{Gives, GivesBy};
 ghost use Rattle.scim_filter.specs.Lexing.{or_unsupported};
@@ -10,11 +10,11 @@ use crate::tokens::Token;
 use crate::words::Word;
 use std::alloc::{AllocError, Global};
 
-/// How deep the parentheses of a filter may go.
+/// How deep the parentheses of a filter may be nested.
 pub const DEPTH_LIMIT: usize = 32;
 
-/// What stands right before the next token. The booleans say, before an item or a parenthesis,
-/// whether a gap may come, and after an item whether one came.
+/// What comes right before the next token. Before an item or a parenthesis, the boolean says whether a gap
+/// may come; after an item, whether one came.
 #[derive(Clone, Copy, Debug)]
 pub(crate) enum Place {
     BeforeItem(bool),
@@ -27,8 +27,8 @@ pub(crate) enum Place {
     AfterConnective,
 }
 
-/// What was read since a parenthesis was opened: what stands left of an `or`, and the items
-/// joined by `and` since then.
+/// What was read since a parenthesis was opened: the left operand of an `or`, and the items joined by `and`
+/// after it.
 #[derive(Debug, Drop)]
 pub(crate) struct Level {
     pub(crate) negated: bool,
@@ -36,8 +36,8 @@ pub(crate) struct Level {
     pub(crate) both: Option<Filter>,
 }
 
-/// A filter that was read in part: the levels outside of the parentheses that are open, from
-/// the outermost, and the level within.
+/// A filter that was read in part: the levels outside the open parentheses, outermost first, and the level
+/// within.
 #[derive(Debug, Drop)]
 pub(crate) struct Reader {
     pub(crate) outer: Vec<Level>,
@@ -45,7 +45,7 @@ pub(crate) struct Reader {
     pub(crate) place: Place,
 }
 
-/// Where the next token stands after a gap, if a gap may come.
+/// The place after a gap, if a gap may come.
 fn place_after_gap(place: Place) -> Option<Place>
     ensures { result ≡ place_after_gap place }
 {
@@ -69,7 +69,7 @@ fn flag_operator(operator: TextOperator) -> Option<FlagOperator>
     }
 }
 
-/// The test of an attribute that has texts.
+/// The test of an attribute whose values are texts.
 fn text_test(attribute: Attribute, operator: TextOperator, text: FilterText) -> Option<Test>
     ensures { result ≡ text_test attribute operator text }
 {
@@ -79,7 +79,7 @@ fn text_test(attribute: Attribute, operator: TextOperator, text: FilterText) -> 
     }
 }
 
-/// The test of an attribute that has booleans.
+/// The test of an attribute whose values are booleans.
 fn flag_test(attribute: Attribute, operator: TextOperator, value: bool) -> Option<Test>
     ensures { result ≡ flag_test attribute operator value }
 {
@@ -103,7 +103,7 @@ impl Level {
         }
     }
 
-    /// The level with one item more.
+    /// The level with one more item.
     fn with_item(self, alloc: Global, item: Filter) -> Result<Level, AllocError>
         ensures { IfOk result (λ l. l ≡ with_item self item) }
     {
@@ -123,7 +123,7 @@ impl Level {
         })
     }
 
-    /// What the whole level says.
+    /// The filter that the whole level spells.
     fn whole(self, alloc: Global) -> Result<Filter, FilterFault>
         ensures { Gives FilterFault.Memory result (or_unsupported (whole_of self)) }
     {
@@ -154,7 +154,7 @@ fn negated_if(alloc: Global, negated: bool, inner: Filter) -> Result<Filter, All
 }
 
 impl Reader {
-    /// Nothing was read.
+    /// A reader that has read nothing.
     pub(crate) fn new(alloc: Global) -> Reader
         ensures { state_of result ≡ start }
     {
@@ -375,7 +375,7 @@ impl Reader {
         }
     }
 
-    /// Takes the next token.
+    /// Reads the next token.
     pub(crate) fn take(self, alloc: Global, token: Token) -> Result<Reader, FilterFault>
         ensures { GivesBy state_of FilterFault.Memory result (or_unsupported (step (state_of self) token)) }
     {
@@ -388,7 +388,7 @@ impl Reader {
         }
     }
 
-    /// The filter, where no token is missing.
+    /// The filter, if no token is missing.
     pub(crate) fn finish(self, alloc: Global) -> Result<Filter, FilterFault>
         ensures { Gives FilterFault.Memory result (or_unsupported (finish (state_of self).outer (state_of self))) }
     {

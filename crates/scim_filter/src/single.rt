@@ -1,4 +1,4 @@
-//! The record that a filter names, where it tests one name alone.
+//! The record that a filter names, if the filter is one test of a name.
 ghost use Rattle.std.specs.Prelude.{◌≡◌, IfOk};
 ghost use Rattle.scim_key.specs.declared.records.Kind.TheVariants.{User, Group};
 ghost use Rattle.scim_filter.specs.Names.{record_named, named_by, test_key};

@@ -1,4 +1,4 @@
-//! Attributes, operators and tests: what stands between the connectives of a filter.
+//! Attributes, operators and tests: the parts that the connectives of a filter join.
 ghost use Rattle.std.specs.Prelude.{◌≡◌, IfOk, string_bytes};
 
 use std::alloc::AllocError;
@@ -50,7 +50,7 @@ pub enum FlagOperator {
     IsNot,
 }
 
-/// A text that a filter compares with. Any text may be one, also the empty one.
+/// A text that a filter compares with. It may be empty.
 #[derive(Debug, Drop)]
 pub struct FilterText {
     text: String,
@@ -65,14 +65,13 @@ impl Model for FilterText {
 }
 
 impl FilterText {
-    /// A text as it stands.
+    /// The filter text with exactly this text.
     pub fn from_string(text: String) -> FilterText
         ensures { result ≡ string_bytes text }
     {
         FilterText { text }
     }
 
-    /// The text.
     pub fn as_str(&self) -> &str
         ensures { result.now ≡ self.now }
     {

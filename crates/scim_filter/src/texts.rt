@@ -1,4 +1,4 @@
-//! Writing a filter.
+//! Writes a filter as text.
 ghost use Rattle.std.specs.Prelude.{◌≡◌, ◌++◌, IfOk, OnOk, List, ℕ, string_bytes, codes};
 ghost use Rattle.json.specs.Print.{quoted};
 ghost use Rattle.scim_filter.specs.Expressions.{expression_of};
@@ -124,7 +124,7 @@ fn is_joined(node: &Node) -> bool
     }
 }
 
-/// Writes the text of a filter at the end.
+/// Appends the text of a filter.
 pub(crate) fn write_filter(alloc: Global, out: &mut String, node: &Node) -> Result<(), AllocError>
     ensures { OnOk result (string_bytes out.new ≡ string_bytes out.old ++ filter_text (expression_of node.now)) }
 {

@@ -23,7 +23,7 @@ pub enum Token {
     Quoted(FilterText),
 }
 
-/// What follows the first `count` bytes, of which the last is an ASCII character.
+/// The text after the first `count` bytes, the last of which is an ASCII character.
 fn after(text: &str, count: usize) -> &str
     requires some { 0 < count }
     requires within { count ≤ length text.now }
@@ -33,7 +33,7 @@ fn after(text: &str, count: usize) -> &str
     &text[count..]
 }
 
-/// The first `count` bytes, of which the last is an ASCII character.
+/// The first `count` bytes, the last of which is an ASCII character.
 fn before(text: &str, count: usize) -> &str
     requires some { 0 < count }
     requires within { count ≤ length text.now }
@@ -117,7 +117,7 @@ fn gap_at(text: &str) -> (Token, &str)
     (Token::Gap, after(text, count))
 }
 
-/// The place behind the first byte of the quote that ends a JSON string.
+/// The place of the quote that ends a JSON string, counted from the byte after its first quote.
 fn closing_quote(text: &str) -> Option<usize>
     requires { slice_index text.now 0 ≡ 34 }
     ensures value { result ≡ quote_at false (drop 1 text.now) }
@@ -142,7 +142,7 @@ fn quoted_at(alloc: Global, text: &str) -> Result<(Token, &str), FilterFault>
     }
 }
 
-/// The token at the front of a text, and what follows it.
+/// The token at the front of a text, and the rest of the text.
 #[tactic(auto, unfolding(crate::specs::Lexing::token_at))]
 pub(crate) fn token_at(alloc: Global, text: &str) -> Result<(Token, &str), FilterFault>
     ensures { GivesBy (λ x. (x.0, x.1.now)) FilterFault.Memory result (token_at text.now) }

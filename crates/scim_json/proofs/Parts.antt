@@ -1,4 +1,4 @@
--- Objects that are made of parts: what stands in them is found, and they are plain.
+-- Objects that are made of parts: their members are found, and they are plain.
 use Rattle.std.proofs.Common.{◌≡◌, ℕ, ◌≤◌, List, [], ◌∷◌, Bool, true, false, not, cond, ◌&&◌, ◌||◌, Option, None, Some, Ordering, Less, Equal, Greater, nat_cmp, refl, sym, ap, ◌∙◌, arith}
 use Rattle.std.proofs.lemmas.Bool.{and_parts}
 use Rattle.std.proofs.lemmas.Slice.Eq.{bytes_eq-Decides}
@@ -11,13 +11,13 @@ use Rattle.scim_json.specs.Attributes.{same_name, named, has_name, repeats}
 use Rattle.scim_json.specs.Plain.{IsBelow, IsPlain, MembersArePlain}
 use Rattle.scim_json.specs.Writing.{Part, members_from}
 
--- ---- tests on the names of parts, which compute where the names are literals
+-- ---- tests on the names of parts, which compute if the names are literals
 
 abbrev pub is_below : List ℕ → List Part → Bool
 is_below name [] = true
 is_below name (p ∷ ps) = is_lt (slice_cmp nat_cmp name p.0) && is_below name ps
 
--- each name stands before the later ones, in byte order
+-- each name comes before the later ones, in byte order
 abbrev pub are_rising : List Part → Bool
 are_rising [] = true
 are_rising (p ∷ ps) = is_below p.0 ps && are_rising ps
@@ -62,7 +62,7 @@ skipped : (b : Bool) (rest : Option Data) → (b ≡ true → rest ≡ None) →
 skipped true rest none = none refl
 skipped false rest none = refl
 
--- where no two names are equal in lowered letters, each part is found under its name
+-- if no two names are equal in lower case, each part is found under its name
 pub named-members_from : (name : List ℕ) (ps : List Part) → are_apart ps ≡ true → named name (members_from ps) ≡ part_named name ps
 unfolding named
 named-members_from name [] h = refl

@@ -66,12 +66,12 @@ abbrev joined : Members → Members → Members
 joined no_members more = more
 joined (member k d ms) more = member k d (joined ms more)
 
--- each name of the first stands before this one
+-- each name of the first comes before this one
 abbrev AreBelow : Members → List ℕ → Type 0
 AreBelow no_members name = ⊤
 AreBelow (member k d ms) name = (slice_cmp nat_cmp k name ≡ Less) × AreBelow ms name
 
--- each name of the first stands before each of the second
+-- each name of the first comes before each of the second
 abbrev AllBelow : Members → Members → Type 0
 AllBelow done no_members = ⊤
 AllBelow done (member k d ms) = AreBelow done k × AllBelow done ms

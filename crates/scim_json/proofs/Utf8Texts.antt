@@ -1,4 +1,4 @@
--- The compact text of data whose texts are UTF-8 is UTF-8, and what is UTF-8 is read as JSON by its value alone.
+-- The compact text of data whose texts are UTF-8 is UTF-8, and UTF-8 is read as JSON by its value alone.
 use Rattle.std.proofs.Common.{◌≡◌, ℕ, ◌≤◌, List, [], ◌∷◌, Bool, true, false, cond, ◌&&◌, Option, Some, None, IsUtf8, refl, ap, ◌∙◌}
 use Rattle.std.proofs.lemmas.Bool.{and_parts}
 use Rattle.std.proofs.lemmas.Fmt.{IsAscii-decimal}
@@ -71,7 +71,7 @@ abbrev pub HasUtf8If : Option Data → Type 0
 HasUtf8If None = ⊤
 HasUtf8If (Some d) = HasUtf8 d
 
--- the names are ASCII, which computes where they are literals
+-- the names are ASCII, which computes if they are literals
 abbrev pub are_ascii_named : List Part → Bool
 are_ascii_named [] = true
 are_ascii_named (p ∷ ps) = are_ascii p.0 && are_ascii_named ps

@@ -1,4 +1,4 @@
--- Finding an attribute in an object. Names are compared with ASCII letters lowered.
+-- Finding an attribute in an object. Names are compared with ASCII letters in lower case.
 use Rattle.std.specs.Prelude.{ℕ, List, length, Bool, true, false, ◌||◌, ◌==◌, Option, None, Some, if◌then◌else◌, bytes_eq}
 use Rattle.std.specs.Str.{str_to_ascii_lowercase}
 use Rattle.serde_json.specs.Data.{Data, null, boolean, number, string, array, object, Items, no_items, item, Members, no_members, member}
@@ -33,13 +33,13 @@ unfoldable pub has_name : List ℕ → Members → Bool
 has_name name no_members = false
 has_name name (member k d ms) = same_name name k || has_name name ms
 
--- Two names of the object are equal in lowered letters. (No name comes twice byte for byte in a value that was read, so
--- they differ in bytes.)
+-- Two names of the object are equal in lower case. (A value that was read never has the same name twice, byte for byte,
+-- so the two differ in bytes.)
 unfoldable pub repeats : Members → Bool
 repeats no_members = false
 repeats (member k d ms) = has_name k ms || repeats ms
 
--- the value is an object in which a name is repeated so
+-- the value is an object with two names that are equal in lower case
 abbrev pub value_repeats : Option Data → Bool
 value_repeats None = false
 value_repeats (Some null) = false
@@ -53,7 +53,7 @@ unfoldable pub items_repeat : Items → Bool
 items_repeat no_items = false
 items_repeat (item d ds) = value_repeats (Some d) || items_repeat ds
 
--- the value is a list with an object in which a name is repeated so
+-- the value is a list that contains an object with two names that are equal in lower case
 abbrev pub list_repeats : Option Data → Bool
 list_repeats None = false
 list_repeats (Some null) = false

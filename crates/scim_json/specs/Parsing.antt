@@ -4,6 +4,6 @@ use Rattle.std.specs.Str.{is_utf8}
 use Rattle.serde_json.specs.Data.{Data}
 use Rattle.serde_json.specs.Read.{read}
 
--- The value that bytes are as JSON: they are UTF-8, and serde_json reads them
+-- The value that bytes spell as JSON: the bytes must be UTF-8, and serde_json reads them
 unfoldable pub json_of : List ℕ → Option Data
 json_of bytes = if is_utf8 bytes then read bytes else None

@@ -1,4 +1,4 @@
--- The data that this workspace writes: whole numbers from 0, and objects with their names in byte order.
+-- The data that this workspace writes: whole numbers from 0, and objects whose names are in byte order.
 use Rattle.std.specs.Prelude.{◌≡◌, ℕ, ◌^◌, ◌<◌, List, ⊤}
 use Rattle.std.specs.Str.{IsUtf8}
 use Rattle.std.specs.Cmp.Lexicographic.{slice_cmp}
@@ -11,7 +11,7 @@ IsWhole (unsigned n) = n < 2 ^ 64
 IsWhole (negative z) = ⊥
 IsWhole (float x) = ⊥
 
--- the name stands before each of these names, in byte order
+-- the name comes before each of these names, in byte order
 abbrev pub IsBelow : List ℕ → Members → Type 0
 IsBelow name no_members = ⊤
 IsBelow name (member k d ms) = (slice_cmp nat_cmp name k ≡ Less) × IsBelow name ms

@@ -1,11 +1,11 @@
--- What an attribute's value must be. An absent value is no fault.
+-- What an attribute's value must be. An absent value isn't a fault.
 use Rattle.std.specs.Prelude.{ℕ, List, Bool, false, ◌||◌, Option, None, Some, Result, Ok, Err}
 use Rattle.serde_json.specs.Data.{unsigned, negative, float, Data, null, boolean, number, string, array, object, Items, no_items, item, Members}
 use Rattle.scim_json.specs.Attributes.{same_name}
 use Rattle.scim_json.specs.declared.values.ValueFault.{ValueFault}
 use Rattle.scim_json.specs.declared.values.ValueFault.TheVariants.{WrongType}
 
--- a boolean, or `absent` where there is none
+-- a boolean, or `absent` if there is no value
 abbrev pub flag_or : Bool → Option Data → Result Bool ValueFault
 flag_or absent None = Ok absent
 flag_or absent (Some null) = Err WrongType
@@ -27,7 +27,7 @@ whole_in (Some (string s)) = Err WrongType
 whole_in (Some (array ds)) = Err WrongType
 whole_in (Some (object ms)) = Err WrongType
 
--- a list; an absent one has no items
+-- the items of a list; an absent list has none
 abbrev pub items_in : Option Data → Result Items ValueFault
 items_in None = Ok no_items
 items_in (Some null) = Err WrongType
@@ -59,7 +59,7 @@ unfoldable pub some_text : List ℕ → Items → Bool
 some_text text no_items = false
 some_text text (item d ds) = is_text text d || some_text text ds
 
--- a list with this text, in any case
+-- a list that contains this text, in any case
 abbrev pub lists_text : List ℕ → Option Data → Bool
 lists_text text None = false
 lists_text text (Some null) = false
@@ -69,7 +69,7 @@ lists_text text (Some (string s)) = false
 lists_text text (Some (array ds)) = some_text text ds
 lists_text text (Some (object ms)) = false
 
--- the text that a value is, if it is one
+-- the text, if the value is a text
 abbrev pub text_of : Option Data → Option (List ℕ)
 text_of None = None
 text_of (Some null) = None

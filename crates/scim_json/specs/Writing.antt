@@ -6,7 +6,7 @@ use Rattle.json.specs.Written.{Written}
 use Rattle.serde_json.specs.Data.{Data, Members, no_members, member}
 use Rattle.serde_json.specs.Written.{outline}
 
--- a name, and its value where there is one
+-- a name, and its value if it has one
 abbrev pub Part : Type 0
 Part = List ℕ × Option Data
 
@@ -14,12 +14,12 @@ abbrev pub member_if : List ℕ → Option Data → Members → Members
 member_if name None ms = ms
 member_if name (Some d) ms = member name d ms
 
--- the members that are there, in the order of the parts
+-- the members that have a value, in the order of the parts
 abbrev pub members_from : List Part → Members
 members_from [] = no_members
 members_from (p ∷ ps) = member_if p.0 p.1 (members_from ps)
 
--- ---- the tokens that a writer gives for them
+-- ---- the tokens that a writer writes for them
 
 abbrev pub data_tokens : Data → List Token
 data_tokens d = json_tokens (outline d)
@@ -32,7 +32,7 @@ abbrev pub parts_tokens : List Part → List Token
 parts_tokens [] = []
 parts_tokens (p ∷ ps) = part_tokens p.0 p.1 ++ parts_tokens ps
 
--- these tokens follow those that were written
+-- the writer appended these tokens
 abbrev pub Adds : List Token → Written → Written → Type 0
 Adds ts old new = (new.before ≡ old.before) × (new.tokens ≡ old.tokens ++ ts)
 
@@ -40,7 +40,7 @@ Adds ts old new = (new.before ≡ old.before) × (new.tokens ≡ old.tokens ++ t
 abbrev pub Writes : Data → Written → Written → Type 0
 Writes d = Adds (data_tokens d)
 
--- a member is written, where it has a value
+-- a member is written, if it has a value
 abbrev pub WritesPart : List ℕ → Option Data → Written → Written → Type 0
 WritesPart name value = Adds (part_tokens name value)
 

@@ -1,5 +1,5 @@
-//! Finding an attribute in an object. Names are compared with ASCII letters lowered (RFC 7643,
-//! section 2.1).
+//! Finds an attribute in an object. Names are compared with ASCII letters in lower case (RFC 7643 section
+//! 2.1).
 ghost use Rattle.std.specs.Prelude.{◌≡◌, IfOk, option_map};
 ghost use Rattle.serde_json.specs.View.{view, items_view, members_view};
 ghost use Rattle.scim_json.specs.Attributes as spec;
@@ -49,7 +49,7 @@ fn is_empty(value: &Value) -> bool
     }
 }
 
-/// Whether two names of the object are equal in lowered letters.
+/// Whether two names of the object are equal in lower case.
 #[tactic(auto, unfolding(crate::specs::Attributes::repeats))]
 pub fn repeats(alloc: Global, members: &Map<String, Value>) -> Result<bool, AllocError>
     ensures { IfOk result (λ b. b ≡ spec.repeats (members_view members.now.entries)) }
@@ -65,14 +65,14 @@ pub fn repeats(alloc: Global, members: &Map<String, Value>) -> Result<bool, Allo
     Ok(false)
 }
 
-/// Whether the names are equal in lowered letters.
+/// Whether the names are equal in lower case.
 pub fn same_name(a: &str, b: &str) -> bool
     ensures { result ≡ spec.same_name a.now b.now }
 {
     a.eq_ignore_ascii_case(b)
 }
 
-/// Whether the value is an object in which a name is repeated so.
+/// Whether the value is an object with two names that are equal in lower case.
 pub fn value_repeats(alloc: Global, value: Option<&Value>) -> Result<bool, AllocError>
     ensures { IfOk result (λ b. b
         ≡ spec.value_repeats (option_map (λ v. view v.now) value.entry)) }
@@ -83,7 +83,7 @@ pub fn value_repeats(alloc: Global, value: Option<&Value>) -> Result<bool, Alloc
     }
 }
 
-/// Whether the value is a list with an object in which a name is repeated so.
+/// Whether the value is a list that contains an object with two names that are equal in lower case.
 pub fn list_repeats(alloc: Global, value: Option<&Value>) -> Result<bool, AllocError>
     ensures { IfOk result (λ b. b
         ≡ spec.list_repeats (option_map (λ v. view v.now) value.entry)) }

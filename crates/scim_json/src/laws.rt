@@ -1,4 +1,4 @@
-//! Facts about the definitions, with nothing to run.
+//! Laws of the definitions, with nothing to run.
 ghost use Rattle.std.specs.Prelude.{◌≡◌, ◌≤◌, Some};
 ghost use Rattle.std.specs.Str.{IsUtf8};
 ghost use Rattle.serde_json.specs.Data.{Data, depth};
@@ -7,8 +7,8 @@ ghost use Rattle.serde_json.specs.Written.{compact_text};
 ghost use Rattle.scim_json.specs.Plain.{IsPlain, HasUtf8};
 ghost use Rattle.scim_json.specs.Parsing.{json_of};
 
-/// Plain data has a text that spells it. Where its texts are UTF-8, so is that text, which is then
-/// read as the data by whoever reads JSON by `json_of`.
+/// Plain data has a text that spells it. If the data's texts are UTF-8, so is that text, and `json_of`
+/// reads it as the data.
 pub fn plain_text_reads_back()
     ensures spells { (d : Data) → IsPlain d → depth d ≤ max_depth
         → read (compact_text d) ≡ Some d }

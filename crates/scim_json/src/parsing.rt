@@ -8,17 +8,17 @@ use serde_json::Value;
 use std::alloc::Global;
 use thiserror::Error;
 
-/// Why bytes aren't read as JSON.
+/// Why bytes can't be read as JSON.
 #[derive(Clone, Copy, PartialEq, Eq, Debug, Drop, Error)]
 pub enum JsonFault {
-    /// The bytes aren't UTF-8, or no JSON text, or nested deeper than 127.
+    /// The bytes aren't UTF-8, aren't JSON, or are nested deeper than 127 levels.
     #[error("the bytes are not JSON")]
     NotJson,
     #[error("out of memory")]
     Memory,
 }
 
-/// The value that these bytes are, as JSON in UTF-8.
+/// Reads JSON in UTF-8.
 pub fn json_of(alloc: Global, bytes: &[u8]) -> Result<Value, JsonFault>
     ensures read { IfOk result (λ value. spec.json_of bytes.now ≡ Some (view value)) }
     ensures refused { IsErrOf result NotJson → spec.json_of bytes.now ≡ None }

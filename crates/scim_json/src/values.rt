@@ -1,4 +1,4 @@
-//! What an attribute's value must be. An absent value is no fault.
+//! What an attribute's value must be. An absent value isn't a fault.
 ghost use Rattle.std.specs.Prelude.{◌≡◌, option_map};
 ghost use Rattle.std.specs.Result.{result_map_both};
 ghost use Rattle.serde_json.specs.View.{view, items_view, members_view};
@@ -8,14 +8,14 @@ use crate::attributes::same_name;
 use serde_json::{Map, Value};
 use thiserror::Error;
 
-/// Why a value isn't one that its attribute may have.
+/// Why an attribute can't have this value.
 #[derive(Clone, Copy, PartialEq, Eq, Debug, Drop, Error)]
 pub enum ValueFault {
     #[error("the value has another type")]
     WrongType,
 }
 
-/// A boolean, or `absent` where there is none.
+/// A boolean, or `absent` if there is no value.
 pub fn flag_or(value: Option<&Value>, absent: bool) -> Result<bool, ValueFault>
     ensures { result ≡ spec.flag_or absent (option_map (λ v. view v.now) value.entry) }
 {
@@ -26,7 +26,7 @@ pub fn flag_or(value: Option<&Value>, absent: bool) -> Result<bool, ValueFault>
     }
 }
 
-/// A whole number, written without sign, fraction or exponent.
+/// A whole number without sign, fraction or exponent.
 pub fn whole_in(value: Option<&Value>) -> Result<Option<u64>, ValueFault>
     ensures { result ≡ spec.whole_in (option_map (λ v. view v.now) value.entry) }
 {
@@ -39,7 +39,7 @@ pub fn whole_in(value: Option<&Value>) -> Result<Option<u64>, ValueFault>
     }
 }
 
-/// The items of a list; none where there is no value.
+/// The items of a list; empty if there is no value.
 pub fn items_in(value: Option<&Value>) -> Result<&[Value], ValueFault>
     ensures { result_map_both (λ vs. items_view vs.now) (λ e. e) result
         ≡ spec.items_in (option_map (λ v. view v.now) value.entry) }
@@ -63,7 +63,7 @@ pub fn members_in(value: Option<&Value>) -> Result<Option<&Map<String, Value>>, 
     }
 }
 
-/// Whether the value is a list with this text, in any case.
+/// Whether the value is a list that contains this text, in any case.
 pub fn lists_text(value: Option<&Value>, text: &str) -> bool
     ensures { result ≡ spec.lists_text text.now (option_map (λ v. view v.now) value.entry) }
 {
@@ -89,7 +89,7 @@ fn is_text(value: &Value, text: &str) -> bool
     }
 }
 
-/// The text that the value is, if it is one.
+/// The text, if the value is a text.
 pub fn text_of(value: Option<&Value>) -> Option<&str>
     ensures { option_map (λ s. s.now) result ≡ spec.text_of (option_map (λ v. view v.now) value.entry) }
 {

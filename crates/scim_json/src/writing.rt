@@ -1,4 +1,4 @@
-//! Members of an object that is written.
+//! Writes the members of an object.
 ghost use Rattle.std.specs.Prelude.{Some, OnOk, option_map};
 ghost use Rattle.serde_json.specs.Data.{number, string, unsigned};
 ghost use Rattle.scim_json.specs.Writing.{WritesPart};
@@ -6,10 +6,10 @@ ghost use Rattle.scim_json.specs.Writing.{WritesPart};
 use json::Writer;
 use std::alloc::AllocError;
 
-/// The room that a text of JSON is given at first, in bytes.
+/// The initial capacity of a JSON text, in bytes.
 pub const TEXT_ROOM: usize = 512;
 
-/// Writes a member that is a text.
+/// Writes a member whose value is a text.
 pub fn write_text(out: &mut Writer, name: &str, text: &str) -> Result<(), AllocError>
     ensures { OnOk result (WritesPart name.now (Some (string text.now)) out.old out.new) }
 {
@@ -17,7 +17,7 @@ pub fn write_text(out: &mut Writer, name: &str, text: &str) -> Result<(), AllocE
     out.string(text)
 }
 
-/// Writes a member that is a text, where there is one.
+/// Writes a member whose value is a text, if there is one.
 pub fn write_text_if(out: &mut Writer, name: &str, text: Option<&str>) -> Result<(), AllocError>
     ensures { OnOk result (WritesPart name.now (option_map string (option_map (λ t. t.now) text.entry)) out.old out.new) }
 {
@@ -27,7 +27,7 @@ pub fn write_text_if(out: &mut Writer, name: &str, text: Option<&str>) -> Result
     }
 }
 
-/// Writes a member that is a whole number.
+/// Writes a member whose value is a whole number.
 pub fn write_whole(out: &mut Writer, name: &str, n: u64) -> Result<(), AllocError>
     ensures { OnOk result (WritesPart name.now (Some (number (unsigned n))) out.old out.new) }
 {

@@ -32,7 +32,7 @@ spelled_by p s bs room front back =
     let inner : p ++ drop (length p) (take k bs) ≡ take k bs = ap (λ xs. xs ++ drop (length p) (take k bs)) (sym first) ∙ take-append-drop (length p) (take k bs) in
     sym (take-append-drop k bs) ∙ ap (λ xs. take k bs ++ xs) back ∙ ap (λ xs. xs ++ s) (sym inner)
 
--- what stands between
+-- the bytes between
 middle : (p a s : List ℕ) → drop (length p) (take (length (p ++ a ++ s) - length s) (p ++ a ++ s)) ≡ a
 middle p a s =
     let size : length (p ++ a ++ s) - length s ≡ length (p ++ a) = omega (arith, length-append (p ++ a) s) in

@@ -40,7 +40,7 @@ spelled n small = rw (eight_on n small, two_digits n, four_digits n, six_digits 
     (rw (low_half n, high_half n, low_half (n / 16 / 16), high_half (n / 16 / 16), low_half (n / 16 / 16 / 16 / 16), high_half (n / 16 / 16 / 16 / 16), low_half (n / 16 / 16 / 16 / 16 / 16 / 16), high_half (n / 16 / 16 / 16 / 16 / 16 / 16))
     (simp same_digit))
 
--- the id of a number is a lawful id
+-- the id of a number is valid
 pub id_is_lawful : (n : ℕ) → id_fault (id_text n) ≡ None
 unfolding id_fault id_text lower_hex
 id_is_lawful n = refl

@@ -1,4 +1,4 @@
--- Names of records are the same exactly where they are equal.
+-- Names of records are the same exactly if they are equal.
 use Rattle.std.proofs.Common.{◌≡◌, ◌↔◌, ℕ, true, List, refl}
 use Rattle.std.specs.Str.{bytes_eq}
 use Rattle.std.proofs.lemmas.Bool.{and_parts}

@@ -1,4 +1,4 @@
--- The base of a service: the text that stands before every path.
+-- The base of a service: the text in front of every path.
 use Rattle.std.specs.Prelude.{◌≡◌, ◌↔◌, ◌≤◌, ℕ, List, ◌++◌, Bool, Option, Some, None, ◌==◌, ◌&&◌, ◌||◌, ◌-◌, length, take, drop, nat_lt, nat_le, if◌then◌else◌, codes, nat_eq, IsTrue}
 use Rattle.std.specs.List.{list_all, starts_with}
 use Rattle.scim_key.specs.declared.bases.TheConstants.{AUTHORITY_LIMIT, BASE_LIMIT}
@@ -15,7 +15,7 @@ is_authority_byte b =
 abbrev pub base_text : List ℕ → List ℕ
 base_text authority = codes "http://" ++ authority ++ codes "/v2"
 
--- what stands between `http://` and `/v2`
+-- the bytes between `http://` and `/v2`
 abbrev pub authority_of : List ℕ → List ℕ
 authority_of bs = drop 7 (take (length bs - 3) bs)
 
@@ -24,7 +24,7 @@ unfoldable pub is_base : List ℕ → Bool
 is_base bs = nat_lt 10 (length bs) && starts_with nat_eq bs (codes "http://")
     && starts_with nat_eq (drop (length bs - 3) bs) (codes "/v2") && list_all is_authority_byte (authority_of bs)
 
--- The first thing that is wrong with a text as a base
+-- The first fault of a text as a base, if it has one
 unfoldable pub base_fault : List ℕ → Option NameFault
 base_fault bs =
     if length bs == 0 then Some Empty
@@ -41,7 +41,7 @@ pub record IsAuthority (authority : List ℕ) : Type 0 where
   pub short : length authority ≤ AUTHORITY_LIMIT
   pub bytes : IsTrue (list_all is_authority_byte authority)
 
--- The lawful bases are those that an authority spells, and each authority is read back
+-- The valid bases are the base texts of the valid authorities, and each authority is read back from its base
 pub record BasesAreSpelled : Type 0 where
   pub lawful : (bs : List ℕ) → IsBase bs ↔ ((authority : List ℕ) × IsAuthority authority × (bs ≡ base_text authority))
   pub read_back : (authority : List ℕ) → authority_of (base_text authority) ≡ authority

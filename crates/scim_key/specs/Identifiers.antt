@@ -5,14 +5,14 @@ use Rattle.scim_key.specs.declared.identifiers.TheConstants.{ID_LIMIT, LAST_NUMB
 use Rattle.scim_key.specs.declared.names.NameFault.{NameFault}
 use Rattle.scim_key.specs.declared.names.NameFault.TheVariants.{Empty, TooLong}
 
--- The first thing that is wrong with a text as an id
+-- The first fault of a text as an id, if it has one
 unfoldable pub id_fault : List ℕ → Option NameFault
 id_fault bs = if length bs == 0 then Some Empty else if nat_lt ID_LIMIT (length bs) then Some TooLong else None
 
 abbrev pub IsId : List ℕ → Type 0
 IsId bs = id_fault bs ≡ None
 
--- how many resources a provider holds at most, so the greatest number that an id is made of
+-- the most resources that a provider holds, and so the greatest number of an id
 abbrev pub last_number : ℕ
 last_number = LAST_NUMBER
 
@@ -20,7 +20,7 @@ last_number = LAST_NUMBER
 abbrev pub hex_digit : ℕ → ℕ
 hex_digit d = if nat_lt d 10 then 48 + d else 87 + d
 
--- the last `count` hexadecimal digits of a number, in lower case, with zeros in front
+-- the last `count` hexadecimal digits of a number, in lower case, with leading zeros
 unfoldable pub lower_hex : ℕ → ℕ → List ℕ
 lower_hex zero n = []
 lower_hex (suc count) n = lower_hex count (n / 16) ++ hex_digit (n % 16) ∷ []
@@ -29,7 +29,7 @@ lower_hex (suc count) n = lower_hex count (n / 16) ++ hex_digit (n % 16) ∷ []
 unfoldable pub id_text : ℕ → List ℕ
 id_text n = codes "5c1a0000-0000-8000-8000-" ++ lower_hex 12 n
 
--- the bytes of the UUID that this id spells: the number stands in the last four
+-- the bytes of the UUID that this id spells; the last four are the number
 abbrev pub id_bytes : ℕ → List ℕ
 id_bytes n = 92 ∷ 26 ∷ 0 ∷ 0 ∷ 0 ∷ 0 ∷ 128 ∷ 0 ∷ 128 ∷ 0 ∷ 0 ∷ 0 ∷ to_be_bytes w32 n
 

@@ -6,7 +6,7 @@ use Rattle.scim_key.specs.declared.names.TheConstants.{NAME_LIMIT}
 use Rattle.scim_key.specs.declared.names.NameFault.{NameFault}
 use Rattle.scim_key.specs.declared.names.NameFault.TheVariants.{Empty, TooLong, Character, SpaceAtEnd}
 
--- the key of a name is its text with ASCII letters lowered
+-- the key of a name: its text with ASCII letters in lower case
 abbrev pub key_of : List ℕ → List ℕ
 key_of name = str_to_ascii_lowercase name
 
@@ -14,7 +14,7 @@ key_of name = str_to_ascii_lowercase name
 abbrev pub is_user_name_byte : ℕ → Bool
 is_user_name_byte b = nat_le 33 b && nat_le b 126 && not (b == 34) && not (b == 92)
 
--- the same, or a space
+-- the same bytes, and the space
 abbrev pub is_group_name_byte : ℕ → Bool
 is_group_name_byte b = nat_le 32 b && nat_le b 126 && not (b == 34) && not (b == 92)
 
@@ -22,7 +22,7 @@ is_group_name_byte b = nat_le 32 b && nat_le b 126 && not (b == 34) && not (b ==
 abbrev pub has_space_at_end : List ℕ → Bool
 has_space_at_end bs = (slice_index bs 0 == 32) || (slice_index bs (length bs - 1) == 32)
 
--- The first thing that is wrong with a text as a `userName`
+-- The first fault of a text as a `userName`, if it has one
 unfoldable pub user_name_fault : List ℕ → Option NameFault
 user_name_fault bs =
     if length bs == 0 then Some Empty
@@ -30,7 +30,7 @@ user_name_fault bs =
     else if not (list_all is_user_name_byte bs) then Some Character
     else None
 
--- The first thing that is wrong with a text as the `displayName` of a group
+-- The first fault of a text as the `displayName` of a group, if it has one
 unfoldable pub group_name_fault : List ℕ → Option NameFault
 group_name_fault bs =
     if length bs == 0 then Some Empty
@@ -39,13 +39,13 @@ group_name_fault bs =
     else if has_space_at_end bs then Some SpaceAtEnd
     else None
 
--- a lawful `userName`, and a lawful `displayName` of a group
+-- a valid `userName`, and a valid `displayName` of a group
 abbrev pub IsUserName : List ℕ → Type 0
 IsUserName bs = user_name_fault bs ≡ None
 
 abbrev pub IsGroupName : List ℕ → Type 0
 IsGroupName bs = group_name_fault bs ≡ None
 
--- a text in which no ASCII letter is a capital
+-- a text without ASCII capitals
 abbrev pub IsKey : List ℕ → Type 0
 IsKey bs = key_of bs ≡ bs

@@ -1,17 +1,17 @@
--- What a call may answer where its definition says one thing and it may run out of memory.
+-- The result of a call that may run out of memory, compared with the answer of its definition.
 use Rattle.std.specs.Prelude.{◌≡◌, ℕ, List, Option, None, Some, Result, Ok, Err, ◌⊎◌}
 
--- what came is exactly the answer, or out of memory
+-- the result is exactly the answer, or out of memory
 abbrev pub Gives : {X F : Type 0} → F → Result X F → Result X F → Type 0
 Gives memory (Ok x) answer = answer ≡ Ok x
 Gives memory (Err e) answer = (e ≡ memory) ⊎ (answer ≡ Err e)
 
--- the same, of what is seen of the value that came
+-- the same, for a view of the result's value
 abbrev pub GivesBy : {X Y F : Type 0} → (X → Y) → F → Result X F → Result Y F → Type 0
 GivesBy view memory (Ok x) answer = answer ≡ Ok (view x)
 GivesBy view memory (Err e) answer = (e ≡ memory) ⊎ (answer ≡ Err e)
 
--- a text was taken as it stands, or its fault came; out of memory comes for a lawful text alone
+-- the text was taken unchanged, or the result is its fault; only a valid text can run out of memory
 abbrev pub Takes : {F : Type 0} → F → Option F → List ℕ → Result (List ℕ) F → Type 0
 Takes memory fault text (Ok x) = (fault ≡ None) × (x ≡ text)
 Takes memory fault text (Err e) = ((fault ≡ None) × (e ≡ memory)) ⊎ (fault ≡ Some e)

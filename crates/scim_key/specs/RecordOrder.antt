@@ -1,4 +1,4 @@
--- The laws of the order of names, as the comparisons in code cite them.
+-- Laws of the order of names, in the form that the comparisons in code cite.
 use Rattle.std.proofs.Common.{◌≡◌, ◌&&◌, ℕ, List, refl, sym, subst}
 use Rattle.std.specs.Cmp.{IsEquivalence, IsTotalOrder}
 use Rattle.std.specs.Ordering.{eq_by_cmp, is_eq}

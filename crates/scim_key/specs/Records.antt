@@ -1,4 +1,4 @@
--- Types of resource and names of records: when two are the same, and in which order they stand.
+-- Types of resource and names of records: when two are the same, and their order.
 use Rattle.std.specs.Prelude.{◌≡◌, ◌↔◌, ◌&&◌, ℕ, Bool, true, false}
 use Rattle.std.specs.Cmp.{IsTotalOrder}
 use Rattle.std.specs.Cmp.Lexicographic.{slice_cmp}
@@ -28,7 +28,7 @@ kind_place Group = 1
 abbrev pub name_cmp : RecordName → RecordName → Ordering
 name_cmp = then_cmp (on (λ name. kind_place name.kind) nat_cmp) (on (λ name. name.key) (slice_cmp nat_cmp))
 
--- Names are in one order, in which equal ones alone are tied
+-- The order of names is total, and only equal names compare as equal
 pub record NamesAreOrdered : Type 0 where
   pub total : IsTotalOrder name_cmp
   pub tied : (a b : RecordName) → is_eq (name_cmp a b) ≡ same_name a b

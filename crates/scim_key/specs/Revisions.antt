@@ -10,7 +10,7 @@ use Rattle.scim_key.specs.declared.revisions.TheConstants.{LAST_REVISION, REVISI
 abbrev pub RevisionValue : Type 0
 RevisionValue = ℕ
 
--- no revision, before every other
+-- no revision; it comes before every other
 abbrev pub no_revision : RevisionValue
 no_revision = 0
 
@@ -21,11 +21,11 @@ same_revision a b = a == b
 unfoldable pub before : RevisionValue → RevisionValue → Bool
 before a b = nat_lt a b
 
--- the one of both that doesn't come before the other
+-- the later of the two
 abbrev pub later : RevisionValue → RevisionValue → RevisionValue
 later a b = if before a b then b else a
 
--- a comes before b; b doesn't come before a
+-- a ≺ b: a comes before b; a ≼ b: b doesn't come before a
 infix 40 ◌≺◌
 abbrev pub ◌≺◌ : RevisionValue → RevisionValue → Type 0
 a ≺ b = before a b ≡ true
@@ -34,7 +34,7 @@ infix 40 ◌≼◌
 abbrev pub ◌≼◌ : RevisionValue → RevisionValue → Type 0
 a ≼ b = before b a ≡ false
 
--- what the source may give as a revision
+-- a revision that the source may give
 unfoldable pub is_revision : RevisionValue → Bool
 is_revision r = nat_le 1 r && nat_le r LAST_REVISION
 
@@ -43,25 +43,25 @@ IsRevision r = is_revision r ≡ true
 
 -- ---- reading and writing
 
--- the revision of a whole number, and the number that is written of a revision
+-- the revision with this number, and the number that is written for a revision
 unfoldable pub revision_of_number : ℕ → Option RevisionValue
 revision_of_number n = if is_revision n then Some n else None
 
 unfoldable pub revision_number : RevisionValue → ℕ
 revision_number r = r
 
--- 1 to 18 digits, whatever zeros lead
+-- 1 to 18 digits; leading zeros are allowed
 abbrev pub is_numeral : List ℕ → Bool
 is_numeral text = nat_le 1 (length text) && nat_le (length text) REVISION_DIGITS && list_all is_ascii_digit text
 
--- the revision that a text spells, and the text that is written of a revision
+-- the revision that a text spells, and the text that is written for a revision
 unfoldable pub read_revision : List ℕ → Option RevisionValue
 read_revision text = if is_numeral text then revision_of_number (digits_value 10 text) else None
 
 unfoldable pub revision_text : RevisionValue → List ℕ
 revision_text r = decimal r
 
--- What is written of a lawful revision is read as that revision
+-- A valid revision, once written, is read back as itself
 pub record RevisionsAreReadBack : Type 0 where
   pub from_text : (r : RevisionValue) → IsRevision r → read_revision (revision_text r) ≡ Some r
   pub from_number : (r : RevisionValue) → IsRevision r → revision_of_number (revision_number r) ≡ Some r
@@ -69,14 +69,14 @@ pub record RevisionsAreReadBack : Type 0 where
 
 -- ---- order
 
--- The place of a revision in their order, and how many there are at most
+-- The place of a revision in the order, and how many revisions there are at most
 unfoldable pub rank : RevisionValue → ℕ
 rank r = r
 
 abbrev pub most_revisions : ℕ
 most_revisions = LAST_REVISION
 
--- The order of revisions, as everything above rests on it
+-- The laws of the order of revisions that all other definitions rely on
 pub record IsOrder : Type 0 where
   pub same : (a b : RevisionValue) → (same_revision a b ≡ true) ↔ (a ≡ b)
   pub irreflexive : (a : RevisionValue) → a ≺ a → ⊥

@@ -1,29 +1,29 @@
--- What each call of a store keeps, what a stop may leave, and what the store counts, whatever it holds.
+-- What a call of any store keeps, what a stop of the program may leave, and which faults the store counts.
 use Rattle.std.specs.Prelude.{◌≡◌, ◌⊎◌, ℕ, ◌+◌, ◌-◌, ◌^◌, ◌<◌, ◌≤◌, Result, OnOk, OnErr, MatchResult}
 
 -- ---- counts
 
--- a count rose, or stands at the greatest number that it has
+-- a count rose, or has reached its greatest value
 abbrev pub HasRisen : ℕ → ℕ → Type 0
 HasRisen old new = (old < new) ⊎ (2 ^ 64 - 1 ≤ new)
 
--- the count of faults stays where a call answers
+-- if a call succeeds, the count of faults stays
 abbrev pub CountsFaults : {T F : Type 0} → (counts : ℕ → ℕ → F → Type 0) → (old new : ℕ) → Result T F → Type 0
 CountsFaults counts old new result = MatchResult result (λ _. new ≡ old) (λ fault. counts old new fault)
 
 -- ---- stops
 
--- whatever a stop may leave now, it might have left before
+-- whatever a stop may leave now, it could have left before the call
 abbrev pub LeavesNoMore : {C : Type 0} → (old new : C → Type 0) → Type 0
 LeavesNoMore {C} old new = (found : C) → new found → old found
 
--- the same, or this
+-- the same, or a stop may leave this
 abbrev pub LeavesOr : {C : Type 0} → (old new also : C → Type 0) → Type 0
 LeavesOr {C} old new also = (found : C) → new found → old found ⊎ also found
 
 -- ---- calls
 
--- A call that only reads: what is held stays, nothing is written, and it answers only where the store is open
+-- A call that only reads. The contents stay, nothing is written, and the call succeeds only if the store is open
 pub record OnlyReads {S C T F : Type 0} (held : S → C) (is_faithful is_honest : S → Type 0) (may_hold : S → C → Type 0) (faults writes : S → ℕ) (counts : ℕ → ℕ → F → Type 0) (old new : S) (result : Result T F) : Type 0 where
   pub was : is_faithful new → is_faithful old
   pub same : is_faithful new → held new ≡ held old
@@ -33,8 +33,8 @@ pub record OnlyReads {S C T F : Type 0} (held : S → C) (is_faithful is_honest 
   pub counted : CountsFaults counts (faults old) (faults new) result
   pub unwritten : writes new ≡ writes old
 
--- A call that makes what is held this by one write at most: it is this where it answers, and as it was where it fails.
--- A stop within it leaves the one or the other
+-- A call that changes the contents to `later` by one write at most. If the call succeeds, the store holds `later`; if
+-- it fails, the contents stay. A stop during the call leaves the old contents or the new
 pub record WritesOnce {S C T F : Type 0} (held : S → C) (is_faithful is_honest : S → Type 0) (may_hold : S → C → Type 0) (faults writes : S → ℕ) (counts : ℕ → ℕ → F → Type 0) (old new : S) (later : C) (result : Result T F) : Type 0 where
   pub was : is_faithful new → is_faithful old
   pub done : is_faithful new → OnOk result (held new ≡ later)
@@ -45,7 +45,7 @@ pub record WritesOnce {S C T F : Type 0} (held : S → C) (is_faithful is_honest
   pub written : writes new ≤ writes old + 1
   pub unwritten : OnErr result (writes new ≡ writes old)
 
--- A call that opens the store again: it holds what a stop may have left, and nothing is written
+-- A call that opens the store again. The store then holds what a stop may have left, and nothing is written
 pub record Reopens {S C T F : Type 0} (held : S → C) (is_faithful is_honest : S → Type 0) (may_hold : S → C → Type 0) (faults writes : S → ℕ) (counts : ℕ → ℕ → F → Type 0) (old new : S) (result : Result T F) : Type 0 where
   pub found : is_honest new → OnOk result (may_hold old (held new))
   pub honest : is_honest new → is_honest old
@@ -54,7 +54,7 @@ pub record Reopens {S C T F : Type 0} (held : S → C) (is_faithful is_honest : 
   pub counted : CountsFaults counts (faults old) (faults new) result
   pub unwritten : writes new ≡ writes old
 
--- what every call keeps: a store that returns what was committed now did so before, and no count falls
+-- what every call keeps: if the store returns what was committed now, it did so before, and no count falls
 pub record IsQuiet {S : Type 0} (is_faithful : S → Type 0) (faults : S → ℕ) (old new : S) : Type 0 where
   pub was : is_faithful new → is_faithful old
   pub counts : faults old ≤ faults new

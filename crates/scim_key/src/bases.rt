@@ -8,10 +8,10 @@ use crate::names::NameFault;
 use std::alloc::Global;
 use std::marker::Model;
 
-/// How many bytes an authority may have.
+/// The most bytes that an authority may have.
 pub const AUTHORITY_LIMIT: usize = 100;
 
-/// How many bytes a base may have: `http://`, an authority and `/v2`.
+/// The most bytes that a base may have: `http://`, an authority and `/v2`.
 pub const BASE_LIMIT: usize = AUTHORITY_LIMIT + 10;
 
 /// The base of a service: `http://`, an authority of 1 to `AUTHORITY_LIMIT` bytes of ASCII letters, digits
@@ -57,7 +57,7 @@ fn is_base_text(bytes: &[u8]) -> bool
         && are_authority_bytes(authority_in(bytes))
 }
 
-/// What stands between the first seven bytes and the last three.
+/// The bytes between the first seven and the last three.
 fn authority_in(bytes: &[u8]) -> &[u8]
     requires { 10 < length bytes.now }
     ensures { result.now ≡ authority_of bytes.now }
@@ -81,7 +81,7 @@ fn fault_of_base(text: &str) -> Option<NameFault>
 }
 
 impl Base {
-    /// Reads a base. A text of another form is `Character`.
+    /// Reads a base. A text of another form has the fault `Character`.
     pub fn read(alloc: Global, text: &str) -> Result<Base, NameFault>
         ensures { Takes NameFault.Memory (base_fault text.now) text.now result }
     {
@@ -101,7 +101,7 @@ impl Base {
         self.text.as_str()
     }
 
-    /// What stands between `http://` and `/v2`: the service's host and port.
+    /// The service's host and port: the bytes between `http://` and `/v2`.
     pub fn authority(&self) -> &[u8]
         ensures value { result.now ≡ authority_of self.now }
         ensures lawful { IsAuthority result.now }
@@ -110,7 +110,7 @@ impl Base {
     }
 }
 
-/// The lawful bases are the texts `http://`, an authority and `/v2`, and no other.
+/// A text is a valid base exactly if it is `http://`, an authority and `/v2`.
 pub fn bases_are_spelled()
     ensures { BasesAreSpelled }
 {}

@@ -9,7 +9,8 @@ use crate::records::Key;
 use std::alloc::{AllocError, Global};
 use std::marker::Model;
 
-/// A group's `displayName`: 1 to `NAME_LIMIT` bytes from 0x20 to 0x7E but `"` and `\`, no space at either end.
+/// A group's `displayName`: 1 to `NAME_LIMIT` bytes from 0x20 to 0x7E except `"` and `\`, without a space
+/// at either end.
 #[derive(Debug, Drop)]
 pub struct GroupName {
     text: String,
@@ -26,7 +27,7 @@ impl Model for GroupName {
     ghost invariant = { λ n. IsGroupName (string_bytes n.text) };
 }
 
-/// Whether every byte may stand in a group's name.
+/// Whether a group's name may contain every one of these bytes.
 fn are_group_name_bytes(bytes: &[u8]) -> bool
     ensures { result ≡ list_all is_group_name_byte bytes.now }
 {
@@ -71,7 +72,7 @@ impl Clone for GroupName {
 }
 
 impl GroupName {
-    /// Reads a name; the first of `NameFault` that stands in the text is its fault.
+    /// Reads a name. If several faults apply, the result is the first of them in the order of `NameFault`.
     pub fn read(alloc: Global, text: &str) -> Result<GroupName, NameFault>
         ensures { Takes NameFault.Memory (group_name_fault text.now) text.now result }
     {
@@ -98,7 +99,7 @@ impl GroupName {
         Key::of(alloc, self.text.as_str())
     }
 
-    /// Whether both names have one key. It takes no memory.
+    /// Whether both names have the same key. It allocates nothing.
     pub fn same_key(&self, other: &GroupName) -> bool
         ensures { IsTrue result ↔ (key_of self.now ≡ key_of other.now) }
     {

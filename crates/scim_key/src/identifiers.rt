@@ -9,13 +9,13 @@ use std::alloc::{AllocError, Global};
 use std::marker::Model;
 use uuid::Uuid;
 
-/// How many bytes an id may have.
+/// The most bytes that an id may have.
 pub const ID_LIMIT: usize = 256;
 
-/// How many resources a provider holds at most, so the greatest number that an id is made of.
+/// The most resources that a provider holds, and so the greatest number of an id.
 pub const LAST_NUMBER: u32 = 1_000_000;
 
-/// How many bytes the id of a number has.
+/// The length in bytes of an id that is made from a number.
 pub const NUMBERED_ID_LENGTH: usize = 36;
 
 /// An id: a text of 1 to `ID_LIMIT` bytes. Ids are compared byte for byte.
@@ -56,7 +56,7 @@ fn uuid_of(number: u32) -> Uuid
     Uuid::from_bytes([0x5c, 0x1a, 0, 0, 0, 0, 0x80, 0, 0x80, 0, 0, 0, a, b, c, d])
 }
 
-/// Whether a text is the id of this number, byte for byte. It takes no memory.
+/// Whether a text is the id of this number, byte for byte. It allocates nothing.
 fn is_spelled(text: &str, number: u32) -> bool
     requires { number ≤ last_number }
     ensures { IsTrue result ↔ (text.now ≡ id_text number) }
@@ -73,7 +73,7 @@ fn last_word(uuid: Uuid) -> u32
     u32::from_be_bytes([a, b, c, d])
 }
 
-/// The only number of which the text may be the id.
+/// The only number whose id this text can be.
 fn candidate(text: &str) -> Option<u32>
     ensures { (n : ℕ) → n ≤ last_number → text.now ≡ id_text n → result ≡ Some n }
 {
@@ -84,7 +84,7 @@ fn candidate(text: &str) -> Option<u32>
 }
 
 impl ResourceId {
-    /// Reads an id: `Empty` and `TooLong` are its faults.
+    /// Reads an id. Its faults are `Empty` and `TooLong`.
     pub fn read(alloc: Global, text: &str) -> Result<ResourceId, NameFault>
         ensures { Takes NameFault.Memory (id_fault text.now) text.now result }
     {
@@ -108,7 +108,7 @@ impl ResourceId {
         })
     }
 
-    /// The text of the id of the n-th resource, written into the buffer. It takes no memory.
+    /// Writes the id of the n-th resource into the buffer. It allocates nothing.
     pub fn spell(number: u32, buffer: &mut [u8; NUMBERED_ID_LENGTH]) -> &str
         requires { number ≤ last_number }
         ensures { result.now ≡ id_text number }
@@ -116,7 +116,7 @@ impl ResourceId {
         uuid_of(number).hyphenated().encode_lower(buffer)
     }
 
-    /// The number of which this is the id, byte for byte, if there is one. It takes no memory.
+    /// The number whose id this is, byte for byte, if there is one. It allocates nothing.
     pub fn number(&self) -> Option<u32>
         ensures found { IfSome result (λ n. (1 ≤ n) × (n ≤ last_number) × (self.now ≡ id_text n)) }
         ensures none { IfNone result ((n : ℕ) → 1 ≤ n → n ≤ last_number → self.now ≢ id_text n) }

@@ -6,7 +6,7 @@ ghost use Rattle.scim_key.specs.declared.names.NameFault.TheVariants.{Memory};
 use std::alloc::AllocError;
 use thiserror::Error;
 
-/// How many bytes a name may have.
+/// The most bytes that a name may have.
 pub const NAME_LIMIT: usize = 128;
 
 /// What is wrong with a text as a name, an id or a base.
@@ -32,7 +32,7 @@ impl From<AllocError> for NameFault {
     }
 }
 
-/// Whether both texts have one key. It takes no memory.
+/// Whether both texts have the same key. It allocates nothing.
 pub(crate) fn have_same_key(a: &str, b: &str) -> bool
     ensures { IsTrue result ↔ (key_of a.now ≡ key_of b.now) }
 {

@@ -1,4 +1,4 @@
-//! Records: what the source and the provider speak of by kind and key.
+//! Records: users and groups, as source and provider name them, by kind and key.
 ghost use Rattle.std.specs.Prelude.{◌≡◌, ◌==◌, IfOk, refl};
 ghost use lib.Pointwise.{pointwise};
 ghost use Rattle.std.proofs.Common.{rules};
@@ -21,7 +21,7 @@ pub enum Kind {
     Group,
 }
 
-/// The key of a name: its text with ASCII letters lowered. Keys are ordered by their bytes.
+/// The key of a name: its text with ASCII letters in lower case. Keys are ordered by their bytes.
 #[derive(Debug, Drop)]
 pub struct Key {
     text: String,
@@ -152,7 +152,7 @@ impl Ord for RecordName {
     }
 }
 
-/// Names of records are in one order, in which equal ones alone are tied.
+/// The order of names is total, and only equal names compare as equal.
 pub fn record_names_are_ordered()
     ensures { NamesAreOrdered }
 {}

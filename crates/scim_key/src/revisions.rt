@@ -10,13 +10,13 @@ ghost use Rattle.scim_key.specs.Revisions as spec;
 use std::fmt;
 use std::marker::Model;
 
-/// The greatest number of a revision.
+/// The greatest number that a revision may have.
 pub const LAST_REVISION: u32 = 2_000_000_000;
 
-/// How many digits the text of a revision may have, leading zeros among them.
+/// The most digits that the text of a revision may have, leading zeros included.
 pub const REVISION_DIGITS: usize = 18;
 
-/// A revision of a record of the source, or none, which stands before all.
+/// A revision of a record of the source, or none. "None" comes before all others.
 #[derive(Clone, Copy, Debug)]
 pub struct Revision {
     number: u32,
@@ -50,7 +50,7 @@ impl Eq for Revision {
     ghost laws = { Prim.search (comparing, rules) };
 }
 
-/// Decimal digits, with no zero in front; `0` for none.
+/// Decimal digits without leading zeros; `0` for none.
 impl fmt::Display for Revision {
     ghost output = { λ r. Some (revision_text r) };
 
@@ -81,7 +81,7 @@ impl Revision {
         Revision { number: 0 }
     }
 
-    /// The revision of a number from 1 to `LAST_REVISION`, as a JSON resource has it.
+    /// The revision with this number, as a JSON resource gives it: from 1 to `LAST_REVISION`.
     #[tactic(auto, unfolding(crate::specs::Revisions::is_revision, crate::specs::Revisions::revision_of_number))]
     pub fn of_number(number: u64) -> Option<Revision>
         ensures exact { result ≡ revision_of_number number }
@@ -96,8 +96,8 @@ impl Revision {
         }
     }
 
-    /// The revision that a text of a source file spells: 1 to 18 digits, leading zeros allowed,
-    /// of a value from 1 to `LAST_REVISION`.
+    /// Reads a revision of a source file: 1 to 18 digits, leading zeros allowed, with a value from 1 to
+    /// `LAST_REVISION`.
     #[tactic(auto, unfolding(crate::specs::Revisions::read_revision))]
     pub fn read(text: &str) -> Option<Revision>
         ensures exact { result ≡ read_revision text.now }
@@ -112,7 +112,7 @@ impl Revision {
         }
     }
 
-    /// The number that a JSON resource has for this revision, 0 for none.
+    /// The number of this revision in a JSON resource; 0 for none.
     #[tactic(auto, unfolding(crate::specs::Revisions::revision_number))]
     pub fn number(self) -> u32
         ensures { result ≡ revision_number self }
@@ -128,7 +128,7 @@ impl Revision {
         self.number < other.number
     }
 
-    /// The one of both that doesn't come before the other.
+    /// The later of the two revisions.
     pub fn later(self, other: Revision) -> Revision
         ensures { result ≡ later self other }
     {
@@ -136,12 +136,12 @@ impl Revision {
     }
 }
 
-/// Revisions are in one order, none comes first, and there are at most `LAST_REVISION` of them.
+/// Revisions are totally ordered, none comes first, and there are at most `LAST_REVISION` of them.
 pub fn revisions_are_ordered()
     ensures { IsOrder }
 {}
 
-/// What a lawful revision is written as is read as that revision.
+/// A valid revision, once written, is read back as itself.
 pub fn revisions_are_read_back()
     ensures { RevisionsAreReadBack }
 {}

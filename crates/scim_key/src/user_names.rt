@@ -9,7 +9,7 @@ use crate::records::Key;
 use std::alloc::{AllocError, Global};
 use std::marker::Model;
 
-/// A `userName`: 1 to `NAME_LIMIT` bytes from 0x21 to 0x7E but `"` and `\`.
+/// A `userName`: 1 to `NAME_LIMIT` bytes from 0x21 to 0x7E except `"` and `\`.
 #[derive(Debug, Drop)]
 pub struct UserName {
     text: String,
@@ -26,7 +26,7 @@ impl Model for UserName {
     ghost invariant = { λ n. IsUserName (string_bytes n.text) };
 }
 
-/// Whether every byte may stand in a `userName`.
+/// Whether a `userName` may contain every one of these bytes.
 fn are_user_name_bytes(bytes: &[u8]) -> bool
     ensures { result ≡ list_all is_user_name_byte bytes.now }
 {
@@ -61,7 +61,7 @@ impl Clone for UserName {
 }
 
 impl UserName {
-    /// Reads a name; the first of `NameFault` that stands in the text is its fault.
+    /// Reads a name. If several faults apply, the result is the first of them in the order of `NameFault`.
     pub fn read(alloc: Global, text: &str) -> Result<UserName, NameFault>
         ensures { Takes NameFault.Memory (user_name_fault text.now) text.now result }
     {
@@ -88,7 +88,7 @@ impl UserName {
         Key::of(alloc, self.text.as_str())
     }
 
-    /// Whether both names have one key. It takes no memory.
+    /// Whether both names have the same key. It allocates nothing.
     pub fn same_key(&self, other: &UserName) -> bool
         ensures { IsTrue result ↔ (key_of self.now ≡ key_of other.now) }
     {

@@ -22,7 +22,7 @@ shaped_fault r reading.InvalidValue (inl h) = inl (ap fault_of_reading h)
 shaped_fault r reading.InvalidValue (inr h) = inr (ap shaped h)
 shaped_fault r reading.Memory h = inl refl
 
--- what is read of a list, after these resources
+-- the list that is read, after these resources
 abbrev pub after_page : List ShownRecord → Result (List ShownRecord) BodyFault → Result (List ShownRecord) BodyFault
 after_page xs (Ok page) = Ok (xs ++ page)
 after_page xs (Err e) = Err e
@@ -42,7 +42,7 @@ same_after (Err f) = refl
 pub page_starts : (kind : Kind) (vs : List Value) (xs : List ShownRecord) → xs ≡ [] → after_page xs (page_of kind (items_view (drop 0 vs))) ≡ page_of kind (items_view vs)
 page_starts kind vs xs none = rw none (after_none _)
 
--- one element, of which this was read
+-- one element, and what is read of it
 pub page_grows : (kind : Kind) (vs : List Value) (i : ℕ) (v : Value) (xs : List ShownRecord) (o : Option ShownRecord) (r : Result (List ShownRecord) BodyFault) → i < length vs → v ≡ get_or vs i v
     → shown_in kind (view v) ≡ Ok o → after_page xs (page_of kind (items_view (drop i vs))) ≡ r
     → after_page xs (page_of kind (items_view (drop (i + 1) vs)) >>= (λ page. Ok (with_shown o page))) ≡ r

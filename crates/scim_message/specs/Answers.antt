@@ -1,4 +1,4 @@
--- Reading an answer: its status and its body, by the request that it answers.
+-- How an answer is read: from its status and its body, and by the request that it answers.
 use Rattle.std.specs.Prelude.{ℕ, Bool, true, false, List, [], ◌∷◌, Option, Some, None, Result, Ok, Err, ◌==◌, ◌&&◌, not, nat_le, if◌then◌else◌, codes, is_none}
 use Rattle.scim_key.specs.Outcome.{◌>>=◌}
 use Rattle.scim_key.specs.declared.records.Kind.{Kind}
@@ -22,7 +22,7 @@ use Rattle.scim_message.specs.declared.messages.Answer.TheVariants as answers
 use Rattle.scim_message.specs.declared.messages.Request.{Request}
 use Rattle.scim_message.specs.declared.messages.Request.TheVariants.{Create, Retrieve, Search, Replace}
 
--- whatever is wrong with a value or with a resource, the body has a wrong shape
+-- any fault of a value or of a resource means that the body has a wrong shape
 abbrev pub shaped : {X F : Type 0} → Result X F → Result X BodyFault
 shaped (Ok x) = Ok x
 shaped (Err fault) = Err WrongShape
@@ -33,11 +33,11 @@ shaped (Err fault) = Err WrongShape
 abbrev pub is_error_status : ℕ → Bool
 is_error_status status = nat_le 400 status && nat_le status 599
 
--- an error message: no name is repeated, and its schemas have the URN of one, in any case
+-- an error message: it repeats no name, and its schemas contain the URN of error messages, in any case
 abbrev pub is_error_message : Members → Bool
 is_error_message ms = not (repeats ms) && lists_text error_message (attribute (codes "schemas") ms)
 
--- `scimType` and `detail`, where they are texts and not empty
+-- `scimType` and `detail`, if they are texts and not empty
 abbrev pub error_with : (status : ℕ) → Members → ErrorRecord
 error_with status ms = record { status = status; scim_type = text_of (attribute (codes "scimType") ms); detail = text_of (attribute (codes "detail") ms) }
 
@@ -53,7 +53,7 @@ error_from status (Some (string s)) = bare_error status
 error_from status (Some (array ds)) = bare_error status
 error_from status (Some (object ms)) = error_of_members status ms
 
--- the error that an answer with this status and body is; a body that is no error message says nothing
+-- the error that an answer with this status and body is; a body that isn't an error message adds nothing to the status
 abbrev pub error_in : (status : ℕ) → (body : List ℕ) → ErrorRecord
 error_in status body = error_from status (json_of body)
 
@@ -63,7 +63,7 @@ abbrev pub some_shown : Result ShownRecord BodyFault → Result (Option ShownRec
 some_shown (Ok s) = Ok (Some s)
 some_shown (Err fault) = Err fault
 
--- a resource of this type; a `null` is disregarded
+-- a resource of this type; a `null` is ignored
 abbrev pub shown_in : Kind → Data → Result (Option ShownRecord) BodyFault
 shown_in kind null = Ok None
 shown_in kind (boolean b) = some_shown (shaped (read_shown kind (boolean b)))
@@ -98,7 +98,7 @@ first_unless (Ok None) = 1
 first_unless (Ok (Some n)) = if nat_le 1 n then n else 1
 first_unless (Err fault) = 1
 
--- `startIndex`, or 1 where it is no whole number from 1
+-- `startIndex`, or 1 if it isn't a whole number from 1
 abbrev pub start_in : Option Data → ℕ
 start_in value = first_unless (whole_in value)
 
@@ -123,14 +123,14 @@ read_list kind (object ms) = unless_repeated (repeats ms) (list_fields kind ms)
 
 -- ---- answers
 
--- the status that answers a request where all went well, but for one that finds nothing modified
+-- the status of a successful answer to a request, except for 304
 abbrev pub fits_status : Request → (status : ℕ) → Bool
 fits_status (Create content) status = status == 201
 fits_status (Retrieve kind id if_match if_none_match) status = status == 200
 fits_status (Search kind wanted start count) status = status == 200
 fits_status (Replace id content if_match if_none_match) status = status == 200
 
--- what a body that is JSON says to a request
+-- what a JSON body says as the answer to a request
 abbrev pub said : Request → Data → Result Answer BodyFault
 said (Create content) d = shaped (read_shown (content_kind content) d) >>= (λ s. Ok (Created s))
 said (Retrieve kind id if_match if_none_match) d = shaped (read_shown kind d) >>= (λ s. Ok (Found s))
@@ -141,19 +141,19 @@ abbrev pub said_if : Request → (status : ℕ) → Option Data → Result Answe
 said_if request status None = Err NotJson
 said_if request status (Some d) = if fits_status request status then said request d else Err WrongShape
 
--- a body is looked at as JSON before it is asked whether the status fits
+-- a body is parsed as JSON before the status is checked
 abbrev pub said_in : Request → (status : ℕ) → (body : List ℕ) → Result Answer BodyFault
 said_in request status body = said_if request status (json_of body)
 
 abbrev pub tag_of : List ℕ → Result (List ℕ) BodyFault
 tag_of tag = if is_none (tag_fault tag) then Ok tag else Err WrongShape
 
--- nothing was modified: the resource's tag is in the field `ETag`, and there is no body
+-- a 304: the resource's tag is in the field `ETag`, and there is no body
 abbrev pub not_modified : Kind → (id : List ℕ) → (etag : Option (List ℕ)) → Result Answer BodyFault
 not_modified kind id None = Err WrongShape
 not_modified kind id (Some tag) = tag_of tag >>= (λ version. Ok (NotModified kind id version))
 
--- an answer that is no error
+-- an answer that isn't an error
 abbrev pub success : Request → (status : ℕ) → (etag : Option (List ℕ)) → (body : List ℕ) → Result Answer BodyFault
 success (Create content) status etag body = said_in (Create content) status body
 success (Retrieve kind id if_match if_none_match) status etag body =
@@ -161,7 +161,7 @@ success (Retrieve kind id if_match if_none_match) status etag body =
 success (Search kind wanted start count) status etag body = said_in (Search kind wanted start count) status body
 success (Replace id content if_match if_none_match) status etag body = said_in (Replace id content if_match if_none_match) status body
 
--- The answer to a request that comes with this status, this field `ETag` and this body. A status from 400 to 599 is an
--- error whatever the body is
+-- The answer to a request, read from this status, this field `ETag` and this body. A status from 400 to 599 is an error
+-- whatever the body says
 abbrev pub read_body : Request → (status : ℕ) → (etag : Option (List ℕ)) → (body : List ℕ) → Result Answer BodyFault
 read_body request status etag body = if is_error_status status then Ok (Error (error_in status body)) else success request status etag body

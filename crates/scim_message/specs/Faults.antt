@@ -1,4 +1,4 @@
--- What a fault of a text as JSON, or of a resource, is as a fault of a body.
+-- The fault of a body for a fault of a text as JSON, and for a fault of a resource.
 use Rattle.scim_json.specs.declared.parsing.JsonFault.{JsonFault}
 use Rattle.scim_json.specs.declared.parsing.JsonFault.TheVariants as json
 use Rattle.scim_resource.specs.declared.faults.ReadFault.{ReadFault}

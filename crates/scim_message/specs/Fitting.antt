@@ -15,7 +15,7 @@ use Rattle.scim_message.specs.declared.messages.Answer.TheVariants as answers
 use Rattle.scim_message.specs.declared.messages.Request.{Request}
 use Rattle.scim_message.specs.declared.messages.Request.TheVariants.{Create, Retrieve, Search, Replace}
 
--- a shown resource as some reading gives it, and a page of such
+-- a valid shown resource, as reading gives it, and a page of valid resources
 pub record IsLawful (s : ShownRecord) : Type 0 where
   pub shown : IsShown s
   pub content : IsContent s.content
@@ -24,7 +24,7 @@ abbrev pub AreLawful : List ShownRecord → Type 0
 AreLawful [] = Unit {0}
 AreLawful (s ∷ page) = IsLawful s × AreLawful page
 
--- every resource that the answer shows is lawful
+-- every resource that the answer shows is valid
 abbrev pub ShowsLawfully : Answer → Type 0
 ShowsLawfully (Created s) = IsLawful s
 ShowsLawfully (Found s) = IsLawful s
@@ -45,7 +45,7 @@ pub record IsListOf (kind : Kind) (list : ListResponse) : Type 0 where
   pub from_one : 1 ≤ list.start
   pub start : list.start < 2 ^ 64
 
--- no text, or one that isn't empty
+-- no text, or a text that isn't empty
 abbrev pub IsTold : Option (List ℕ) → Type 0
 IsTold None = Unit {0}
 IsTold (Some text) = 1 ≤ length text
@@ -55,8 +55,8 @@ pub record IsErrorOf (error : ErrorRecord) : Type 0 where
   pub scim_type : IsTold error.scim_type
   pub detail : IsTold error.detail
 
--- The answer fits the request: it shows resources of the type that was asked for, or says that nothing was modified, or
--- why there is none
+-- The answer fits the request: it shows resources of the requested type, or says that nothing was modified, or why the
+-- request was refused
 pub data Fits : Request → Answer → Type 0 where
   created : (content : Content) (s : ShownRecord) → IsShownOf (content_kind content) s → Fits (Create content) (Created s)
   found : (kind : Kind) (id : List ℕ) (if_match if_none_match : Condition) (s : ShownRecord) → IsShownOf kind s → Fits (Retrieve kind id if_match if_none_match) (Found s)
@@ -65,7 +65,7 @@ pub data Fits : Request → Answer → Type 0 where
   replaced : (id : List ℕ) (content : Content) (if_match if_none_match : Condition) (s : ShownRecord) → IsShownOf (content_kind content) s → Fits (Replace id content if_match if_none_match) (Replaced s)
   refused : (request : Request) (error : ErrorRecord) → IsErrorOf error → Fits request (Error error)
 
--- the field `ETag` of an answer that has no body is the tag; of other answers it is anything
+-- an answer without a body has the tag in its field `ETag`; other answers may have any field
 abbrev pub HasTag : Answer → (etag : Option (List ℕ)) → Type 0
 HasTag (Created s) etag = Unit {0}
 HasTag (Found s) etag = Unit {0}

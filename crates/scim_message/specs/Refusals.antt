@@ -1,9 +1,9 @@
--- Refusals as answers: the status, the scimType where there is one, and the detail of each.
+-- Refusals as answers: the status, the scimType if there is one, and the detail of each.
 use Rattle.std.specs.Prelude.{ℕ, ◌≤◌, List, Option, Some, None, codes}
 use Rattle.scim_message.specs.declared.refusals.Refusal.{Refusal}
 use Rattle.scim_message.specs.declared.refusals.Refusal.TheVariants.{UnreadableBody, ValueNotAllowed, FilterNotSupported, NameFixed, NoSuchResource, NameTaken, OtherVersion, MethodNotSupported, LimitReached, Malformed, Host, LengthMissing, BodyTooLong, HeadTooLong, TransferCoding, Expectation, MediaType, NoSuchPath}
 
--- a status code that says that something is wrong (RFC 9110 section 15)
+-- a status code that reports an error (RFC 9110 section 15)
 abbrev pub IsErrorStatus : ℕ → Type 0
 IsErrorStatus status = (400 ≤ status) × (status ≤ 599)
 
@@ -73,10 +73,10 @@ refusal_detail Expectation = codes "expectations are not supported"
 refusal_detail MediaType = codes "the media type is not supported"
 refusal_detail NoSuchPath = codes "no such path"
 
--- The error message that answers a refusal
+-- The error message for a refusal
 abbrev pub error_of : Refusal → ErrorRecord
 error_of refusal = record { status = refusal_status refusal; scim_type = refusal_type refusal; detail = Some (refusal_detail refusal) }
 
--- an error message that says nothing but its status
+-- an error message that says only its status
 abbrev pub bare_error : (status : ℕ) → ErrorRecord
 bare_error status = record { status = status; scim_type = None; detail = None }

@@ -1,4 +1,4 @@
-//! Reading answers (RFC 7644 section 3).
+//! Reads answers (RFC 7644 section 3).
 ghost use Rattle.std.specs.Prelude.{◌≡◌, [], Ok, IfOk, option_map};
 ghost use Rattle.scim_key.specs.Outcome.{Gives, GivesBy};
 ghost use Rattle.serde_json.specs.View.{view, items_view, members_view};
@@ -21,13 +21,13 @@ use serde_json::{Map, Value};
 use std::alloc::{AllocError, AllocFailed, Global};
 use thiserror::Error;
 
-/// Why an answer isn't read. `NotJson` goes before `WrongShape`.
+/// Why an answer can't be read. `NotJson` comes before `WrongShape`.
 #[derive(Clone, Copy, Debug, PartialEq, Eq, Error)]
 pub enum BodyFault {
     /// The body isn't JSON in UTF-8.
     #[error("A1")]
     NotJson,
-    /// The body isn't what was asked for, or the status doesn't fit the request.
+    /// The body isn't an answer to the request, or the status doesn't fit the request.
     #[error("A2")]
     WrongShape,
     #[error("memory")]
@@ -80,8 +80,8 @@ impl From<ReadFault> for BodyFault {
     }
 }
 
-/// Reads the answer to a request from its status, its field `ETag` and its body. A status from 400 to
-/// 599 is an error, whatever the body is. `etag` serves `NotModified` alone, which has no body.
+/// Reads the answer to a request from its status, its field `ETag` and its body. A status from 400 to 599
+/// is an error, whatever the body says. `etag` is used only for `NotModified`, which has no body.
 pub fn read_body(
     alloc: Global,
     request: &Request,
@@ -107,7 +107,7 @@ fn is_error(status: u16) -> bool
     status >= 400 && status <= 599
 }
 
-/// The resource has this tag still.
+/// Reads a 304: the resource still has this tag.
 fn not_modified(
     alloc: Global,
     kind: Kind,
@@ -138,7 +138,7 @@ fn tag_of(alloc: Global, tag: &[u8]) -> Result<EntityTag, BodyFault>
     }
 }
 
-/// What the body says. It is looked at as JSON before it is asked whether the status fits.
+/// What the body says. It is parsed as JSON before the status is checked.
 fn said_in(alloc: Global, request: &Request, status: u16, body: &[u8]) -> Result<Answer, BodyFault>
     ensures { Gives BodyFault.Memory result (spec.said_in request.now status body.now) }
 {
@@ -149,7 +149,7 @@ fn said_in(alloc: Global, request: &Request, status: u16, body: &[u8]) -> Result
     said(alloc, request, &value)
 }
 
-/// Whether the status is the one that answers the request where all went well.
+/// Whether the status is the success status for the request.
 fn fits(request: &Request, status: u16) -> bool
     ensures { result ≡ spec.fits_status request.now status }
 {
@@ -174,7 +174,7 @@ fn said(alloc: Global, request: &Request, value: &Value) -> Result<Answer, BodyF
     }
 }
 
-/// The error that an answer with this status is. A body that is no error message says nothing.
+/// Reads an error. A body that isn't an error message adds nothing to the status.
 fn error_in(alloc: Global, status: u16, body: &[u8]) -> Result<ErrorResponse, BodyFault>
     requires { IsErrorStatus status }
     ensures { Gives BodyFault.Memory result (Ok (spec.error_in status body.now)) }
@@ -252,7 +252,7 @@ fn total_in(value: Option<&Value>) -> Result<u64, BodyFault>
     }
 }
 
-/// The place of the first resource, or 1 where it isn't told.
+/// The place of the first resource; 1 if the list doesn't say it.
 fn start_in(value: Option<&Value>) -> u64
     ensures { result ≡ spec.start_in (option_map (λ v. view v.now) value.entry) }
 {
@@ -285,7 +285,7 @@ fn page_of(alloc: Global, items: &[Value], kind: Kind) -> Result<Vec<Shown>, Bod
     Ok(page)
 }
 
-/// A resource of a list. A `null` is disregarded.
+/// A resource of a list; a `null` is ignored.
 fn shown_in(alloc: Global, item: &Value, kind: Kind) -> Result<Option<Shown>, BodyFault>
     ensures { Gives BodyFault.Memory result (spec.shown_in kind (view item.now)) }
 {

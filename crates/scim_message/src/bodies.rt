@@ -18,7 +18,7 @@ use scim_key::Base;
 use scim_resource::Shown;
 use std::alloc::{AllocError, Global};
 
-/// The body of an answer by a service at this base, in UTF-8. Where nothing was modified it is empty.
+/// The body of an answer by a service at this base, in UTF-8. It is empty for `NotModified`.
 pub fn body_of(alloc: Global, answer: &Answer, base: &Base) -> Result<Vec<u8>, AllocError>
     ensures text { IfOk result (λ body. body.items ≡ body_text base.now answer.now) }
     ensures utf8 { IfOk result (λ body. IsUtf8 body.items) }
@@ -81,7 +81,7 @@ fn list_schema() -> &'static str
     "urn:ietf:params:scim:api:messages:2.0:ListResponse"
 }
 
-/// Writes the list with one URN.
+/// Writes `schemas`, a list with this one URN.
 fn write_schema(out: &mut Writer, schema: &str) -> Result<(), AllocError>
     ensures { OnOk result
         (WritesPart (codes "schemas") (Some (array (item (string schema.now) no_items))) out.old out.new) }

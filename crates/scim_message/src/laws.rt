@@ -1,4 +1,4 @@
-//! Facts about the definitions, with nothing to run.
+//! Laws of the definitions, with nothing to run.
 ghost use Rattle.std.specs.Prelude.{◌≡◌, ℕ, List, Option, Ok};
 ghost use Rattle.std.specs.Str.{IsUtf8};
 ghost use Rattle.scim_message.specs.Answers.{read_body};

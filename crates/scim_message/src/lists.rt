@@ -20,14 +20,12 @@ impl Model for Resources {
 }
 
 impl Resources {
-    /// The page with these resources.
     pub fn from_vec(items: Vec<Shown>) -> Resources
         ensures { result ≡ items.items }
     {
         Resources { items }
     }
 
-    /// Gives the list back.
     pub fn into_vec(self) -> Vec<Shown>
         ensures { result.items ≡ self }
     {
@@ -45,9 +43,9 @@ impl Resources {
 /// One page of the resources that a search found.
 #[derive(Debug, Drop)]
 pub struct ListResponse {
-    /// How many were found, on this page or not.
+    /// How many resources were found, on this page or not.
     pub total: u64,
-    /// The place of the page's first resource among them, counted from 1.
+    /// The place of the page's first resource among all that were found, counted from 1.
     pub start: u64,
     pub resources: Resources,
 }

@@ -23,15 +23,15 @@ pub enum Request {
         if_match: Condition,
         if_none_match: Condition,
     },
-    /// The resources of this type that a filter finds, or all of them, a page at a time (section
-    /// 3.4.2): from the place `start`, counted from 1, `count` resources at most.
+    /// The resources of this type that a filter finds, or all of them (section 3.4.2): at most `count` of
+    /// them, from the place `start`, counted from 1.
     Search {
         kind: Kind,
         filter: Option<Filter>,
         start: i64,
         count: Option<i64>,
     },
-    /// Another content for the resource with this id (section 3.5.1).
+    /// A new content for the resource with this id (section 3.5.1).
     Replace {
         id: ResourceId,
         content: Content,
@@ -40,7 +40,7 @@ pub enum Request {
     },
 }
 
-/// One call wherever it is dropped, and not a step for each part of each form.
+/// Dropping a request is one call, and not a step for each part of each variant.
 impl Drop for Request {
     fn drop(self) {
         match self {
@@ -72,23 +72,23 @@ impl Drop for Request {
 pub enum Answer {
     /// The new resource.
     Created(Shown),
-    /// The resource that was asked for.
+    /// The requested resource.
     Found(Shown),
-    /// The resource with its other content.
+    /// The resource with its new content.
     Replaced(Shown),
     /// A page of the resources that were found.
     List(ListResponse),
-    /// The resource has a version that the client knows (RFC 7232 section 4.1).
+    /// The resource still has a version that the client knows (RFC 7232 section 4.1).
     NotModified {
         kind: Kind,
         id: ResourceId,
         version: EntityTag,
     },
-    /// Why there is none.
+    /// Why the request was refused.
     Error(ErrorResponse),
 }
 
-/// One call wherever it is dropped, as for a request.
+/// Dropping an answer is one call, as for a request.
 impl Drop for Answer {
     fn drop(self) {
         match self {
@@ -105,7 +105,6 @@ impl Drop for Answer {
 }
 
 impl Answer {
-    /// The status code of the answer.
     pub fn status(&self) -> u16
         ensures code { result ≡ answer_status self.now }
         ensures lawful { (200 ≤ result) × (result ≤ 599) }

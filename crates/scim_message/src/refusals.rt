@@ -1,4 +1,4 @@
-//! Refusals, and the error messages that answer them (RFC 7644 section 3.12).
+//! Refusals, and their error messages (RFC 7644 section 3.12).
 ghost use Rattle.std.specs.Prelude.{◌≡◌, IfOk, string_bytes};
 ghost use Rattle.std.specs.Option.{option_map};
 ghost use Rattle.scim_message.specs.Refusals.{refusal_status, refusal_type, refusal_detail, error_of, bare_error, IsErrorStatus};
@@ -7,7 +7,7 @@ use std::alloc::{AllocError, Global};
 use std::marker::Model;
 use thiserror::Error;
 
-/// Why a request is refused, each under its code.
+/// Why a request is refused, each reason with its code.
 #[derive(Clone, Copy, Debug, PartialEq, Eq, Error)]
 pub enum Refusal {
     #[error("P1")]
@@ -49,7 +49,7 @@ pub enum Refusal {
 }
 
 impl Refusal {
-    /// The status code that answers it.
+    /// The status code of the answer.
     pub fn status(self) -> u16
         ensures code { result ≡ refusal_status self }
         ensures lawful { IsErrorStatus result }
@@ -70,7 +70,7 @@ impl Refusal {
         }
     }
 
-    /// Its `scimType`, where the standard has one.
+    /// Its `scimType`, if the standard has one for it.
     pub fn scim_type(self) -> Option<&'static str>
         ensures { option_map (λ text. text.now) result ≡ refusal_type self }
     {
@@ -84,7 +84,7 @@ impl Refusal {
         }
     }
 
-    /// What it says to a reader.
+    /// The explanation for a human reader.
     pub fn detail(self) -> &'static str
         ensures { result.now ≡ refusal_detail self }
     {
@@ -111,7 +111,7 @@ impl Refusal {
     }
 }
 
-/// An error message: a status code from 400 to 599, and the `scimType` and the detail where it has them.
+/// An error message: a status code from 400 to 599, and a `scimType` and a detail if it has them.
 #[derive(Debug)]
 pub struct ErrorResponse {
     status: u16,
@@ -131,8 +131,8 @@ impl Model for ErrorResponse {
     ghost invariant = { λ e. IsErrorStatus e.status };
 }
 
-/// One call wherever an error message is dropped, and not a step for each field: a proof is as long
-/// as the steps that it goes through.
+/// Dropping an error message is one call, and not a step for each field: each step would lengthen every
+/// proof that goes through it.
 impl Drop for ErrorResponse {
     fn drop(self) {
         let ErrorResponse {
@@ -153,7 +153,7 @@ fn owned(alloc: Global, text: Option<&str>) -> Result<Option<String>, AllocError
 }
 
 impl ErrorResponse {
-    /// The message that answers a refusal.
+    /// The error message for a refusal.
     pub fn of(alloc: Global, refusal: Refusal) -> Result<ErrorResponse, AllocError>
         ensures { IfOk result (λ error. error ≡ error_of refusal) }
     {
@@ -164,7 +164,7 @@ impl ErrorResponse {
         })
     }
 
-    /// The message with this status alone.
+    /// The message with only this status.
     pub(crate) fn bare(status: u16) -> ErrorResponse
         requires { IsErrorStatus status }
         ensures { result ≡ bare_error status }
@@ -193,7 +193,6 @@ impl ErrorResponse {
         })
     }
 
-    /// The status code.
     pub fn status(&self) -> u16
         ensures code { result ≡ self.now.status }
         ensures lawful { IsErrorStatus result }
@@ -201,14 +200,14 @@ impl ErrorResponse {
         self.status
     }
 
-    /// Its `scimType`, where it has one.
+    /// Its `scimType`, if it has one.
     pub fn scim_type(&self) -> Option<&str>
         ensures { option_map (λ text. text.now) result ≡ self.now.scim_type }
     {
         self.scim_type.as_deref()
     }
 
-    /// What it says to a reader, where it says something.
+    /// The explanation for a human reader, if it has one.
     pub fn detail(&self) -> Option<&str>
         ensures { option_map (λ text. text.now) result ≡ self.now.detail }
     {

@@ -130,7 +130,7 @@ revision_alike o p (both d e (lists ds es h)) = refl
 revision_alike o p (both d e (objects ms ns r f)) =
     ap (λ w. checked w >>= revision_of) (whole_alike (attribute (codes "revision") ms) (attribute (codes "revision") ns) (attribute_alike (codes "revision") ms ns (record { repeat = r; found = f })))
 
--- what is read of the parts of a name, once that is an object or absent
+-- what is read of the parts of a name, if the name is an object or absent
 abbrev parts_read : {X : Type 0} → (Result (Option (List ℕ)) ReadFault → Result (Option (List ℕ)) ReadFault → Result X ReadFault) → Option Members → Result X ReadFault
 parts_read f ms = f (text_in (part_of (codes "givenName") ms)) (text_in (part_of (codes "familyName") ms))
 

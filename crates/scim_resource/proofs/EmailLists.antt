@@ -16,7 +16,7 @@ no_emails es none = rw none (record { each = tt; few = refl })
 
 -- ---- reading a list of emails item by item
 
--- what is read of a list, after these emails
+-- the list that is read, after these emails
 abbrev pub after_emails : List Email → Result (List Email) ReadFault → Result (List Email) ReadFault
 after_emails xs (Ok es) = Ok (xs ++ es)
 after_emails xs (Err e) = Err e

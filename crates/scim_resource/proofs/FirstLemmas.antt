@@ -36,7 +36,7 @@ unfolding is_among
 among_push w v [] = sym (or_none (bytes_eq v w))
 among_push w v (x ∷ xs) = ap (λ b. bytes_eq x w || b) (among_push w v xs) ∙ sym (or_assoc (bytes_eq x w) (is_among w xs) (bytes_eq v w))
 
--- a value that is there already is found where it was
+-- a value that is there already is found at its place
 already : (b : Bool) (w v : List ℕ) (kept : List (List ℕ)) → bytes_eq v w ≡ b → is_among v kept ≡ true → is_among w kept ≡ (is_among w kept || b)
 already true w v kept is there =
     let found : is_among w kept ≡ true = ap (λ x. is_among x kept) (sym ((bytes_eq-Decides v w).0 is)) ∙ there in
@@ -115,7 +115,7 @@ unfolding members_after
 merges kept [] vs h = ok_same (Ok kept) refl h
 merges kept (d ∷ ds) vs h = merges_one (member_in d) kept ds vs (λ more ws e. merges more ds ws e) h
 
--- what came first went well
+-- the first step succeeded
 went_well : {A B F : Type 0} (m : Result A F) (f : A → Result B F) (y : B) → m >>= f ≡ Ok y → (x : A) × (m ≡ Ok x) × (f x ≡ Ok y)
 went_well (Ok x) f y h = (x, refl, h)
 went_well (Err e) f y h = absurd (err_is_not_ok h)

@@ -154,7 +154,7 @@ refused_either_way : {X Y Z : Type 0} (r : Result X ReadFault) (f : X → Result
 refused_either_way (Ok x) f g only h = h x
 refused_either_way (Err e) f g only h = ap Err only
 
--- whatever comes after so many, the list is refused
+-- after too many members, the list is refused, whatever follows
 pub too_many : (kept : List (List ℕ)) (ds : Items) → are_few_members kept ≡ false → (members_after kept ds >>= few_members) ≡ Err InvalidValue
 unfolding members_after
 too_many kept no_items h = ap (λ b. cond b (Ok kept) (Err InvalidValue)) h

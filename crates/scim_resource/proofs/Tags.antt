@@ -1,4 +1,4 @@
--- The id of a number and the tag of a version are texts, and the tag is one that may be shown.
+-- The id of a number and the tag of a version are texts, and the tag may be shown.
 use Rattle.std.proofs.Common.{ℕ, zero, suc, ◌+◌, ◌<◌, ◌≤◌, ◌%◌, ◌/◌, [], ◌∷◌, ◌++◌, Bool, true, false, cond, decimal, codes, refl, arith, length-append}
 use Rattle.std.proofs.Math.Nat.{mod-lt}
 use Rattle.std.proofs.lemmas.Fmt.{IsAscii-decimal, length-decimal-le}

@@ -110,7 +110,7 @@ unfolding named
 source_read None h = refl
 source_read (Some r) h = rw (are_read_back.from_number r h)
 
--- the members of a name, where it has a part
+-- the members of a name, if it has a part
 abbrev name_members : Option (List ℕ) → Option (List ℕ) → Option Members
 name_members None None = None
 name_members None (Some f) = Some (members_from (name_parts None (Some f)))

@@ -1,10 +1,10 @@
--- Values that differ in the case of names, and in the order of members, alone.
+-- Values that differ only in the case of names and the order of members.
 use Rattle.std.specs.Prelude.{◌≡◌, ℕ, List, Option, Some, None}
 use Rattle.serde_json.specs.Data.{Data, array, object, Items, no_items, item, Members}
 use Rattle.scim_json.specs.Attributes.{named, repeats}
 
--- Objects are alike where both repeat a name or neither does, and under each name, in any case, both have alike values or
--- neither has one; lists are alike where their items are, one by one
+-- Objects are alike if both repeat a name or neither does, and if each name, in any case, has alike values in both or a
+-- value in neither. Lists are alike if their items are, one by one
 mutual
   pub data Alike : Data → Data → Type 0 where
     same : (d : Data) → Alike d d

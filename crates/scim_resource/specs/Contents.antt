@@ -10,7 +10,7 @@ use Rattle.scim_resource.specs.Users.{IsUser}
 use Rattle.scim_resource.specs.declared.contents.Content.{Content}
 use Rattle.scim_resource.specs.declared.contents.Content.TheVariants.{User, Group}
 
--- a content that some reading gives
+-- a valid content, as reading gives it
 abbrev pub IsContent : Content → Type 0
 IsContent (User u) = IsUser u
 IsContent (Group g) = IsGroup g
@@ -28,17 +28,17 @@ spelled_name (Group g) = g.display_name
 abbrev pub content_name : Content → RecordName
 content_name c = record { kind = content_kind c; key = key_of (spelled_name c) }
 
--- the source's revision that it is the image of, if it has one
+-- the source revision that the content is the image of, if it has one
 abbrev pub content_revision : Content → Option RevisionValue
 content_revision (User u) = u.revision
 content_revision (Group g) = g.revision
 
--- whether a user's account is switched on; a group has none
+-- whether a user's account is active; none for a group
 abbrev pub content_active : Content → Option Bool
 content_active (User u) = Some u.active
 content_active (Group g) = None
 
--- the values of a group's members, in their order; a user has none
+-- the values of a group's members, in order; empty for a user
 abbrev pub content_members : Content → List (List ℕ)
 content_members (User u) = []
 content_members (Group g) = g.members

@@ -16,7 +16,7 @@ AreEmails (e ∷ es) = IsEmail e × AreEmails es
 abbrev pub primaries : List Email → ℕ
 primaries es = count_by (λ e. e.primary) es
 
--- at most ten, of which one at most is primary
+-- at most ten, at most one of them primary
 unfoldable pub are_few : List Email → Bool
 are_few es = nat_le (length es) EMAIL_LIMIT && nat_le (primaries es) 1
 

@@ -1,4 +1,4 @@
--- What a fault of a name, or of a text as JSON, is as a fault of a resource.
+-- The fault of a resource for a fault of a name, and for a fault of a text as JSON.
 use Rattle.scim_key.specs.declared.names.NameFault.{NameFault}
 use Rattle.scim_key.specs.declared.names.NameFault.TheVariants as names
 use Rattle.scim_json.specs.declared.parsing.JsonFault.{JsonFault}

@@ -36,7 +36,7 @@ pub record GroupRecord : Type 0 where
   pub members : List (List ℕ)
   pub revision : Option RevisionValue
 
--- A group that some reading gives
+-- A valid group, as reading gives it
 pub record IsGroup (g : GroupRecord) : Type 0 where
   pub display_name : IsGroupName g.display_name
   pub external_id : IsTextIf g.external_id

@@ -1,4 +1,4 @@
--- Where a resource is found.
+-- The URI of a resource.
 use Rattle.std.specs.Prelude.{ℕ, ◌+◌, ◌/◌, ◌%◌, ◌==◌, ◌&&◌, ◌||◌, Bool, List, [], ◌∷◌, ◌++◌, nat_le, nat_lt, if◌then◌else◌, codes}
 use Rattle.std.specs.List.{flat_map}
 use Rattle.scim_key.specs.declared.records.Kind.{Kind}
@@ -17,7 +17,7 @@ upper_hex d = if nat_lt d 10 then 48 + d else 55 + d
 unfoldable pub escaped_byte : ℕ → List ℕ
 escaped_byte b = if is_unreserved b then b ∷ [] else 37 ∷ upper_hex (b / 16) ∷ upper_hex (b % 16) ∷ []
 
--- the text with every other byte as `%` and two hexadecimal digits
+-- the text with every byte that isn't unreserved as `%` and two hexadecimal digits
 abbrev pub escaped : List ℕ → List ℕ
 escaped text = flat_map escaped_byte text
 

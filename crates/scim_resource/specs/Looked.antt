@@ -1,4 +1,4 @@
--- The objects that are looked into when a resource is read, where a repeated name goes before every other fault.
+-- The objects that reading looks into. A repeated name in one of them is refused before every other fault.
 use Rattle.std.specs.Prelude.{◌≡◌, ℕ, List, ◌∷◌, ◌++◌, Some, codes}
 use Rattle.scim_key.specs.declared.records.Kind.{Kind}
 use Rattle.scim_key.specs.declared.records.Kind.TheVariants as kinds
@@ -7,13 +7,13 @@ use Rattle.serde_json.specs.View.{items_of}
 use Rattle.scim_json.specs.Attributes.{attribute}
 use Rattle.scim_resource.specs.Schemas.{source_extension}
 
--- the value of this attribute is a list with this object
+-- the value of this attribute is a list that contains this object
 pub record Lists (name : List ℕ) (ms inner : Members) : Type 0 where
   pub before : List Data
   pub after : List Data
   pub listed : attribute name ms ≡ Some (array (items_of (before ++ object inner ∷ after)))
 
--- Of a resource of this type, with these members, the second object is looked into: it is the body itself, its source
+-- Reading a resource of this type with the members `ms` looks into the object `inner`: the body itself, its source
 -- extension, a user's name or one of its emails, or one of a group's members
 pub data IsLookedInto (kind : Kind) (ms inner : Members) : Type 0 where
   the_body : inner ≡ ms → IsLookedInto kind ms inner

@@ -21,7 +21,7 @@ use Rattle.scim_resource.specs.declared.emails.Email.{Email}
 use Rattle.scim_resource.specs.declared.faults.ReadFault.{ReadFault}
 use Rattle.scim_resource.specs.declared.faults.ReadFault.TheVariants.{InvalidSyntax, InvalidValue}
 
--- a value that its attribute can't have
+-- a fault of a value is `InvalidValue`
 abbrev pub checked : {X : Type 0} → Result X ValueFault → Result X ReadFault
 checked (Ok x) = Ok x
 checked (Err e) = Err InvalidValue
@@ -36,12 +36,12 @@ is_text_or_null (string s) = true
 is_text_or_null (array ds) = false
 is_text_or_null (object ms) = false
 
--- the list has texts alone; a `null` is disregarded
+-- the list contains only texts; a `null` is ignored
 unfoldable pub all_texts : Items → Bool
 all_texts no_items = true
 all_texts (item d ds) = is_text_or_null d && all_texts ds
 
--- a list of texts, one of which is this URN in any case
+-- a list of texts that contains this URN, in any case
 abbrev pub lists_schema : List ℕ → Option Data → Bool
 lists_schema urn None = false
 lists_schema urn (Some null) = false
@@ -53,7 +53,7 @@ lists_schema urn (Some (object ms)) = false
 
 -- ---- the attributes of a user
 
--- a lawful name
+-- a valid name
 abbrev pub user_name_in : Option Data → Result (List ℕ) ReadFault
 user_name_in None = Err InvalidValue
 user_name_in (Some null) = Err InvalidValue
@@ -75,7 +75,7 @@ abbrev pub source_revision : Option Members → Result (Option RevisionValue) Re
 source_revision None = Ok None
 source_revision (Some ms) = checked (whole_in (attribute (codes "revision") ms)) >>= revision_of
 
--- the revision in the source extension, where there is one
+-- the revision in the source extension, if there is one
 abbrev pub revision_in : Option Data → Result (Option RevisionValue) ReadFault
 revision_in extension = checked (members_in extension) >>= source_revision
 
@@ -103,11 +103,11 @@ email_with ms (Some value) =
     checked (flag_or false (attribute (codes "primary") ms)) >>= (λ primary.
     Ok (Some (record { value = value; type_text = type_text; primary = primary }))))
 
--- an email, or none where it has no value
+-- an email, or none if it has no value
 unfoldable pub email_of : Members → Result (Option Email) ReadFault
 email_of ms = text_in (attribute (codes "value") ms) >>= email_with ms
 
--- a `null` is disregarded
+-- a `null` is ignored
 abbrev pub email_in : Data → Result (Option Email) ReadFault
 email_in null = Ok None
 email_in (boolean b) = Err InvalidValue
@@ -127,7 +127,7 @@ emails_of (item d ds) = email_in d >>= (λ e. emails_of ds >>= (λ es. Ok (with_
 abbrev pub few_emails : List Email → Result (List Email) ReadFault
 few_emails es = if are_few es then Ok es else Err InvalidValue
 
--- the emails that have a value, in their order: at most ten, of which one at most is primary
+-- the emails that have a value, in order: at most ten, at most one of them primary
 abbrev pub emails_in : Option Data → Result (List Email) ReadFault
 emails_in value = (checked (items_in value) >>= emails_of) >>= few_emails
 
@@ -137,7 +137,7 @@ abbrev pub if_listed : {X : Type 0} → Bool → Result X ReadFault → Result X
 if_listed true answer = answer
 if_listed false answer = Err InvalidValue
 
--- a lawful name of a group
+-- a valid name of a group
 abbrev pub display_name_in : Option Data → Result (List ℕ) ReadFault
 display_name_in None = Err InvalidValue
 display_name_in (Some null) = Err InvalidValue
@@ -147,7 +147,7 @@ display_name_in (Some (string s)) = if is_none (group_name_fault s) then Ok s el
 display_name_in (Some (array ds)) = Err InvalidValue
 display_name_in (Some (object ms)) = Err InvalidValue
 
--- the value of a member, or none; a `null` is disregarded
+-- the value of a member, or none; a `null` is ignored
 abbrev pub member_in : Data → Result (Option (List ℕ)) ReadFault
 member_in null = Ok None
 member_in (boolean b) = Err InvalidValue
@@ -156,12 +156,12 @@ member_in (string s) = Err InvalidValue
 member_in (array ds) = Err InvalidValue
 member_in (object ms) = text_in (attribute (codes "value") ms)
 
--- a value that is there already isn't kept again
+-- adds a value, unless it is there already
 abbrev pub with_member : List (List ℕ) → Option (List ℕ) → List (List ℕ)
 with_member vs None = vs
 with_member vs (Some v) = if is_among v vs then vs else vs ++ v ∷ []
 
--- these values and then those of a list, each kept once at its first place
+-- these values and then the values of a list, each kept once, at its first place
 unfoldable pub members_after : List (List ℕ) → Items → Result (List (List ℕ)) ReadFault
 members_after vs no_items = Ok vs
 members_after vs (item d ds) = member_in d >>= (λ v. members_after (with_member vs v) ds)
@@ -169,11 +169,11 @@ members_after vs (item d ds) = member_in d >>= (λ v. members_after (with_member
 abbrev pub few_members : List (List ℕ) → Result (List (List ℕ)) ReadFault
 few_members vs = if are_few_members vs then Ok vs else Err InvalidValue
 
--- the values of a list of members, each kept once at its first place: at most 400
+-- the values of a list of members, each kept once, at its first place: at most 400
 abbrev pub members_of : Items → Result (List (List ℕ)) ReadFault
 members_of ds = members_after [] ds >>= few_members
 
--- those of a group
+-- the values of a group's members
 abbrev pub group_members_in : Option Data → Result (List (List ℕ)) ReadFault
 group_members_in value = checked (items_in value) >>= members_of
 
@@ -201,7 +201,7 @@ group_fields ms =
 
 -- ---- resources
 
--- in one of the objects that are looked into a name is repeated
+-- one of the objects that reading looks into repeats a name
 unfoldable pub user_repeats : Members → Bool
 user_repeats ms =
     repeats ms || value_repeats (attribute source_extension ms) || value_repeats (attribute (codes "name") ms)
@@ -234,11 +234,11 @@ unfoldable pub read_content : Kind → Data → Result Content ReadFault
 read_content kinds.User d = read_user d >>= (λ u. Ok (User u))
 read_content kinds.Group d = read_group d >>= (λ g. Ok (Group g))
 
--- what isn't JSON is no content
+-- a text that isn't JSON is `InvalidSyntax`
 abbrev pub content_from : Kind → Option Data → Result Content ReadFault
 content_from kind None = Err InvalidSyntax
 content_from kind (Some json) = read_content kind json
 
--- The content that bytes have: they are JSON in UTF-8, and its value is read
+-- The content that bytes spell: the bytes must be JSON in UTF-8, and their value is read
 abbrev pub content_in : Kind → List ℕ → Result Content ReadFault
 content_in kind bytes = content_from kind (json_of bytes)

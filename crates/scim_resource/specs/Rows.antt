@@ -12,7 +12,7 @@ use Rattle.scim_resource.specs.declared.rows.TheConstants.{LAST_VERSION, TAG_LIM
 abbrev pub last_version : ℕ
 last_version = LAST_VERSION
 
--- the resource's number, from which its id is made, its version and its content
+-- the resource's number, which its id is made from, its version and its content
 pub record StoredRecord : Type 0 where
   pub number : ℕ
   pub version : ℕ
@@ -24,7 +24,7 @@ pub record IsStored (s : StoredRecord) : Type 0 where
   pub versioned : 1 ≤ s.version
   pub version_within : s.version ≤ last_version
 
--- the id, the entity tag of the version where it is known, and the content
+-- the id, the entity tag of the version if it is known, and the content
 pub record ShownRecord : Type 0 where
   pub id : List ℕ
   pub version : Option (List ℕ)
@@ -33,7 +33,7 @@ pub record ShownRecord : Type 0 where
 abbrev pub IsShort : List ℕ → Type 0
 IsShort tag = length tag ≤ TAG_LIMIT
 
--- the id is one, in UTF-8; the entity tag, where there is one, is one of at most 256 bytes, in UTF-8
+-- the id is valid, in UTF-8; the entity tag, if there is one, is valid, in UTF-8, of at most 256 bytes
 pub record IsShown (s : ShownRecord) : Type 0 where
   pub id : IsId s.id
   pub id_text : IsUtf8 s.id
@@ -41,7 +41,7 @@ pub record IsShown (s : ShownRecord) : Type 0 where
   pub short : IfSome s.version IsShort
   pub text : IfSome s.version IsUtf8
 
--- a resource of this type, as some reading gives it
+-- a valid resource of this type, as reading gives it
 pub record IsShownOf (kind : Kind) (s : ShownRecord) : Type 0 where
   pub of_kind : content_kind s.content ≡ kind
   pub shown : IsShown s

@@ -13,7 +13,7 @@ use Rattle.scim_resource.specs.declared.contents.Content.{Content}
 use Rattle.scim_resource.specs.declared.faults.ReadFault.{ReadFault}
 use Rattle.scim_resource.specs.declared.faults.ReadFault.TheVariants.{InvalidSyntax, InvalidValue}
 
--- an id
+-- a valid id, which is required
 abbrev pub id_in : Option Data → Result (List ℕ) ReadFault
 id_in None = Err InvalidValue
 id_in (Some null) = Err InvalidValue
@@ -23,7 +23,7 @@ id_in (Some (string s)) = if is_none (id_fault s) then Ok s else Err InvalidValu
 id_in (Some (array ds)) = Err InvalidValue
 id_in (Some (object ms)) = Err InvalidValue
 
--- the text, where it is an entity tag of at most 256 bytes
+-- the text, if it is an entity tag of at most 256 bytes
 abbrev pub tag_of : List ℕ → Option (List ℕ)
 tag_of s = if nat_le (length s) TAG_LIMIT && is_none (tag_fault s) then Some s else None
 
@@ -37,7 +37,7 @@ tag_in (Some (string s)) = tag_of s
 tag_in (Some (array ds)) = None
 tag_in (Some (object ms)) = None
 
--- the version in `meta`, or none where it is no object
+-- the version in `meta`, or none if `meta` isn't an object
 abbrev pub version_in : Option Data → Option (List ℕ)
 version_in None = None
 version_in (Some null) = None
@@ -47,14 +47,14 @@ version_in (Some (string s)) = None
 version_in (Some (array ds)) = None
 version_in (Some (object ms)) = tag_in (attribute (codes "version") ms)
 
--- this content, with the id and the version of an object: an id is required, any version will do
+-- this content, with the id and the version of an object; the id is required
 abbrev pub shown_with : Content → Members → Result ShownRecord ReadFault
 shown_with content ms =
     id_in (attribute (codes "id") ms) >>= (λ id.
     Ok (record { id = id; version = version_in (attribute (codes "meta") ms); content = content }))
 
--- A resource of this type as it is shown: its content, its id, and its version where that is known. `meta` is an object
--- that is looked into
+-- A resource of this type as an answer shows it: its content, its id, and its version if that is known. Reading looks
+-- into `meta` too
 abbrev pub read_shown : Kind → Data → Result ShownRecord ReadFault
 read_shown kind null = Err InvalidSyntax
 read_shown kind (boolean b) = Err InvalidSyntax

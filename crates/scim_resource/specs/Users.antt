@@ -20,7 +20,7 @@ abbrev pub IsSourceRevision : Option RevisionValue → Type 0
 IsSourceRevision None = Unit {0}
 IsSourceRevision (Some revision) = IsRevision revision
 
--- A user that some reading gives
+-- A valid user, as reading gives it
 pub record IsUser (u : UserRecord) : Type 0 where
   pub user_name : IsUserName u.user_name
   pub external_id : IsTextIf u.external_id

@@ -14,12 +14,12 @@ use Rattle.scim_resource.specs.declared.contents.Content.{Content}
 use Rattle.scim_resource.specs.declared.contents.Content.TheVariants.{User, Group}
 use Rattle.scim_resource.specs.declared.emails.Email.{Email}
 
--- the source extension, where there is a revision
+-- the source extension, if there is a revision
 abbrev pub source_data : Option RevisionValue → Option Data
 source_data None = None
 source_data (Some r) = Some (object (member (codes "revision") (number (unsigned (revision_number r))) no_members))
 
--- the core URN, then the source URN where there is a revision
+-- the core URN, then the source URN if there is a revision
 abbrev pub schemas_data : List ℕ → Option RevisionValue → Items
 schemas_data core None = item (string core) no_items
 schemas_data core (Some r) = item (string core) (item (string source_extension) no_items)
@@ -28,13 +28,13 @@ schemas_data core (Some r) = item (string core) (item (string source_extension) 
 abbrev pub name_parts : Option (List ℕ) → Option (List ℕ) → List Part
 name_parts given family = (codes "familyName", option_map string family) ∷ (codes "givenName", option_map string given) ∷ []
 
--- a name, where it has a part
+-- a name, if it has a part
 abbrev pub name_data : Option (List ℕ) → Option (List ℕ) → Option Data
 name_data None None = None
 name_data None (Some family) = Some (object (members_from (name_parts None (Some family))))
 name_data (Some given) family = Some (object (members_from (name_parts (Some given) family)))
 
--- `primary` only where it is true
+-- `primary`, only if it is true
 abbrev pub primary_data : Bool → Option Data
 primary_data true = Some (boolean true)
 primary_data false = None
@@ -46,12 +46,12 @@ email_parts e =
 unfoldable pub email_data : Email → Data
 email_data e = object (members_from (email_parts e))
 
--- the emails, where there are any
+-- the emails, if there are any
 abbrev pub emails_data : List Email → Option Data
 emails_data [] = None
 emails_data (e ∷ es) = Some (array (items_of (map email_data (e ∷ es))))
 
--- a user's attributes in byte order, beside an id and `meta`
+-- a user's attributes in byte order, with an id and `meta`
 abbrev pub user_parts : Option Data → Option Data → UserRecord → List Part
 user_parts id meta u =
     (codes "active", Some (boolean u.active))
@@ -71,12 +71,12 @@ user_data id meta u = object (members_from (user_parts id meta u))
 unfoldable pub member_data : List ℕ → Data
 member_data value = object (member (codes "value") (string value) no_members)
 
--- the members, where there are any
+-- the members, if there are any
 abbrev pub group_members_data : List (List ℕ) → Option Data
 group_members_data [] = None
 group_members_data (v ∷ vs) = Some (array (items_of (map member_data (v ∷ vs))))
 
--- a group's attributes in byte order, beside an id and `meta`
+-- a group's attributes in byte order, with an id and `meta`
 abbrev pub group_parts : Option Data → Option Data → GroupRecord → List Part
 group_parts id meta g =
     (codes "displayName", Some (string g.display_name))
@@ -109,11 +109,11 @@ group_front g = take 2 (group_parts None None g)
 unfoldable pub group_back : GroupRecord → List Part
 group_back g = drop 5 (group_parts None None g)
 
--- what is stored of a resource
+-- what a store keeps of a resource
 abbrev pub content_data : Content → Data
 content_data c = resource_data None None c
 
--- where it is found
+-- the URI of a shown resource
 abbrev pub shown_location : List ℕ → ShownRecord → List ℕ
 shown_location base s = location_text base (content_kind s.content) s.id
 
@@ -127,6 +127,6 @@ meta_parts base s =
 unfoldable pub meta_data : List ℕ → ShownRecord → Data
 meta_data base s = object (members_from (meta_parts base s))
 
--- what is shown of a resource
+-- what an answer shows of a resource
 abbrev pub shown_data : List ℕ → ShownRecord → Data
 shown_data base s = resource_data (Some (string s.id)) (Some (meta_data base s)) s.content

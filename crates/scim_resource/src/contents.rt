@@ -9,7 +9,7 @@ use crate::users::User;
 use scim_key::{Kind, RecordName, Revision};
 use std::alloc::{AllocError, Global};
 
-/// What a resource contains, but for its id and `meta`.
+/// What a resource contains, except for its id and `meta`.
 #[derive(Debug, Drop)]
 pub enum Content {
     User(User),
@@ -37,7 +37,7 @@ impl Content {
         }
     }
 
-    /// The source's revision that this is the image of, if it has one.
+    /// The source revision that this content is the image of, if it has one.
     pub fn revision(&self) -> Option<Revision>
         ensures value { result ≡ content_revision self.now }
         ensures lawful { IsSourceRevision result }
@@ -48,7 +48,7 @@ impl Content {
         }
     }
 
-    /// Whether the account is switched on. A group has none.
+    /// Whether the user's account is active; `None` for a group.
     pub fn active(&self) -> Option<bool>
         ensures { result ≡ content_active self.now }
     {
@@ -58,7 +58,7 @@ impl Content {
         }
     }
 
-    /// The values of a group's members, in their order. A user has none.
+    /// The values of a group's members, in order; empty for a user.
     pub fn members(&self) -> &[Text]
         ensures { result.now ≡ content_members self.now }
     {
@@ -68,7 +68,7 @@ impl Content {
         }
     }
 
-    /// The record that this is the content of.
+    /// The name of the record that has this content.
     pub fn name(&self, alloc: Global) -> Result<RecordName, AllocError>
         ensures { IfOk result (λ name. name ≡ content_name self.now) }
     {
@@ -84,7 +84,7 @@ impl Content {
         }
     }
 
-    /// Whether both are contents of one record. It takes no memory.
+    /// Whether both are contents of the same record. It allocates nothing.
     pub fn has_name_of(&self, other: &Content) -> bool
         ensures { IsTrue result ↔ (content_name self.now ≡ content_name other.now) }
     {

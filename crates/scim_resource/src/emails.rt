@@ -7,7 +7,7 @@ use crate::texts::{Text, copy_of};
 use std::alloc::{AllocError, Global};
 use std::marker::Model;
 
-/// How many email addresses a user may have.
+/// The most email addresses that a user may have.
 pub const EMAIL_LIMIT: usize = 10;
 
 /// An email address.
@@ -30,7 +30,7 @@ impl Clone for Email {
     }
 }
 
-/// At most ten email addresses, of which one at most is primary.
+/// At most ten email addresses, at most one of them primary.
 #[derive(Debug, Drop)]
 pub struct Emails {
     items: Vec<Email>,
@@ -50,7 +50,6 @@ impl Model for Emails {
 }
 
 impl Emails {
-    /// No email address.
     pub fn new(alloc: Global) -> Emails
         ensures { result ≡ [] }
     {
@@ -59,7 +58,7 @@ impl Emails {
         }
     }
 
-    /// The list, where it has at most ten addresses, of which one at most is primary.
+    /// The list, if it has at most ten addresses and at most one of them is primary.
     pub fn from_vec(items: Vec<Email>) -> Option<Emails>
         requires { AreEmails items.items }
         ensures { SomeIff result (are_few items.items ≡ true) items.items }

@@ -1,4 +1,4 @@
-//! Why a value isn't read as a resource.
+//! Why a value can't be read as a resource.
 ghost use Rattle.std.specs.Prelude.{◌≡◌};
 ghost use Rattle.scim_resource.specs.declared.faults.ReadFault.TheVariants.{InvalidValue, Memory};
 ghost use Rattle.scim_resource.specs.Faults.{fault_of_json, fault_of_name};
@@ -8,10 +8,10 @@ use scim_key::NameFault;
 use std::alloc::{AllocError, AllocFailed};
 use thiserror::Error;
 
-/// Why a value isn't read as a resource. `InvalidSyntax` goes before `InvalidValue`.
+/// Why a value can't be read as a resource. `InvalidSyntax` comes before `InvalidValue`.
 #[derive(Clone, Copy, Debug, PartialEq, Eq, Error)]
 pub enum ReadFault {
-    /// The value is no object, or an object that is looked into repeats a name.
+    /// The value isn't an object, or an object that reading looks into repeats a name.
     #[error("P1")]
     InvalidSyntax,
     /// An attribute is missing or not allowed.

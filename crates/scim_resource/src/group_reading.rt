@@ -29,7 +29,7 @@ pub(crate) fn read_group(alloc: Global, value: &Value) -> Result<Group, ReadFaul
     group_fields(alloc, members)
 }
 
-/// Whether a name is repeated in one of the objects that are looked into.
+/// Whether one of the objects that reading looks into repeats a name.
 #[tactic(auto, unfolding(crate::specs::Reading::group_repeats))]
 fn group_repeats(alloc: Global, members: &Map<String, Value>) -> Result<bool, AllocError>
     ensures { IfOk result (λ b. b ≡ spec.group_repeats (members_view members.now.entries)) }
@@ -67,7 +67,7 @@ fn display_name_in(alloc: Global, value: Option<&Value>) -> Result<GroupName, Re
     }
 }
 
-/// The values of the members, each kept once at its first place.
+/// The values of the members; a repeated value is kept once, at its first place.
 fn group_members_in(alloc: Global, value: Option<&Value>) -> Result<Members, ReadFault>
     ensures given { Gives ReadFault.Memory result
         (spec.group_members_in (option_map (λ v. view v.now) value.entry)) }
@@ -80,7 +80,7 @@ fn group_members_in(alloc: Global, value: Option<&Value>) -> Result<Members, Rea
     }
 }
 
-/// No more is read once there are more than a group may have.
+/// Reading stops as soon as there are more values than a group may have.
 #[tactic(auto, unfolding(crate::specs::Reading::members_after))]
 fn members_of(alloc: Global, items: &[Value]) -> Result<Vec<Text>, ReadFault>
     ensures given { GivesBy (λ values. values.items) ReadFault.Memory result
@@ -99,7 +99,7 @@ fn members_of(alloc: Global, items: &[Value]) -> Result<Vec<Text>, ReadFault>
     Ok(values)
 }
 
-/// Keeps a value that isn't there yet.
+/// Adds a value, unless it is there already.
 fn keep(values: &mut Vec<Text>, value: Option<Text>) -> Result<(), AllocError>
     requires { IsTextIf value }
     ensures kept { OnOk result (values.new.items ≡ spec.with_member values.old.items value) }

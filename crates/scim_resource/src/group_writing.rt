@@ -1,4 +1,4 @@
-//! Writing a group as JSON, straight as text.
+//! Writes a group as JSON, directly as text.
 ghost use Rattle.std.specs.Prelude.{None, Some, OnOk, codes, map};
 ghost use Rattle.serde_json.specs.Data.{array, string};
 ghost use Rattle.serde_json.specs.View.{items_of};
@@ -28,7 +28,7 @@ pub(crate) fn write_group(out: &mut Writer, group: &Group) -> Result<(), AllocEr
     out.end_object()
 }
 
-/// The group as a content beside the id and `meta` of what is shown.
+/// Writes the group's attributes, with the id and `meta` of the shown resource.
 pub(crate) fn write_shown_group(
     alloc: Global,
     base: &Base,
@@ -67,7 +67,7 @@ fn write_group_back(out: &mut Writer, group: &Group) -> Result<(), AllocError>
     write_source(out, group.revision())
 }
 
-/// The members, where there are any.
+/// Writes the members, if there are any.
 #[tactic(auto, using(crate::proofs::Written::members_some))]
 fn write_members(out: &mut Writer, values: &[Text]) -> Result<(), AllocError>
     ensures { OnOk result

@@ -12,7 +12,7 @@ use scim_key::{GroupName, Revision};
 use std::alloc::{AllocError, Global};
 use std::marker::Model;
 
-/// How many members a group may have.
+/// The most members that a group may have.
 pub const MEMBER_LIMIT: usize = 400;
 
 /// The values of a group's members: at most 400 texts, none of them twice.
@@ -33,7 +33,6 @@ impl Model for Members {
 }
 
 impl Members {
-    /// No member.
     pub fn new(alloc: Global) -> Members
         ensures { result ≡ [] }
     {
@@ -42,7 +41,7 @@ impl Members {
         }
     }
 
-    /// The list, where it has at most 400 values and none of them twice.
+    /// The list, if it has at most 400 values and none of them twice.
     pub fn from_vec(items: Vec<Text>) -> Option<Members>
         requires { AreTexts items.items }
         ensures { SomeIff result ((are_distinct items.items ≡ true) × (are_few_members items.items ≡ true)) items.items }
@@ -116,7 +115,7 @@ impl Model for Group {
     ghost invariant = { λ g. IsGroup (record { display_name = g.display_name; external_id = g.external_id; members = g.members; revision = g.revision }) };
 }
 
-/// One call wherever a group is dropped, as for a user.
+/// Dropping a group is one call, as for a user.
 impl Drop for Group {
     fn drop(self) {
         let Group {
@@ -129,7 +128,7 @@ impl Drop for Group {
 }
 
 impl Group {
-    /// A group with no id at the source. Its name is lawful, since every `GroupName` is.
+    /// A group without an id at the source. Its name is valid because every `GroupName` is.
     pub fn new(display_name: GroupName, members: Members, revision: Option<Revision>) -> Group
         requires named { IsGroupName display_name }
         requires listed { IsMemberList members }
@@ -174,7 +173,7 @@ impl Group {
         self.members.as_slice()
     }
 
-    /// The source's revision that this is the image of, if it has one.
+    /// The source revision that this group is the image of, if it has one.
     pub fn revision(&self) -> Option<Revision>
         ensures value { result ≡ self.now.revision }
         ensures lawful { IsGroup self.now }

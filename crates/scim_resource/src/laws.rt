@@ -1,4 +1,4 @@
-//! Facts about the definitions, with nothing to run.
+//! Laws of the definitions, with nothing to run.
 ghost use Rattle.std.specs.Prelude.{◌≡◌, ℕ, List, true, Some, Ok, Err, codes};
 ghost use Rattle.std.specs.Str.{IsUtf8};
 ghost use Rattle.scim_key.specs.declared.records.Kind.{Kind};
@@ -21,8 +21,8 @@ ghost use Rattle.scim_resource.specs.declared.contents.Content.{Content};
 ghost use Rattle.scim_resource.specs.declared.contents.Content.TheVariants.{Group};
 ghost use Rattle.scim_resource.specs.declared.faults.ReadFault.TheVariants.{InvalidSyntax};
 
-/// A content that some reading gives, once written, is read back as itself: by value, and from the
-/// text by the reading of a body.
+/// A content that was read, once written, is read back as itself: from its value, and from its text as a
+/// body.
 pub fn text_reads_back()
     ensures spells { (c : Content) → IsContent c
         → value_of (compact_text (content_data c)) ≡ Some (content_data c) }
@@ -32,8 +32,8 @@ pub fn text_reads_back()
         → content_in (content_kind c) (compact_text (content_data c)) ≡ Ok c }
 {}
 
-/// A resource that is shown has a text that spells it, and its content is read back from it; where the
-/// resource is one that some reading gives, all of it is: its id, its version and its content.
+/// The text of a shown resource spells it, and its content is read back from it. If the resource was read
+/// itself, its id and version are read back too.
 pub fn shown_reads_back()
     ensures spells { (base : List ℕ) (s : ShownRecord) → IsContent s.content
         → value_of (compact_text (shown_data base s)) ≡ Some (shown_data base s) }
@@ -43,15 +43,14 @@ pub fn shown_reads_back()
         → read_shown kind (shown_data base s) ≡ Ok s }
 {}
 
-/// A name that is repeated, in lowered letters, in any object that is looked into is refused before
-/// any value: in the body, the source extension, a user's name or emails, a group's members.
+/// A name that is repeated, in lower case, is refused before any wrong value. This holds for each object
+/// that reading looks into: the body, the source extension, a user's name or emails, a group's members.
 pub fn repeated_names_come_first()
     ensures { (kind : Kind) (ms inner : Members) → IsLookedInto kind ms inner → repeats inner ≡ true
         → read_content kind (object ms) ≡ Err InvalidSyntax }
 {}
 
-/// Of the values that the `members` of a group have each is kept once, at its first place, and none is
-/// lost.
+/// Each value of a group's `members` is kept once, at its first place, and none is lost.
 pub fn repeated_members_are_kept_once()
     ensures { (ms : Members) (ds : List Data) (g : GroupRecord)
         → attribute (codes "members") ms ≡ Some (array (items_of ds))
@@ -59,8 +58,8 @@ pub fn repeated_members_are_kept_once()
         → KeepsFirsts (member_values ds) g.members }
 {}
 
-/// Values that are alike are read the same, wherever names are spelled in another case or stand in
-/// another order: in the body, a name, emails, members or the source extension.
+/// Values that differ only in the case of names and the order of members are read the same: the body, a
+/// name, emails, members or the source extension.
 pub fn alike_values_are_read_the_same()
     ensures same { (kind : Kind) (d e : Data) → Alike d e → read_content kind d ≡ read_content kind e }
     // A name may be spelled in another case.

@@ -1,4 +1,4 @@
-//! Where a resource is found.
+//! The URI of a resource.
 ghost use Rattle.std.specs.Prelude.{◌≡◌, ◌<◌, ◌++◌, ◌∷◌, [], IfOk, OnOk, string_bytes};
 ghost use Rattle.scim_resource.specs.Locations as spec;
 

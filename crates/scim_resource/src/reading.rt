@@ -24,8 +24,7 @@ use serde_json::{Map, Value};
 use std::alloc::{AllocError, Global};
 
 impl Content {
-    /// Reads what a resource of this type contains. Unknown attributes, `id` and `meta` are
-    /// disregarded.
+    /// Reads what a resource of this type contains. Unknown attributes, `id` and `meta` are ignored.
     #[tactic(auto, unfolding(crate::specs::Reading::read_content))]
     pub fn read(alloc: Global, value: &Value, kind: Kind) -> Result<Content, ReadFault>
         ensures { Gives ReadFault.Memory result (spec.read_content kind (view value.now)) }
@@ -36,8 +35,8 @@ impl Content {
         }
     }
 
-    /// Reads what a body says that a resource of this type contains. Bytes that aren't JSON in UTF-8
-    /// are `InvalidSyntax`.
+    /// Reads a body as the content of a resource of this type. Bytes that aren't JSON in UTF-8 are
+    /// `InvalidSyntax`.
     pub fn from_slice(alloc: Global, bytes: &[u8], kind: Kind) -> Result<Content, ReadFault>
         ensures { Gives ReadFault.Memory result (spec.content_in kind bytes.now) }
     {
@@ -57,7 +56,7 @@ fn read_user(alloc: Global, value: &Value) -> Result<User, ReadFault>
     user_fields(alloc, members)
 }
 
-/// Whether a name is repeated in one of the objects that are looked into.
+/// Whether one of the objects that reading looks into repeats a name.
 #[tactic(auto, unfolding(crate::specs::Reading::user_repeats))]
 fn user_repeats(alloc: Global, members: &Map<String, Value>) -> Result<bool, AllocError>
     ensures { IfOk result (λ b. b ≡ spec.user_repeats (members_view members.now.entries)) }
@@ -161,7 +160,7 @@ fn email_in(alloc: Global, item: &Value) -> Result<Option<Email>, ReadFault>
     }
 }
 
-/// An email, or none where it has no value.
+/// An email, or none if it has no value.
 #[tactic(auto, unfolding(crate::specs::Reading::email_of))]
 fn email_of(alloc: Global, members: &Map<String, Value>) -> Result<Option<Email>, ReadFault>
     ensures given { Gives ReadFault.Memory result
@@ -180,7 +179,7 @@ fn email_of(alloc: Global, members: &Map<String, Value>) -> Result<Option<Email>
     }))
 }
 
-/// Whether the value is a list of texts, one of which is this URN in any case.
+/// Whether the value is a list of texts that contains this URN, in any case.
 pub(crate) fn lists_schema(value: Option<&Value>, urn: &str) -> bool
     ensures { result ≡ spec.lists_schema urn.now (option_map (λ v. view v.now) value.entry) }
 {
@@ -213,7 +212,7 @@ fn user_name_in(alloc: Global, value: Option<&Value>) -> Result<UserName, ReadFa
     }
 }
 
-/// The revision in the source extension, where there is one.
+/// The revision in the source extension, if there is one.
 pub(crate) fn revision_in(extension: Option<&Value>) -> Result<Option<Revision>, ReadFault>
     ensures given { result
         ≡ spec.revision_in (option_map (λ v. view v.now) extension.entry) }

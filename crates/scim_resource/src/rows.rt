@@ -12,7 +12,7 @@ use scim_version::EntityTag;
 use std::alloc::{AllocError, Global};
 use std::marker::Model;
 
-/// The greatest version of a resource, the last whole number that every JSON reader takes exactly.
+/// The greatest version of a resource: the last whole number that every JSON reader reads exactly.
 pub const LAST_VERSION: u64 = 9_007_199_254_740_991;
 
 /// A row of the provider: the resource's number in order of creation, from 1 to `LAST_NUMBER`, its
@@ -34,7 +34,7 @@ impl Model for Stored {
     ghost invariant = { λ s. IsStored (record { number = s.number; version = s.version; content = s.content }) };
 }
 
-/// One call wherever a row is dropped, as for a user.
+/// Dropping a row is one call, as for a user.
 impl Drop for Stored {
     fn drop(self) {
         let Stored {
@@ -46,7 +46,6 @@ impl Drop for Stored {
 }
 
 impl Stored {
-    /// A row.
     pub fn new(number: u32, version: u64, content: Content) -> Stored
         requires numbered { 1 ≤ number }
         requires number_within { number ≤ last_number }
@@ -61,7 +60,6 @@ impl Stored {
         }
     }
 
-    /// The resource's number.
     pub fn number(&self) -> u32
         ensures value { result ≡ self.now.number }
         ensures from { 1 ≤ result }
@@ -79,14 +77,12 @@ impl Stored {
         self.version
     }
 
-    /// What the resource contains.
     pub fn content(&self) -> &Content
         ensures { result.now ≡ self.now.content }
     {
         &self.content
     }
 
-    /// The resource's id.
     pub fn id(&self, alloc: Global) -> Result<ResourceId, AllocError>
         ensures { IfOk result (λ id. id ≡ id_text self.now.number) }
     {
@@ -106,7 +102,7 @@ impl Clone for Stored {
     }
 }
 
-/// A resource as an answer shows it: its id, its entity tag where that is known, and its content.
+/// A resource as an answer shows it: its id, its entity tag if it is known, and its content.
 #[derive(Debug)]
 pub struct Shown {
     id: ResourceId,
@@ -124,7 +120,7 @@ impl Model for Shown {
     ghost invariant = { λ s. IsShown (record { id = s.id; version = s.version; content = s.content }) };
 }
 
-/// One call wherever it is dropped, as for a user.
+/// Dropping it is one call, as for a user.
 impl Drop for Shown {
     fn drop(self) {
         let Shown {
@@ -135,11 +131,11 @@ impl Drop for Shown {
     }
 }
 
-/// How many bytes the entity tag of a shown resource may have.
+/// The most bytes that the entity tag of a shown resource may have.
 pub const TAG_LIMIT: usize = 256;
 
 impl Shown {
-    /// What is shown by these parts.
+    /// The shown resource with these parts.
     pub(crate) fn from_parts(id: ResourceId, version: Option<EntityTag>, content: Content) -> Shown
         requires id { IsId id }
         requires id_text { IsUtf8 id }
@@ -166,14 +162,13 @@ impl Shown {
         })
     }
 
-    /// The resource's id.
     pub fn id(&self) -> &ResourceId
         ensures { result.now ≡ self.now.id }
     {
         &self.id
     }
 
-    /// The entity tag, where it is known.
+    /// The entity tag, if it is known.
     pub fn version(&self) -> Option<&EntityTag>
         ensures value { option_copied result ≡ self.now.version }
         ensures lawful { IsShown self.now }
@@ -181,7 +176,6 @@ impl Shown {
         self.version.as_ref()
     }
 
-    /// What the resource contains.
     pub fn content(&self) -> &Content
         ensures { result.now ≡ self.now.content }
     {

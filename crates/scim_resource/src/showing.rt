@@ -18,9 +18,8 @@ use serde_json::{Map, Value};
 use std::alloc::Global;
 
 impl Shown {
-    /// Reads a resource of this type as it is shown. Its content is read as `Content::read` does it;
-    /// an `id` is required. A `meta.version` that is missing or no entity tag of at most 256 bytes is
-    /// none.
+    /// Reads a resource of this type as an answer shows it. The content is read as by `Content::read`; an
+    /// `id` is required. If `meta.version` isn't an entity tag of at most 256 bytes, the version is `None`.
     pub fn read(alloc: Global, value: &Value, kind: Kind) -> Result<Shown, ReadFault>
         ensures { Gives ReadFault.Memory result (spec.read_shown kind (view value.now)) }
     {
@@ -35,7 +34,7 @@ impl Shown {
     }
 }
 
-/// The resource with this content, and the id and the version of an object.
+/// The resource with this content, and with the id and the version of this object.
 fn shown_with(
     alloc: Global,
     content: Content,
@@ -61,7 +60,7 @@ fn id_in(alloc: Global, value: Option<&Value>) -> Result<ResourceId, ReadFault>
     }
 }
 
-/// The version in `meta`, where it is an entity tag of at most 256 bytes.
+/// The version in `meta`, if it is an entity tag of at most 256 bytes.
 fn version_in(alloc: Global, meta: Option<&Value>) -> Result<Option<EntityTag>, ReadFault>
     ensures given { Gives ReadFault.Memory result
         (Ok (spec.version_in (option_map (λ v. view v.now) meta.entry))) }

@@ -7,7 +7,7 @@ ghost use Rattle.scim_resource.specs.Texts.{IsText, is_short_text};
 use std::alloc::AllocError;
 use std::marker::Model;
 
-/// How many bytes a text of an attribute may have.
+/// The most bytes that a text of an attribute may have.
 pub const TEXT_LIMIT: usize = 256;
 
 /// A text of 1 to 256 bytes, in UTF-8.
@@ -36,7 +36,7 @@ pub(crate) fn is_short_text(text: &str) -> bool
 }
 
 impl Text {
-    /// The text, where it has 1 to 256 bytes.
+    /// The text, if it has 1 to 256 bytes.
     pub fn from_string(text: String) -> Option<Text>
         ensures { SomeIff result (IsText (string_bytes text)) (string_bytes text) }
     {

@@ -34,8 +34,8 @@ impl Model for User {
     ghost invariant = { λ u. IsUser (record { user_name = u.user_name; external_id = u.external_id; given_name = u.given_name; family_name = u.family_name; emails = u.emails; active = u.active; revision = u.revision }) };
 }
 
-/// One call wherever a user is dropped, and not a step for each field: a proof is as long as the
-/// steps that it goes through.
+/// Dropping a user is one call, and not a step for each field: each step would lengthen every proof that
+/// goes through it.
 impl Drop for User {
     fn drop(self) {
         let User {
@@ -51,7 +51,7 @@ impl Drop for User {
 }
 
 impl User {
-    /// A user with no other attribute. Its name is lawful, since every `UserName` is.
+    /// A user without other attributes. Its name is valid because every `UserName` is.
     pub fn new(alloc: Global, user_name: UserName, active: bool, revision: Option<Revision>) -> User
         requires named { IsUserName user_name }
         requires given { IsSourceRevision revision }
@@ -129,14 +129,14 @@ impl User {
         self.emails.as_slice()
     }
 
-    /// Whether the account is switched on.
+    /// Whether the account is active.
     pub fn is_active(&self) -> bool
         ensures { result ≡ self.now.active }
     {
         self.active
     }
 
-    /// The source's revision that this is the image of, if it has one.
+    /// The source revision that this user is the image of, if it has one.
     pub fn revision(&self) -> Option<Revision>
         ensures value { result ≡ self.now.revision }
         ensures lawful { IsUser self.now }

@@ -1,4 +1,4 @@
-//! Writing a resource as JSON, straight as text.
+//! Writes a resource as JSON, directly as text.
 ghost use Rattle.std.specs.Prelude.{◌≡◌, None, Some, IfOk, OnOk, codes, map, option_map, string_bytes};
 ghost use Rattle.std.specs.Option.{option_copied};
 ghost use Rattle.std.specs.Str.{IsUtf8};
@@ -27,7 +27,7 @@ use std::alloc::{AllocError, Global};
 use std::str;
 
 impl Content {
-    /// What is stored of the resource: the compact text of its attributes, in UTF-8.
+    /// The text that a store keeps of the resource: its attributes as compact JSON in UTF-8.
     #[tactic(auto, using(scim_json::proofs::Written::written_text))]
     pub fn text(&self, alloc: Global) -> Result<Vec<u8>, AllocError>
         ensures text { IfOk result (λ text. text.items ≡ compact_text (spec.content_data self.now)) }
@@ -58,7 +58,7 @@ impl Shown {
         location(alloc, base, self.content().kind(), self.id())
     }
 
-    /// Writes what is shown of the resource by a service at this base.
+    /// Writes the resource as a service at this base shows it.
     pub fn write(&self, alloc: Global, base: &Base, out: &mut Writer) -> Result<(), AllocError>
         ensures written { OnOk result (Writes (spec.shown_data base.now self.now) out.old out.new) }
         ensures lawful { OnOk result (IsContent self.now.content) }
@@ -95,7 +95,7 @@ impl Shown {
         out.end_object()
     }
 
-    /// The entity tag as text, where it is known.
+    /// Writes the entity tag as text, if it is known.
     fn write_version(&self, out: &mut Writer) -> Result<(), AllocError>
         ensures written { OnOk result
             (WritesPart (codes "version") (option_map string self.now.version) out.old out.new) }
@@ -118,7 +118,7 @@ fn write_user(out: &mut Writer, user: &User) -> Result<(), AllocError>
     out.end_object()
 }
 
-/// The user as a content beside the id and `meta` of what is shown.
+/// Writes the user's attributes, with the id and `meta` of the shown resource.
 fn write_shown_user(
     alloc: Global,
     base: &Base,
@@ -160,7 +160,7 @@ fn write_user_back(out: &mut Writer, user: &User) -> Result<(), AllocError>
     write_text(out, "userName", user.user_name().as_str())
 }
 
-/// A text of an attribute, where there is one.
+/// Writes a text of an attribute, if there is one.
 pub(crate) fn write_text_of(
     out: &mut Writer,
     name: &str,
@@ -175,7 +175,7 @@ pub(crate) fn write_text_of(
     }
 }
 
-/// A name, where it has a part.
+/// Writes a name, if it has a part.
 #[tactic(auto, using(crate::proofs::Written::name_some))]
 fn write_name(
     out: &mut Writer,
@@ -207,7 +207,7 @@ fn write_name_parts(
     out.end_object()
 }
 
-/// The emails, where there are any.
+/// Writes the emails, if there are any.
 #[tactic(auto, using(crate::proofs::Written::emails_some))]
 fn write_emails(out: &mut Writer, emails: &[Email]) -> Result<(), AllocError>
     ensures { OnOk result
@@ -241,7 +241,7 @@ fn write_email(out: &mut Writer, email: &Email) -> Result<(), AllocError>
     out.end_object()
 }
 
-/// `primary` only where it is true.
+/// Writes `primary`, if it is true.
 fn write_primary(out: &mut Writer, primary: bool) -> Result<(), AllocError>
     ensures { OnOk result
         (WritesPart (codes "primary") (spec.primary_data primary) out.old out.new) }
@@ -253,7 +253,7 @@ fn write_primary(out: &mut Writer, primary: bool) -> Result<(), AllocError>
     out.boolean(true)
 }
 
-/// The source extension, where there is a revision.
+/// Writes the source extension, if there is a revision.
 pub(crate) fn write_source(out: &mut Writer, revision: Option<Revision>) -> Result<(), AllocError>
     ensures { OnOk result
         (WritesPart urn (spec.source_data revision) out.old out.new) }
@@ -274,7 +274,7 @@ fn write_revision(out: &mut Writer, revision: Revision) -> Result<(), AllocError
     out.end_object()
 }
 
-/// The core URN, then the source URN where there is a revision.
+/// Writes the core URN, then the source URN if there is a revision.
 pub(crate) fn write_schemas(
     out: &mut Writer,
     core: &str,

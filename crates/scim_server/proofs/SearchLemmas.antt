@@ -1,4 +1,4 @@
--- Refusals of a search, and what is asked as it is answered.
+-- The refusals of a search, and what it asks for if it isn't refused.
 use Rattle.std.proofs.Common.{◌≡◌, ℕ, List, inl, inr, refl, sym, subst, Option, Some, Result, Ok, Err}
 use Rattle.std.specs.Prelude.{ℤ, IfOk, codes}
 use Rattle.scim_key.specs.Outcome.{Gives}

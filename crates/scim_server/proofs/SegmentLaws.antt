@@ -6,7 +6,7 @@ use Rattle.scim_server.specs.Laws.{SegmentsAreSpelled}
 
 -- ---- from the grammar
 
--- a byte but `%` stands for itself, whatever follows
+-- a byte except `%` stands for itself, whatever follows
 pub unescaped-plain : (byte : ℕ) (rest : List ℕ) → nat_eq byte 37 ≡ false → unescaped (byte ∷ rest) ≡ put_before (Some byte) (unescaped rest)
 unfolding unescaped
 unescaped-plain byte [] other = rw other refl
@@ -28,7 +28,7 @@ from_SpellsText _ _ (escape high low a b {segment} {text} is_high is_low s) =
 
 -- ---- to the grammar
 
--- a byte and the rest that stands behind it
+-- a byte and the rest after it
 record IsPut (byte : Option ℕ) (rest : Option (List ℕ)) (text : List ℕ) : Type 0 where
   first : ℕ
   others : List ℕ

@@ -8,7 +8,7 @@ use Rattle.scim_key.specs.Identifiers.{id_fault}
 use Rattle.scim_server.specs.Segments.{unescaped, put_before, without_fault, lawful_id, id_of}
 use Rattle.scim_server.proofs.SegmentLaws.{unescaped-plain}
 
--- what is spelled where this stands in front of the rest
+-- what is spelled if this is in front of the rest
 abbrev pub prepended : List ℕ → Option (List ℕ) → Option (List ℕ)
 prepended front None = None
 prepended front (Some rest) = Some (front ++ rest)

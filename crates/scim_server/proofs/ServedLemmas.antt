@@ -1,4 +1,4 @@
--- From what was read and what became of it to what stood at the reader's front.
+-- From what was read, and what followed from it, to what was at the reader's front.
 use Rattle.std.proofs.Common.{◌≡◌, ℕ, ◌⊎◌, inl, inr, List, ◌++◌, Option, Some, Result, Ok, Err, refl, subst, take}
 use Rattle.httparse.specs.Grammar.{EndsInTarget}
 use Rattle.httparse.specs.Spans.{RequestExceeds}
@@ -17,7 +17,8 @@ use Rattle.scim_server.specs.declared.serving.Served.{Served}
 use Rattle.scim_server.specs.Meaning.{Asks}
 use Rattle.scim_server.proofs.MeaningLaws.{one_meaning}
 use Rattle.scim_server.specs.Replies.{ReplyRecord}
-use Rattle.scim_server.specs.Serving.{AnswersMeaning, AnswersMessage, GivesUp, Sends, IsSent, Serves, HasRead}
+use Rattle.provider_core.specs.declared.registry.Registry.{Ghosts}
+use Rattle.scim_server.specs.Serving.{AnswersMeaning, AnswersMessage, GivesUp, LeavesRows, Sends, IsSent, Serves, HasRead}
 use Rattle.scim_server.specs.Known.{IsHindered, MeetsFault, ServesKnown}
 
 module _ (faithful : Type 0) (base : List ℕ) (old new : List StoredRecord) (before after : Writing) (served : Served) where
@@ -41,7 +42,7 @@ module _ (faithful : Type 0) (base : List ℕ) (old new : List StoredRecord) (be
   meets fault answered (inl same) s = inl (subst (λ f. Serves faithful base old new before after (Err f) served) same s)
   meets fault answered (inr stream) s = inr (hindered answered stream s)
 
-  -- where this fault or one of the stream is what was read
+  -- if this fault, or one of the stream, is what was read
   meets_fault : (fault : ReadFault) (r : Result Message ReadFault) → Answers fault r → Serves faithful base old new before after r served
       → MeetsFault base old new before after served fault ⊎ IsHindered faithful old new before after served
   meets_fault fault (Ok m) h s = absurd h
@@ -91,7 +92,7 @@ module _ (faithful : Type 0) (base : List ℕ) (old new : List StoredRecord) (be
   malformed all (Err OutOfMemory) h s = inr (inr (inr (hindered OutOfMemory tt s)))
   malformed all (Err TurnsExhausted) h s = inr (inr (inr (hindered TurnsExhausted tt s)))
 
-  -- whatever stands at the front
+  -- whatever is at the front
   pub serves_known : (reading_old reading_new : Reading) (r : Result Message ReadFault) → HasRead reading_old reading_new r
       → Serves faithful base old new before after r served
       → ServesKnown faithful base old new before after served reading_old.remaining reading_new.remaining
@@ -102,3 +103,7 @@ module _ (faithful : Type 0) (base : List ℕ) (old new : List StoredRecord) (be
     part = λ bytes at part. meets_fault EndedEarly r (read.ended bytes at part) s;
     malformed = λ bytes rest at within never. malformed (bytes ++ rest) r (read.malformed bytes rest at within never) s;
   }
+
+-- a store on which no call was made
+pub leaves_all : {R : Type 0} (g : Ghosts R) (r : R) (read : Result Message ReadFault) → LeavesRows g r r read
+leaves_all g r read = record { honest = λ honest. honest; stop = λ honest found may. inl may }

@@ -1,4 +1,4 @@
--- What is served where the reader's bytes are known: from what stands at their front to what is written.
+-- What a connection does if the reader's bytes are known: from the bytes at the front to what is written.
 use Rattle.std.specs.Prelude.{◌≡◌, ℕ, ◌≤◌, ◌⊎◌, List, ◌++◌, Option, Some, Result, Err, length, take}
 use Rattle.httparse.specs.Grammar.{NeverHasRequest, EndsInTarget}
 use Rattle.httparse.specs.Spans.{RequestExceeds}
@@ -17,21 +17,21 @@ use Rattle.scim_server.specs.Meaning.{Asks}
 use Rattle.scim_server.specs.Reactions.{reaction_to}
 use Rattle.scim_server.specs.Serving.{AnswersMeaning, GivesUp, Sends, IsSilent, Reacts}
 
--- the reader failed, or gave no whole request in all its turns
+-- the reader failed, or gave no whole request within its turns
 abbrev pub IsReaderFault : ReadFault → Type 0
 IsReaderFault fault = (fault ≡ ReadFailed) ⊎ (fault ≡ TurnsExhausted)
 
--- the store failed or it was out of memory, and the fixed text was sent; or the reader failed, and nothing was
+-- the store failed or memory ran out, and the fixed text was sent; or the reader failed, and nothing was sent
 abbrev pub IsHindered : (faithful : Type 0) → (old new : List StoredRecord) → (before after : Writing) → Served → Type 0
 IsHindered faithful old new before after served =
     Sends before after (GivesUp faithful old new) served
     ⊎ ((fault : ReadFault) × IsReaderFault fault × IsSilent before after fault served × (new ≡ old))
 
--- the reaction to a fault of reading, and the rows as they were
+-- the reaction to a fault of reading, and unchanged rows
 abbrev pub MeetsFault : List ℕ → (old new : List StoredRecord) → (before after : Writing) → Served → ReadFault → Type 0
 MeetsFault base old new before after served fault = Reacts base before after fault (reaction_to fault) served × (new ≡ old)
 
--- What is served where the reader's bytes are known
+-- What a connection does if the reader's bytes are known
 pub record ServesKnown (faithful : Type 0) (base : List ℕ) (old new : List StoredRecord) (before after : Writing) (served : Served) (remaining left : Option (List ℕ)) : Type 0 where
   -- what an accepted message at the front asks for is answered, and what follows it is left
   pub message : (bytes rest : List ℕ) (m : Message) (asked : Result Request Refusal) → remaining ≡ Some (bytes ++ rest) → IsRequestMessage bytes m → IsAccepted m
@@ -42,14 +42,14 @@ pub record ServesKnown (faithful : Type 0) (base : List ℕ) (old new : List Sto
   pub refused_head : (front rest : List ℕ) (head : Head) (fault : ReadFault) → remaining ≡ Some (front ++ rest) → IsRequestHead front head
       → judge_head head ≡ Err fault
       → MeetsFault base old new before after served fault ⊎ IsHindered faithful old new before after served
-  -- a head past a limit is refused
+  -- a head beyond a limit is refused
   pub long : (bytes rest : List ℕ) → remaining ≡ Some (bytes ++ rest) → IsLongPart bytes ⊎ HasLongSection bytes
       → MeetsFault base old new before after served HeadTooLong ⊎ IsHindered faithful old new before after served
-  -- a part of a request alone is no request
+  -- only a part of a request isn't a request
   pub part : (bytes : List ℕ) → remaining ≡ Some bytes → IsPartOfHead bytes ⊎ IsPartOfBody bytes
       → MeetsFault base old new before after served EndedEarly ⊎ IsHindered faithful old new before after served
-  -- what no bytes make a head is malformed; in a target that may be noticed at its end, and among the field lines past
-  -- the limit not at all
+  -- bytes that no bytes complete to a head are malformed; in a target that may be noticed only at its end, and among
+  -- field lines beyond the limit not at all
   pub malformed : (bytes rest : List ℕ) → remaining ≡ Some (bytes ++ rest) → length bytes ≤ head_limit → NeverHasRequest bytes
       → MeetsFault base old new before after served Malformed
       ⊎ ((EndsInTarget (take head_limit (bytes ++ rest)) ⊎ RequestExceeds field_limit (bytes ++ rest)) × MeetsFault base old new before after served HeadTooLong)

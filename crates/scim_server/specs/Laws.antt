@@ -1,4 +1,4 @@
--- Facts about the definitions of requests, of replies, of segments and of paths.
+-- Laws of the definitions of requests, replies, segments and paths.
 use Rattle.std.specs.Prelude.{◌≡◌, ℕ, ◌+◌, ◌<◌, ◌≤◌, ◌++◌, Bool, true, false, List, [], ◌∷◌, length, Option, Some, None, IfSome, Result, codes, ⊤}
 use Rattle.std.specs.List.{AllByRecursion, list_all}
 use Rattle.std.specs.Str.{IsUtf8}
@@ -25,7 +25,7 @@ use Rattle.scim_server.specs.Segments.{SpellsText, unescaped}
 use Rattle.scim_server.specs.Meaning.{Asks}
 use Rattle.scim_server.specs.Replies.{written_lines, answer_lines, answer_text, fixed_text}
 
--- A message asks for one thing, and no text spells two filters, so what is asked is told by the message alone
+-- A message has only one meaning: no text spells two filters, so the message alone decides what is asked
 abbrev pub OneMeaning : Type 0
 OneMeaning = (m : Message) (one two : Result Request Refusal) → Asks m one → Asks m two → one ≡ two
 
@@ -40,14 +40,13 @@ not_modified_text base kind id version =
     ((codes "Connection", codes "close") ∷ (codes "Content-Location", location_text base kind id) ∷ (codes "ETag", version) ∷ [])
     []
 
--- 304 has nothing but where the resource is and its version; the fixed text is an error message as any other,
--- whatever the base
+-- A 304 has only the resource's location and version; the fixed text is an ordinary error message, whatever the base
 pub record RepliesAreLawful : Type 0 where
   pub not_modified : (base : List ℕ) (leaves_body_out : Bool) (kind : Kind) (id version : List ℕ)
       → answer_text base leaves_body_out (NotModified kind id version) ≡ not_modified_text base kind id version
   pub fixed : (base : List ℕ) → fixed_text ≡ answer_text base false (Error fixed_error)
 
--- An id is read out of a segment by the grammar
+-- The grammar decides which id a segment spells
 pub record SegmentsAreSpelled : Type 0 where
   pub read : (segment text : List ℕ) → SpellsText segment text → unescaped segment ≡ Some text
   pub spelled : (segment text : List ℕ) → unescaped segment ≡ Some text → SpellsText segment text
@@ -56,13 +55,13 @@ abbrev pub resource_path : Kind → List ℕ → List ℕ
 resource_path kinds.User id = codes "/v2/Users/" ++ escaped id
 resource_path kinds.Group id = codes "/v2/Groups/" ++ escaped id
 
--- What follows the origin in the location of a resource, be its id whatever text, is a path that names that resource
+-- The location of a resource without its origin is a path that names this resource, whatever text the id is
 pub record LocationsAreRouted : Type 0 where
   pub located : (origin : List ℕ) (kind : Kind) (id : List ℕ) → location_text (origin ++ codes "/v2") kind id ≡ origin ++ resource_path kind id
   pub routed : (kind : Kind) (id : List ℕ) → AllByRecursion (λ byte. byte < 256) id → IsUtf8 id → IsId id
       → route_of (resource_path kind id) ≡ Some (Resource kind id)
 
--- what an answer speaks of: an id of bytes, and an entity tag where one is known
+-- what the head of an answer contains: an id of bytes, and an entity tag if one is known
 abbrev pub IsSpeakable : List ℕ → Option (List ℕ) → Type 0
 IsSpeakable id version = AllByRecursion (λ byte. byte < 256) id × IfSome version IsEntityTag
 
@@ -81,7 +80,7 @@ response_message base answer = record {
   body = body_text base answer;
 }
 
--- The text of an answer is a response of just those parts, where its head and its body keep their limits
+-- The text of an answer is a response with exactly those parts, if its head and its body are within their limits
 abbrev pub AnswersAreResponses : Type 0
 AnswersAreResponses =
     (authority : List ℕ) (answer : Answer) → list_all is_authority_byte authority ≡ true → HasLawfulParts answer

@@ -1,4 +1,4 @@
--- What an accepted message asks for, or the refusal that it meets first.
+-- What an accepted message asks for, or the first refusal that applies.
 use Rattle.std.specs.Prelude.{◌≡◌, ℕ, List, [], ◌∷◌, Option, Some, None, Result, Ok, Err, if◌then◌else◌, codes, ⊤}
 use Rattle.std.specs.List.{join_by}
 use Rattle.std.specs.Str.{bytes_eq}
@@ -25,7 +25,7 @@ use Rattle.scim_server.specs.Routes.{path_of, query_of, route_of}
 use Rattle.scim_server.specs.Media.{is_type_served}
 use Rattle.scim_server.specs.Searches.{IsSearch}
 
--- the refusal of a value that isn't read as a resource (`Memory` never comes of a definition)
+-- the refusal of a value that can't be read as a resource (no definition gives `Memory`)
 abbrev pub refusal_of : ReadFault → Refusal
 refusal_of InvalidSyntax = UnreadableBody
 refusal_of InvalidValue = ValueNotAllowed
@@ -39,17 +39,17 @@ content_read (Err fault) = Err (refusal_of fault)
 abbrev pub content_of : Kind → List ℕ → Result Content Refusal
 content_of kind body = content_read (content_in kind body)
 
--- a media type that isn't served is refused
+-- a media type that isn't supported is refused
 abbrev pub type_accepted : Message → Result (Unit {0}) Refusal
 type_accepted m = if is_type_served (values (codes "content-type") m.head.fields) then Ok tt else Err MediaType
 
 -- ---- conditions
 
--- the values of all lines of a field, joined by commas in their order
+-- the values of all lines of a field, joined by commas, in order
 abbrev pub joined : List (List ℕ) → List ℕ
 joined values_ = join_by (λ value. value) (codes ",") values_
 
--- a text that spells no condition is a value that isn't allowed
+-- a text that spells no condition is refused as a value that isn't allowed
 abbrev pub condition_read : Result Condition TagFault → Result Condition Refusal
 condition_read (Ok condition) = Ok condition
 condition_read (Err fault) = Err ValueNotAllowed
@@ -58,7 +58,7 @@ condition_read (Err fault) = Err ValueNotAllowed
 abbrev pub condition_text : List ℕ → Result Condition Refusal
 condition_text text = condition_read (condition_of text)
 
--- the condition that the lines of a field spell; where there is no line, all is well
+-- the condition in the lines of a field; `Always` if there are none
 abbrev pub condition_in : List (List ℕ) → Result Condition Refusal
 condition_in [] = Ok Always
 condition_in (first ∷ others) = condition_text (joined (first ∷ others))
@@ -76,7 +76,7 @@ conditions_of m = do
 
 -- ---- requests
 
--- the content that a message sends: the media type is looked at before the body
+-- the content that a message sends; the media type is checked before the body
 abbrev pub content_sent : Kind → Message → Result Content Refusal
 content_sent kind m = do
   _ ← type_accepted m
@@ -88,12 +88,12 @@ create_request kind m = do
   content ← content_sent kind m
   Ok (Create content)
 
--- A message asks for something outright, or is refused; or it is a search, and its query asks
+-- A message asks for something by itself, or is refused; or it is a search, and its query decides
 pub data Asked : Type 0 where
   outright : Result Request Refusal → Asked
   by_query : Kind → (query : List ℕ) → Asked
 
--- the methods that are served on a collection
+-- the methods of a collection
 abbrev pub collection_asked : Kind → Message → Asked
 collection_asked kind m =
     if bytes_eq (method_of m.head.start) (codes "POST") then outright (create_request kind m)
@@ -106,14 +106,14 @@ retrieve_request kind id m = do
   conditions ← conditions_of m
   Ok (Retrieve kind id conditions.0 conditions.1)
 
--- PUT on one resource: the body is looked at before the conditions
+-- PUT on one resource; the body is checked before the conditions
 abbrev pub replace_request : Kind → List ℕ → Message → Result Request Refusal
 replace_request kind id m = do
   content ← content_sent kind m
   conditions ← conditions_of m
   Ok (Replace id content conditions.0 conditions.1)
 
--- the methods that are served on one resource
+-- the methods of one resource
 abbrev pub resource_request : Kind → List ℕ → Message → Result Request Refusal
 resource_request kind id m =
     if bytes_eq (method_of m.head.start) (codes "GET") then retrieve_request kind id m
@@ -129,18 +129,18 @@ abbrev pub IsAsked : Asked → Result Request Refusal → Type 0
 IsAsked (outright asked) answer = asked ≡ answer
 IsAsked (by_query kind query) answer = IsSearch kind query answer
 
--- What a message asks for, or the first refusal: the path, the method, the media type, the body, the conditions or the
--- query
+-- What a message asks for, or the first refusal, in this order: the path, the method, the media type, the body, the
+-- conditions or the query
 abbrev pub Asks : Message → Result Request Refusal → Type 0
 Asks m answer = IsAsked (routed_asked (route_of (path_of (target_of m.head.start))) m) answer
 
--- what came is exactly what the definition says, or out of memory
+-- the result is exactly what the definition says, or out of memory
 abbrev pub Tells : {X : Type 0} → Result X MeaningFault → Result X Refusal → Type 0
 Tells (Ok x) answer = answer ≡ Ok x
 Tells (Err (Refused refusal)) answer = answer ≡ Err refusal
 Tells (Err OutOfMemory) answer = ⊤
 
--- the same of a relation: what came is what the definition allows, or out of memory
+-- the same for a relation: the result is one that the definition allows, or out of memory
 abbrev pub TellsOf : {X : Type 0} → (Result X Refusal → Type 0) → Result X MeaningFault → Type 0
 TellsOf Allows (Ok x) = Allows (Ok x)
 TellsOf Allows (Err (Refused refusal)) = Allows (Err refusal)

@@ -12,11 +12,11 @@ abbrev pub begins_parameters : Option ℕ → Bool
 begins_parameters None = true
 begins_parameters (Some b) = b == 59
 
--- the first byte that is no blank, if there is one, is the `;` of parameters
+-- the first byte that isn't a blank, if there is one, is the `;` of parameters
 abbrev pub ends_type : List ℕ → Bool
 ends_type rest = begins_parameters (find (λ byte. not (is_blank byte)) rest)
 
--- a text is this media type, letters in any case, whatever its parameters
+-- a text is this media type in any case, with any parameters
 abbrev pub is_media_type : List ℕ → List ℕ → Bool
 is_media_type name text = bytes_eq (lowered (take (length name) text)) (lowered name) && ends_type (drop (length name) text)
 
@@ -24,11 +24,11 @@ is_media_type name text = bytes_eq (lowered (take (length name) text)) (lowered 
 abbrev pub media_type : List ℕ
 media_type = codes "application/scim+json"
 
--- those that a body may have
+-- the media types that a body may have
 abbrev pub is_json_type : List ℕ → Bool
 is_json_type text = is_media_type media_type text || is_media_type (codes "application/json") text
 
--- of the values of `Content-Type` there is none, or one with such a type
+-- there is no `Content-Type`, or exactly one, with such a media type
 abbrev pub is_type_served : List (List ℕ) → Bool
 is_type_served [] = true
 is_type_served (text ∷ []) = is_json_type text

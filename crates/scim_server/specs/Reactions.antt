@@ -1,4 +1,4 @@
--- What a fault of reading leads to.
+-- What a connection does after a fault of reading.
 use Rattle.std.specs.Prelude.{false}
 use Rattle.http_text.specs.declared.fault.ReadFault.{ReadFault}
 use Rattle.http_text.specs.declared.fault.ReadFault.TheVariants as faults
@@ -6,7 +6,7 @@ use Rattle.scim_message.specs.declared.refusals.Refusal.TheVariants as refusals
 use Rattle.scim_server.specs.declared.reactions.Reaction.{Reaction}
 use Rattle.scim_server.specs.declared.reactions.Reaction.TheVariants.{Refuse, GiveUp, StaySilent}
 
--- a refusal, whose body is left out of an answer to HEAD; the fixed text; or nothing
+-- a refusal, without a body for HEAD; the fixed text; or nothing
 abbrev pub reaction_to : ReadFault → Reaction
 reaction_to faults.Malformed = Refuse refusals.Malformed false
 reaction_to (faults.HostMissingOrRepeated is_head) = Refuse refusals.Host is_head

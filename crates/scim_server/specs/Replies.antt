@@ -13,7 +13,7 @@ use Rattle.http_text.specs.Response.{response_text}
 use Rattle.scim_message.specs.Bodies.{body_text}
 use Rattle.scim_server.specs.Media.{media_type}
 
--- a field line, which is written where it has a value
+-- a field line, which is written if it has a value
 abbrev pub Line : Type 0
 Line = List ℕ × Option (List ℕ)
 
@@ -24,7 +24,7 @@ line_with name (Some value) = (name, value) ∷ []
 abbrev pub written_lines : List Line → List NamedValue
 written_lines lines = flat_map (λ (line : Line). line_with line.0 line.1) lines
 
--- the URI of the one resource that an answer shows or speaks of
+-- the URI of the resource that an answer shows or is about, if it is about one
 abbrev pub shown_location : List ℕ → Answer → Option (List ℕ)
 shown_location base (Created shown) = Some (location_text base (content_kind shown.content) shown.id)
 shown_location base (Found shown) = Some (location_text base (content_kind shown.content) shown.id)
@@ -33,7 +33,7 @@ shown_location base (answers.List list) = None
 shown_location base (NotModified kind id version) = Some (location_text base kind id)
 shown_location base (Error error) = None
 
--- the entity tag of that resource, where it is known
+-- the entity tag of the resource that an answer is about, if it is known
 abbrev pub shown_tag : Answer → Option (List ℕ)
 shown_tag (Created shown) = shown.version
 shown_tag (Found shown) = shown.version
@@ -42,7 +42,7 @@ shown_tag (answers.List list) = None
 shown_tag (NotModified kind id version) = Some version
 shown_tag (Error error) = None
 
--- whether that resource was created
+-- whether the answer's resource was created by this request
 abbrev pub is_created : Answer → Bool
 is_created (Created shown) = true
 is_created (Found shown) = false
@@ -51,7 +51,7 @@ is_created (answers.List list) = false
 is_created (NotModified kind id version) = false
 is_created (Error error) = false
 
--- whether the answer has a body: all but 304
+-- whether the answer has a body: only a 304 has none
 abbrev pub has_body : Answer → Bool
 has_body (Created shown) = true
 has_body (Found shown) = true
@@ -64,17 +64,17 @@ abbrev pub value_if : Bool → Option (List ℕ) → Option (List ℕ)
 value_if true value = value
 value_if false value = None
 
--- the length of the body, where the answer has one
+-- the length of the body, if the answer has one
 abbrev pub stated_length : List ℕ → Answer → Option (List ℕ)
 stated_length base answer = value_if (has_body answer) (Some (decimal (length (body_text base answer))))
 
--- the media type stands beside the length
+-- the media type is stated if the length is
 abbrev pub stated_type : Option (List ℕ) → Option (List ℕ)
 stated_type None = None
 stated_type (Some length_) = Some media_type
 
--- the field lines of a response: the body's length, where there is a body, the URI and the tag of the resource that it
--- shows, and whether it was created, which its URI tells once more
+-- the field lines of a response: the body's length, if there is a body; the URI and the tag of the resource; and its
+-- URI once more if it was created
 abbrev pub lines_of : Option (List ℕ) → Option (List ℕ) → Option (List ℕ) → Bool → List Line
 lines_of length_ location tag created =
     (codes "Connection", Some (codes "close"))
@@ -92,7 +92,7 @@ abbrev pub unless_left_out : Bool → List ℕ → List ℕ
 unless_left_out true body = []
 unless_left_out false body = body
 
--- The text of an answer. One to HEAD leaves the body out and keeps the head
+-- The text of an answer. The answer to HEAD has the same head and no body
 abbrev pub answer_text : List ℕ → (leaves_body_out : Bool) → Answer → List ℕ
 answer_text base leaves_body_out answer =
     response_text (answer_status answer) (written_lines (answer_lines base answer)) (unless_left_out leaves_body_out (body_text base answer))
@@ -105,7 +105,7 @@ pub record ReplyRecord : Type 0 where
 abbrev pub reply_of : List ℕ → (leaves_body_out : Bool) → Answer → ReplyRecord
 reply_of base leaves_body_out answer = record { status = answer_status answer; text = answer_text base leaves_body_out answer }
 
--- The one text that stands for an answer where the store failed or there was no memory
+-- The one text that is sent if the store failed or memory ran out
 unfoldable pub fixed_text : List ℕ
 fixed_text =
     response_text 500

@@ -1,4 +1,4 @@
--- What a request's target names.
+-- What the target of a request names.
 use Rattle.std.specs.Prelude.{ℕ, List, [], ◌∷◌, Option, Some, None, ◌==◌, if◌then◌else◌, take, drop, length, codes}
 use Rattle.std.specs.List.{before_first, after_first}
 use Rattle.std.specs.Str.{bytes_eq}
@@ -8,11 +8,11 @@ use Rattle.scim_server.specs.Segments.{id_of}
 use Rattle.scim_server.specs.declared.routes.Route.{Route}
 use Rattle.scim_server.specs.declared.routes.Route.TheVariants.{Collection, Resource}
 
--- the path of a target is what stands before its first `?`
+-- the path of a target: the part before its first `?`
 abbrev pub path_of : List ℕ → List ℕ
 path_of target = before_first (λ byte. byte == 63) target
 
--- and the query what stands behind it
+-- the query of a target: the part after its first `?`
 abbrev pub query_of : List ℕ → List ℕ
 query_of target = after_first (λ byte. byte == 63) target
 
@@ -21,7 +21,7 @@ abbrev pub collection_path : Kind → List ℕ
 collection_path kinds.User = codes "/v2/Users"
 collection_path kinds.Group = codes "/v2/Groups"
 
--- what stands behind a prefix
+-- the part of a text after this prefix, if it begins with the prefix
 abbrev pub after : List ℕ → List ℕ → Option (List ℕ)
 after prefix text = if bytes_eq (take (length prefix) text) prefix then Some (drop (length prefix) text) else None
 
@@ -29,7 +29,7 @@ abbrev pub resource_route : Kind → Option (List ℕ) → Option Route
 resource_route kind None = None
 resource_route kind (Some id) = Some (Resource kind id)
 
--- nothing, or a `/` and one segment
+-- the collection if nothing is left, one of its resources if a `/` and one segment are left
 abbrev pub route_from : Kind → Option (List ℕ) → Option Route
 route_from kind None = None
 route_from kind (Some []) = Some (Collection kind)
@@ -43,6 +43,6 @@ abbrev pub or_else : Option Route → Option Route → Option Route
 or_else None route = route
 or_else (Some found) route = Some found
 
--- What a path names, where that is served; letters count
+-- What a path names, if it names something; case matters
 abbrev pub route_of : List ℕ → Option Route
 route_of path = or_else (route_in kinds.User path) (route_in kinds.Group path)

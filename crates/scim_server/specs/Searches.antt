@@ -13,7 +13,7 @@ use Rattle.scim_server.specs.Queries.{parameter}
 
 -- ---- the page
 
--- a text that is no number is a value that isn't allowed
+-- a text that isn't a number is refused as a value that isn't allowed
 abbrev pub number_read : Option ℤ → Result ℤ Refusal
 number_read None = Err ValueNotAllowed
 number_read (Some number) = Ok number
@@ -23,7 +23,7 @@ abbrev pub start_in : Option (List ℕ) → Result ℤ Refusal
 start_in None = Ok (pos 1)
 start_in (Some text) = number_read (number_in text)
 
--- and it isn't said how many resources it has
+-- without a parameter, the query doesn't limit the number of resources
 abbrev pub count_in : Option (List ℕ) → Result (Option ℤ) Refusal
 count_in None = Ok None
 count_in (Some text) = do
@@ -36,7 +36,7 @@ start_of query = start_in (parameter (codes "startIndex") query)
 abbrev pub count_of : List ℕ → Result (Option ℤ) Refusal
 count_of query = count_in (parameter (codes "count") query)
 
--- where the page starts, and how many resources it has at most
+-- where the page starts, and the most resources on it
 abbrev pub page_of : List ℕ → Result (ℤ × Option ℤ) Refusal
 page_of query = do
   start ← start_of query
@@ -45,7 +45,7 @@ page_of query = do
 
 -- ---- the filter
 
--- a text is the filter that it spells, and is refused where it spells none
+-- a text is the filter that it spells, and is refused if it spells none
 abbrev pub IsRead : List ℕ → Result Expression Refusal → Type 0
 IsRead text (Ok filter) = Spells text filter
 IsRead text (Err refusal) = (refusal ≡ FilterNotSupported) × ((filter : Expression) → Spells text filter → ⊥)
@@ -59,12 +59,12 @@ IsFilter (Some text) (Err refusal) = IsRead text (Err refusal)
 
 -- ---- the search
 
--- the search for this filter's resources on this page, or what was refused of the filter
+-- the search for the resources of this filter on this page, or the refusal of the filter
 abbrev pub search_with : Kind → ℤ × Option ℤ → Result (Option Expression) Refusal → Result Request Refusal
 search_with kind page (Err refusal) = Err refusal
 search_with kind page (Ok filter) = Ok (Search kind filter page.0 page.1)
 
--- the page is looked at before the filter
+-- the page is checked before the filter
 abbrev pub IsSearchOn : Kind → List ℕ → Result (ℤ × Option ℤ) Refusal → Result Request Refusal → Type 0
 IsSearchOn kind query (Err refusal) answer = Err refusal ≡ answer
 IsSearchOn kind query (Ok page) answer =

@@ -6,11 +6,12 @@ use Rattle.std.specs.Str.{is_utf8}
 use Rattle.scim_key.specs.declared.names.NameFault.{NameFault}
 use Rattle.scim_key.specs.Identifiers.{id_fault}
 
--- the value of a hexadecimal digit, letters in any case
+-- the value of a hexadecimal digit, in any case
 unfoldable pub hex_value : ℕ → Option ℕ
 hex_value byte = if is_digit byte 16 then Some (digit_value byte) else None
 
--- The grammar: every byte but `%` stands for itself, and `%` with two hexadecimal digits for the byte that they number
+-- The grammar: every byte except `%` stands for itself; `%` and two hexadecimal digits stand for the byte with that
+-- number
 pub data SpellsText : (segment text : List ℕ) → Type 0 where
   nothing : SpellsText [] []
   plain : (byte : ℕ) {segment text : List ℕ} → byte ≢ 37 → SpellsText segment text → SpellsText (byte ∷ segment) (byte ∷ text)
@@ -24,21 +25,21 @@ byte_of None low = None
 byte_of (Some high) None = None
 byte_of (Some high) (Some low) = Some (16 * high + low)
 
--- the byte that `%` and these two stand for, where they are hexadecimal digits
+-- the byte that `%` and these two stand for, if they are hexadecimal digits
 abbrev pub escaped_byte : ℕ → ℕ → Option ℕ
 escaped_byte high low = byte_of (hex_value high) (hex_value low)
 
--- a byte and what follows it, where both are there
+-- a byte in front of the rest, if both are there
 abbrev pub put_before : Option ℕ → Option (List ℕ) → Option (List ℕ)
 put_before None rest = None
 put_before (Some byte) None = None
 put_before (Some byte) (Some rest) = Some (byte ∷ rest)
 
--- the byte itself, where it is no `%`
+-- the byte itself, if it isn't `%`
 abbrev pub plain_byte : ℕ → Option ℕ
 plain_byte byte = if byte == 37 then None else Some byte
 
--- The text with each `%` and two hexadecimal digits as the byte that they stand for; none where a `%` stands otherwise
+-- The text with each `%` and two hexadecimal digits replaced by their byte; none if a `%` is followed by anything else
 unfoldable pub unescaped : List ℕ → Option (List ℕ)
 unescaped [] = Some []
 unescaped (byte ∷ []) = put_before (plain_byte byte) (Some [])
@@ -50,7 +51,7 @@ abbrev pub without_fault : Option NameFault → List ℕ → Option (List ℕ)
 without_fault None text = Some text
 without_fault (Some fault) text = None
 
--- a text that is there, is UTF-8 and has no fault as an id
+-- the text, if there is one, it is UTF-8 and it is a valid id
 abbrev pub lawful_id : Option (List ℕ) → Option (List ℕ)
 lawful_id None = None
 lawful_id (Some text) = if is_utf8 text then without_fault (id_fault text) text else None

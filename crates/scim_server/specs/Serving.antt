@@ -1,4 +1,4 @@
--- What one connection does: what is written, and what becomes of the rows.
+-- What one connection does: what it writes, and how the rows change.
 use Rattle.std.specs.Prelude.{◌≡◌, ℕ, ◌⊎◌, Bool, List, Result, Ok, Err, IfOk, IfErr, OnOk}
 use Rattle.std.specs.Io.KnownBytes.{Appends}
 use Rattle.scim_resource.specs.Rows.{StoredRecord}
@@ -8,6 +8,8 @@ use Rattle.scim_message.specs.declared.messages.Request.{Request}
 use Rattle.scim_message.specs.declared.refusals.Refusal.{Refusal}
 use Rattle.scim_message.specs.Refusals.{error_of}
 use Rattle.provider_core.specs.Outcomes.{outcome, changed_rows}
+use Rattle.provider_core.specs.Stores.{LeavesOr}
+use Rattle.provider_core.specs.declared.registry.Registry.{Ghosts}
 use Rattle.http_text.specs.declared.fault.ReadFault.{ReadFault}
 use Rattle.http_text.specs.declared.fault.SendFault.{SendFault}
 use Rattle.http_text.specs.Counts.{Reading, Writing, count_up, CountsTurns}
@@ -35,17 +37,17 @@ pub record AnswersRequest (faithful : Type 0) (base : List ℕ) (old new : List 
 abbrev pub refusal_reply : List ℕ → Bool → Refusal → ReplyRecord
 refusal_reply base leaves_body_out refusal = reply_of base leaves_body_out (Error (error_of refusal))
 
--- that message, and the rows as they were
+-- the error message of a refusal, and unchanged rows
 pub record AnswersRefusal (base : List ℕ) (old new : List StoredRecord) (leaves_body_out : Bool) (refusal : Refusal) (reply : ReplyRecord) : Type 0 where
   pub reply_is : reply ≡ refusal_reply base leaves_body_out refusal
   pub rows : new ≡ old
 
--- the fixed text, and the rows as they were
+-- the fixed text, and unchanged rows
 pub record GivesUp (faithful : Type 0) (old new : List StoredRecord) (reply : ReplyRecord) : Type 0 where
   pub reply_is : reply ≡ fixed_reply
   pub rows : faithful → new ≡ old
 
--- what is asked is answered so
+-- the answer to a request, or to a refusal
 abbrev pub AnswersMeaning : (faithful : Type 0) → List ℕ → (old new : List StoredRecord) → Bool → Result Request Refusal → ReplyRecord → Type 0
 AnswersMeaning faithful base old new leaves_body_out (Ok request) reply = AnswersRequest faithful base old new leaves_body_out request reply
 AnswersMeaning faithful base old new leaves_body_out (Err refusal) reply = AnswersRefusal base old new leaves_body_out refusal reply
@@ -56,7 +58,7 @@ pub record AnswersMessage (faithful : Type 0) (base : List ℕ) (old new : List 
   pub asked_is : Asks m asked
   pub answer : AnswersMeaning faithful base old new (is_head m.head) asked reply
 
--- a reply was written whole and flushed, or was lost as the writer's counts allow
+-- a reply was written whole and flushed, or was lost in agreement with the writer's counts
 abbrev pub IsSent : Writing → Writing → ReplyRecord → Served → Type 0
 IsSent before after reply (Answered status) =
     (status ≡ reply.status) × Appends before.contents after.contents reply.text
@@ -74,7 +76,7 @@ pub record IsSilent (before after : Writing) (fault : ReadFault) (served : Serve
   pub served_is : served ≡ NoRequest fault
   pub written : after ≡ before
 
--- the error message of a refusal, or the fixed text in its place
+-- the error message of a refusal, or the fixed text instead
 abbrev pub AnswersFault : List ℕ → Bool → Refusal → ReplyRecord → Type 0
 AnswersFault base leaves_body_out refusal reply = (reply ≡ refusal_reply base leaves_body_out refusal) ⊎ (reply ≡ fixed_reply)
 
@@ -84,14 +86,35 @@ Reacts base before after fault (Refuse refusal leaves_body_out) served = Sends b
 Reacts base before after fault GiveUp served = Sends before after (λ reply. reply ≡ fixed_reply) served
 Reacts base before after fault StaySilent served = IsSilent before after fault served
 
--- What became of what was read: a message has its answer, or the fixed one where the store failed or there was no memory;
--- a fault has its reaction, and the rows are as they were
+-- What follows from what was read. A message gets its answer, or the fixed text if the store failed or memory ran out.
+-- A fault gets its reaction, and the rows stay
 abbrev pub Serves : (faithful : Type 0) → List ℕ → (old new : List StoredRecord) → (before after : Writing) → Result Message ReadFault → Served → Type 0
 Serves faithful base old new before after (Ok m) served =
     Sends before after (λ reply. AnswersMessage faithful base old new m reply ⊎ GivesUp faithful old new reply) served
 Serves faithful base old new before after (Err fault) served = Reacts base before after fault (reaction_to fault) served × (new ≡ old)
 
--- what was read, as the reader of requests tells it
+-- ---- what the store holds afterwards, whether or not a fault has shut it
+
+-- the rows after the request that was read
+abbrev pub IsAfter : List StoredRecord → Result Message ReadFault → List StoredRecord → Type 0
+IsAfter rows (Ok m) found = (request : Request) × Asks m (Ok request) × (found ≡ changed_rows rows (outcome rows request).change)
+IsAfter rows (Err fault) found = ⊥
+
+-- whatever a stop may leave now, it could have left before, or it is the rows after the request that was read
+pub record LeavesRows {R : Type 0} (g : Ghosts R) (old new : R) (read : Result Message ReadFault) : Type 0 where
+  pub honest : g.is_honest new → g.is_honest old
+  pub stop : g.is_honest new → LeavesOr (g.may_hold old) (g.may_hold new) (λ found. g.is_faithful old × IsAfter (g.rows old) read found)
+
+-- no fault of the store was counted, and an open store stays open
+pub record IsUnharmed {R : Type 0} (g : Ghosts R) (old new : R) : Type 0 where
+  pub counts : g.faults new ≡ g.faults old
+  pub stays_open : g.is_honest new → g.is_faithful old → g.is_faithful new
+
+-- no fault of the store was counted, or the fixed text was sent
+abbrev pub AnswersFaults : {R : Type 0} → Ghosts R → (old new : R) → (before after : Writing) → Served → Type 0
+AnswersFaults g old new before after served = IsUnharmed g old new ⊎ Sends before after (λ reply. reply ≡ fixed_reply) served
+
+-- what was read, as the reader of requests reports it
 pub record HasRead (old new : Reading) (r : Result Message ReadFault) : Type 0 where
   pub message : IfOk r (TakesMessage old.remaining new.remaining)
   pub refused : IfErr r (TakesRefused old.remaining new.remaining)

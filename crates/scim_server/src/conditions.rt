@@ -22,7 +22,7 @@ pub(crate) fn conditions_of(
     Ok((if_match, if_none_match))
 }
 
-/// The condition that the lines of a field spell; where there is no line, all is well.
+/// The condition in the lines of a field; `Always` if there are none.
 fn condition_named(
     alloc: Global,
     name: &str,
@@ -37,7 +37,7 @@ fn condition_named(
     }
 }
 
-/// The values of several field lines, joined by commas in their order.
+/// The values of several field lines, joined by commas, in order.
 fn joined(alloc: Global, first: &[u8], others: FieldValues<'_>) -> Result<Vec<u8>, AllocError>
     ensures { IfOk result (λ text. text.items ≡ spec.joined (first.now ∷ others.entry)) }
 {

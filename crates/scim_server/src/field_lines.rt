@@ -1,4 +1,4 @@
-//! The field lines of a message that is written.
+//! The field lines of a message to be written.
 ghost use Rattle.std.specs.Prelude.{◌≡◌, ◌++◌, map, OnOk, option_map};
 ghost use Rattle.http_text.specs.Response.{named_value};
 ghost use Rattle.scim_server.specs.Replies as spec;
@@ -6,10 +6,10 @@ ghost use Rattle.scim_server.specs.Replies as spec;
 use http_text::FieldLine;
 use std::alloc::AllocError;
 
-/// The media type that every body is written with (RFC 7644 section 3.1).
+/// The media type of every body that is written (RFC 7644 section 3.1).
 pub const MEDIA_TYPE: &[u8] = b"application/scim+json";
 
-/// The media type of a body that is there.
+/// The media type to state if there is a body, which has a length.
 pub fn stated_type(length: Option<&[u8]>) -> Option<&'static [u8]>
     ensures { option_map (λ t. t.now) result
         ≡ spec.stated_type (option_map (λ t. t.now) length.entry) }
@@ -20,7 +20,7 @@ pub fn stated_type(length: Option<&[u8]>) -> Option<&'static [u8]>
     }
 }
 
-/// Adds a field line where it has a value.
+/// Adds a field line, if it has a value.
 pub fn push_line<'a>(
     fields: &mut Vec<FieldLine<'a>>,
     name: &'a str,

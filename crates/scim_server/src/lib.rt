@@ -1,4 +1,4 @@
-//! One HTTP connection of a SCIM provider (RFC 7644): a request is read, answered and written.
+//! One HTTP connection of a SCIM provider (RFC 7644): reads a request, answers it and writes the response.
 #![tactic(auto)]
 
 mod conditions;
@@ -18,7 +18,7 @@ mod serving;
 pub use field_lines::{MEDIA_TYPE, push_line, stated_type};
 pub use laws::{
     answers_are_responses, locations_are_routed, one_meaning, replies_are_lawful,
-    segments_are_spelled,
+    segments_are_spelled, stops_leave_one_request,
 };
 pub use replies::response_of;
 pub use requests::{MeaningFault, meaning};

@@ -7,7 +7,7 @@ ghost use Rattle.scim_server.specs.Media as spec;
 use crate::field_lines::MEDIA_TYPE;
 use http_text::Incoming;
 
-/// Whether `Content-Type` is absent, or stands once with a media type that is served.
+/// Whether `Content-Type` is absent, or is there once with a supported media type.
 pub(crate) fn is_type_served(incoming: &Incoming) -> bool
     ensures { result ≡ spec.is_type_served (values (codes "content-type") incoming.now.head.fields) }
 {
@@ -25,7 +25,7 @@ fn is_json_type(text: &[u8]) -> bool
     is_media_type(MEDIA_TYPE, text) || is_media_type(b"application/json", text)
 }
 
-/// Whether a text is this media type, letters in any case, with parameters or without.
+/// Whether a text is this media type in any case, with or without parameters.
 fn is_media_type(name: &[u8], text: &[u8]) -> bool
     ensures { result ≡ spec.is_media_type name.now text.now }
 {
@@ -39,7 +39,7 @@ fn same_letters(one: &[u8], two: &[u8]) -> bool
     one.eq_ignore_ascii_case(two)
 }
 
-/// Whether blanks alone follow, or blanks and parameters.
+/// Whether only blanks follow, or blanks and parameters.
 fn ends_type(rest: &[u8]) -> bool
     ensures { result ≡ spec.ends_type rest.now }
 {
@@ -49,7 +49,7 @@ fn ends_type(rest: &[u8]) -> bool
     }
 }
 
-/// The first byte that is no blank.
+/// The first byte that isn't a blank.
 fn first_other(rest: &[u8]) -> Option<u8>
     ensures { result ≡ find (λ byte. not (spec.is_blank byte)) rest.now }
 {

@@ -4,10 +4,10 @@ ghost use Rattle.std.specs.Char.{is_ascii_digit};
 ghost use Rattle.std.specs.List.{list_all};
 ghost use Rattle.scim_server.specs.Numbers as spec;
 
-/// How many digits a number has at most.
+/// The most digits that a number may have.
 const MOST_DIGITS: usize = 18;
 
-/// The number that a text writes: an optional `-` and 1 to 18 digits.
+/// Reads a number: an optional `-` and 1 to 18 digits.
 pub(crate) fn number_in(text: &str) -> Option<i64>
     ensures { result ≡ spec.number_in text.now }
 {

@@ -1,4 +1,4 @@
-//! The parameters of a query, which is read as a form's text.
+//! The parameters of a query, which is read like an HTML form.
 ghost use Rattle.std.specs.Prelude.{◌≡◌, IfOk, option_map};
 ghost use Rattle.std.specs.Cow.{cow_str_bytes};
 ghost use Rattle.scim_server.specs.Queries as spec;

@@ -1,25 +1,25 @@
-//! What a fault of reading leads to.
+//! What a connection does after a fault of reading.
 ghost use Rattle.std.specs.Prelude.{◌≡◌};
 ghost use Rattle.scim_server.specs.Reactions as spec;
 
 use http_text::ReadFault;
 use scim_message::Refusal;
 
-/// What is done where no message was read.
+/// What to do if no message was read.
 #[derive(Clone, Copy, Debug)]
 pub(crate) enum Reaction {
-    /// The refusal is answered; to HEAD its body is left out.
+    /// Answer with the refusal, without a body for HEAD.
     Refuse {
         refusal: Refusal,
         leaves_body_out: bool,
     },
-    /// The fixed text is answered.
+    /// Answer with the fixed response.
     GiveUp,
-    /// Nothing is written.
+    /// Write nothing.
     StaySilent,
 }
 
-/// A malformed head and one that is too long are always answered whole.
+/// The answers to a malformed head and to a head that is too long always have a body.
 pub(crate) fn reaction_to(fault: ReadFault) -> Reaction
     ensures { result ≡ spec.reaction_to fault }
 {

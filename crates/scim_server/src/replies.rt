@@ -17,7 +17,7 @@ use scim_resource::{Shown, location};
 use std::alloc::{AllocError, Global};
 use std::marker::Model;
 
-/// How many field lines a response has at most.
+/// The most field lines of a response.
 const FIELD_LINES: usize = 6;
 
 /// A response as it is sent: its status code and its bytes.
@@ -36,7 +36,7 @@ impl Model for Reply {
 }
 
 impl Reply {
-    /// The response with an answer.
+    /// The response for an answer.
     pub(crate) fn of(
         alloc: Global,
         answer: &Answer,
@@ -51,14 +51,12 @@ impl Reply {
         })
     }
 
-    /// Its status code.
     pub(crate) fn status(&self) -> u16
         ensures { result ≡ self.now.status }
     {
         self.status
     }
 
-    /// Its bytes.
     pub(crate) fn text(&self) -> &[u8]
         ensures { result.now ≡ self.now.text }
     {
@@ -66,17 +64,17 @@ impl Reply {
     }
 }
 
-/// The bytes of the response with an answer.
+/// The bytes of the response for an answer.
 pub fn response_of(alloc: Global, answer: &Answer, base: &Base) -> Result<Vec<u8>, AllocError>
     ensures text { IfOk result (λ text. text.items ≡ spec.answer_text base.now false answer.now) }
-    // What the types of the answer's parts say of it.
+    // What the types of the answer's parts guarantee.
     ensures lawful { OnOk result (ShowsLawfully answer.now) }
     ensures utf8 { OnOk result (IsUtf8 (body_text base.now answer.now)) }
 {
     text_of(alloc, answer, base, false)
 }
 
-/// The one response that stands for an answer where the store failed or there was no memory.
+/// The fixed response, for a failed store and for out of memory.
 #[tactic(auto, unfolding(crate::specs::Replies::fixed_text))]
 pub(crate) fn fixed_response() -> &'static [u8]
     ensures { result.now ≡ spec.fixed_text }
@@ -144,7 +142,7 @@ fn fields_of<'a>(
     Ok(fields)
 }
 
-/// The URI of the one resource that an answer shows or speaks of.
+/// The URI of the resource that an answer shows or is about, if it is about one.
 fn location_of(alloc: Global, answer: &Answer, base: &Base) -> Result<Option<String>, AllocError>
     ensures { IfOk result
         (λ text. option_map string_bytes text ≡ spec.shown_location base.now answer.now) }
@@ -168,7 +166,7 @@ fn bytes_of(text: &Option<String>) -> Option<&[u8]>
     }
 }
 
-/// The entity tag of that resource, where it is known.
+/// The entity tag of the resource that an answer is about, if it is known.
 fn tag_of(answer: &Answer) -> Option<&[u8]>
     ensures { option_map (λ t. t.now) result ≡ spec.shown_tag answer.now }
 {
@@ -188,14 +186,14 @@ fn tag_text(shown: &Shown) -> Option<&[u8]>
     }
 }
 
-/// Whether that resource was created.
+/// Whether the answer's resource was created by this request.
 fn is_created(answer: &Answer) -> bool
     ensures { result ≡ spec.is_created answer.now }
 {
     matches!(answer, Answer::Created(_))
 }
 
-/// Whether the answer has a body: all but 304.
+/// Whether the answer has a body: only a 304 has none.
 fn has_body(answer: &Answer) -> bool
     ensures { result ≡ spec.has_body answer.now }
 {

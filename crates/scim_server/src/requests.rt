@@ -15,11 +15,11 @@ use scim_resource::{Content, ReadFault};
 use std::alloc::{AllocError, Global};
 use thiserror::Error;
 
-/// Why a message asks for nothing that is served. The path is looked at first, then the method,
-/// the media type, the body, and the conditions or the query.
+/// Why the provider can't serve a message. The path is checked first, then the method, the media type, the
+/// body, and the conditions or the query.
 #[derive(Clone, Copy, Debug, PartialEq, Eq, Error)]
 pub enum MeaningFault {
-    /// The first refusal that the message meets.
+    /// The first refusal that applies.
     #[error("{0}")]
     Refused(Refusal),
     #[error("H13")]
@@ -131,7 +131,7 @@ fn content_sent(alloc: Global, kind: Kind, incoming: &Incoming) -> Result<Conten
     content_of(alloc, kind, incoming.body())
 }
 
-/// Refuses a media type that isn't served.
+/// Refuses a media type that isn't supported.
 fn accept_type(incoming: &Incoming) -> Result<(), MeaningFault>
     ensures { Tells result (spec.type_accepted incoming.now) }
 {
@@ -142,7 +142,7 @@ fn accept_type(incoming: &Incoming) -> Result<(), MeaningFault>
     }
 }
 
-/// The content that a body has.
+/// Reads a body as a content.
 fn content_of(alloc: Global, kind: Kind, body: &[u8]) -> Result<Content, MeaningFault>
     ensures { Tells result (spec.content_of kind body.now) }
 {

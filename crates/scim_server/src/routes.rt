@@ -1,4 +1,4 @@
-//! What a request's target names.
+//! What the target of a request names.
 ghost use Rattle.std.specs.Prelude.{◌≡◌, ◌==◌, IfOk, Some, position};
 ghost use Rattle.std.specs.Option.{option_map};
 ghost use Rattle.scim_server.specs.Routes as spec;
@@ -17,14 +17,14 @@ pub(crate) enum Route {
     Resource(Kind, ResourceId),
 }
 
-/// Where the first `?` of a target stands.
+/// The place of the first `?` in a target.
 fn query_mark(target: &[u8]) -> Option<usize>
     ensures { result ≡ position (λ byte. byte == 63) target.now }
 {
     target.iter().position(|byte| *byte == b'?')
 }
 
-/// What stands before the first `?` of a target.
+/// The part of a target before its first `?`.
 fn path_of(target: &[u8]) -> &[u8]
     ensures { result.now ≡ spec.path_of target.now }
 {
@@ -34,7 +34,7 @@ fn path_of(target: &[u8]) -> &[u8]
     }
 }
 
-/// What stands behind the first `?` of a target.
+/// The part of a target after its first `?`.
 pub(crate) fn query_of(target: &[u8]) -> &[u8]
     ensures { result.now ≡ spec.query_of target.now }
 {
@@ -44,7 +44,7 @@ pub(crate) fn query_of(target: &[u8]) -> &[u8]
     }
 }
 
-/// What a target names, where that is served.
+/// What a target names, if it names something that exists here.
 pub(crate) fn route_of(alloc: Global, target: &[u8]) -> Result<Option<Route>, AllocError>
     ensures { IfOk result (λ route. route ≡ spec.route_of (spec.path_of target.now)) }
 {
@@ -75,14 +75,14 @@ fn collection_path(kind: Kind) -> &'static [u8]
     }
 }
 
-/// What stands behind a prefix.
+/// The part of a text after this prefix, if it begins with the prefix.
 fn after<'a>(prefix: &[u8], text: &'a [u8]) -> Option<&'a [u8]>
     ensures { option_map (λ t. t.now) result ≡ spec.after prefix.now text.now }
 {
     text.strip_prefix(prefix)
 }
 
-/// What a collection's path and this rest name: nothing stands there, or a `/` and one segment.
+/// The collection if nothing is left of the path, one of its resources if a `/` and one segment are left.
 fn route_from(alloc: Global, kind: Kind, rest: &[u8]) -> Result<Option<Route>, AllocError>
     ensures { IfOk result (λ route. route ≡ spec.route_from kind (Some rest.now)) }
 {

@@ -13,7 +13,7 @@ use scim_key::Kind;
 use scim_message::{Refusal, Request};
 use std::alloc::Global;
 
-/// What a query asks of the resources of a type. The numbers are looked at before the filter.
+/// What a query asks of the resources of a type. The numbers are checked before the filter.
 pub(crate) fn search(alloc: Global, kind: Kind, query: &[u8]) -> Result<Request, MeaningFault>
     ensures { TellsOf (spec.IsSearch kind query.now) result }
 {
@@ -27,7 +27,7 @@ pub(crate) fn search(alloc: Global, kind: Kind, query: &[u8]) -> Result<Request,
     })
 }
 
-/// Where the page starts, and how many resources it has at most.
+/// Where the page starts, and the most resources on it.
 fn page_of(alloc: Global, query: &[u8]) -> Result<(i64, Option<i64>), MeaningFault>
     ensures { Tells result (spec.page_of query.now) }
 {

@@ -8,7 +8,7 @@ use scim_key::{NameFault, ResourceId};
 use std::alloc::{AllocError, Global};
 use std::str::from_utf8;
 
-/// The id that a segment without `/` spells: a text of 1 to 256 bytes. One without `%` spells itself.
+/// The id that a segment without `/` spells: a text of 1 to 256 bytes. A segment without `%` spells itself.
 #[tactic(auto, using(crate::proofs::SegmentLemmas::id_of_itself))]
 pub(crate) fn id_of(alloc: Global, segment: &[u8]) -> Result<Option<ResourceId>, AllocError>
     ensures { IfOk result (λ id. id ≡ spec.id_of segment.now) }
@@ -31,7 +31,7 @@ fn has_slash(segment: &[u8]) -> bool
     segment.iter().any(|byte| *byte == b'/')
 }
 
-/// The id with these bytes.
+/// The id with these bytes, if they are a valid one.
 fn lawful_id(alloc: Global, bytes: &[u8]) -> Result<Option<ResourceId>, AllocError>
     ensures { IfOk result (λ id. id ≡ spec.lawful_id (Some bytes.now)) }
 {
@@ -45,8 +45,8 @@ fn lawful_id(alloc: Global, bytes: &[u8]) -> Result<Option<ResourceId>, AllocErr
     }
 }
 
-/// The text with each `%` and two hexadecimal digits as the byte that they stand for. There is none
-/// where a `%` stands otherwise.
+/// The text with each `%` and two hexadecimal digits replaced by the byte with that number; `None` if a `%`
+/// is followed by anything else.
 fn unescaped(alloc: Global, segment: &[u8]) -> Result<Option<Vec<u8>>, AllocError>
     ensures { IfOk result
         (λ text. option_map (λ t. t.items) text ≡ spec.unescaped segment.now) }
@@ -63,7 +63,7 @@ fn unescaped(alloc: Global, segment: &[u8]) -> Result<Option<Vec<u8>>, AllocErro
     Ok(Some(text))
 }
 
-/// The first byte that a text spells, and what follows it.
+/// The first byte that a text spells, and the rest of the text.
 #[tactic(auto, unfolding(crate::specs::Segments::unescaped))]
 fn next_byte(first: u8, more: &[u8]) -> Option<(u8, &[u8])>
     ensures spelled { MatchOption result (spec.unescaped (first ∷ more.now) ≡ None)
@@ -79,7 +79,7 @@ fn next_byte(first: u8, more: &[u8]) -> Option<(u8, &[u8])>
     Some((escaped_byte(*high, *low)?, rest))
 }
 
-/// The byte that `%` and these two stand for.
+/// The byte that `%` and these two digits stand for.
 fn escaped_byte(high: u8, low: u8) -> Option<u8>
     ensures { result ≡ spec.escaped_byte high low }
 {

@@ -1,5 +1,5 @@
 //! One connection.
-ghost use Rattle.std.specs.Prelude.{◌≡◌, ◌≤◌, ◌+◌, Result, IfOk, OnErr};
+ghost use Rattle.std.specs.Prelude.{◌≡◌, ◌≤◌, ◌+◌, Result, IfOk, OnErr, OnOk};
 ghost use Rattle.scim_server.specs.Reactions.{reaction_to};
 ghost use Rattle.http_text.specs.Counts.{CountsTurns};
 ghost use Rattle.http_text.specs.Judging as judging;
@@ -22,7 +22,7 @@ use scim_message::Refusal;
 use std::alloc::{AllocError, Global};
 use std::io::{Read, Write};
 
-/// What became of one connection.
+/// How a connection ended.
 #[derive(Clone, Copy, Debug, PartialEq, Eq)]
 pub enum Served {
     /// A response with this status code was written whole.
@@ -33,10 +33,9 @@ pub enum Served {
     Lost { status: u16 },
 }
 
-/// Reads one request, answers it and makes its change. What follows the request stays unread. The
-/// bytes of the answer are formed before the change is made and sent after it. Where the store
-/// fails or it is out of memory, one fixed response is sent, which takes no memory, and the rows
-/// stay as they were.
+/// Reads one request, answers it and makes its change. Bytes after the request stay unread. The answer's
+/// bytes are formed before the change is made, and sent after it. If the store fails or memory runs out, a
+/// fixed response is sent, which needs no memory, and the rows stay.
 pub fn serve<R: Registry, I: Read, O: Write>(
     alloc: Global,
     provider: &mut Provider<R>,
@@ -44,17 +43,20 @@ pub fn serve<R: Registry, I: Read, O: Write>(
     reader: &mut Input<I>,
     writer: &mut Output<O>,
 ) -> Served
-    // What was read, and what became of it.
+    // What was read, and what followed from it.
     ensures served { (r : Result Message ReadFault) × spec.HasRead reader.old reader.new r
         × spec.Serves (R.is_faithful provider.new) base.now (R.rows provider.old)
-        (R.rows provider.new) writer.old writer.new r result }
+        (R.rows provider.new) writer.old writer.new r result
+        × spec.LeavesRows R.Registry provider.old provider.new r }
 
-    // The same, from what stands at the reader's front.
+    // The same, if the bytes at the reader's front are known.
     ensures known { ServesKnown (R.is_faithful provider.new) base.now (R.rows provider.old)
         (R.rows provider.new) writer.old writer.new result
         reader.old.remaining reader.new.remaining }
 
-    // What the store and the writer count.
+    // The counts of the store and of the writer.
+    ensures faults { spec.AnswersFaults R.Registry provider.old provider.new writer.old writer.new
+        result }
     ensures quiet { IsQuiet R.is_faithful R.faults provider.old provider.new }
     ensures writes { R.writes provider.new ≤ R.writes provider.old + 1 }
     ensures turns { CountsTurns writer.old.calls writer.new.calls }
@@ -75,6 +77,9 @@ fn serve_message<R: Registry, O: Write>(
 ) -> Served
     ensures served { spec.Serves (R.is_faithful provider.new) base.now (R.rows provider.old)
         (R.rows provider.new) writer.old writer.new (Ok incoming.now) result }
+    ensures leaves { spec.LeavesRows R.Registry provider.old provider.new (Ok incoming.now) }
+    ensures faults { spec.AnswersFaults R.Registry provider.old provider.new writer.old writer.new
+        result }
     ensures quiet { IsQuiet R.is_faithful R.faults provider.old provider.new }
     ensures writes { R.writes provider.new ≤ R.writes provider.old + 1 }
     ensures turns { CountsTurns writer.old.calls writer.new.calls }
@@ -124,7 +129,7 @@ fn refuse<O: Write>(
     }
 }
 
-/// The response to a message, whose change is made.
+/// The response to a message. The message's change is made.
 fn reply_to<R: Registry>(
     alloc: Global,
     provider: &mut Provider<R>,
@@ -135,6 +140,9 @@ fn reply_to<R: Registry>(
         (R.rows provider.old) (R.rows provider.new) incoming.now) }
     ensures same { R.is_faithful provider.new
         → OnErr result (R.rows provider.new ≡ R.rows provider.old) }
+    ensures leaves { spec.LeavesRows R.Registry provider.old provider.new (Ok incoming.now) }
+    ensures open { R.is_honest provider.new → R.is_faithful provider.old →
+        OnOk result (R.is_faithful provider.new) }
     ensures quiet { IsQuiet R.is_faithful R.faults provider.old provider.new }
     ensures writes { R.writes provider.new ≤ R.writes provider.old + 1 }
     ensures counted { CountsFaults CountsProviderFault
@@ -159,7 +167,7 @@ fn is_head(incoming: &Incoming) -> bool
     incoming.method() == b"HEAD".as_slice()
 }
 
-/// Makes the change of a request, and gives its response, which is formed before.
+/// Makes the change of a request, and returns its response, which is formed first.
 fn carry_out<R: Registry>(
     alloc: Global,
     provider: &mut Provider<R>,
@@ -171,6 +179,7 @@ fn carry_out<R: Registry>(
         (R.rows provider.old) (R.rows provider.new) leaves_body_out request.now) }
     ensures writes { Writes R.Registry provider.old provider.new
         (changed_rows (R.rows provider.old) (outcome (R.rows provider.old) request.now).change) result }
+    ensures open { R.is_honest provider.new → OnOk result (R.is_faithful provider.new) }
 {
     let pending = provider.prepare(alloc, request)?;
     let reply = Reply::of(alloc, pending.answer(), base, leaves_body_out)?;
@@ -204,7 +213,7 @@ fn sent<O: Write>(writer: &mut Output<O>, status: u16, text: &[u8]) -> Served
     }
 }
 
-/// Sends the response that stands for every other where the store failed or there was no memory.
+/// Sends the fixed response, for a failed store or for out of memory.
 fn send_fixed<O: Write>(writer: &mut Output<O>) -> Served
     ensures sent { spec.IsSent writer.old writer.new fixed_reply result }
     ensures turns { CountsTurns writer.old.calls writer.new.calls }

@@ -11,7 +11,7 @@ use Rattle.std.proofs.lemmas.List.Folds.{list_all-append}
 use Rattle.std.proofs.lemmas.Slice.Eq.{starts_is}
 use Rattle.scim_version.specs.Tags.{IsEntityTag, is_tag_byte, quoted, is_quoted, is_weak, opaque_tag, is_entity_tag, version_tag}
 
--- what stands between the quotes of a quoted text
+-- the bytes between the quotes of a quoted text
 pub middle-quoted : (opaque : List ℕ) → take (length (quoted opaque) - 2) (drop 1 (quoted opaque)) ≡ opaque
 middle-quoted opaque =
     let n : length (quoted opaque) - 2 ≡ length opaque = omega (arith, length-append opaque (34 ∷ [])) in

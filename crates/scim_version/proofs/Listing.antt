@@ -57,7 +57,7 @@ elements-list (single before element after b e a) =
 elements-list (joined {left} {right} {first} {rest} l r) =
     ap kept (parts-list l right) ∙ kept-append (parts false left) (parts false right) ∙ ap (λ k. k ++ kept (parts false right)) (elements-list l) ∙ ap (λ k. first ++ k) (elements-list r)
 
--- Blanks round what is left of a part.
+-- Blanks around the rest of a part.
 leading_split : (text : List ℕ) → (before : List ℕ) × (list_all is_blank before ≡ true) × (text ≡ before ++ without_leading_blanks text)
 unfolding without_leading_blanks
 leading_split [] = ([], refl, refl)
@@ -118,7 +118,7 @@ all_fine (part ∷ more) h =
     let both = subst Q (kept-cons part more) h in
     (Fine-from_kept part (all_first (kept (part ∷ [])) (kept more) both), all_fine more (all_rest (kept (part ∷ [])) (kept more) both))
 
--- the parts of a text, if all of them are fine, are a list of what is kept of them
+-- if all parts of a text are valid, they are a list of what is kept of them
 abbrev Listed : List ℕ → List (List ℕ) → Type 0
 Listed text found = AllByRecursion Fine found → IsListOf text (kept found)
 

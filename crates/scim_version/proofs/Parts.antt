@@ -69,7 +69,7 @@ kept-cons part more =
       | inr none ↦ rw none refl
     ]
 
--- the elements found so far, and those of the part that begins at start and of what follows it from i on
+-- the elements found so far, and those of the part from start on and of the text from i on
 abbrev pub unread : List (List ℕ) → List ℕ → ℕ → Bool → ℕ → List (List ℕ)
 unread found text start quoted i = found ++ kept (glued (take (i - start) (drop start text)) (parts quoted (drop i text)))
 

@@ -84,7 +84,7 @@ spelled_from text (Tags tags) h =
     let Q : List (List ℕ) → Type 0 = λ found. AllByRecursion IsElement found in
     (subst P h.0 (IsListOf-elements text (subst Q (sym h.0) (elements-from_tags tags h.2))), h.1, h.2)
 
--- What the function says is spelled, and what is spelled it says.
+-- The function and the grammar agree: each text spells what the function reads, and the other way round.
 pub Spells-from_condition : (text : List ℕ) (condition : Condition) → condition_of text ≡ Ok condition → Spells text condition
 unfolding condition_of
 Spells-from_condition text condition h = spelled_from text condition (said_from (elements text) condition h)
@@ -103,7 +103,7 @@ pub Spells-alone : (text : List ℕ) (c d : Condition) → Spells text c → Spe
 Spells-alone text c d first second =
     let e : ◌≡◌ {A = Result Condition TagFault} (Ok c) (Ok d) = sym (condition-from_Spells text c first) ∙ condition-from_Spells text d second in cc
 
--- one tag alone
+-- only one tag
 pub Spells-tag : (tag : List ℕ) → IsEntityTag tag → Spells tag (Tags (tag ∷ []))
 Spells-tag tag h =
     let P : List ℕ → Type 0 = λ text. IsListOf text (tag ∷ []) in

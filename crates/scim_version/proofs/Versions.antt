@@ -28,7 +28,7 @@ quoted_eq opaque inner =
     (Decides-like (bytes_eq opaque inner) (ap quoted) (same_quoted opaque inner) (bytes_eq-Decides opaque inner))
     (bytes_eq-Decides (quoted opaque) (quoted inner)))
 
--- texts between quotes are the same where the whole texts are
+-- texts between quotes are the same if the whole texts are
 pub bytes_eq-quoted : (text inner : List ℕ) → is_quoted text ≡ true → bytes_eq (take (length text - 1 - 1) (drop 1 text)) inner ≡ bytes_eq text (quoted inner)
 bytes_eq-quoted text inner h =
     let q = is_quoted_from text h in

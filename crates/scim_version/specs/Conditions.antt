@@ -10,13 +10,14 @@ use Rattle.scim_version.specs.declared.conditions.Condition.TheVariants.{Always,
 use Rattle.scim_version.specs.Tags.{IsEntityTag, is_entity_tag, version_tag, strong_eq, weak_eq}
 use Rattle.scim_version.specs.Lists.{IsListOf, elements}
 
--- The grammar: `*` alone, or a list of at least one tag. No text spells Always, which stands where there is no field.
+-- The grammar: `*` alone, or a list of at least one tag. No text spells `Always`, which is for requests without the
+-- field.
 abbrev pub Spells : List ℕ → Condition → Type 0
 Spells text Always = ⊥
 Spells text AnyTag = IsListOf text (codes "*" ∷ [])
 Spells text (Tags tags) = IsListOf text tags × (0 < length tags) × AllByRecursion IsEntityTag tags
 
--- the tags that these texts are, if all of them are tags
+-- the tags that these texts are; `Malformed` if one of them isn't a tag
 unfoldable pub tags_from : List (List ℕ) → Result (List (List ℕ)) TagFault
 tags_from texts = if list_all is_entity_tag texts then Ok texts else Err Malformed
 
@@ -26,25 +27,25 @@ is_star [] = false
 is_star (element ∷ []) = bytes_eq element (codes "*")
 is_star (element ∷ other ∷ more) = false
 
--- what the elements of a list say
+-- the condition that the elements of a list spell
 unfoldable pub condition_from : List (List ℕ) → Result Condition TagFault
 condition_from found =
     if length found == 0 then Err Malformed
     else if is_star found then Ok AnyTag
     else (tags_from found >>= λ tags. Ok (Tags tags))
 
--- the condition that a text spells, if it spells one
+-- the condition that a text spells, or `Malformed`
 unfoldable pub condition_of : List ℕ → Result Condition TagFault
 condition_of text = condition_from (elements text)
 
--- whether some tag is strongly equal to the tag of a version, and weakly
+-- whether some tag is strongly equal to the tag of a version; whether some tag is weakly equal to it
 unfoldable pub has_version : List (List ℕ) → ℕ → Bool
 has_version tags version = list_any (λ tag. strong_eq tag (version_tag version)) tags
 
 unfoldable pub has_version_weakly : List (List ℕ) → ℕ → Bool
 has_version_weakly tags version = list_any (λ tag. weak_eq tag (version_tag version)) tags
 
--- whether `If-Match` holds of a resource at this version, or of none
+-- whether `If-Match` holds for a resource at this version, or for none
 abbrev pub holds_match : Condition → Option ℕ → Bool
 holds_match Always current = true
 holds_match AnyTag (Some version) = true
@@ -52,7 +53,7 @@ holds_match AnyTag None = false
 holds_match (Tags tags) (Some version) = has_version tags version
 holds_match (Tags tags) None = false
 
--- whether `If-None-Match` holds
+-- whether `If-None-Match` holds for a resource at this version, or for none
 abbrev pub holds_none_match : Condition → Option ℕ → Bool
 holds_none_match Always current = true
 holds_none_match AnyTag (Some version) = false

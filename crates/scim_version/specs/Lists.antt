@@ -1,4 +1,4 @@
--- Comma lists of entity tags, as the field `If-Match` or `If-None-Match` holds them (RFC 7232 sections 3.1 and 3.2).
+-- Comma lists of entity tags, as in the fields `If-Match` and `If-None-Match` (RFC 7232 sections 3.1 and 3.2).
 use Rattle.std.specs.Prelude.{◌≡◌, ◌⊎◌, ℕ, Bool, false, List, [], ◌∷◌, ◌++◌, ◌==◌, ◌&&◌, ◌||◌, not, map, filter, reverse, length, nat_lt, IsTrue, if◌then◌else◌, codes}
 use Rattle.std.specs.List.{list_all}
 use Rattle.scim_version.specs.Tags.{IsEntityTag}
@@ -14,22 +14,22 @@ IsBlank text = IsTrue (list_all is_blank text)
 abbrev pub IsElement : List ℕ → Type 0
 IsElement text = (text ≡ codes "*") ⊎ IsEntityTag text
 
--- The grammar: a text is a list of these elements. Blanks alone are a list without any; an element with
--- blanks round it is a list of one; two lists with a comma between them are one list.
+-- The grammar: a text is a list of these elements. Blanks are a list without elements. An element with blanks around it
+-- is a list of one. Two lists joined by a comma are one list.
 pub data IsListOf : List ℕ → List (List ℕ) → Type 0 where
   empty : {blanks : List ℕ} → IsBlank blanks → IsListOf blanks []
   single : (before element after : List ℕ) → IsBlank before → IsElement element → IsBlank after → IsListOf (before ++ element ++ after) (element ∷ [])
   joined : {left right : List ℕ} {first rest : List (List ℕ)} → IsListOf left first → IsListOf right rest → IsListOf (left ++ 0x2C ∷ right) (first ++ rest)
 
--- The same as a function: the parts between the commas that stand outside double quotes, each without the
--- blanks round it, but for those of which nothing is left.
+-- The same as a function: the parts between the commas outside double quotes, without the blanks around them. Empty
+-- parts are left out.
 
--- a byte before the first of some parts
+-- puts a byte in front of the first of some parts
 abbrev pub put_first : ℕ → List (List ℕ) → List (List ℕ)
 put_first b [] = (b ∷ []) ∷ []
 put_first b (part ∷ more) = (b ∷ part) ∷ more
 
--- the parts of a text that begins within quotes or outside of them
+-- the parts of a text that begins inside or outside of quotes
 unfoldable pub parts : Bool → List ℕ → List (List ℕ)
 parts quoted [] = [] ∷ []
 parts quoted (b ∷ bs) =
@@ -47,7 +47,7 @@ without_trailing_blanks text = reverse (without_leading_blanks (reverse text))
 unfoldable pub trimmed : List ℕ → List ℕ
 trimmed text = without_trailing_blanks (without_leading_blanks text)
 
--- what stands between blanks, where it isn't empty
+-- the parts without the blanks around them; empty parts are left out
 unfoldable pub kept : List (List ℕ) → List (List ℕ)
 kept found = filter (λ part. nat_lt 0 (length part)) (map trimmed found)
 

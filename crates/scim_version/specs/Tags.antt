@@ -6,7 +6,7 @@ use Rattle.std.specs.Str.{bytes_eq}
 use Rattle.scim_version.specs.declared.tags.TagFault.{TagFault}
 use Rattle.scim_version.specs.declared.tags.TagFault.TheVariants.{Malformed}
 
--- a byte that may stand between the quotes: 0x21, 0x23 to 0x7E or 0x80 to 0xFF
+-- a byte that may be between the quotes: 0x21, 0x23 to 0x7E or 0x80 to 0xFF
 abbrev pub is_tag_byte : ℕ → Bool
 is_tag_byte b = (b == 0x21) || (nat_le 0x23 b && nat_le b 0x7E) || (nat_le 0x80 b && nat_le b 0xFF)
 
@@ -30,7 +30,7 @@ is_weak tag = starts_with nat_eq tag (codes "W/")
 unfoldable pub opaque_tag : List ℕ → List ℕ
 opaque_tag tag = if is_weak tag then drop 2 tag else tag
 
--- whether a text begins and ends with a double quote and has tag bytes alone between them
+-- whether a text is tag bytes between two double quotes
 unfoldable pub is_quoted : List ℕ → Bool
 is_quoted text =
     nat_le 2 (length text) && (slice_index text 0 == 0x22) && (slice_index text (length text - 1) == 0x22)
@@ -40,7 +40,7 @@ is_quoted text =
 unfoldable pub is_entity_tag : List ℕ → Bool
 is_entity_tag tag = is_quoted (opaque_tag tag)
 
--- what is wrong with a text as an entity tag
+-- the fault of a text as an entity tag, if it has one
 unfoldable pub tag_fault : List ℕ → Option TagFault
 tag_fault tag = if is_entity_tag tag then None else Some Malformed
 
@@ -48,6 +48,6 @@ tag_fault tag = if is_entity_tag tag then None else Some Malformed
 unfoldable pub strong_eq : List ℕ → List ℕ → Bool
 strong_eq a b = not (is_weak a) && not (is_weak b) && bytes_eq a b
 
--- Weak comparison: the tags are the same byte for byte once `W/` is disregarded.
+-- Weak comparison: the tags are the same byte for byte if `W/` is ignored.
 unfoldable pub weak_eq : List ℕ → List ℕ → Bool
 weak_eq a b = bytes_eq (opaque_tag a) (opaque_tag b)

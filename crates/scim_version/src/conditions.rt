@@ -23,7 +23,7 @@ impl Model for TagList {
     ghost view = { λ list. list.tags.items };
 }
 
-/// The condition of an `If-Match` or an `If-None-Match` field. `Always` stands where there is no field.
+/// The condition of an `If-Match` or `If-None-Match` field; `Always` if the request has no such field.
 #[derive(Debug, Drop)]
 pub enum Condition {
     Always,
@@ -32,14 +32,12 @@ pub enum Condition {
 }
 
 impl TagList {
-    /// The list of these tags.
     pub fn from_vec(tags: Vec<EntityTag>) -> TagList
         ensures { result ≡ tags.items }
     {
         TagList { tags }
     }
 
-    /// The tags, in order.
     pub fn as_slice(&self) -> &[EntityTag]
         ensures { result.now ≡ self.now }
     {
@@ -73,7 +71,7 @@ fn is_star_alone(elements: &[&[u8]]) -> bool
     matches!(elements, [only] if *only == b"*".as_slice())
 }
 
-/// The tags that these texts are.
+/// Reads each of these texts as a tag.
 #[tactic(auto, unfolding(crate::specs::Conditions::tags_from))]
 fn tags_of(alloc: Global, texts: &[&[u8]]) -> Result<Vec<EntityTag>, TagFault>
     ensures { GivesBy (λ tags. tags.items) TagFault.Memory result (tags_from (map (λ e. e.now) texts.now)) }
@@ -85,7 +83,7 @@ fn tags_of(alloc: Global, texts: &[&[u8]]) -> Result<Vec<EntityTag>, TagFault>
     Ok(tags)
 }
 
-/// The condition that a text spells, by the elements of its list.
+/// Reads the elements of a list as a condition.
 #[tactic(auto, unfolding(crate::specs::Conditions::condition_of, crate::specs::Conditions::condition_from))]
 fn condition_in(alloc: Global, text: &[u8]) -> Result<Condition, TagFault>
     ensures { Gives TagFault.Memory result (condition_of text.now) }
@@ -103,18 +101,18 @@ fn condition_in(alloc: Global, text: &[u8]) -> Result<Condition, TagFault>
 
 impl Condition {
     /// Reads the field `If-Match` or `If-None-Match`, its lines joined by commas. A field of another form,
-    /// also a list without any tag or with `*` beside a tag, is `Malformed`.
+    /// a list without tags, or `*` beside a tag is `Malformed`.
     pub fn read_list(alloc: Global, bytes: &[u8]) -> Result<Condition, TagFault>
-        // What is read is spelled so.
+        // The text spells the condition that was read.
         ensures found { IfOk result (λ condition. Spells bytes.now condition) }
-        // What is spelled so is read, unless memory runs out.
+        // A condition that the text spells is read, unless memory runs out.
         ensures only { (condition : Condition) → Spells bytes.now condition → Gives TagFault.Memory result (Ok condition) }
         ensures exact { Gives TagFault.Memory result (condition_of bytes.now) }
     {
         condition_in(alloc, bytes)
     }
 
-    /// Whether `If-Match` holds of a resource at its current version, or of no resource.
+    /// Whether `If-Match` holds for a resource at its current version, or for no resource.
     pub fn holds_match(&self, version: Option<u64>) -> bool
         ensures { result ≡ holds_match self.now version }
     {
@@ -126,7 +124,7 @@ impl Condition {
         }
     }
 
-    /// Whether `If-None-Match` holds of a resource at its current version, or of no resource.
+    /// Whether `If-None-Match` holds for a resource at its current version, or for no resource.
     pub fn holds_none_match(&self, version: Option<u64>) -> bool
         ensures { result ≡ holds_none_match self.now version }
     {

@@ -1,4 +1,4 @@
-//! Comma lists, as the fields `If-Match` and `If-None-Match` hold them.
+//! Comma lists, as in the fields `If-Match` and `If-None-Match`.
 ghost use Rattle.std.specs.Prelude.{◌≡◌, ◌++◌, ◌<◌, ◌==◌, IfOk, OnOk, false, length, map, nat_lt, cond, List, ℕ, ◌∷◌, []};
 ghost use Rattle.scim_version.specs.Lists.{elements, is_blank, kept, without_leading_blanks, without_trailing_blanks};
 
@@ -36,7 +36,7 @@ fn without_trailing(text: &[u8]) -> &[u8]
     rest
 }
 
-/// Adds a part of a list without the spaces and tabs round it, unless nothing is left of it.
+/// Adds a part of a list without the spaces and tabs around it, unless that leaves it empty.
 #[tactic(auto, unfolding(crate::specs::Lists::kept, crate::specs::Lists::trimmed))]
 fn push_part<'a>(found: &mut Vec<&'a [u8]>, part: &'a [u8]) -> Result<(), AllocError>
     ensures { OnOk result (map (λ e. e.now) found.new.items ≡ map (λ e. e.now) found.old.items ++ kept (part.now ∷ [])) }
@@ -48,8 +48,8 @@ fn push_part<'a>(found: &mut Vec<&'a [u8]>, part: &'a [u8]) -> Result<(), AllocE
     Ok(())
 }
 
-/// The elements of a list: what stands between the commas outside double quotes, without the spaces
-/// and tabs round it, where that isn't empty.
+/// The elements of a list: its parts between the commas outside double quotes, without the spaces and tabs
+/// around them. Empty parts are left out.
 pub(crate) fn elements_of<'a>(alloc: Global, text: &'a [u8]) -> Result<Vec<&'a [u8]>, AllocError>
     ensures { IfOk result (λ found. map (λ e. e.now) found.items ≡ elements text.now) }
 {

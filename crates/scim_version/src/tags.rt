@@ -11,7 +11,7 @@ use std::alloc::{AllocError, AllocFailed, Global};
 use std::marker::Model;
 use thiserror::Error;
 
-/// What is wrong with a text as an entity tag or as a list of them.
+/// Why a text isn't an entity tag, or isn't a list of entity tags.
 #[derive(Clone, Copy, Debug, PartialEq, Eq, Error)]
 pub enum TagFault {
     #[error("V1")]
@@ -54,7 +54,7 @@ impl Model for EntityTag {
     ghost invariant = { λ tag. IsTrue (is_entity_tag tag.bytes.items) };
 }
 
-/// Whether every byte may stand between the quotes of a tag.
+/// Whether a tag may contain every one of these bytes between its quotes.
 fn are_tag_bytes(bytes: &[u8]) -> bool
     ensures { result ≡ list_all is_tag_byte bytes.now }
 {
@@ -63,7 +63,7 @@ fn are_tag_bytes(bytes: &[u8]) -> bool
         .all(|b| *b == 0x21 || (*b >= 0x23 && *b <= 0x7e) || *b >= 0x80)
 }
 
-/// Whether tag bytes alone stand between two double quotes.
+/// Whether the text is tag bytes between two double quotes.
 #[tactic(auto, unfolding(crate::specs::Tags::is_quoted))]
 fn is_quoted_text(bytes: &[u8]) -> bool
     ensures { result ≡ is_quoted bytes.now }
@@ -90,7 +90,6 @@ fn without_weakness(tag: &[u8]) -> &[u8]
     if is_weak_tag(tag) { &tag[2..] } else { tag }
 }
 
-/// Whether a text is an entity tag.
 #[tactic(auto, unfolding(crate::specs::Tags::is_entity_tag))]
 fn is_tag(text: &[u8]) -> bool
     ensures { result ≡ is_entity_tag text.now }
@@ -98,7 +97,7 @@ fn is_tag(text: &[u8]) -> bool
     is_quoted_text(without_weakness(text))
 }
 
-/// The number of a version between double quotes.
+/// The strong tag of a version: its number between double quotes.
 fn bytes_of_version(alloc: Global, version: u64) -> Result<Vec<u8>, AllocError>
     ensures { IfOk result (λ bytes. bytes.items ≡ version_tag version) }
 {
@@ -109,7 +108,7 @@ fn bytes_of_version(alloc: Global, version: u64) -> Result<Vec<u8>, AllocError>
     Ok(bytes)
 }
 
-/// Whether a text is the tag of a version, which it compares without taking memory.
+/// Whether a text is the tag of a version. It allocates nothing.
 fn is_version_tag(text: &[u8], version: u64) -> bool
     ensures { result ≡ bytes_eq text.now (version_tag version) }
 {
@@ -119,7 +118,7 @@ fn is_version_tag(text: &[u8], version: u64) -> bool
 }
 
 impl EntityTag {
-    /// Reads an entity tag. A text of another form is `Malformed`.
+    /// Reads an entity tag. A text of another form has the fault `Malformed`.
     #[tactic(auto, unfolding(crate::specs::Tags::tag_fault))]
     pub fn read(alloc: Global, bytes: &[u8]) -> Result<EntityTag, TagFault>
         ensures exact { Takes TagFault.Memory (tag_fault bytes.now) bytes.now result }
@@ -159,7 +158,7 @@ impl EntityTag {
         !is_weak_tag(tag) && !is_weak_tag(other) && tag == other
     }
 
-    /// Weak comparison (RFC 7232 section 2.3.2): `W/` is disregarded.
+    /// Weak comparison (RFC 7232 section 2.3.2): `W/` is ignored.
     #[tactic(auto, unfolding(crate::specs::Tags::weak_eq))]
     pub fn weak_eq(&self, other: &EntityTag) -> bool
         ensures { result ≡ weak_eq self.now other.now }

@@ -1,5 +1,5 @@
-//! `answer`: one request from standard input, answered on standard output.
-use commands::{RunFault, Status, answer_one, answer_stored};
+//! `answer`: reads one request from standard input and answers it on standard output.
+use commands::{CommandFault, Status, answer_one, answer_stored};
 use http_text::{Input, Output};
 use provider_file::Storage;
 use scim_key::Base;
@@ -11,7 +11,7 @@ pub fn answer<R: Runtime + AllocGlobal, K: Storage>(
     rt: &R,
     base: &Base,
     store: Option<&K>,
-) -> Result<Status, RunFault> {
+) -> Result<Status, CommandFault> {
     let mut reader = Input::new(rt.reader());
     let mut writer = Output::new(io::writer(rt));
     match store {

@@ -1,64 +1,67 @@
-//! The command line.
+//! The arguments.
 use clap::error::ErrorKind;
-use clap::{Arg, ArgMatches, Command, Error, value_parser};
+use clap::{Arg, ArgAction, ArgMatches, Command, Error, value_parser};
+use commands::simulating::{Events, count, schedule, seed, settles, wanted_events};
 use commands::words::{
     address, base, base_fault, file, groups, journal, requests, store, to, users, words_status,
 };
-use commands::{RunFault, Status};
+use commands::{CommandFault, Status, words_fault};
 use scim_key::Base;
 use std::alloc::{AllocError, Global};
 use std::env;
 use std::rt::Runtime;
 
-/// The base of a service where the words give none.
+/// The base of a service if the arguments have none.
 const DEFAULT_BASE: &str = "http://localhost:8080/v2";
 
-/// What the command line asks for: a command, and the files that it keeps its rows in.
+/// What the arguments ask for: a command, and the files with its rows.
 #[derive(Drop)]
 pub struct Chosen {
     pub choice: Choice,
-    /// The provider's rows. They are in memory, and none at first, where there is no such file.
+    /// The file of the provider's rows; without it, the rows are in memory, and empty at first.
     pub store: Option<String>,
-    /// The connector's journal, likewise.
+    /// The file of the connector's journal; without it, the journal is in memory, and empty at first.
     pub journal: Option<String>,
 }
 
-/// What is to be done.
+/// What to do.
 #[derive(Drop)]
 pub enum Choice {
-    /// One request from standard input is answered on standard output.
+    /// Answer one request from standard input on standard output.
     Answer {
         base: Base,
     },
-    /// The records of files are carried to a provider in the same program.
+    /// Carry the records of files to a provider in the same program.
     Loop {
         files: SourceFiles,
         base: Base,
     },
-    /// The image of each row of a users file is printed.
+    /// Print the image of each row of a users file.
     Map {
         file: String,
     },
-    /// So many connections to an address are served.
+    /// Serve `requests` connections to an address.
     Serve {
         address: String,
         requests: u32,
         base: Base,
     },
-    /// The records of files are carried to the provider at an address.
+    /// Carry the records of files to the provider at an address.
     Push {
         files: SourceFiles,
         to: String,
         base: Base,
     },
-    /// The rows of a provider's store are printed, or the entries of a connector's journal.
+    /// Print the rows of a provider's store, or the entries of a connector's journal.
     Show,
-    /// The events of a schedule are run over both sides in memory.
+    /// Run events over connector and provider in memory, and then settle every record if the arguments ask
+    /// for it.
     Simulate {
-        file: String,
+        events: Events,
+        settles: bool,
         base: Base,
     },
-    /// Help, the version or what is wrong with the words was told, and so the run ends.
+    /// Nothing more: help, the version, or what is wrong with the arguments was printed.
     Told(Status),
 }
 
@@ -69,14 +72,14 @@ pub struct SourceFiles {
     pub groups: Option<String>,
 }
 
-/// The words of the command line. A word that isn't UTF-8 is no lawful one.
-pub fn words<R: Runtime + AllocGlobal>(rt: &R) -> Result<Vec<String>, RunFault> {
-    let words = env::args(rt).map_err(|_| RunFault::Words)?;
-    words.collect(rt.alloc()).map_err(|_| RunFault::Memory)
+/// The arguments. An argument that isn't UTF-8 is invalid.
+pub fn words<R: Runtime + AllocGlobal>(rt: &R) -> Result<Vec<String>, CommandFault> {
+    let words = env::args(rt).map_err(|error| words_fault(error))?;
+    words.collect(rt.alloc()).map_err(|_| CommandFault::Memory)
 }
 
-/// What these words ask for.
-pub fn choose<R: Runtime + AllocGlobal>(rt: &R, words: &[String]) -> Result<Chosen, RunFault> {
+/// What these arguments ask for.
+pub fn choose<R: Runtime + AllocGlobal>(rt: &R, words: &[String]) -> Result<Chosen, CommandFault> {
     let command = command(rt.alloc())?;
     match command.try_get_matches_from(words) {
         Ok(matches) => chosen_by(rt.alloc(), &matches),
@@ -207,15 +210,42 @@ fn show_command<'a>(alloc: Global) -> Result<Command<'a>, AllocError> {
     with_option(store, journal_option(alloc))
 }
 
+fn schedule_argument<'a>(alloc: Global) -> Arg<'a> {
+    Arg::new(alloc, "FILE").help(
+        "a schedule: an event a line, as `user bob,1,,,,,active`, `send user bob` or `deliver 1`",
+    )
+}
+
+fn seed_option<'a>(alloc: Global) -> Arg<'a> {
+    Arg::new(alloc, "seed")
+        .long("seed")
+        .value_name("S")
+        .help("the seed of random events, in place of a schedule")
+        .value_parser(value_parser!(u64))
+}
+
+fn events_option<'a>(alloc: Global) -> Arg<'a> {
+    Arg::new(alloc, "events")
+        .long("events")
+        .value_name("N")
+        .help("how many random events: 1 to 100000, 1000 by default")
+        .value_parser(value_parser!(u32))
+}
+
+fn settle_option<'a>(alloc: Global) -> Arg<'a> {
+    Arg::new(alloc, "settle")
+        .long("settle")
+        .help("then exchanges in which nothing is lost, until every record is confirmed")
+        .action(ArgAction::SetTrue)
+}
+
 fn simulate_command<'a>(alloc: Global) -> Result<Command<'a>, AllocError> {
-    let file = Arg::new(alloc, "FILE")
-        .help(
-            "a schedule: an event a line, as `user bob,1,,,,,active`, `send user bob` or `deliver 1`",
-        )
-        .required(true);
-    Command::new(alloc, "simulate")
-        .about("runs a schedule over both sides in memory: each event's report, then each record")
-        .arg(file)
+    let file = Command::new(alloc, "simulate")
+        .about("runs events over both sides in memory: each event's report, then each record")
+        .arg(schedule_argument(alloc));
+    let seed = with_option(file, seed_option(alloc));
+    let events = with_option(seed, events_option(alloc));
+    with_option(events, settle_option(alloc))
 }
 
 fn program<'a>(alloc: Global) -> Command<'a> {
@@ -235,8 +265,8 @@ fn command<'a>(alloc: Global) -> Result<Command<'a>, AllocError> {
     with_subcommand(showing, simulate_command(alloc))
 }
 
-/// A command with one more subcommand. The chain of these has no early end at which all that lives
-/// would be let go.
+/// A command with one more subcommand. The chain of these calls has no early return that would drop all
+/// live values.
 fn with_subcommand<'a>(
     program: Result<Command<'a>, AllocError>,
     subcommand: Result<Command<'a>, AllocError>,
@@ -245,7 +275,7 @@ fn with_subcommand<'a>(
     program?.subcommand(subcommand)
 }
 
-/// A command with one more option, likewise.
+/// A command with one more option; it has no early return either.
 fn with_option<'a>(
     command: Result<Command<'a>, AllocError>,
     option: Arg<'a>,
@@ -253,7 +283,7 @@ fn with_option<'a>(
     command?.arg(option)
 }
 
-fn chosen_by(alloc: Global, matches: &ArgMatches<'_>) -> Result<Chosen, RunFault> {
+fn chosen_by(alloc: Global, matches: &ArgMatches<'_>) -> Result<Chosen, CommandFault> {
     match matches.subcommand() {
         Some(("answer", words)) => to_answer(alloc, words),
         Some(("loop", words)) => to_loop(alloc, words),
@@ -262,11 +292,11 @@ fn chosen_by(alloc: Global, matches: &ArgMatches<'_>) -> Result<Chosen, RunFault
         Some(("push", words)) => to_push(alloc, words),
         Some(("show", words)) => to_show(alloc, words),
         Some(("simulate", words)) => to_simulate(alloc, words),
-        _ => Err(RunFault::Subcommand),
+        _ => Err(CommandFault::Subcommand),
     }
 }
 
-fn to_answer(alloc: Global, words: &ArgMatches<'_>) -> Result<Chosen, RunFault> {
+fn to_answer(alloc: Global, words: &ArgMatches<'_>) -> Result<Chosen, CommandFault> {
     Ok(Chosen {
         store: store(alloc, words)?,
         journal: None,
@@ -276,7 +306,7 @@ fn to_answer(alloc: Global, words: &ArgMatches<'_>) -> Result<Chosen, RunFault> 
     })
 }
 
-fn to_loop(alloc: Global, words: &ArgMatches<'_>) -> Result<Chosen, RunFault> {
+fn to_loop(alloc: Global, words: &ArgMatches<'_>) -> Result<Chosen, CommandFault> {
     Ok(Chosen {
         store: store(alloc, words)?,
         journal: journal(alloc, words)?,
@@ -287,13 +317,13 @@ fn to_loop(alloc: Global, words: &ArgMatches<'_>) -> Result<Chosen, RunFault> {
     })
 }
 
-fn to_map(alloc: Global, words: &ArgMatches<'_>) -> Result<Chosen, RunFault> {
+fn to_map(alloc: Global, words: &ArgMatches<'_>) -> Result<Chosen, CommandFault> {
     without_files(Choice::Map {
         file: file(alloc, words)?,
     })
 }
 
-fn to_serve(alloc: Global, words: &ArgMatches<'_>) -> Result<Chosen, RunFault> {
+fn to_serve(alloc: Global, words: &ArgMatches<'_>) -> Result<Chosen, CommandFault> {
     Ok(Chosen {
         store: store(alloc, words)?,
         journal: None,
@@ -305,7 +335,7 @@ fn to_serve(alloc: Global, words: &ArgMatches<'_>) -> Result<Chosen, RunFault> {
     })
 }
 
-fn to_push(alloc: Global, words: &ArgMatches<'_>) -> Result<Chosen, RunFault> {
+fn to_push(alloc: Global, words: &ArgMatches<'_>) -> Result<Chosen, CommandFault> {
     Ok(Chosen {
         store: None,
         journal: journal(alloc, words)?,
@@ -317,7 +347,7 @@ fn to_push(alloc: Global, words: &ArgMatches<'_>) -> Result<Chosen, RunFault> {
     })
 }
 
-fn to_show(alloc: Global, words: &ArgMatches<'_>) -> Result<Chosen, RunFault> {
+fn to_show(alloc: Global, words: &ArgMatches<'_>) -> Result<Chosen, CommandFault> {
     Ok(Chosen {
         store: store(alloc, words)?,
         journal: journal(alloc, words)?,
@@ -325,16 +355,17 @@ fn to_show(alloc: Global, words: &ArgMatches<'_>) -> Result<Chosen, RunFault> {
     })
 }
 
-fn to_simulate(alloc: Global, words: &ArgMatches<'_>) -> Result<Chosen, RunFault> {
+fn to_simulate(alloc: Global, words: &ArgMatches<'_>) -> Result<Chosen, CommandFault> {
     let base = Base::read(alloc, DEFAULT_BASE).map_err(base_fault)?;
     without_files(Choice::Simulate {
-        file: file(alloc, words)?,
+        events: wanted_events(schedule(alloc, words)?, seed(words), count(words))?,
+        settles: settles(words),
         base,
     })
 }
 
 /// A command that keeps no rows in files.
-fn without_files(choice: Choice) -> Result<Chosen, RunFault> {
+fn without_files(choice: Choice) -> Result<Chosen, CommandFault> {
     Ok(Chosen {
         choice,
         store: None,
@@ -342,18 +373,18 @@ fn without_files(choice: Choice) -> Result<Chosen, RunFault> {
     })
 }
 
-fn source_files(alloc: Global, matches: &ArgMatches<'_>) -> Result<SourceFiles, RunFault> {
+fn source_files(alloc: Global, matches: &ArgMatches<'_>) -> Result<SourceFiles, CommandFault> {
     Ok(SourceFiles {
         users: users(alloc, matches)?,
         groups: groups(alloc, matches)?,
     })
 }
 
-/// Tells what clap has to say.
-fn tell(rt: &impl Runtime, error: Error) -> Result<Chosen, RunFault> {
+/// Prints what clap reports.
+fn tell(rt: &impl Runtime, error: Error) -> Result<Chosen, CommandFault> {
     let kind = error.kind();
     if kind == ErrorKind::OutOfMemory {
-        return Err(RunFault::Memory);
+        return Err(CommandFault::Memory);
     }
     let is_printed = error.print(rt).is_ok();
     without_files(Choice::Told(words_status(kind, is_printed)))

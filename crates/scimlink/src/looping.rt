@@ -1,31 +1,29 @@
 //! `loop`: the connector against a provider in the same program, over TCP.
 use crate::command::SourceFiles;
 use crate::pushing::open_connector;
-use commands::{RunFault, Status, run_status};
+use commands::{CommandFault, NotedWriter, Status, run_status};
 use connector_core::Connector;
 use journal_core::{Journal, MemoryJournal};
 use journal_file::StoredEntries;
 use provider_core::Provider;
 use provider_file::{InMemory, Storage, StoredRows};
-use provisioning::PushFault;
+use provisioning::{RunFault, Sources, read_sources, run_loop};
 use scim_client::ScimService;
 use scim_key::Base;
-use source_offers::{Sources, read_sources};
 use std::io;
 use std::io::BufWriter;
 use std::net::Net;
 use std::rt::Runtime;
-use sync_runs::run_loop;
 
-/// Opens the provider's rows, then the connector's journal, carries the records of the files from the
-/// one to the other, and closes both.
+/// Opens the provider's rows, then the connector's journal, carries the records of the files to the
+/// provider, and closes both.
 pub fn run<R: Runtime + Net + AllocGlobal, K: Storage, J: journal_file::Storage>(
     rt: &R,
     files: &SourceFiles,
     base: Base,
     store: Option<&K>,
     journal: Option<&J>,
-) -> Result<Status, RunFault> {
+) -> Result<Status, CommandFault> {
     match store {
         Some(store) => run_stored(rt, store, journal, files, base),
         None => {
@@ -35,45 +33,45 @@ pub fn run<R: Runtime + Net + AllocGlobal, K: Storage, J: journal_file::Storage>
     }
 }
 
-/// A run over rows that are opened first.
+/// A run over rows that it opens first.
 fn run_stored<R: Runtime + Net + AllocGlobal, K: Storage, J: journal_file::Storage>(
     rt: &R,
     storage: &K,
     journal: Option<&J>,
     files: &SourceFiles,
     base: Base,
-) -> Result<Status, RunFault> {
+) -> Result<Status, CommandFault> {
     let provider = Provider::new(storage.open()?);
     let (provider, ended) = run_from(rt, provider, journal, files, base);
     provider.close().close();
     ended
 }
 
-/// A run to a provider, from a journal in a file, or one in memory.
+/// A run to a provider, from a journal in a file or in memory.
 fn run_from<R: Runtime + Net + AllocGlobal, S: StoredRows, J: journal_file::Storage>(
     rt: &R,
     provider: Provider<S>,
     journal: Option<&J>,
     files: &SourceFiles,
     base: Base,
-) -> (Provider<S>, Result<Status, RunFault>) {
+) -> (Provider<S>, Result<Status, CommandFault>) {
     match journal {
         Some(journal) => run_journaled(rt, provider, journal, files, base),
         None => match Connector::open(rt.alloc(), MemoryJournal::new(rt.alloc())) {
             Ok(mut connector) => run_over(rt, provider, &mut connector, files, base),
-            Err((fault, _journal)) => (provider, Err(RunFault::from(PushFault::from(fault)))),
+            Err((fault, _journal)) => (provider, Err(CommandFault::from(RunFault::from(fault)))),
         },
     }
 }
 
-/// A run from a journal that is opened first.
+/// A run from a journal that it opens first.
 fn run_journaled<R: Runtime + Net + AllocGlobal, S: StoredRows, K: journal_file::Storage>(
     rt: &R,
     provider: Provider<S>,
     storage: &K,
     files: &SourceFiles,
     base: Base,
-) -> (Provider<S>, Result<Status, RunFault>) {
+) -> (Provider<S>, Result<Status, CommandFault>) {
     match open_connector(rt, storage) {
         Ok(mut connector) => {
             let (provider, ended) = run_over(rt, provider, &mut connector, files, base);
@@ -91,10 +89,10 @@ fn run_over<R: Runtime + Net + AllocGlobal, S: StoredRows, J: Journal>(
     connector: &mut Connector<J>,
     files: &SourceFiles,
     base: Base,
-) -> (Provider<S>, Result<Status, RunFault>) {
+) -> (Provider<S>, Result<Status, CommandFault>) {
     match read_sources(rt, files.users.as_str(), files.groups.as_deref()) {
         Ok(sources) => run_of(rt, provider, connector, &sources, base),
-        Err(fault) => (provider, Err(RunFault::from(fault))),
+        Err(fault) => (provider, Err(CommandFault::from(fault))),
     }
 }
 
@@ -105,9 +103,10 @@ fn run_of<R: Runtime + Net + AllocGlobal, S: StoredRows, J: Journal>(
     connector: &mut Connector<J>,
     sources: &Sources,
     base: Base,
-) -> (Provider<S>, Result<Status, RunFault>) {
+) -> (Provider<S>, Result<Status, CommandFault>) {
     match BufWriter::new(rt.alloc(), io::writer(rt)) {
-        Ok(mut out) => {
+        Ok(writer) => {
+            let mut out = NotedWriter::new(writer);
             let service = ScimService::new(base);
             let (provider, ended) = run_loop(
                 rt,
@@ -118,8 +117,11 @@ fn run_of<R: Runtime + Net + AllocGlobal, S: StoredRows, J: Journal>(
                 sources,
                 &mut out,
             );
-            (provider, run_status(ended))
+            match run_status(ended) {
+                Ok(status) => (provider, Ok(status)),
+                Err(fault) => (provider, Err(out.explained(fault))),
+            }
         }
-        Err(error) => (provider, Err(RunFault::from(error))),
+        Err(error) => (provider, Err(CommandFault::from(error))),
     }
 }

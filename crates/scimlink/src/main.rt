@@ -5,15 +5,18 @@ mod answering;
 mod command;
 mod looping;
 mod map_users;
+mod parts;
 mod pushing;
 mod serving;
 mod showing;
 mod simulating;
 
-use command::{Choice, Chosen, choose};
-use commands::{RunFault, Status, told};
+use command::{Choice, Chosen, SourceFiles, choose};
+use commands::{CommandFault, Status, told};
 use journal_file::JournalFile;
+use parts::Parts;
 use provider_file::{Storage, StoreFile};
+use scim_key::Base;
 use std::net::Net;
 use std::process::ExitCode;
 use std::rt::{HostRuntime, Runtime};
@@ -22,49 +25,80 @@ fn main(rt: HostRuntime) -> ExitCode {
     ExitCode::from(run(&rt).code())
 }
 
-/// Reads the command line and does what it says. A fault is told on standard error.
+/// Reads the arguments and does what they say. It reports a fault on standard error.
 fn run(rt: &HostRuntime) -> Status {
-    match done(rt) {
-        Ok(status) => status,
-        Err(fault) => told(rt, fault),
+    match chosen(rt) {
+        Ok(chosen) => done(rt, chosen),
+        Err(fault) => told(rt, fault, None),
     }
 }
 
-/// The one place that names the files of the host: all below takes any storage.
-fn done(rt: &HostRuntime) -> Result<Status, RunFault> {
+fn chosen(rt: &HostRuntime) -> Result<Chosen, CommandFault> {
     let words = command::words(rt)?;
+    choose(rt, words.as_slice())
+}
+
+/// The only place that names the files of the host: everything below takes any storage.
+fn done(rt: &HostRuntime, chosen: Chosen) -> Status {
     let Chosen {
         choice,
         store,
         journal,
-    } = choose(rt, words.as_slice())?;
+    } = chosen;
     let store = store.as_deref().map(|path| StoreFile { rt, path });
     let journal = journal.as_deref().map(|path| JournalFile { rt, path });
     carry_out(rt, choice, store.as_ref(), journal.as_ref())
 }
 
-/// Does what was chosen, over the files that it names.
+/// Does what was chosen, with the files that it names.
 fn carry_out<R: Runtime + Net + AllocGlobal, K: Storage, J: journal_file::Storage>(
     rt: &R,
     choice: Choice,
     store: Option<&K>,
     journal: Option<&J>,
-) -> Result<Status, RunFault> {
+) -> Status {
+    let parts = Parts::none();
     match choice {
-        Choice::Answer { base } => answering::answer(rt, &base, store),
-        Choice::Loop { files, base } => looping::run(rt, &files, base, store, journal),
-        Choice::Map { file } => map_users::map(rt, file.as_str()),
+        Choice::Answer { base } => parts.ended(rt, answering::answer(rt, &base, store)),
+        Choice::Loop { files, base } => parts
+            .carrying(&files, provisioning::OWN_ADDRESS)
+            .ended(rt, looping::run(rt, &files, base, store, journal)),
+        Choice::Map { file } => parts
+            .reading(file.as_str())
+            .ended(rt, map_users::map(rt, file.as_str())),
         Choice::Serve {
             address,
             requests,
             base,
-        } => serving::serve(rt, address.as_str(), requests, &base, store),
-        Choice::Push { files, to, base } => match journal {
-            Some(journal) => pushing::push(rt, journal, &files, to.as_str(), base),
-            None => Err(RunFault::File),
-        },
-        Choice::Show => showing::show(rt, store, journal),
-        Choice::Simulate { file, base } => simulating::simulate(rt, file.as_str(), base),
-        Choice::Told(status) => Ok(status),
+        } => parts.listening(address.as_str()).ended(
+            rt,
+            serving::serve(rt, address.as_str(), requests, &base, store),
+        ),
+        Choice::Push { files, to, base } => parts
+            .carrying(&files, to.as_str())
+            .ended(rt, push(rt, journal, &files, to.as_str(), base)),
+        Choice::Show => parts.ended(rt, showing::show(rt, store, journal)),
+        Choice::Simulate {
+            events,
+            settles,
+            base,
+        } => parts
+            .reading(simulating::file_of(&events))
+            .ended(rt, simulating::simulate(rt, &events, settles, base)),
+        Choice::Told(status) => status,
+    }
+}
+
+/// The arguments of `push` name a journal.
+fn push<R: Runtime + Net + AllocGlobal, J: journal_file::Storage>(
+    rt: &R,
+    journal: Option<&J>,
+    files: &SourceFiles,
+    to: &str,
+    base: Base,
+) -> Result<Status, CommandFault> {
+    match journal {
+        Some(journal) => pushing::push(rt, journal, files, to, base),
+        None => Err(CommandFault::File),
     }
 }

@@ -1,25 +1,35 @@
-//! `map`: the image of each row of a users file, a line each.
-use commands::{RunFault, Status, print_images};
-use source_csv::{Row, RowFault, SourceRows, read_users};
+//! `map`: prints the image of each row of a users file, one line each.
+use commands::{CommandFault, NotedWriter, Part, Status, print_images, unread_fault};
+use provisioning::tell_multiline;
+use scim_key::Kind;
+use source_csv::{Row, RowFault, read_users};
 use std::io::BufWriter;
 use std::rt::Runtime;
 use std::{fs, io};
 
-/// Tells the refused records of a file on standard error, then prints the images of its rows.
-pub fn map<R: Runtime + AllocGlobal>(rt: &R, file: &str) -> Result<Status, RunFault> {
-    let rows = users_in(rt, file)?;
+/// Reports the rejected records of a file on standard error, and the records with a field over several
+/// lines, then prints the images of its rows.
+pub fn map<R: Runtime + AllocGlobal>(rt: &R, file: &str) -> Result<Status, CommandFault> {
+    let bytes = fs::read(rt, file).map_err(|error| unread_fault(Part::File, error))?;
+    let rows = read_users(rt.alloc(), bytes.as_slice())?;
     tell_refused(rt, rows.as_slice());
-    let mut out = BufWriter::new(rt.alloc(), io::writer(rt))?;
-    print_images(rt.alloc(), rows.as_slice(), &mut out)
+    tell_multiline(rt, Kind::User, bytes.as_slice())?;
+    print(rt, rows.as_slice())
 }
 
-/// The records of a file of users.
-fn users_in<R: Runtime + AllocGlobal>(rt: &R, file: &str) -> Result<SourceRows, RunFault> {
-    let bytes = fs::read(rt, file)?;
-    Ok(read_users(rt.alloc(), bytes.as_slice())?)
+/// Prints the images of the rows.
+fn print<R: Runtime + AllocGlobal>(
+    rt: &R,
+    rows: &[Result<Row, RowFault>],
+) -> Result<Status, CommandFault> {
+    let mut out = NotedWriter::new(BufWriter::new(rt.alloc(), io::writer(rt))?);
+    match print_images(rt.alloc(), rows, &mut out) {
+        Ok(status) => Ok(status),
+        Err(fault) => Err(out.explained(fault)),
+    }
 }
 
-/// Says on standard error which records are refused.
+/// Reports the rejected records on standard error.
 fn tell_refused(rt: &impl Eprint, rows: &[Result<Row, RowFault>]) {
     for row in rows {
         if let Err(fault) = row {

@@ -1,43 +1,42 @@
 //! `push`: the connector against the provider at an address.
 use crate::command::SourceFiles;
-use commands::{RunFault, Status, carried_status};
+use commands::{CommandFault, NotedWriter, Status, carried_status};
 use connector_core::Connector;
 use journal_core::Journal;
 use journal_file::{Storage, StoredEntries};
-use provisioning::PushFault;
+use provisioning::{RunFault, Sources, read_sources};
 use scim_client::ScimService;
 use scim_key::Base;
-use source_offers::{Sources, read_sources};
 use std::io;
 use std::io::BufWriter;
 use std::net::Net;
 use std::rt::Runtime;
 
-/// Opens the journal, carries the records of files to the provider at an address, and closes the
-/// journal. What was confirmed stands in it, however the run ends.
+/// Opens the journal, carries the records of files to the provider at an address, and closes the journal.
+/// What was confirmed stays in the journal, however the run ends.
 pub fn push<R: Runtime + Net + AllocGlobal, K: Storage>(
     rt: &R,
     storage: &K,
     files: &SourceFiles,
     to: &str,
     base: Base,
-) -> Result<Status, RunFault> {
+) -> Result<Status, CommandFault> {
     let mut connector = open_connector(rt, storage)?;
     let ended = push_from(rt, &mut connector, files, to, base);
     connector.close().close();
     ended
 }
 
-/// The connector over a journal. One that it refuses is closed.
+/// The connector over a journal. If the connector refuses the journal, it is closed.
 pub fn open_connector<R: Runtime + AllocGlobal, K: Storage>(
     rt: &R,
     storage: &K,
-) -> Result<Connector<K::Entries>, RunFault> {
+) -> Result<Connector<K::Entries>, CommandFault> {
     match Connector::open(rt.alloc(), storage.open()?) {
         Ok(connector) => Ok(connector),
         Err((fault, entries)) => {
             entries.close();
-            Err(RunFault::from(PushFault::from(fault)))
+            Err(CommandFault::from(RunFault::from(fault)))
         }
     }
 }
@@ -49,7 +48,7 @@ fn push_from<R: Runtime + Net + AllocGlobal, J: Journal>(
     files: &SourceFiles,
     to: &str,
     base: Base,
-) -> Result<Status, RunFault> {
+) -> Result<Status, CommandFault> {
     let service = ScimService::new(base);
     let sources = read_sources(rt, files.users.as_str(), files.groups.as_deref())?;
     push_of(rt, connector, &service, &sources, to)
@@ -62,8 +61,10 @@ fn push_of<R: Runtime + Net + AllocGlobal, J: Journal>(
     service: &ScimService,
     sources: &Sources,
     to: &str,
-) -> Result<Status, RunFault> {
-    let mut out = BufWriter::new(rt.alloc(), io::writer(rt))?;
-    let outcome = sync_runs::push(rt, rt.alloc(), service, connector, sources, to, &mut out)?;
-    Ok(carried_status(outcome))
+) -> Result<Status, CommandFault> {
+    let mut out = NotedWriter::new(BufWriter::new(rt.alloc(), io::writer(rt))?);
+    match provisioning::push(rt, rt.alloc(), service, connector, sources, to, &mut out) {
+        Ok(outcome) => Ok(carried_status(outcome)),
+        Err(fault) => Err(out.explained(CommandFault::from(fault))),
+    }
 }

@@ -1,23 +1,23 @@
 //! `serve`: connections to a socket, answered by one provider, one after another.
-use commands::{RunFault, Status, listen_fault, outcome_status};
+use commands::{CommandFault, Status, listen_fault, outcome_status};
 use connection::{Sockets, serve_from_memory};
 use provider_file::{Storage, StoredRows, serve_stored};
+use provisioning::CONNECTION_SECONDS;
 use scim_key::Base;
 use std::io;
 use std::net::{Net, OpenListener, SocketAddr, TcpListener};
 use std::rt::Runtime;
 use std::time::Duration;
-use sync_runs::CONNECTION_SECONDS;
 
-/// Serves so many connections to an address, from the rows of a file, which is opened first, or from
-/// a provider in memory that is empty at first.
+/// Serves `requests` connections to an address, from the rows of a file, which it opens first, or from a
+/// provider in memory that starts empty.
 pub fn serve<R: Runtime + Net + AllocGlobal, K: Storage>(
     rt: &R,
     address: &str,
     requests: u32,
     base: &Base,
     store: Option<&K>,
-) -> Result<Status, RunFault> {
+) -> Result<Status, CommandFault> {
     match store {
         Some(storage) => serve_from_file(rt, address, requests, base, storage),
         None => {
@@ -28,14 +28,14 @@ pub fn serve<R: Runtime + Net + AllocGlobal, K: Storage>(
     }
 }
 
-/// Opens the rows, listens, and serves so many connections.
+/// Opens the rows, listens, and serves `requests` connections.
 fn serve_from_file<R: Runtime + Net + AllocGlobal, K: Storage>(
     rt: &R,
     address: &str,
     requests: u32,
     base: &Base,
     storage: &K,
-) -> Result<Status, RunFault> {
+) -> Result<Status, CommandFault> {
     let rows = storage.open()?;
     match sockets(rt, address) {
         Ok(mut sockets) => {
@@ -57,23 +57,23 @@ fn serve_from_file<R: Runtime + Net + AllocGlobal, K: Storage>(
     }
 }
 
-/// The connections of an address, each with its time.
+/// The connections of an address, each with a deadline.
 fn sockets<'a, R: Runtime + Net + AllocGlobal>(
     rt: &'a R,
     address: &str,
-) -> Result<Sockets<'a, R::Listener, R>, RunFault> {
+) -> Result<Sockets<'a, R::Listener, R>, CommandFault> {
     let limit = Duration::from_secs(CONNECTION_SECONDS);
     Ok(Sockets::new(rt.alloc(), listen(rt, address)?, rt, limit))
 }
 
-/// Listens on an address, and prints the one that was taken.
-fn listen<R: Runtime + Net>(rt: &R, address: &str) -> Result<R::Listener, RunFault> {
-    let (listener, taken) = bound(rt, address).map_err(|error| listen_fault(error.kind()))?;
+/// Listens on an address, and prints the address with its port.
+fn listen<R: Runtime + Net>(rt: &R, address: &str) -> Result<R::Listener, CommandFault> {
+    let (listener, taken) = bound(rt, address).map_err(|error| listen_fault(error))?;
     println!(rt; "listening {taken}")?;
     Ok(listener)
 }
 
-/// A listener on an address, and the address with the port that it took.
+/// A listener on an address, and the address with its port.
 fn bound<R: Net>(rt: &R, address: &str) -> io::Result<(R::Listener, SocketAddr)> {
     let listener = TcpListener::bind(rt, address)?;
     let taken = listener.local_addr()?;

@@ -1,39 +1,43 @@
-//! `show`: what a file keeps, a line each.
-use commands::{RunFault, Status};
+//! `show`: prints what a file keeps, one line each.
+use commands::{CommandFault, NotedWriter, Status};
 use journal_file::show_entries;
 use provider_file::show_rows;
 use std::io;
 use std::io::BufWriter;
 use std::rt::Runtime;
 
-/// Prints what one of both files keeps, and no more: the rows of a provider, in order of creation, or
-/// the entries of a connector, users by key, then groups by key.
+/// Prints what one of the files keeps: the rows of a provider, in order of creation, or the entries of a
+/// connector, users by key, then groups by key.
 pub fn show<R: Runtime + AllocGlobal, K: provider_file::Storage, J: journal_file::Storage>(
     rt: &R,
     store: Option<&K>,
     journal: Option<&J>,
-) -> Result<Status, RunFault> {
+) -> Result<Status, CommandFault> {
     match (store, journal) {
         (Some(store), None) => show_store(rt, store),
         (None, Some(journal)) => show_journal(rt, journal),
-        (Some(_), Some(_)) | (None, None) => Err(RunFault::Show),
+        (Some(_), Some(_)) | (None, None) => Err(CommandFault::Show),
     }
 }
 
 fn show_store<R: Runtime + AllocGlobal, K: provider_file::Storage>(
     rt: &R,
     store: &K,
-) -> Result<Status, RunFault> {
-    let mut out = BufWriter::new(rt.alloc(), io::writer(rt))?;
-    show_rows(rt.alloc(), store, &mut out)?;
-    Ok(Status::Done)
+) -> Result<Status, CommandFault> {
+    let mut out = NotedWriter::new(BufWriter::new(rt.alloc(), io::writer(rt))?);
+    match show_rows(rt.alloc(), store, &mut out) {
+        Ok(()) => Ok(Status::Done),
+        Err(fault) => Err(out.explained(CommandFault::from(fault))),
+    }
 }
 
 fn show_journal<R: Runtime + AllocGlobal, J: journal_file::Storage>(
     rt: &R,
     journal: &J,
-) -> Result<Status, RunFault> {
-    let mut out = BufWriter::new(rt.alloc(), io::writer(rt))?;
-    show_entries(rt.alloc(), journal, &mut out)?;
-    Ok(Status::Done)
+) -> Result<Status, CommandFault> {
+    let mut out = NotedWriter::new(BufWriter::new(rt.alloc(), io::writer(rt))?);
+    match show_entries(rt.alloc(), journal, &mut out) {
+        Ok(()) => Ok(Status::Done),
+        Err(fault) => Err(out.explained(CommandFault::from(fault))),
+    }
 }

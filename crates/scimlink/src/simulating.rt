@@ -1,5 +1,6 @@
-//! `simulate`: a schedule, run over both sides in memory.
-use commands::{RunFault, Status, simulated_status};
+//! `simulate`: runs events over connector and provider in memory.
+use commands::simulating::Events;
+use commands::{CommandFault, Part, Status, simulated_status, unread_fault};
 use journal_core::MemoryJournal;
 use provider_core::MemoryRegistry;
 use scim_key::{Base, RecordName};
@@ -7,26 +8,46 @@ use std::alloc::Global;
 use std::io::{BufWriter, Write};
 use std::rt::Runtime;
 use std::{fs, io};
-use world_sim::{Event, Report, View, World, read_schedule};
+use world_sim::{Event, Report, View, World, random_schedule, read_schedule, settle};
 
-/// Both sides in memory.
+/// Connector and provider in memory.
 type MemoryWorld = World<MemoryRegistry, MemoryJournal>;
 
-/// Runs the events of a schedule, each with a line of what it reports, and prints of each record what
-/// is wanted, confirmed and held in the end.
+/// The file that events are read from, if they are.
+pub fn file_of(events: &Events) -> &str {
+    match events {
+        Events::Scheduled(file) => file.as_str(),
+        Events::Random { seed: _, count: _ } => "",
+    }
+}
+
+/// Runs these events and prints a report for each, then settles every record if asked to, and prints,
+/// for each record, what is wanted, confirmed and held.
 pub fn simulate<R: Runtime + AllocGlobal>(
     rt: &R,
-    file: &str,
+    events: &Events,
+    settles: bool,
     base: Base,
-) -> Result<Status, RunFault> {
-    let events = events_in(rt, file)?;
+) -> Result<Status, CommandFault> {
+    let events = events_of(rt, events)?;
     let mut out = BufWriter::new(rt.alloc(), io::writer(rt))?;
-    run(rt.alloc(), base, events.as_slice(), &mut out)
+    run(rt.alloc(), base, events.as_slice(), settles, &mut out)
+}
+
+/// The events of a schedule's file, or random ones.
+fn events_of<R: Runtime + AllocGlobal>(
+    rt: &R,
+    events: &Events,
+) -> Result<Vec<Event>, CommandFault> {
+    match events {
+        Events::Scheduled(file) => events_in(rt, file.as_str()),
+        Events::Random { seed, count } => Ok(random_schedule(rt.alloc(), *seed, *count)?),
+    }
 }
 
 /// The events of a schedule's file.
-fn events_in<R: Runtime + AllocGlobal>(rt: &R, file: &str) -> Result<Vec<Event>, RunFault> {
-    let text = fs::read_to_string(rt, file)?;
+fn events_in<R: Runtime + AllocGlobal>(rt: &R, file: &str) -> Result<Vec<Event>, CommandFault> {
+    let text = fs::read_to_string(rt, file).map_err(|error| unread_fault(Part::File, error))?;
     Ok(read_schedule(rt.alloc(), text.as_str())?)
 }
 
@@ -35,22 +56,27 @@ fn run<W: Write>(
     alloc: Global,
     base: Base,
     events: &[Event],
+    settles: bool,
     out: &mut W,
-) -> Result<Status, RunFault> {
+) -> Result<Status, CommandFault> {
     let registry = MemoryRegistry::new(alloc);
     let journal = MemoryJournal::new(alloc);
     let mut world = MemoryWorld::new(alloc, registry, journal, base).map_err(|refused| refused.0)?;
-    print_run(alloc, &mut world, events, out)
+    print_run(alloc, &mut world, events, settles, out)
 }
 
-/// Runs these events in a world, prints their reports and the records, and tells how the run then ends.
+/// Runs these events in a world, prints their reports and the records, and returns the exit status.
 fn print_run<W: Write>(
     alloc: Global,
     world: &mut MemoryWorld,
     events: &[Event],
+    settles: bool,
     out: &mut W,
-) -> Result<Status, RunFault> {
+) -> Result<Status, CommandFault> {
     let reports = print_reports(alloc, world, events, out)?;
+    if settles {
+        print_settling(world, out)?;
+    }
     let views = print_views(alloc, world, out)?;
     out.flush()?;
     Ok(simulated_status(reports.as_slice(), views.as_slice()))
@@ -62,7 +88,7 @@ fn print_reports<W: Write>(
     world: &mut MemoryWorld,
     events: &[Event],
     out: &mut W,
-) -> Result<Vec<Report>, RunFault> {
+) -> Result<Vec<Report>, CommandFault> {
     let mut reports = Vec::new(alloc);
     for event in events {
         let number = reports.len() + 1;
@@ -71,16 +97,23 @@ fn print_reports<W: Write>(
     Ok(reports)
 }
 
-/// Runs an event, and prints its number and what it reports.
+/// Runs an event, and prints its number and its report.
 fn print_report<W: Write>(
     world: &mut MemoryWorld,
     event: &Event,
     number: usize,
     out: &mut W,
-) -> Result<Report, RunFault> {
+) -> Result<Report, CommandFault> {
     let report = world.step(event)?;
     writeln!(out, "{number} {report}")?;
     Ok(report)
+}
+
+/// Settles every record, and prints how many exchanges that took.
+fn print_settling<W: Write>(world: &mut MemoryWorld, out: &mut W) -> Result<(), CommandFault> {
+    let count = settle(world)?;
+    writeln!(out, "{count}")?;
+    Ok(())
 }
 
 /// Prints a line for each record: users by key, then groups by key.
@@ -88,7 +121,7 @@ fn print_views<W: Write>(
     alloc: Global,
     world: &mut MemoryWorld,
     out: &mut W,
-) -> Result<Vec<View>, RunFault> {
+) -> Result<Vec<View>, CommandFault> {
     let names = world.names()?;
     let mut views = Vec::new(alloc);
     for name in names.as_slice() {
@@ -97,12 +130,12 @@ fn print_views<W: Write>(
     Ok(views)
 }
 
-/// Prints how a record stands.
+/// Prints the state of a record.
 fn print_view<W: Write>(
     world: &mut MemoryWorld,
     name: &RecordName,
     out: &mut W,
-) -> Result<View, RunFault> {
+) -> Result<View, CommandFault> {
     let view = world.view(name)?;
     writeln!(out, "{view}")?;
     Ok(view)

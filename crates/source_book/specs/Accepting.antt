@@ -11,12 +11,12 @@ use Rattle.source_book.specs.declared.accepting.BookFault.TheVariants.{Differs, 
 use Rattle.source_book.specs.declared.accepting.Verdict.{Verdict}
 use Rattle.source_book.specs.declared.accepting.Verdict.TheVariants.{New, Known, Older}
 
--- the verdict on a row of a revision that counts, by its first member that is no user record
+-- the verdict on a row with a new revision, by its first member that isn't a user record
 abbrev pub newer : Option ℕ → Result Verdict BookFault
 newer (Some place) = Err (NoSuchMember place)
 newer None = Ok New
 
--- the verdict on a row, by the last row of its record and by its first member that is no user record
+-- the verdict on a row, by the last row of its record and by its first member that isn't a user record
 abbrev pub accepted : Option Row → Row → Option ℕ → Result Verdict BookFault
 accepted None row missing = newer missing
 accepted (Some held) row missing =
@@ -25,13 +25,13 @@ accepted (Some held) row missing =
     else if same_row row held then Ok Known
     else Err Differs
 
--- Accepting a row into the history, the first case that applies
+-- Accepting a row into the history: the first case that applies
 
--- the row is the first of its record, or of a higher revision than the last
+-- the row is the first of its record, or has a higher revision than the last
 abbrev pub IsNewer : History → Row → Type 0
 IsNewer history row = (held : Row) → last_row history (row_name row) ≡ Some held → row_revision held ≺ row_revision row
 
--- the member at this place is none, and every member before it is one
+-- the member at this place isn't a user record, and every member before it is one
 abbrev pub IsFirstMissing : History → Row → ℕ → Type 0
 IsFirstMissing history row place = (earlier : List (List ℕ)) × (key : List ℕ) × (later : List (List ℕ))
     × (members_of row ≡ earlier ++ key ∷ later) × (length earlier ≡ place) × (list_all (is_user history) earlier ≡ true) × (is_user history key ≡ false)
@@ -43,11 +43,11 @@ pub data Accepts (history : History) (row : Row) : Result Verdict BookFault → 
   missing : (place : ℕ) → IsNewer history row → IsFirstMissing history row place → Accepts history row (Err (NoSuchMember place))
   new : IsNewer history row → AllAreUsers history row → Accepts history row (Ok New)
 
--- the verdict on a row by the history alone
+-- the verdict on a row, decided by the history alone
 abbrev pub accepting : History → Row → Result Verdict BookFault
 accepting history row = accepted (last_row history (row_name row)) row (missing_member history row)
 
--- `accept`, of the last row of the record and of the first member that is no user record, accepts into the history
+-- `accept` decides by the history, if it gets the last row of the record and the first member that isn't a user record
 abbrev pub AcceptsByHistory : Type 0
 AcceptsByHistory = (history : History) (row : Row) (answer : Result Verdict BookFault) → Accepts history row answer ↔ (answer ≡ accepting history row)
 
@@ -56,18 +56,18 @@ pub record GoesOn (history : History) (row : Row) : Type 0 where
   -- the rows of its record go on with it, and those of every other record stay
   pub of_record : rows_of (history ++ row ∷ []) (row_name row) ≡ rows_of history (row_name row) ++ row ∷ []
   pub others : (name : RecordName) → name ≢ row_name row → rows_of (history ++ row ∷ []) name ≡ rows_of history name
-  -- it is what the source wants from now on, and no earlier revision than it wanted before
+  -- it is what the source wants from now on, at a revision that is no earlier than before
   pub last : last_row (history ++ row ∷ []) (row_name row) ≡ Some row
   pub never_back : wanted history (row_name row) ≼ row_revision row
   -- the rows of each record still strictly rise, and members are still user records
   pub rises : AllRise history → AllRise (history ++ row ∷ [])
   pub members : MembersAreUsers history → MembersAreUsers (history ++ row ∷ [])
 
--- so it is of every row that is accepted as new
+-- this holds for every row that is accepted as new
 abbrev pub NewRowsGoOn : Type 0
 NewRowsGoOn = (history : History) (row : Row) → accepting history row ≡ Ok New → GoesOn history row
 
--- the history after a row was offered: a new one is appended, and no other changes it
+-- the history after a row was offered: a new row is appended, and no other row changes it
 abbrev pub after_verdict : History → Row → Result Verdict BookFault → History
 after_verdict history row (Ok New) = history ++ row ∷ []
 after_verdict history row (Ok Known) = history

@@ -12,11 +12,11 @@ use Rattle.source_csv.specs.declared.rows.Row.{Row}
 abbrev pub History : Type 0
 History = List Row
 
--- the accepted rows of a record, in their order
+-- the accepted rows of a record, in order
 abbrev pub rows_of : History → RecordName → List Row
 rows_of history name = filter (λ row. same_name (row_name row) name) history
 
--- the last of them, if there is one
+-- the last row of a record, if there is one
 abbrev pub last_row : History → RecordName → Option Row
 last_row history name = last_or None (rows_of history name)
 
@@ -24,7 +24,7 @@ last_row history name = last_or None (rows_of history name)
 abbrev pub is_user : History → List ℕ → Bool
 is_user history key = is_some (last_row history (user key))
 
--- the place, from 0, of a row's first member by key that is no user record of the history
+-- the place, from 0, of a row's first member by key that isn't a user record of the history
 abbrev pub missing_member : History → Row → Option ℕ
 missing_member history row = position_from (λ key. not (is_user history key)) 0 (members_of row)
 
@@ -33,7 +33,7 @@ abbrev pub revision_if : Option Row → RevisionValue
 revision_if None = no_revision
 revision_if (Some row) = row_revision row
 
--- the revision that the source wants of a record: that of its last row
+-- the revision that the source wants of a record: the revision of its last row
 abbrev pub wanted : History → RecordName → RevisionValue
 wanted history name = revision_if (last_row history name)
 
@@ -41,15 +41,15 @@ wanted history name = revision_if (last_row history name)
 abbrev pub AllAreUsers : History → Row → Type 0
 AllAreUsers history row = list_all (is_user history) (members_of row) ≡ true
 
--- every member of every row is one
+-- every member of every row is a user record of the history
 abbrev pub MembersAreUsers : History → Type 0
 MembersAreUsers history = AllByRecursion (AllAreUsers history) history
 
--- each row is of a higher revision than all before it
+-- each row has a higher revision than all rows before it
 abbrev pub Rises : List Row → Type 0
 Rises [] = Unit {0}
 Rises (row ∷ rows) = AllByRecursion (λ later. row_revision row ≺ row_revision later) rows × Rises rows
 
--- the rows of each record are
+-- the rows of each record rise
 abbrev pub AllRise : History → Type 0
 AllRise history = (name : RecordName) → Rises (rows_of history name)

@@ -1,4 +1,4 @@
-//! Accepting a row, by the last accepted row of its record.
+//! Accepts a row, by the last accepted row of its record.
 ghost use Rattle.std.specs.Prelude.{◌≡◌};
 ghost use Rattle.std.specs.Option.{option_copied};
 ghost use Rattle.source_book.specs.Accepting.{AcceptsByHistory, HistoriesRise, NewRowsGoOn, accepted, newer};
@@ -6,29 +6,29 @@ ghost use Rattle.source_book.specs.Accepting.{AcceptsByHistory, HistoriesRise, N
 use source_csv::Row;
 use thiserror::Error;
 
-/// What becomes of a row that isn't refused. Only a `New` one changes the history.
+/// The verdict on a row that isn't refused. Only a `New` row changes the history.
 #[derive(Clone, Copy, Debug, PartialEq, Eq)]
 pub enum Verdict {
-    /// The first row of its record, or one of a higher revision than the last.
+    /// The first row of its record, or a row with a higher revision than the last.
     New,
-    /// The last row of its record, once more.
+    /// The last row of its record again.
     Known,
-    /// Of a lower revision than the last row of its record.
+    /// A row with a lower revision than the last row of its record.
     Older,
 }
 
 /// Why a row is refused.
 #[derive(Clone, Copy, Debug, PartialEq, Eq, Error)]
 pub enum BookFault {
-    /// It has the revision of the last row of its record, and another field.
+    /// It has the revision of the last row of its record, but another field.
     #[error("S7")]
     Differs,
-    /// Its member at this place, from 0, is the first by key that is no user record.
+    /// The member at this place, from 0, is the first by key that isn't a user record.
     #[error("S8")]
     NoSuchMember { place: usize },
 }
 
-/// The verdict on a row of a revision that counts.
+/// The verdict on a row with a new revision.
 fn newer(missing: Option<usize>) -> Result<Verdict, BookFault>
     ensures { result ≡ newer missing }
 {
@@ -38,8 +38,8 @@ fn newer(missing: Option<usize>) -> Result<Verdict, BookFault>
     }
 }
 
-/// The verdict on a row, where `held` is the last accepted row of its record, and `missing` the place
-/// of its first member that is no user record. It takes no memory.
+/// The verdict on a row. `held` is the last accepted row of its record; `missing` is the place of its first
+/// member that isn't a user record. It allocates nothing.
 pub fn accept(held: Option<&Row>, row: &Row, missing: Option<usize>) -> Result<Verdict, BookFault>
     ensures { result ≡ accepted (option_copied held.entry) row.now missing }
 {
@@ -57,13 +57,14 @@ pub fn accept(held: Option<&Row>, row: &Row, missing: Option<usize>) -> Result<V
     }
 }
 
-/// `accept` accepts by the history of the source: by the last row of the record in it, and by the
-/// first member that is no user record of it.
+/// `accept` decides by the history of the source, if it gets the last row of the record and the first
+/// member that isn't a user record.
 pub fn accept_is_by_history()
     ensures { AcceptsByHistory }
 {}
 
-/// A new row is the last of its record, whose rows go on and rise, and no other record changes.
+/// A new row becomes the last row of its record. The record's rows go on and rise, and no other record
+/// changes.
 pub fn new_rows_go_on()
     ensures { NewRowsGoOn }
 {}

@@ -33,7 +33,7 @@ read_texts-bytes fields bytes =
     let e : list_all is_utf8 fields ≡ false = false_from_ne_true _ (λ h. bytes (texts_from_test fields h)) in
     rw e
 
--- what is read as text is the record itself
+-- the record, read as text, is the record itself
 read_texts-same : (fields texts : Record) → read_texts fields ≡ Ok texts → texts ≡ fields
 unfolding read_texts
 read_texts-same fields texts e = by (list_all is_utf8 fields) e

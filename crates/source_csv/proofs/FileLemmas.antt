@@ -49,7 +49,7 @@ length_named (c ∷ columns) = ap suc (length_named columns)
 pub columns_other : (fields : Record) (columns : List (Bor (List ℕ))) → (length fields ≡ length columns → ⊥) → false ≡ same_record fields (named columns)
 columns_other fields columns other = sym (false_from_ne_true _ (λ e. other (same_length fields (named columns) e ∙ length_named columns)))
 
--- where a record comes next, it is the first of the records, and where none does, there are no records
+-- if a record comes next, it is the first of the records; if none does, there are no records
 pub first_record : (s : State) (xs : List ℕ) (p : Read) (records : List Record)
     → AreRecords default_config s xs records → next_record default_config s [] [] xs ≡ Some p
     → (rest : List Record) × (records ≡ p.0 ∷ rest) × AreRecords default_config p.1 p.2 rest

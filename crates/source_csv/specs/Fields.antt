@@ -1,4 +1,4 @@
--- What the fields of a record say, and what a record is as a row: the first refusal that stands in it decides.
+-- What the fields of a record say, and what a record is as a row: the first fault decides.
 use Rattle.std.specs.Prelude.{◌≡◌, ℕ, Bool, true, false, List, [], ◌∷◌, Result, Ok, Err, if◌then◌else◌, ◌||◌, ◌==◌, nat_le, nat_lt, length, map, codes, is_none, unwrap_or}
 use Rattle.std.specs.List.{list_all, list_any, slice_split}
 use Rattle.std.specs.Option.{ok_or}
@@ -52,7 +52,7 @@ read_user_fields login revision number given family mail status = do
   active ← read_status status
   Ok (record { login = name; revision = count; number = external; given = first; family = last; mail = address; active = active })
 
--- A record of a users file as a row. S2: it has another number of fields.
+-- A record of a users file as a row. S2: the number of fields is wrong.
 unfoldable pub read_user : Record → Result UserFields RowCode
 read_user (login ∷ revision ∷ number ∷ given ∷ family ∷ mail ∷ status ∷ []) = do
   texts ← read_texts (login ∷ revision ∷ number ∷ given ∷ family ∷ mail ∷ status ∷ [])
@@ -63,7 +63,7 @@ read_user fields = Err code.FieldCount
 unfoldable pub read_group_name : List ℕ → Result (List ℕ) RowCode
 read_group_name text = if is_none (group_name_fault text) then Ok text else Err code.Name
 
--- the members' names: what stands between the spaces. An empty text has none
+-- the members' names: the texts between the spaces. An empty text has none
 abbrev pub pieces : List ℕ → List (List ℕ)
 pieces [] = []
 pieces (b ∷ text) = slice_split (λ c. c == 32) (b ∷ text)
@@ -77,11 +77,11 @@ read_member text = do
   name ← read_login text
   Ok (key_of name)
 
--- S4: each member is a `userName`; it is known by its key
+-- S4: each member is a `userName`, of which the row has the key
 unfoldable pub read_members : List ℕ → Result (List (List ℕ)) RowCode
 read_members text = if list_all is_login (pieces text) then Ok (map key_of (pieces text)) else Err code.Name
 
--- a key among keys that are in byte order
+-- puts a key among keys that are in byte order
 abbrev pub put : List ℕ → List (List ℕ) → List (List ℕ)
 put key [] = key ∷ []
 put key (next ∷ keys) = if precedes next key then next ∷ put key keys else key ∷ next ∷ keys
@@ -91,12 +91,12 @@ abbrev pub in_order : List (List ℕ) → List (List ℕ)
 in_order [] = []
 in_order (key ∷ keys) = put key (in_order keys)
 
--- whether some key stands twice
+-- whether some key is repeated
 abbrev pub has_repeat : List (List ℕ) → Bool
 has_repeat [] = false
 has_repeat (key ∷ keys) = list_any (bytes_eq key) keys || has_repeat keys
 
--- S9: two members have one key; S10: there are more than `MEMBER_LIMIT`
+-- S9: two members have the same key; S10: there are more than `MEMBER_LIMIT`
 unfoldable pub read_keys : List (List ℕ) → Result (List (List ℕ)) RowCode
 read_keys keys =
     if has_repeat keys then Err code.RepeatedMember
@@ -112,24 +112,24 @@ read_group_fields name revision members = do
   sorted ← read_keys keys
   Ok (record { name = title; revision = count; members = sorted })
 
--- A record of a groups file as a row. S2: it has another number of fields.
+-- A record of a groups file as a row. S2: the number of fields is wrong.
 unfoldable pub read_group : Record → Result GroupFields RowCode
 read_group (name ∷ revision ∷ members ∷ []) = do
   texts ← read_texts (name ∷ revision ∷ members ∷ [])
   read_group_fields name revision members
 read_group fields = Err code.FieldCount
 
--- the field at a place, empty where there is none
+-- the field at a place; empty if there is none
 abbrev pub field : Record → ℕ → List ℕ
 field fields place = unwrap_or (field_at fields place) []
 
--- what came is exactly what is read, or out of memory
+-- the result is exactly what is read, or out of memory
 abbrev pub Reads : {X : Type 0} → Result X Refusal → Result X RowCode → Type 0
 Reads (Ok x) answer = answer ≡ Ok x
 Reads (Err (Refused c)) answer = answer ≡ Err c
 Reads (Err Memory) answer = Unit {0}
 
--- the same, of what is seen of the value that came
+-- the same for a view of the result's value
 abbrev pub ReadsBy : {X Y : Type 0} → (X → Y) → Result X Refusal → Result Y RowCode → Type 0
 ReadsBy view (Ok x) answer = answer ≡ Ok (view x)
 ReadsBy view (Err (Refused c)) answer = answer ≡ Err c

@@ -1,4 +1,4 @@
--- The rows of the source as contracts see them, and the limits that they keep.
+-- The rows of the source, as contracts see them, and their limits.
 use Rattle.std.specs.Prelude.{◌≡◌, ℕ, Bool, true, List, [], ◌∷◌, length, ◌≤◌, ◌&&◌}
 use Rattle.std.specs.Bool.{beq}
 use Rattle.std.specs.Cmp.Lexicographic.{pointwise, slice_cmp}
@@ -10,7 +10,7 @@ use Rattle.scim_key.specs.Revisions.{RevisionValue, IsRevision, same_revision}
 use Rattle.source_csv.specs.declared.groups.TheConstants.{MEMBER_LIMIT}
 use Rattle.source_csv.specs.declared.users.TheConstants.{VALUE_LIMIT}
 
--- a row of a user. An empty number, given name, family name or mail is none
+-- a row of a user. An empty number, given name, family name or mail means none
 pub record UserFields : Type 0 where
   pub login : List ℕ
   pub revision : RevisionValue
@@ -20,7 +20,7 @@ pub record UserFields : Type 0 where
   pub mail : List ℕ
   pub active : Bool
 
--- what every row of a user keeps
+-- what holds for every row of a user
 pub record IsUserRow (row : UserFields) : Type 0 where
   pub login : IsUserName row.login
   pub revision : IsRevision row.revision
@@ -29,25 +29,25 @@ pub record IsUserRow (row : UserFields) : Type 0 where
   pub family : length row.family ≤ VALUE_LIMIT
   pub mail : length row.mail ≤ VALUE_LIMIT
 
--- whether the numbers, names and mails of two rows are equal, by bytes
+-- whether the numbers, names and mails of two rows are equal, byte for byte
 abbrev pub same_values : UserFields → UserFields → Bool
 same_values a b = bytes_eq a.number b.number && bytes_eq a.given b.given && bytes_eq a.family b.family && bytes_eq a.mail b.mail
 
--- whether all fields of two rows of users are equal, by bytes: a login in another spelling is another field
+-- whether all fields of two rows of users are equal, byte for byte: a login in another spelling is another field
 abbrev pub same_user : UserFields → UserFields → Bool
 same_user a b = bytes_eq a.login b.login && same_revision a.revision b.revision && beq a.active b.active && same_values a b
 
--- whether a key stands before another in byte order
+-- whether a key comes before another in byte order
 unfoldable pub precedes : List ℕ → List ℕ → Bool
 precedes key other = is_lt (slice_cmp nat_cmp key other)
 
--- keys in byte order, none of them twice
+-- keys in byte order, none of them repeated
 abbrev pub are_rising : List (List ℕ) → Bool
 are_rising [] = true
 are_rising (key ∷ []) = true
 are_rising (key ∷ next ∷ keys) = precedes key next && are_rising (next ∷ keys)
 
--- the key of a user: a `userName` in which no letter is a capital
+-- the key of a user: a `userName` without capitals
 pub record IsUserKey (key : List ℕ) : Type 0 where
   pub named : IsUserName key
   pub lowered : IsKey key
@@ -61,7 +61,7 @@ pub record GroupFields : Type 0 where
   pub revision : RevisionValue
   pub members : List (List ℕ)
 
--- what every row of a group keeps
+-- what holds for every row of a group
 pub record IsGroupRow (row : GroupFields) : Type 0 where
   pub name : IsGroupName row.name
   pub revision : IsRevision row.revision
@@ -69,6 +69,6 @@ pub record IsGroupRow (row : GroupFields) : Type 0 where
   pub rising : are_rising row.members ≡ true
   pub keys : AreUserKeys row.members
 
--- the same of two rows of groups
+-- whether all fields of two rows of groups are equal, byte for byte
 abbrev pub same_group : GroupFields → GroupFields → Bool
 same_group a b = bytes_eq a.name b.name && same_revision a.revision b.revision && pointwise bytes_eq a.members b.members

@@ -22,7 +22,7 @@ pub(crate) fn texts_of(raw: ByteRecord) -> Result<StringRecord, RowCode>
     }
 }
 
-/// The field at a place, empty where there is none.
+/// The field at a place; empty if there is none.
 pub(crate) fn field(texts: &StringRecord, place: usize) -> &str
     ensures { result.now ≡ field (fields_of texts.now) place }
 {
@@ -55,7 +55,7 @@ pub(crate) fn group_name_of(alloc: Global, text: &str) -> Result<GroupName, Refu
     }
 }
 
-/// The revision that a text spells, with whatever zeros in front.
+/// The revision that a text spells; leading zeros are allowed.
 #[tactic(auto, unfolding(crate::specs::Fields::read_revision))]
 pub(crate) fn revision_of(text: &str) -> Result<Revision, RowCode>
     ensures exact { result ≡ read_revision text.now }
@@ -76,7 +76,7 @@ pub(crate) fn value_of(alloc: Global, text: &str) -> Result<String, Refusal>
     Ok(String::from_str(alloc, text)?)
 }
 
-/// Whether a status is `active`, where it is one.
+/// Whether a status is `active`; the only other one is `left`.
 #[tactic(auto, unfolding(crate::specs::Fields::read_status))]
 pub(crate) fn status_of(text: &str) -> Result<bool, RowCode>
     ensures { result ≡ read_status text.now }

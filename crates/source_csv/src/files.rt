@@ -29,7 +29,7 @@ pub const USER_COLUMNS: [&str; 7] = [
 /// The columns of a file of groups.
 pub const GROUP_COLUMNS: [&str; 3] = ["name", "revision", "members"];
 
-/// The records of a file in their order: each is a row, or is refused.
+/// The records of a file, in order: each is a row or is rejected.
 #[derive(Debug, Drop)]
 pub struct SourceRows {
     rows: Vec<Result<Row, RowFault>>,
@@ -46,14 +46,14 @@ impl Model for SourceRows {
 }
 
 impl SourceRows {
-    /// The records, the one at place 1 first.
+    /// The records; the one at place 1 comes first.
     pub fn as_slice(&self) -> &[Result<Row, RowFault>]
         ensures { result.now ≡ self.now }
     {
         self.rows.as_slice()
     }
 
-    /// The records, the one at place 1 first.
+    /// The records; the one at place 1 comes first.
     pub fn into_vec(self) -> Vec<Result<Row, RowFault>>
         ensures { result.items ≡ self }
     {
@@ -79,7 +79,7 @@ fn has_fields(raw: &ByteRecord, names: &[&str]) -> bool
         .all(|(place, name)| has_field(raw, place, name))
 }
 
-/// Whether a record has these columns, and no others.
+/// Whether a record has exactly these columns.
 fn has_columns(raw: &ByteRecord, columns: &[&str]) -> bool
     ensures { result ≡ same_record (fields_of raw.now) (named columns.now) }
 {
@@ -107,7 +107,7 @@ fn read_row(alloc: Global, kind: Kind, raw: ByteRecord) -> Result<Row, Refusal>
     }
 }
 
-/// What a record at a place is.
+/// The row or the fault of the record at a place.
 fn row_at(
     alloc: Global,
     kind: Kind,
@@ -123,7 +123,7 @@ fn row_at(
     }
 }
 
-/// The records of a file, its header among them.
+/// The records of a file, including its header.
 fn records_of(alloc: Global, bytes: &[u8]) -> ByteRecordsIntoIter<&[u8]>
     ensures { IsAt StartRecord (strip_bom bytes.now) result }
 {
@@ -134,8 +134,8 @@ fn records_of(alloc: Global, bytes: &[u8]) -> ByteRecordsIntoIter<&[u8]>
         .into_byte_records()
 }
 
-/// The record that the reader gave. Where it gave none, it was out of memory: over bytes in memory, with
-/// records of any number of fields, no other error is left.
+/// The record that the reader gave. If it gave none, memory ran out: no other error is possible for bytes
+/// in memory and records with any number of fields.
 fn record_of(given: Result<ByteRecord, csv::Error>) -> Result<ByteRecord, SourceFault>
     requires { ForErr given (λ error. stops_reader (error_kind error) ≡ true) }
     ensures ok { IfOk result (λ raw. given ≡ Ok raw) }
@@ -178,7 +178,8 @@ pub fn read_groups(alloc: Global, bytes: &[u8]) -> Result<SourceRows, SourceFaul
     read_rows(alloc, Kind::Group, bytes)
 }
 
-/// Each file has one list of records, of which `read_users` and `read_groups` speak.
+/// Each file has exactly one list of records, which the contracts of `read_users` and `read_groups` are
+/// about.
 pub fn files_have_records()
     ensures { FilesHaveRecords }
 {}

@@ -14,10 +14,10 @@ use scim_key::{Revision, UserName};
 use std::alloc::{AllocError, Global};
 use std::marker::Model;
 
-/// How many bytes a user's number, given name, family name and mail have at most.
+/// The most bytes of a user's number, given name, family name and mail.
 pub const VALUE_LIMIT: usize = 256;
 
-/// What the source says of a user at a revision. An empty number, given name, family name or mail is
+/// What the source says about a user at a revision. An empty number, given name, family name or mail means
 /// none; each has at most `VALUE_LIMIT` bytes.
 #[derive(Debug)]
 pub struct UserRow {
@@ -41,8 +41,8 @@ impl Model for UserRow {
     ghost invariant = { λ u. IsUserRow (record { login = u.login; revision = u.revision; number = string_bytes u.number; given = string_bytes u.given; family = string_bytes u.family; mail = string_bytes u.mail; active = u.active }) };
 }
 
-/// One call wherever a row is dropped, and not a step for each field: a proof is as long as the
-/// steps that it goes through.
+/// Dropping a row is one call, and not a step for each field: each step would lengthen every proof that
+/// goes through it.
 impl Drop for UserRow {
     fn drop(self) {
         let UserRow {
@@ -57,7 +57,7 @@ impl Drop for UserRow {
     }
 }
 
-/// Reads the fields of a record of seven.
+/// Reads the fields of a record with seven fields.
 #[tactic(auto, unfolding(crate::specs::Fields::read_user_fields))]
 fn user_of(alloc: Global, texts: &StringRecord) -> Result<UserRow, Refusal>
     ensures { Reads result (read_user_fields (field (fields_of texts.now) 0) (field (fields_of texts.now) 1) (field (fields_of texts.now) 2) (field (fields_of texts.now) 3) (field (fields_of texts.now) 4) (field (fields_of texts.now) 5) (field (fields_of texts.now) 6)) }
@@ -83,7 +83,7 @@ pub(crate) fn read_user(alloc: Global, raw: ByteRecord) -> Result<UserRow, Refus
     user_of(alloc, &texts_of(raw)?)
 }
 
-/// Whether two texts are equal, by bytes.
+/// Whether two texts are equal, byte for byte.
 fn same_text(a: &str, b: &str) -> bool
     ensures { result ≡ bytes_eq a.now b.now }
 {
@@ -98,7 +98,7 @@ fn is_short(text: &str) -> bool
 }
 
 impl UserRow {
-    /// A row of these fields, or none where a text has more than `VALUE_LIMIT` bytes.
+    /// A row of these fields. `None` if a text has more than `VALUE_LIMIT` bytes.
     pub fn new(
         login: UserName,
         revision: Revision,
@@ -143,7 +143,7 @@ impl UserRow {
         self.revision
     }
 
-    /// The user's number in the source, empty for none.
+    /// The user's number in the source; empty if there is none.
     pub fn number(&self) -> &str
         ensures value { result.now ≡ self.now.number }
         ensures short { length self.now.number ≤ VALUE_LIMIT }
@@ -151,7 +151,7 @@ impl UserRow {
         self.number.as_str()
     }
 
-    /// The given name, empty for none.
+    /// The given name; empty if there is none.
     pub fn given(&self) -> &str
         ensures value { result.now ≡ self.now.given }
         ensures short { length self.now.given ≤ VALUE_LIMIT }
@@ -159,7 +159,7 @@ impl UserRow {
         self.given.as_str()
     }
 
-    /// The family name, empty for none.
+    /// The family name; empty if there is none.
     pub fn family(&self) -> &str
         ensures value { result.now ≡ self.now.family }
         ensures short { length self.now.family ≤ VALUE_LIMIT }
@@ -167,7 +167,7 @@ impl UserRow {
         self.family.as_str()
     }
 
-    /// The mail address, empty for none.
+    /// The mail address; empty if there is none.
     pub fn mail(&self) -> &str
         ensures value { result.now ≡ self.now.mail }
         ensures short { length self.now.mail ≤ VALUE_LIMIT }
@@ -175,7 +175,7 @@ impl UserRow {
         self.mail.as_str()
     }
 
-    /// Whether the status is `active`, so isn't `left`.
+    /// Whether the status is `active`; the other one is `left`.
     pub fn is_active(&self) -> bool
         ensures { result ≡ self.now.active }
     {
@@ -192,7 +192,7 @@ impl UserRow {
             && same_text(self.mail(), other.mail())
     }
 
-    /// Whether all fields are equal, by bytes: a login in another spelling is another field.
+    /// Whether all fields are equal, byte for byte: a login in another spelling is another field.
     pub fn same_fields(&self, other: &UserRow) -> bool
         ensures exact { result ≡ same_user self.now other.now }
         ensures equal { IsTrue result ↔ (self.now ≡ other.now) }

@@ -1,4 +1,4 @@
--- When a record is done, and what is asked for as long as it isn't.
+-- When a record is done, and what the connector asks for until then.
 use Rattle.std.proofs.Common.{◌≡◌, ℕ, suc, Bool, true, false, cond, List, [], ◌∷◌, map, Option, Some, Result, Ok, refl, ap, ◌∙◌}
 use Rattle.std.specs.Option.{option_map}
 use Rattle.std.specs.Result.{result_ok}
@@ -36,7 +36,7 @@ done_if known equal = (same known.confirmed (row_revision known.wanted)).1 equal
 pub if_done : (known : Known) → IsDone known → known.confirmed ≡ row_revision known.wanted
 if_done known done = (same known.confirmed (row_revision known.wanted)).0 done
 
--- of two revisions the later one is the one that the other is up to
+-- if c is up to w, w is the later of the two
 pub later_top : (c w : RevisionValue) → c ≼ w → later c w ≡ w
 later_top c w within = go (before c w) refl
   where

@@ -1,4 +1,4 @@
--- What settling rests on beside the invariant: members are user records of the book, and each name is one of the book.
+-- What convergence needs besides the invariant: members are user records of the book, and each name is one of the book.
 use Rattle.std.proofs.Common.{◌≡◌, ℕ, zero, suc, Bool, true, List, [], ◌∷◌, Option, Some, None, Result, Ok, Err, is_some, ◌⊎◌, inl, inr, refl, ap, sym, ◌∙◌, subst}
 use Rattle.std.proofs.lemmas.Bool.{and_parts}
 use Rattle.std.specs.BTreeSet.{insert_key}

@@ -15,7 +15,7 @@ use Rattle.world_model.specs.Safe.{IsAt}
 use Rattle.world_model.specs.Settled.{exchange}
 use Rattle.world_model.proofs.Quiet.{Quiet, run_quiet}
 
--- the answer of the provider, as it stands
+-- the answer of the provider in its current state
 abbrev pub answer_to : World → Request → Answer
 answer_to w request = (step w.entries request).answer
 
@@ -42,7 +42,7 @@ module _ (w : World) (name : RecordName) (request : Request) (asks : asking w.bo
       let count : length sent.messages ≡ first = omega (arith, length-append w.messages (Asked request ∷ [])) in
       ap (slice_get (replied w request).messages) (sym count) ∙ at_end sent.messages (Answered request (answer_to w request))
 
-  sent_is : run w (Sends name ∷ Delivers first ∷ []) ≡ replied w request
+  pub sent_is : run w (Sends name ∷ Delivers first ∷ []) ≡ replied w request
   sent_is = ap (λ (o : Option Ask). happens (sends w o) (Delivers first)) asks ∙ ap (λ (o : Option Message). delivers sent o) at_request
 
   pub exchange_is : exchange w name ≡ exchanged w request

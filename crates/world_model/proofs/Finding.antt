@@ -1,5 +1,5 @@
--- What the provider answers, of the entries as they stand: a Search for a row's name finds the record's entry or that
--- there is none, a Create meets the record's entry or makes it, and a Replace under one tag is by the current version alone.
+-- What the provider answers, given its current entries: a Search for a row's name finds the record's entry or nothing;
+-- a Create meets the record's entry or makes it; and a Replace with one tag is decided by the current version alone.
 use Rattle.std.proofs.Common.{◌≡◌, ℕ, zero, suc, ◌<◌, ◌≤◌, Bool, true, false, cond, ◌&&◌, List, [], ◌∷◌, map, length, Option, Some, None, Ok, refl, ap, sym, ◌∙◌, subst, arith}
 use Rattle.std.specs.List.{filter, find, slice_get}
 use Rattle.std.specs.Prelude.{pos, nat_le}
@@ -40,7 +40,7 @@ Lacks es name = (i : ℕ) (e : Entry) → IsAt es i e → e.name ≡ name → �
 
 -- ---- a Search
 
--- the record's entry is shown as it stands, or nothing is and there is none
+-- the record's current entry is shown; or nothing is shown, and there is none
 pub data Finds (es : List Entry) (name : RecordName) (request : Request) (answer : Answer) : Type 0 where
   finds : (i : ℕ) (e : Entry) → IsAt es i e → e.name ≡ name → finding request answer ≡ Ok (Shows (shown (row_of (suc i) e))) → Finds es name request answer
   lacks : Lacks es name → finding request answer ≡ Ok Shows_none → Finds es name request answer

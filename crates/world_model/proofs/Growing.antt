@@ -1,4 +1,4 @@
--- What stays true where rows are accepted and stories go on.
+-- What stays true if rows are accepted and stories go on.
 use Rattle.std.proofs.Common.{◌≡◌, ℕ, suc, List, Option, Some, None, refl, ap, sym, ◌∙◌, subst}
 use Rattle.std.specs.Option.{option_map}
 use Rattle.scim_key.specs.Identifiers.{id_text}

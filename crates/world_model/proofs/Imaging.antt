@@ -1,4 +1,4 @@
--- Images: which record and revision they are of, and that they stay where more ids are known.
+-- Images: which record and revision they are of, and that they stay if more ids become known.
 use Rattle.std.proofs.Common.{◌≡◌, ℕ, List, [], Option, Some, refl, ap, sym, ◌∙◌}
 use Rattle.std.specs.Result.{result_ok}
 use Rattle.scim_key.specs.declared.records.RecordName.{RecordName}

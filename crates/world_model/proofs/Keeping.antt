@@ -38,7 +38,7 @@ held_revision history es kept i e at =
     let image = kept.imaged i (length e.earlier) e e.held at (held_at e) in
     (row_revision image.row, image.revision)
 
--- no content of a story is of a higher revision than the one that is held
+-- no content of a story has a higher revision than the one that is held
 pub none_above_held : (e : Entry) → StoryRises (story e) → (j : ℕ) (c : Content) (r held : RevisionValue) → IsAt (story e) j c → content_revision c ≡ Some r
     → content_revision e.held ≡ Some held → r ≼ held
 none_above_held e rises j c r held at has_r has_held = elim (at_push e.earlier e.held j c at) [

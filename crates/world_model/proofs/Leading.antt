@@ -1,4 +1,5 @@
--- What an exchange for a record leads to: what its reply says of the record is learnt, and nothing is known anew of others.
+-- What an exchange for a record leads to: the connector learns what the reply says about the record, and nothing about
+-- others.
 use Rattle.std.proofs.Common.{◌≡◌, suc, length, Option, Some, Result, Ok, Err, IsOk, refl, ap, ◌∙◌, subst}
 use Rattle.scim_key.specs.Outcome.{◌>>=◌}
 use Rattle.scim_key.specs.declared.records.RecordName.{RecordName}
@@ -20,7 +21,7 @@ use Rattle.world_model.proofs.Learned.{Fits, fit_tested, taught, told, told_of}
 use Rattle.world_model.proofs.Learning.{learns}
 use Rattle.world_model.proofs.Quiet.{Quiet}
 
--- what is said of a record is learnt of it
+-- what is said about a record is learnt about it
 pub learn_is : (book : Book) (request : Request) (answer : Answer) (name : RecordName) (known : Known) (said : Finding) → subject request ≡ Some name → book name ≡ Some known
     → finding request answer ≡ Ok said → learn book request answer ≡ taught book name known said
 learn_is book request answer name known said about in_book says =

@@ -24,7 +24,7 @@ use Rattle.world_model.specs.Safe.{IsAt}
 
 -- ---- one step after the other
 
--- a chain of steps that came to an end came through its first
+-- a chain of steps that succeeded went through its first
 through : {A B : Type 0} (r : Result A LearnFault) (f : A → Result B LearnFault) (y : B) → (r >>= f) ≡ Ok y → (x : A) × (r ≡ Ok x) × (f x ≡ Ok y)
 through (Ok x) f y is = (x, refl, is)
 through (Err fault) f y is = absurd (cc)
@@ -100,7 +100,7 @@ refusal_shows_none : (b : Bool) (said : Finding) (fault : LearnFault) (s : Shown
 refusal_shows_none true said fault s other is = other (cc)
 refusal_shows_none false said fault s other is = cc
 
--- the resource that an answer is taken to show is the first that stands in it
+-- the resource that an answer is taken to show is the first in it
 pub shows_first : (request : Request) (answer : Answer) (s : ShownRecord) → finding request answer ≡ Ok (Shows s) → IsAt (shown_in answer) 0 s
 shows_first (Create content) (Created x) s is = cc
 shows_first (Create content) (Found x) s is = absurd (cc)
@@ -122,7 +122,7 @@ shows_first (Replace id content m n) (answers.List list) s is = absurd (cc)
 shows_first (Replace id content m n) (NotModified kind i version) s is = absurd (cc)
 shows_first (Replace id content m n) (Error error) s is = absurd (refusal_shows_none _ (Stale m) _ s (λ e. cc) is)
 
--- ---- what is learnt of one record
+-- ---- what is learnt about one record
 
 -- a resource in sight, nothing new, nothing there, or something forgotten
 pub data Learns (name : RecordName) (known : Known) : Finding → Lesson → Type 0 where

@@ -88,7 +88,7 @@ wanted_last None last is = absurd (cc)
 wanted_last (Some known) last is = (known, refl, cc)
 
 module _ (w : World) (inv : Inv w) (name : RecordName) (known : Known) (in_book : w.book name ≡ Some known) (last : last_or None (rows_of w.history name) ≡ Some known.wanted) where
-  -- a fact of the record fits what is known of it
+  -- a fact about the record fits what is known about it
   fact_fits : (s : ShownRecord) → IsFact w.entries s → content_name s.content ≡ name → IsOk (fit name known s)
   fact_fits s fact named =
       let of_record : fact.entry.name ≡ name = sym (inv.kept.whole.named fact.place fact.turn fact.entry s.content fact.here fact.held) ∙ named in

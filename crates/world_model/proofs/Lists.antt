@@ -1,4 +1,4 @@
--- What stands in a list: filtered, at its end, and with more after it.
+-- What is in a list: filtered, at its end, and with more elements after it.
 use Rattle.std.proofs.Common.{length, ◌<◌, arith, ◌≡◌, ℕ, zero, suc, Bool, true, false, cond, List, [], ◌∷◌, Some, None, refl, ap, sym, ◌∙◌}
 use Rattle.std.specs.List.{filter, last_or, slice_get}
 use Rattle.world_model.specs.Safe.{IsAt, Has}
@@ -14,7 +14,7 @@ pub at_passes : {X : Type 0} (p : X → Bool) (xs : List X) (i : ℕ) (y : X) �
 at_passes p [] i y at = absurd (cc)
 at_passes p (x ∷ xs) i y at = passes_cond p (p x) x (filter p xs) i y refl (λ k. at_passes p xs k y) at
 
--- the last element stands in the list
+-- the last element is in the list
 pub at_last : {X : Type 0} (xs : List X) (x y : X) → last_or (Some x) xs ≡ Some y → Has (x ∷ xs) y
 at_last [] x y is = (0, is)
 at_last (z ∷ xs) x y is = let rest = at_last xs z y is in (suc rest.0, rest.1)
@@ -37,7 +37,7 @@ cond_has true x xs rest zero y later at = (0, at)
 cond_has true x xs rest (suc i) y later at = let found = later i at in (suc found.0, found.1)
 cond_has false x xs rest i y later at = let found = later i at in (suc found.0, found.1)
 
--- what a filter kept stood in the list
+-- what a filter kept was in the list
 pub filter_has : {X : Type 0} (p : X → Bool) (xs : List X) (i : ℕ) (y : X) → IsAt (filter p xs) i y → Has xs y
 filter_has p [] i y at = absurd (cc)
 filter_has p (x ∷ xs) i y at = cond_has (p x) x xs (filter p xs) i y (λ k. filter_has p xs k y) at
@@ -51,7 +51,7 @@ at_within (x ∷ xs) (suc i) below = at_within xs i (omega (arith, below))
 abbrev TwoPass : {X : Type 0} → (X → Bool) → List X → X → X → Type 0
 TwoPass {X} p xs x y = (i j : ℕ) × (i < j) × IsAt xs i x × IsAt xs j y × (p x ≡ true) × (p y ≡ true)
 
--- two that a filter kept stood at two places
+-- two elements that a filter kept were at two places
 pub two_kept : {X : Type 0} (p : X → Bool) (xs : List X) (x y : X) (more : List X) → filter p xs ≡ x ∷ y ∷ more → TwoPass p xs x y
 two_kept p [] x y more is = absurd (cc)
 two_kept {X} p (z ∷ zs) x y more is = go (p z) refl (two_kept p zs x y more) is

@@ -49,7 +49,7 @@ pub record Noted (es : List Entry) (name : RecordName) (known : Known) : Type 0 
 abbrev pub AllNoted : List Entry → Book → Type 0
 AllNoted es book = (name : RecordName) (known : Known) → book name ≡ Some known → Noted es name known
 
--- ---- where the table goes on
+-- ---- if the table goes on
 
 version_stays : (es fs : List Entry) (name : RecordName) (id : Option (List ℕ)) (r : RevisionValue) → AllGoOn es fs → HasVersion es name id r → HasVersion fs name id r
 version_stays es fs name id r all has = record { id = has.id; known = has.known; tag = has.tag; version = version_grows es fs name has.id has.tag r all has.version }

@@ -1,8 +1,8 @@
 -- The exchanges for each record in turn, until nothing is to be sent of it, are determined.
-use Rattle.std.proofs.Common.{◌≡◌, ℕ, zero, suc, List, [], ◌∷◌, Some, refl, ap, sym, ◌∙◌, subst, arith}
+use Rattle.std.proofs.Common.{◌≡◌, ℕ, zero, suc, ◌+◌, List, [], ◌∷◌, Some, refl, ap, sym, ◌∙◌, subst, arith}
 use Rattle.scim_key.specs.declared.records.RecordName.{RecordName}
 use Rattle.connector_core.specs.declared.asking.Ask.TheVariants.{Nothing, Send}
-use Rattle.world_model.specs.Settled.{exchange, Wants, Rests, Exchanges, Turns, OneWay}
+use Rattle.world_model.specs.Settled.{exchange, Wants, Rests, Exchanges, Turns, OneWay, LeadsOn}
 use Rattle.world_model.specs.World.{World}
 
 wants_or_rests : (w : World) (name : RecordName) → Wants w name → Rests w name → ⊥
@@ -28,3 +28,10 @@ same_turns (name ∷ names) w m n u v to_u to_v =
 
 pub one_way : OneWay
 one_way w names m n u v to_u to_v = same_turns names w m n u v to_u to_v
+
+pub leads_on : LeadsOn
+leads_on w name zero n u v made all rests = (n, omega arith, subst (λ (x : World). Exchanges x name n v) (sym made) all)
+leads_on w name (suc m) zero u v made all rests = absurd (wants_or_rests w name made.0 (subst (λ (x : World). Rests x name) all rests))
+leads_on w name (suc m) (suc n) u v made all rests =
+    let (left, count, more) = leads_on (exchange w name) name m n u v made.1 all.1 rests in
+    (left, omega (arith, count), more)

@@ -40,13 +40,13 @@ use Rattle.world_model.proofs.Ranking.{row_lawful, versions_few}
 use Rattle.world_model.proofs.Searched.{search_subject}
 use Rattle.world_model.proofs.Sending.{row_of_record}
 
--- what was seen is so: there is no entry, or the tag is that of the entry's current version
+-- what was seen is true: there is no entry, or the tag is that of the entry's current version
 pub data Near (es : List Entry) (name : RecordName) (known : Known) : Type 0 where
   truly_absent : known.seen ≡ Absent → Lacks es name → Near es name known
   at_current : (i : ℕ) (e : Entry) (revision : RevisionValue) → IsAt es i e → e.name ≡ name → known.seen ≡ At (version_tag (suc (length e.earlier))) revision → Near es name known
 
--- what an exchange makes of what was known: the wanted revision is confirmed; or, where nothing was seen, what is so was seen;
--- or what was seen and isn't so is forgotten
+-- how an exchange changes what was known: the wanted revision is confirmed; or, if nothing was seen, the truth was
+-- seen; or what was seen and isn't true is forgotten
 pub data Goes (es : List Entry) (name : RecordName) (known : Known) (fs : List Entry) (now : Known) : Type 0 where
   ends : IsDone now → Goes es name known fs now
   nears : known.seen ≡ Unknown → Near fs name now → Goes es name known fs now

@@ -18,7 +18,7 @@ use Rattle.world_model.proofs.Keeping.{Kept}
 use Rattle.world_model.proofs.Lists.{at_within, filter_has}
 use Rattle.scim_key.specs.declared.records.RecordName.{RecordName}
 
--- a content of a lawful revision
+-- a content with a valid revision
 pub record IsOfRevision (c : Content) : Type 0 where
   pub revision : RevisionValue
   pub has : content_revision c ≡ Some revision
@@ -45,7 +45,7 @@ few_versions e rises lawful =
     let most = leb-true (rank its.revision) most_revisions (rank_bounded its.revision its.lawful) in
     omega (arith, below, most, length-append e.earlier (e.held ∷ []))
 
--- ---- lawful rows
+-- ---- valid rows
 
 abbrev pub AllLawful : History → Type 0
 AllLawful history = (i : ℕ) (row : Row) → IsAt history i row → IsRow row

@@ -23,7 +23,7 @@ use Rattle.world_model.proofs.Keeping.{held_revision, none_above_held}
 use Rattle.world_model.proofs.Noting.{HasVersion, InSight, Noted}
 use Rattle.world_model.proofs.Invariant.{Inv, always_inv}
 
--- ---- what is known of a record
+-- ---- what is known about a record
 
 seen_truly : (es : List Entry) (name : RecordName) (known : Known) (id : Option (List ℕ)) (seen : Seen) → known.id ≡ id
     → ((tag : List ℕ) (r : RevisionValue) → seen ≡ At tag r → InSight es name known tag r) → SeenTruly es name id seen

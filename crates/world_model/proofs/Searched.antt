@@ -1,4 +1,4 @@
--- What a Search for a record's name finds: its entry alone, or none.
+-- What a Search for a record's name finds: only its entry, or nothing.
 use Rattle.std.proofs.Common.{◌≡◌, Bool, true, List, [], ◌∷◌, map, length, Some, None, Ok, refl, ap, sym, ◌∙◌, subst, arith}
 use Rattle.std.specs.List.{filter, slice_get}
 use Rattle.std.specs.Prelude.{pos}

@@ -83,12 +83,12 @@ next_phase (suc (suc zero)) es fs name known now undone phase (nears unknown nex
 next_phase (suc (suc zero)) es fs name known now undone phase (forgets is not_unknown not_near) = inr is
 next_phase (suc (suc (suc left))) es fs name known now undone phase goes = tt
 
--- only what is known of this record changes
+-- only what is known about this record changes
 record Alone (w : World) (name : RecordName) (v : World) : Type 0 where
   history : v.history ≡ w.history
   others : (q : RecordName) → same_name name q ≡ false → v.book q ≡ w.book q
 
--- some exchanges for a record, at most so many, after which it is done
+-- at most `left` exchanges for a record, after which it is done
 record Turn (w : World) (name : RecordName) (left : ℕ) : Type 0 where
   count : ℕ
   after : World
@@ -185,7 +185,7 @@ Rest w names = (q : RecordName) (known : Known) → w.book q ≡ Some known → 
 abbrev AllKnown : World → List RecordName → Type 0
 AllKnown w names = (i : ℕ) (q : RecordName) → IsAt names i q → (known : Known) × (w.book q ≡ Some known)
 
--- so many exchanges, after which every record is done
+-- a number of exchanges, after which every record is done
 record Round (w : World) (names : List RecordName) : Type 0 where
   count : ℕ
   after : World

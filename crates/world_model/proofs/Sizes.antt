@@ -85,7 +85,7 @@ id_length n =
 
 -- ---- objects and arrays
 
--- so long with its closing bracket, wherever it stands
+-- at most n bytes with its closing bracket, wherever it is
 pub record Within (ms : Members) (n : ℕ) : Type 0 where
   pub most : (later : Bool) → length (members_text later ms) ≤ n
 
@@ -157,7 +157,7 @@ present_most : (text : List ℕ) → length text ≤ 256 → (d : Data) → opti
 present_most [] short d is = absurd (cc)
 present_most (b ∷ text) short d is = let same : string (b ∷ text) ≡ d = cc in subst (λ (x : Data). length (compact_text x) ≤ 1538) same (text_most (b ∷ text) short)
 
--- what is there is this
+-- the value that is there is this one
 pub just : (x d : Data) (n : ℕ) → length (compact_text x) ≤ n → Some x ≡ Some d → length (compact_text d) ≤ n
 just x d n most is = let same : x ≡ d = cc in subst (λ (y : Data). length (compact_text y) ≤ n) same most
 

@@ -44,7 +44,7 @@ AskedTruly history es (Retrieve kind id if_match if_none_match) = ⊥
 AskedTruly history es (Search kind wanted start count) = Sought history (Search kind wanted start count)
 AskedTruly history es (Replace id content if_match if_none_match) = Overwrites history es id content if_match
 
--- an answer shows facts alone
+-- an answer shows only facts
 abbrev pub ShowsTruly : List Entry → Answer → Type 0
 ShowsTruly es answer = (i : ℕ) (s : ShownRecord) → IsAt (shown_in answer) i s → IsFact es s
 

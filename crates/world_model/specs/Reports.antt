@@ -54,7 +54,7 @@ abbrev pub delivery_report : World → Option Message → Report
 delivery_report w None = No_message
 delivery_report w (Some message) = arrival_report w message
 
--- by whether fewer bytes came than the message has
+-- by whether fewer bytes arrived than the message has
 abbrev pub cut_at : (short : Bool) → Report
 cut_at true = Cut_short
 cut_at false = No_message
@@ -63,7 +63,7 @@ abbrev pub cut_report : (size : Message → ℕ) → Option Message → (length 
 cut_report size None length = No_message
 cut_report size (Some message) length = cut_at (nat_lt length (size message))
 
--- The report of an event, where `size` is how many bytes a message has
+-- The report of an event; `size` is the number of bytes of a message
 abbrev pub report : (size : Message → ℕ) → World → Event → Report
 report size w (Changes row) = Judged (judged w row)
 report size w (Sends name) = ask_report (next_number w) (asking w.book name)

@@ -28,7 +28,7 @@ use Rattle.world_model.specs.World.{World, Event, empty, judged, run}
 
 -- ---- words
 
--- x stands at this place, from 0
+-- x is at this place, from 0
 abbrev pub IsAt : {X : Type 0} → List X → (place : ℕ) → X → Type 0
 IsAt xs place x = slice_get xs place ≡ Some x
 
@@ -50,7 +50,7 @@ IsEntryOf es name e = Has es e × (e.name ≡ name)
 abbrev pub rows : World → List StoredRecord
 rows w = rows_of_entries w.entries
 
--- the content is of this revision or of a later one
+-- the content has this revision or a later one
 abbrev pub HasReached : RevisionValue → Content → Type 0
 HasReached revision content = (held : RevisionValue) × (content_revision content ≡ Some held) × (revision ≼ held)
 
@@ -61,12 +61,12 @@ pub record IsImage (history : History) (es : List Entry) (name : RecordName) (co
   pub revision : content_revision content ≡ Some (row_revision row)
   pub image : image (id_in es) row ≡ Some content
 
--- along a story revisions strictly rise
+-- revisions strictly rise along a story
 abbrev pub StoryRises : List Content → Type 0
 StoryRises contents = (i j : ℕ) (earlier later : Content) (r s : RevisionValue) → i < j → IsAt contents i earlier → IsAt contents j later
     → content_revision earlier ≡ Some r → content_revision later ≡ Some s → r ≺ s
 
--- the user's row says that he left
+-- the row says that the user left
 abbrev pub is_leaver : Row → Bool
 is_leaver (User row) = not row.active
 is_leaver (Group row) = false
@@ -76,13 +76,13 @@ abbrev pub is_inactive : Content → Bool
 is_inactive (contents.User u) = not u.active
 is_inactive (contents.Group g) = false
 
--- the record's row at this revision and every later one say that the user left
+-- the record's row at this revision and every later row say that the user left
 abbrev pub HasLeftSince : History → RecordName → RevisionValue → Type 0
 HasLeftSince history name revision = (row : Row) → Has (rows_of history name) row → revision ≼ row_revision row → is_leaver row ≡ true
 
 -- ---- at each moment
 
--- the tag is that of some version of the record's entry, which has this id, and that version's content has this revision
+-- the record's entry has this id, and the tag is that of one of its versions, whose content has this revision
 pub record IsVersion (es : List Entry) (name : RecordName) (id tag : List ℕ) (revision : RevisionValue) : Type 0 where
   pub place : ℕ
   pub turn : ℕ
@@ -108,7 +108,7 @@ pub record IsReached (es : List Entry) (name : RecordName) (id : Option (List �
   pub has_id : id ≡ id_in es name
   pub reached : HasReached revision entry.held
 
--- what the connector knows of a record is so
+-- what the connector knows about a record is true
 pub record KnownTruly (es : List Entry) (name : RecordName) (known : Known) : Type 0 where
   pub id : (id : List ℕ) → known.id ≡ Some id → id_in es name ≡ Some id
   pub confirmed : known.confirmed ≢ no_revision → IsReached es name known.id known.confirmed
@@ -119,16 +119,18 @@ pub record KnownTruly (es : List Entry) (name : RecordName) (known : Known) : Ty
 pub record Safe (w : World) : Type 0 where
   -- the rows of each record strictly rise
   pub rows_rise : (name : RecordName) → Rises (rows_of w.history name)
-  -- no two entries are of one record
+  -- no two entries are of the same record
   pub one_each : (i j : ℕ) (d e : Entry) → IsAt w.entries i d → IsAt w.entries j e → d.name ≡ e.name → i ≡ j
-  -- along each story revisions strictly rise, and each content is its row's image
+  -- revisions strictly rise along each story, and each content is the image of its row
   pub stories_rise : (e : Entry) → Has w.entries e → StoryRises (story e)
   pub images : (e : Entry) (content : Content) → Has w.entries e → Has (story e) content → IsImage w.history w.entries e.name content
-  -- the wanted row is the last of its record, and a record that the book lacks has no row
+  -- the wanted row is the last row of its record, and a record that isn't in the book has no row
   pub wanted : (name : RecordName) → wanted_row w.book name ≡ last_row w.history name
-  -- a known id is the entry's, what counts as confirmed is held or surpassed, and a tag in sight is that of a version
+  -- a known id is the entry's, what counts as confirmed is held or surpassed, and a tag that was seen is that of a
+  -- version
   pub known : (name : RecordName) (known : Known) → w.book name ≡ Some known → KnownTruly w.entries name known
-  -- where a user's row at the confirmed revision and every later one say that he left, the User that is held is inactive
+  -- if a user's row at the confirmed revision and every later row say that the user left, the User that the provider
+  -- holds is inactive
   pub leavers : (name : RecordName) (known : Known) (e : Entry) → name.kind ≡ kinds.User → w.book name ≡ Some known → IsEntryOf w.entries name e
       → HasLeftSince w.history name known.confirmed → is_inactive e.held ≡ true
 

@@ -20,7 +20,7 @@ use Rattle.connector_core.specs.Learning.{learn}
 use Rattle.world_model.specs.World.{World, Asked, Answered, Event, Changes, Sends, Delivers, Cuts, Restarts_provider, Restarts_connector, empty, run}
 use Rattle.world_model.specs.Safe.{Has}
 
--- each row that is offered keeps the limits of the source
+-- each row that is offered is within the limits of the source
 abbrev pub IsLawful : Event → Type 0
 IsLawful (Changes row) = IsRow row
 IsLawful (Sends name) = Unit {0}
@@ -29,7 +29,7 @@ IsLawful (Cuts number length) = Unit {0}
 IsLawful Restarts_provider = Unit {0}
 IsLawful Restarts_connector = Unit {0}
 
--- the content that is the body of a request, if it has one
+-- the content in the body of a request, if it has one
 abbrev pub request_content : Request → Option Content
 request_content (Create content) = Some content
 request_content (Retrieve kind id if_match if_none_match) = None
@@ -41,7 +41,7 @@ abbrev pub longest_body : Kind → ℕ
 longest_body kinds.User = 9_000
 longest_body kinds.Group = 21_000
 
--- how many resources a run makes at most: as many as there may be records of the source
+-- the most resources that a run makes: as many as there may be records of the source
 abbrev pub most_entries : ℕ
 most_entries = 110_000
 

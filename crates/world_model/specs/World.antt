@@ -45,7 +45,7 @@ empty = record { history = []; entries = []; book = empty_book; messages = [] }
 abbrev pub names : World → List RecordName
 names w = names_of w.history
 
--- what the connector says of a row
+-- what the connector says about a row
 abbrev pub judged : World → Row → Result Verdict ChangeFault
 judged w row = judging w.book (names w) row
 
@@ -57,14 +57,14 @@ changes w row verdict = record w { history = history_after w.history row verdict
 abbrev pub with_message : World → Message → World
 with_message w message = record w { messages = w.messages ++ message ∷ [] }
 
--- what the connector asks for, if it asks for anything, is sent
+-- the connector's request is sent, if there is one
 abbrev pub sends : World → Option Ask → World
 sends w None = w
 sends w (Some Nothing) = w
 sends w (Some (Waits member)) = w
 sends w (Some (Send request)) = with_message w (Asked request)
 
--- the provider's table is that after the request, and its reply is sent
+-- the provider has the table after the request, and its reply is sent
 abbrev pub replies : World → Request → Step → World
 replies w request after = record w { entries = after.entries; messages = w.messages ++ Answered request after.answer ∷ [] }
 

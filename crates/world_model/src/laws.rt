@@ -1,9 +1,9 @@
 //! Laws of all runs, with nothing to run.
 ghost use Rattle.world_model.specs.Safe.{AlwaysOnward, AlwaysSafe, HeadlineHolds, JudgesBySource};
-ghost use Rattle.world_model.specs.Settled.{OneWay, Settles};
+ghost use Rattle.world_model.specs.Settled.{LeadsOn, OneWay, Settles};
 ghost use Rattle.world_model.specs.Untroubled.{NeverRefused};
 
-/// After every run the connector judges each row as the history of the source alone does.
+/// After every run, the connector judges each row as the history of the source alone does.
 pub fn judges_by_source()
     ensures { JudgesBySource }
 {}
@@ -14,8 +14,9 @@ pub fn always_onward()
     ensures { AlwaysOnward }
 {}
 
-/// After every run: no two entries are of one record; along each story revisions rise, and each content is
-/// its row's image; what counts as confirmed is held or surpassed; and a leaver stays inactive.
+/// After every run: no two entries are of the same record; revisions rise along each story, and each
+/// content is the image of its row; what counts as confirmed is held or surpassed; and a leaver stays
+/// inactive.
 pub fn always_safe()
     ensures { AlwaysSafe }
 {}
@@ -27,20 +28,22 @@ pub fn headline_holds()
     ensures { HeadlineHolds }
 {}
 
-/// Where each row that is offered keeps the limits of the source: the connector learns from every reply that
-/// was ever given, and no request that was ever sent meets a limit of the provider. A story has at most as
-/// many versions as there are revisions, there are at most as many entries as records of the source, and the
-/// body of a request is under 9,000 bytes for a User, and under 21,000 for a Group.
+/// If each row that is offered is within the limits of the source, the connector learns from every reply
+/// that was ever given, and no request that was ever sent meets a limit of the provider. A story has at
+/// most as many versions as there are revisions, there are at most as many entries as records of the
+/// source, and the body of a request is under 9,000 bytes for a User, and under 21,000 for a Group.
 pub fn never_refused()
     ensures { NeverRefused }
 {}
 
-/// Where each row that is offered keeps the limits of the source: from every world that a run reaches, at most
-/// three exchanges for each record, in the order of names, so users before groups, settle it. In an exchange
-/// what is asked for is sent, the request arrives, and so does its reply. Then the wanted revision of each
-/// record is confirmed, and the provider holds the image of its last row. Whoever makes exchanges for each
-/// record in turn until nothing is to be sent of it makes these, and no others.
+/// If each row that is offered is within the limits of the source: from every world that a run reaches,
+/// at most three exchanges for each record, in the order of names (users before groups), settle the
+/// record. In an exchange, the connector's next request is sent and arrives, and so does its reply.
+/// Then the wanted revision of each record is confirmed, and the provider holds the image of its last
+/// row. Making exchanges for each record in turn, until there is nothing to send for it, makes exactly
+/// these exchanges; after any first part of them, the others follow.
 pub fn settles()
     ensures by_three { Settles }
     ensures one_way { OneWay }
+    ensures leads_on { LeadsOn }
 {}

@@ -34,7 +34,7 @@ record IsLonger (ms ns : Members) (k : ℕ) : Type 0 where
 same_members : (ms : Members) → IsLonger ms ms 0
 same_members ms = record { most = λ later. omega arith }
 
--- what stands later has a comma before it
+-- a later member has a comma before it
 later_most : (ns : Members) → length (members_text true ns) ≤ length (members_text false ns) + 1
 later_most no_members = omega arith
 later_most (member name d ns) = omega arith
@@ -109,7 +109,7 @@ key_version : length (quoted (codes "version")) ≡ 9
 unfolding escape_byte
 key_version = refl
 
--- a text of so many bytes, where it is there
+-- a text with at most this many bytes, if there is one
 text_part : (o : Option (List ℕ)) (n : ℕ) → IsWithin n o → (d : Data) → option_map string o ≡ Some d → length (compact_text d) ≤ 6 * n + 2
 text_part None n within d is = absurd (cc)
 text_part (Some text) n within d is = just (string text) d (6 * n + 2) (omega (arith, quoted_most text, within text refl)) is
@@ -121,7 +121,7 @@ type_short : (kind : Kind) → length (type_name kind) ≤ 5
 type_short kinds.User = omega arith
 type_short kinds.Group = omega arith
 
--- a shown resource of which the base, the id and the tag are short
+-- a shown resource whose base, id and tag are short
 pub record IsBrief (base : List ℕ) (s : ShownRecord) : Type 0 where
   pub at : length base ≤ 110
   pub id : length s.id ≤ 36
@@ -137,7 +137,7 @@ meta_most base s brief =
     (text_part (Some (type_name (content_kind s.content))) 5 (within (type_name (content_kind s.content)) 5 (type_short (content_kind s.content))))
     (with_part (codes "version") (option_map string s.version) no_members 9 134 1 key_version (text_part s.version 22 brief.tag) no_more_members)))
 
--- so many bytes are added to the text of a content
+-- this many bytes are added to the text of a content
 pub shown_most : (base : List ℕ) (s : ShownRecord) → IsBrief base s → length (compact_text (shown_data base s)) ≤ length (compact_text (content_data s.content)) + 1797
 shown_most base s brief =
     let id : length (compact_text (string s.id)) ≤ 218 = omega (arith, quoted_most s.id, brief.id) in
@@ -164,7 +164,7 @@ key_total = refl
 number_part : (n : ℕ) → n ≤ 1 → (d : Data) → Some (number (unsigned n)) ≡ Some d → length (compact_text d) ≤ 20
 number_part n small d is = just (number (unsigned n)) d 20 (length-decimal-le 20 n (lit< tt) (omega (arith, small)) (omega (arith, small))) is
 
--- one text alone in an array
+-- only one text in an array
 one_text : (text : List ℕ) (n : ℕ) → length text ≤ n → (d : Data) → Some (array (item (string text) no_items)) ≡ Some d → length (compact_text d) ≤ 6 * n + 5
 one_text text n short d is =
     just (array (item (string text) no_items)) d (6 * n + 5)

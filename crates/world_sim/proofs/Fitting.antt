@@ -363,7 +363,7 @@ module _ (base : List ℕ) (is_base : IsBase base) (w : World) (q : Quiet w) whe
     within_limits i (Asked request) at = asked_fits request (q.inv.told i (Asked request) at) (said i (Asked request) at)
     within_limits i (Answered request answer) at = keeps_answer_limits base answer (answered_fits i request answer at).brief
 
-    -- an answer is read by its request, of which the filter doesn't matter
+    -- an answer is read by its request, whose filter doesn't matter
     read_by : (request : Request) (answer : Answer) → AskedTruly w.history w.entries request → Fits request answer → IsUtf8 (answer_body base answer) → KeepsAnswerLimits base answer
         → AnswersSo (answer_text base false answer) request answer
     read_by (Create content) answer asked fits utf8 limits = answers_are_read base (Create content) answer is_base tt fits utf8 limits

@@ -1,4 +1,4 @@
--- What lawful events lead to, and that each message there is read from its bytes as just that message.
+-- What valid events lead to, and that each message there is read from its bytes as exactly that message.
 use Rattle.std.proofs.Common.{◌≡◌, ℕ, zero, suc, List, [], ◌∷◌, ◌++◌, Some, map, refl, ap, sym, ◌∙◌, subst}
 use Rattle.std.specs.List.{AllByRecursion, slice_get}
 use Rattle.std.specs.Option.{option_map}
@@ -24,11 +24,11 @@ pub run-more : (w : World) (events : List Event) (event : Event) → run w (even
 run-more w [] event = refl
 run-more w (e ∷ events) event = run-more (happens w e) events event
 
-all_more : {X : Type 0} (P : X → Type 0) (xs : List X) (x : X) → AllByRecursion P xs → P x → AllByRecursion P (xs ++ x ∷ [])
+pub all_more : {X : Type 0} (P : X → Type 0) (xs : List X) (x : X) → AllByRecursion P xs → P x → AllByRecursion P (xs ++ x ∷ [])
 all_more P [] x all last = (last, tt)
 all_more P (y ∷ xs) x all last = (all.0, all_more P xs x all.1 last)
 
--- one lawful event more
+-- one more valid event
 reaches : (w : World) (event : Event) → IsLawful event → IsReached w → IsReached (happens w event)
 reaches w event law from = record {
   events = from.events ++ event ∷ [];
@@ -57,7 +57,7 @@ pub formed_same : (old new : List ℕ) (messages : List Message) → new ≡ old
 formed_same old new messages same all message has = subst (λ b. IsFormed b message) (sym same) (all message has)
 
 module _ {R J : Type 0} (g : Registries R) (h : Journals J) where
-  -- an empty world at a lawful base
+  -- an empty world at a valid base
   pub is_empty : (r : Running R J) → IsBase r.service → Mirrors g h r empty → Is g h r empty
   is_empty r base mirrors = record { mirrors = mirrors; base = base; reached = record { events = []; lawful = tt; is = refl } }
 
@@ -65,7 +65,7 @@ module _ {R J : Type 0} (g : Registries R) (h : Journals J) where
   formed_none r message has = none_formed r.service has.0 message has.1
 
   module _ (old : Running R J) where
-    -- what has the parts of a world after a lawful event is that world
+    -- what has the parts of a world after a valid event is that world
     pub is_after : (new : Running R J) (w : World) (event : Event) → IsLawful event → new.service ≡ old.service → Is g h old w → Mirrors g h new (happens w event) → Is g h new (happens w event)
     is_after new w event law same is mirrors = record { mirrors = mirrors; base = subst IsBase (sym same) is.base; reached = reaches w event law is.reached }
 

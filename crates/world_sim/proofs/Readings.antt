@@ -26,7 +26,7 @@ abbrev pub told : Result Answer AnswerFault → Result Answer ReadingFault
 told (Ok answer) = Ok answer
 told (Err fault) = Err (reading_fault fault)
 
--- what is read is the one that it can be
+-- the reading is the only one that is possible
 pub one_read : {X : Type 0} (x y : X) → IsOrMemory x (Ok y) → y ≡ x
 one_read x y is = elim is [
   | inl same ↦ cc same
@@ -60,7 +60,7 @@ answered_only (Err WrongShape) answer is = elim is [
 ]
 answered_only (Err OutOfMemory) answer is = inr refl
 
--- what is read of a whole message, by a first part of it
+-- what a first part of a whole message is read as
 pub cut_read : (bytes : List ℕ) (n : ℕ) (front : List ℕ) (message : Message) → n < length bytes → front ≡ take n bytes → (P : Type 0)
     → ((more : List ℕ) → 0 < length more → IsReadAs (front ++ more) message → P) → IsReadAs bytes message → P
 cut_read bytes n front message less is P cuts reads =

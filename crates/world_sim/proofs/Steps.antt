@@ -1,4 +1,4 @@
--- What becomes of a world that runs where a row is offered, a request is sent, or a message arrives.
+-- What happens to the running world if a row is offered, a request is sent, or a message arrives.
 use Rattle.std.proofs.Common.{arith, ◌≡◌, ◌≢◌, ℕ, true, false, zero, suc, ◌-◌, ◌<◌, ◌≤◌, nat_lt, take, List, [], ◌∷◌, ◌++◌, Option, Some, None, Result, Ok, Err, map, length, refl, ap, sym, subst, ◌∙◌}
 use Rattle.std.proofs.lemmas.Bool.{false_from_ne_true}
 use Rattle.std.proofs.lemmas.Bool.Decides.{Decides-ltb}
@@ -169,7 +169,7 @@ module _ {R J : Type 0} (g : Registries R) (h : Journals J) (old : Running R J) 
   more_texts w sent message in_bytes is = map_push (λ (s : Sent). s.bytes.items) old.sent.items sent ∙ ap (λ ts. ts ++ sent.bytes.items ∷ []) is.mirrors.texts ∙ ap (λ t. map (message_text old.service) w.messages ++ t ∷ []) in_bytes.text
       ∙ sym (map_push (message_text old.service) w.messages message)
 
-  as_many : (w : World) → Is g h old w → length old.sent.items ≡ length w.messages
+  pub as_many : (w : World) → Is g h old w → length old.sent.items ≡ length w.messages
   as_many w is = sym (length-map old.sent.items (λ (s : Sent). says s.said)) ∙ ap length is.mirrors.messages
 
   pub posts : (new : Running R J) (message : Sent) (request : Request) (told : Report) → IsMessage old.service message (Asked request) → IsFormed old.service (Asked request)

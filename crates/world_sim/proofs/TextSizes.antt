@@ -19,7 +19,7 @@ use Rattle.scim_server.specs.Replies.{Line, written_lines}
 abbrev pub printed : List NamedValue → List ℕ
 printed fields = flat_map print_field (map field_line fields)
 
--- a value that is there has so many bytes at most
+-- a value that is there has at most this many bytes
 abbrev pub IsWithin : ℕ → Option (List ℕ) → Type 0
 IsWithin n value = (text : List ℕ) → value ≡ Some text → length text ≤ n
 
@@ -39,7 +39,7 @@ with_line name (Some text) lines q v r named short rest =
 
 -- ---- heads
 
--- the bytes of a request beside its method, its target, its field lines and its body
+-- the bytes of a request besides its method, its target, its field lines and its body
 head_sum : (method target lines body : List ℕ) (k m t n : ℕ)
     → k ≡ length (((((method ++ 32 ∷ target) ++ 32 ∷ 72 ∷ 84 ∷ 84 ∷ 80 ∷ 47 ∷ 49 ∷ 46 ∷ 49 ∷ []) ++ 13 ∷ 10 ∷ []) ++ (lines ++ 13 ∷ 10 ∷ [])) ++ body)
     → length method ≤ m → length target ≤ t → length lines ≤ n → k ≤ m + t + n + 14 + length body
@@ -98,7 +98,7 @@ reply_sum digits phrase lines body k n three is phrase_most short =
       length-append lines (13 ∷ 10 ∷ []),
     )
 
--- the bytes of a response beside its field lines and its body
+-- the bytes of a response besides its field lines and its body
 pub response_most : (status : ℕ) (fields : List NamedValue) (body : List ℕ) (n : ℕ) → length (printed fields) ≤ n → length (response_text status fields body) ≤ n + 48 + length body
 unfolding print_response
 response_most status fields body n short =
@@ -136,7 +136,7 @@ pub parameter_short : (name value : List ℕ) → length (append_pair [] name va
 parameter_short name value =
     omega (arith, serialized_short name, serialized_short value, length-append (byte_serialize name ++ 61 ∷ []) (byte_serialize value), length-append (byte_serialize name) (61 ∷ []), length-append (byte_serialize name) ((61 ∷ []) ++ byte_serialize value))
 
--- where a resource is found
+-- the URI of a resource
 pub location_short : (base : List ℕ) (kind : Kind) (id : List ℕ) → length (location_text base kind id) ≤ length base + 8 + 3 * length id
 unfolding location_text
 location_short base kind id =

@@ -1,4 +1,4 @@
--- What an event of code is, and what a report of code says.
+-- The model's event for an event of code, and the model's report for a report of code.
 use Rattle.std.specs.Prelude.{List, map}
 use Rattle.provider_core.specs.declared.provider.ProviderFault.{ProviderFault}
 use Rattle.provider_core.specs.declared.provider.ProviderFault.TheVariants as provider
@@ -38,12 +38,12 @@ report_of reports.NoMessage = model.No_message
 report_of reports.CutShort = model.Cut_short
 report_of reports.Restarted = model.Restarted
 
--- the world's fault at a fault of its provider
+-- the world's fault for a fault of its provider
 abbrev pub world_fault : ProviderFault → WorldFault
 world_fault provider.Store = worlds.Store
 world_fault provider.Memory = worlds.Memory
 
--- the same at a fault of opening its connector
+-- the world's fault for a fault of opening its connector
 abbrev pub opening_fault : OpenFault → WorldFault
 opening_fault opening.Store = worlds.Store
 opening_fault opening.Memory = worlds.Memory

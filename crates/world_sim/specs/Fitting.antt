@@ -1,4 +1,4 @@
--- That every message of a run is read as it was sent.
+-- Every message of a run is read as it was sent.
 use Rattle.std.specs.Prelude.{ℕ, List}
 use Rattle.std.specs.List.{AllByRecursion}
 use Rattle.std.specs.Str.{IsUtf8}
@@ -14,24 +14,25 @@ use Rattle.world_model.specs.World.{Message, Asked, Answered, Event, empty, run}
 use Rattle.world_sim.specs.Messages.{message_text}
 use Rattle.world_sim.specs.Reading.{IsReadAs}
 
--- the head and the body of a message keep their limits
+-- the head and the body of a message are within their limits
 abbrev pub IsWithinLimits : (base : List ℕ) → Message → Type 0
 IsWithinLimits base (Asked request) = IsWritable request × KeepsLimits base request
 IsWithinLimits base (Answered request answer) = KeepsAnswerLimits base answer
 
--- Every message that was ever sent in a run keeps the limits, where each row that was offered keeps those of the source
+-- Every message that was ever sent in a run is within the limits, if each row that was offered is within those of the
+-- source
 abbrev pub MessagesKeepLimits : Type 0
 MessagesKeepLimits =
     (base : List ℕ) (events : List Event) (message : Message) → IsBase base → AllByRecursion IsLawful events → Has (run empty events).messages message
     → IsWithinLimits base message
 
--- What is known of a message by the types of its parts where its bytes are formed: of a request, that it is spelled by them where
--- it keeps the limits; of an answer, that what it shows is lawful and its body is UTF-8
+-- What the types of a message's parts guarantee when its bytes are formed: they spell a request, if it is within the
+-- limits; what an answer shows is valid, and its body is UTF-8
 abbrev pub IsFormed : (base : List ℕ) → Message → Type 0
 IsFormed base (Asked request) = IsWritable request → KeepsLimits base request → SpellsRequest (text_of base request) request
 IsFormed base (Answered request answer) = ShowsLawfully answer × IsUtf8 (body_text base answer)
 
--- Every message that was ever sent in a run is read from its bytes as just that message, by the side that it goes to
+-- Every message that was ever sent in a run is read from its bytes as exactly that message, by the side that it goes to
 abbrev pub MessagesAreRead : Type 0
 MessagesAreRead =
     (base : List ℕ) (events : List Event) (message : Message) → IsBase base → AllByRecursion IsLawful events → Has (run empty events).messages message

@@ -4,6 +4,7 @@ pub mod Sides
 pub mod Reading
 pub mod Fitting
 pub mod Running
+pub mod Settling
 pub mod Schedules
 pub mod Views
 pub mod Lines

@@ -1,4 +1,4 @@
--- What reports and views are printed as. The code of a fault isn't told here: its derived Display has no clause.
+-- What reports and views are printed as.
 use Rattle.std.specs.Prelude.{ℕ, List, ◌++◌, Bool, true, false, Option, Some, None, Ok, Err, codes}
 use Rattle.std.specs.Fmt.{decimal}
 use Rattle.scim_key.specs.Revisions.{revision_text}
@@ -6,9 +6,11 @@ use Rattle.scim_key.specs.declared.records.Kind.{Kind}
 use Rattle.scim_key.specs.declared.records.Kind.TheVariants.{User, Group}
 use Rattle.source_book.specs.declared.accepting.Verdict.TheVariants as verdicts
 use Rattle.journal_core.specs.Words.{kind_word}
+use Rattle.connector_core.specs.Codes.{change_fault_text, learn_fault_text}
 use Rattle.connector_core.specs.declared.learning.Learnt.TheVariants as lessons
 use Rattle.world_sim.specs.declared.reports.Report.{Report}
 use Rattle.world_sim.specs.declared.reports.Report.TheVariants as reports
+use Rattle.world_sim.specs.declared.settling.Count.{Count}
 use Rattle.world_sim.specs.declared.views.View.{View}
 
 -- a word, and a number after a space
@@ -19,7 +21,7 @@ abbrev pub report_text : Report → Option (List ℕ)
 report_text (reports.Judged (Ok verdicts.New)) = Some (codes "new")
 report_text (reports.Judged (Ok verdicts.Known)) = Some (codes "known")
 report_text (reports.Judged (Ok verdicts.Older)) = Some (codes "older")
-report_text (reports.Judged (Err _)) = None
+report_text (reports.Judged (Err fault)) = Some (change_fault_text fault)
 report_text reports.UnknownRecord = Some (codes "C7")
 report_text reports.Idle = Some (codes "nothing")
 report_text (reports.Waiting member) = Some (codes "waits " ++ member)
@@ -32,7 +34,7 @@ report_text (reports.Taught (Ok lessons.Seen)) = Some (codes "seen")
 report_text (reports.Taught (Ok lessons.Absent)) = Some (codes "absent")
 report_text (reports.Taught (Ok lessons.Forgotten)) = Some (codes "forgotten")
 report_text (reports.Taught (Ok lessons.Nothing)) = Some (codes "nothing")
-report_text (reports.Taught (Err _)) = None
+report_text (reports.Taught (Err fault)) = Some (learn_fault_text fault)
 report_text reports.NoMessage = Some (codes "none")
 report_text reports.CutShort = Some (codes "cut")
 report_text reports.Restarted = Some (codes "restarted")
@@ -41,7 +43,7 @@ abbrev pub flag_text : Bool → List ℕ
 flag_text true = codes "true"
 flag_text false = codes "false"
 
--- of a group how many members are held, of a user whether it is switched on, or a hyphen where none is held
+-- for a group how many members are held, for a user whether it is active, or a hyphen if none is held
 abbrev pub held_text : Kind → Option Bool → (members : ℕ) → List ℕ
 held_text Group _ members = codes "members=" ++ decimal members
 held_text User (Some active) _ = codes "active=" ++ flag_text active
@@ -49,3 +51,6 @@ held_text User None _ = codes "active=-"
 
 abbrev pub view_text : View → List ℕ
 view_text view = kind_word view.name.kind ++ (codes " " ++ (view.name.key ++ (codes " wanted=" ++ (revision_text view.wanted ++ (codes " confirmed=" ++ (revision_text view.confirmed ++ (codes " held=" ++ (revision_text view.held ++ (codes " version=" ++ (decimal view.version ++ (codes " " ++ held_text view.name.kind view.active view.members)))))))))))
+
+abbrev pub count_text : Count → List ℕ
+count_text count = codes "settled in " ++ (decimal count.exchanges ++ codes " exchanges")

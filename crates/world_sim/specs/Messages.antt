@@ -13,7 +13,7 @@ abbrev pub message_text : (base : List ℕ) → Message → List ℕ
 message_text base (Asked request) = text_of base request
 message_text base (Answered request answer) = answer_text base false answer
 
--- how many they are
+-- the number of a message's bytes
 abbrev pub message_size : (base : List ℕ) → Message → ℕ
 message_size base message = length (message_text base message)
 

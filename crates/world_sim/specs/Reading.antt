@@ -1,4 +1,4 @@
--- What the bytes of a message are read as by the side that they come to.
+-- How the bytes of a message are read by the side that they come to.
 use Rattle.std.specs.Prelude.{◌≡◌, ◌⊎◌, List, ℕ, Result, Ok, Err, ⊤}
 use Rattle.scim_message.specs.declared.messages.Request.{Request}
 use Rattle.scim_message.specs.declared.refusals.Refusal.{Refusal}
@@ -17,17 +17,17 @@ abbrev pub IsReadAs : (bytes : List ℕ) → Message → Type 0
 IsReadAs bytes (Asked request) = SpellsRequest bytes request
 IsReadAs bytes (Answered request answer) = AnswersSo bytes request answer
 
--- what came is this, or out of memory
+-- the result is this, or out of memory
 abbrev pub IsOrMemory : {X : Type 0} → X → Result X ReadingFault → Type 0
 IsOrMemory x result = (result ≡ Ok x) ⊎ (result ≡ Err Memory)
 
--- what a message asks for; it is unread where it is refused
+-- what a message asks for; a refused message is unread
 abbrev pub MeansSo : Incoming → Result Request ReadingFault → Type 0
 MeansSo m (Ok request) = Asks m (Ok request)
 MeansSo m (Err Unread) = (refusal : Refusal) × Asks m (Err refusal)
 MeansSo m (Err Memory) = ⊤
 
--- bytes that are no answer are unread
+-- bytes that aren't an answer are unread
 abbrev pub reading_fault : AnswerFault → ReadingFault
 reading_fault NotOneResponse = Unread
 reading_fault NotJson = Unread

@@ -1,5 +1,5 @@
--- What a world of the model shows of the world that runs.
-use Rattle.std.specs.Prelude.{◌≡◌, ◌⊎◌, ℕ, Bool, true, false, List, [], ◌++◌, map, Option, Some, None, Result, Ok, Err}
+-- When the running world is a world of the model.
+use Rattle.std.specs.Prelude.{◌≡◌, ◌⊎◌, ℕ, Bool, true, false, List, [], ◌∷◌, ◌++◌, map, Option, Some, None, Result, Ok, Err}
 use Rattle.std.specs.FinMap.{get, keys}
 use Rattle.std.specs.FinMap as fin
 use Rattle.std.specs.List.{AllByRecursion}
@@ -12,7 +12,7 @@ use Rattle.provider_core.specs.Stories.{IsTable}
 use Rattle.provider_core.specs.declared.registry.Registry.{Ghosts as Registries}
 use Rattle.journal_core.specs.declared.journals.Journal.{Ghosts as Journals}
 use Rattle.connector_core.specs.Book.{Book}
-use Rattle.connector_core.specs.Maps.{book_of}
+use Rattle.connector_core.specs.Maps.{BookMap, book_of}
 use Rattle.connector_core.specs.State.{opened}
 use Rattle.world_model.specs.World.{World, Message, Asked, Answered, Event, Changes, Sends, Delivers, Cuts, Restarts_provider, Restarts_connector, message_at, names as world_names, arrives, happens, empty, run}
 use Rattle.world_model.specs.Reports.{Report, report, reports, arrival_report}
@@ -38,23 +38,23 @@ abbrev pub is_open : {J : Type 0} → Side J → Bool
 is_open (Open connector) = true
 is_open (Shut journal) = false
 
--- the book of the connector; of a journal alone that of its entries, of all of which nothing was seen
+-- the book of the connector; if there is only a journal, the book of its entries, of which nothing was seen
 abbrev pub book_in : {J : Type 0} → Journals J → Side J → Book
 book_in h (Open connector) = book_of connector.book
 book_in h (Shut journal) = λ name. option_map opened (get (h.entries journal) name)
 
--- the names of its records
+-- the names of the side's records
 abbrev pub names_in : {J : Type 0} → Journals J → Side J → List RecordName
 names_in h (Open connector) = keys connector.book
 names_in h (Shut journal) = keys (h.entries journal)
 
 -- ---- what runs
 
--- whether the provider, and whether the connector, is open since a restart was tried last
+-- whether the provider and the connector are open, after the last attempt to open each of them
 abbrev pub opens_of : {R J : Type 0} → Running R J → Bool × Bool
 opens_of r = (r.is_provider_open, is_open r.connector)
 
--- the same after an event: a side is open after a restart of it that was done, and shut after one that failed
+-- the same after an event: a side is open after a restart that succeeded, and shut after one that failed
 abbrev pub opens_after : Event → (done : Bool) → Bool × Bool → Bool × Bool
 opens_after (Changes row) done opens = opens
 opens_after (Sends name) done opens = opens
@@ -77,14 +77,14 @@ pub record IsSound {R J : Type 0} (g : Registries R) (h : Journals J) (r : Runni
   pub registry : g.is_honest r.provider
   pub journal : h.is_faithful (journal_in r.connector)
 
--- The world is one that lawful events lead to
+-- Valid events lead to the world
 pub record IsReached (w : World) : Type 0 where
   pub events : List Event
   pub lawful : AllByRecursion IsLawful events
   pub is : run empty events ≡ w
 
--- What runs has the parts of this world: its rows, also where the registry is opened again, its book, the names of its records,
--- and its messages, each in its bytes, as they are formed
+-- The running world has the parts of this world: its rows, also if the registry is opened again; its book; the names of
+-- its records; and its messages, each with the bytes that are formed for it
 pub record Mirrors {R J : Type 0} (g : Registries R) (h : Journals J) (r : Running R J) (w : World) : Type 0 where
   pub rows : g.is_faithful r.provider → g.rows r.provider ≡ world_rows w
   pub found : (found : List StoredRecord) → g.may_hold r.provider found → found ≡ world_rows w
@@ -95,16 +95,16 @@ pub record Mirrors {R J : Type 0} (g : Registries R) (h : Journals J) (r : Runni
   pub texts : texts_of r.sent.items ≡ map (message_text r.service) w.messages
   pub formed : (message : Message) → Has w.messages message → IsFormed r.service message
 
--- What runs is this world, at a lawful base
+-- The running world is this world, at a valid base
 pub record Is {R J : Type 0} (g : Registries R) (h : Journals J) (r : Running R J) (w : World) : Type 0 where
   pub mirrors : Mirrors g h r w
   pub base : IsBase r.service
   pub reached : IsReached w
 
--- ---- what is done
+-- ---- what an event does
 
--- What was done, with its report: where the stores are sound after it, they were so before, an open registry stays open, and
--- this is so after it of each world that ran before it
+-- What was done, with its report. If the stores are sound after it, they were sound before, an open registry stays
+-- open, and `after` holds for each world that ran before
 pub record Makes {R J : Type 0} (g : Registries R) (h : Journals J) (old new : Running R J) (after : World → Type 0) (says : World → Report) (told : ReportOf) : Type 0 where
   pub was : IsSound g h new → IsSound g h old
   pub base : new.service ≡ old.service
@@ -112,17 +112,17 @@ pub record Makes {R J : Type 0} (g : Registries R) (h : Journals J) (old new : R
   pub is : IsSound g h new → (w : World) → Is g h old w → after w
   pub report : IsSound g h new → (w : World) → Is g h old w → report_of told ≡ says w
 
--- One event: of each world that ran before it the world after it runs now
+-- One event: for each world that ran before it, the world after the event runs now
 abbrev pub Happens : {R J : Type 0} → Registries R → Journals J → (old new : Running R J) → Event → ReportOf → Type 0
 Happens g h old new event told = Makes g h old new (λ w. Is g h new (happens w event)) (λ w. report (message_size old.service) w event) told
 
--- a message arrives: what runs has the parts of the world after that
+-- a message arrives: the running world has the parts of the world after that
 abbrev pub Arrives : {R J : Type 0} → Registries R → Journals J → (old new : Running R J) → Message → ReportOf → Type 0
 Arrives g h old new message told = Makes g h old new (λ w. Mirrors g h new (arrives w message)) (λ w. arrival_report w message) told
 
 -- ---- faults
 
--- the side that a message comes to is shut
+-- the side that a message goes to is shut
 abbrev pub IsShutTo : {R J : Type 0} → Running R J → Option Message → Type 0
 IsShutTo r None = ⊥
 IsShutTo r (Some (Asked request)) = r.is_provider_open ≡ false
@@ -136,7 +136,7 @@ pub record Stays {R J : Type 0} (old new : Running R J) : Type 0 where
   pub base : new.service ≡ old.service
   pub sent : new.sent.items ≡ old.sent.items
 
--- an event needs a side that is shut, since the last try to open it again failed
+-- an event needs a side that is shut because the last attempt to open it failed
 abbrev pub IsShutOff : {R J : Type 0} → Running R J → Event → Type 0
 IsShutOff r (Changes row) = is_open r.connector ≡ false
 IsShutOff r (Sends name) = is_open r.connector ≡ false
@@ -145,12 +145,12 @@ IsShutOff r (Cuts number length) = ⊥
 IsShutOff r Restarts_provider = ⊥
 IsShutOff r Restarts_connector = ⊥
 
--- out of memory is no fault of a store; a fault of a store was counted, or a side that is needed was shut before
+-- out of memory isn't a fault of a store; a fault of a store was counted, or a side that is needed was shut before
 abbrev pub IsExcused : {R J : Type 0} → Registries R → Journals J → (old new : Running R J) → Event → WorldFault → Type 0
 IsExcused g h old new event Memory = (g.faults new.provider ≡ g.faults old.provider) × (h.faults (journal_in new.connector) ≡ h.faults (journal_in old.connector))
 IsExcused g h old new event Store = IsShutOff old event ⊎ (HasRisen (g.faults old.provider) (g.faults new.provider) ⊎ HasRisen (h.faults (journal_in old.connector)) (h.faults (journal_in new.connector)))
 
--- a connector that wasn't opened again has forgotten what it saw, and no other event that fails changes anything
+-- a connector that couldn't be opened again has forgotten what it saw; no other event that fails changes anything
 abbrev pub if_restart : World → Event → World
 if_restart w (Changes row) = w
 if_restart w (Sends name) = w
@@ -159,7 +159,7 @@ if_restart w (Cuts number length) = w
 if_restart w Restarts_provider = w
 if_restart w Restarts_connector = happens w Restarts_connector
 
--- whether the change of a request that failed was made isn't known of a store that the fault has shut
+-- if a fault has shut the store, it is unknown whether the change of the failed request was made
 abbrev pub IsKnown : {R : Type 0} → Registries R → R → Event → Type 0
 IsKnown g registry (Changes row) = Unit {0}
 IsKnown g registry (Sends name) = Unit {0}
@@ -168,7 +168,7 @@ IsKnown g registry (Cuts number length) = Unit {0}
 IsKnown g registry Restarts_provider = Unit {0}
 IsKnown g registry Restarts_connector = Unit {0}
 
--- An event failed: no message was sent, and of each world that ran before it the same one runs now
+-- An event failed: no message was sent, and each world that ran before it runs now
 pub record Fails {R J : Type 0} (g : Registries R) (h : Journals J) (old new : Running R J) (event : Event) (fault : WorldFault) : Type 0 where
   pub was : IsSound g h new → IsSound g h old
   pub base : new.service ≡ old.service
@@ -176,14 +176,44 @@ pub record Fails {R J : Type 0} (g : Registries R) (h : Journals J) (old new : R
   pub is : IsSound g h new → IsKnown g new.provider event → (w : World) → Is g h old w → Is g h new (if_restart w event)
   pub excused : IsExcused g h old new event fault
 
+-- what the connector knows, including what it has seen, while its side is open
+abbrev pub known_in : {J : Type 0} → Side J → Option BookMap
+known_in (Open connector) = Some connector.book
+known_in (Shut journal) = None
+
+-- the connector knows what it knew, and the provider is unchanged
+pub record KeepsSides {R J : Type 0} (old new : Running R J) : Type 0 where
+  pub known : known_in new.connector ≡ known_in old.connector
+  pub provider : new.provider ≡ old.provider
+
+-- the connector's side is unchanged
+pub record KeepsConnector {R J : Type 0} (old new : Running R J) : Type 0 where
+  pub connector : new.connector ≡ old.connector
+
+-- a message that didn't arrive
+abbrev pub KeepsTo : {R J : Type 0} → (old new : Running R J) → Option Message → Type 0
+KeepsTo old new None = KeepsSides old new
+KeepsTo old new (Some (Asked request)) = KeepsConnector old new
+KeepsTo old new (Some (Answered request answer)) = KeepsSides old new
+
+-- What an event that failed keeps, even if its fault shut a store: the connector knows and has seen what it had,
+-- unless its opening failed; and the side that the event doesn't need is unchanged
+abbrev pub Keeps : {R J : Type 0} → (old new : Running R J) → Event → Type 0
+Keeps old new (Changes row) = KeepsSides old new
+Keeps old new (Sends name) = KeepsSides old new
+Keeps old new (Delivers number) = KeepsTo old new (message_at (messages_of old.sent.items) number)
+Keeps old new (Cuts number length) = KeepsSides old new
+Keeps old new Restarts_provider = KeepsConnector old new
+Keeps old new Restarts_connector = new.provider ≡ old.provider
+
 -- ---- runs
 
--- the journal after that, whatever came of it
+-- the journal after a start, whatever the result
 abbrev pub journal_after : {R J : Type 0} → Result (Running R J) (WorldFault × R × J) → J
 journal_after (Ok world) = journal_in world.connector
 journal_after (Err refused) = refused.2
 
--- a world that starts: over empty stores it is the empty one
+-- a world that starts: over empty stores it is the empty world
 pub record Starts {R J : Type 0} (g : Registries R) (h : Journals J) (registry : R) (journal : J) (r : Running R J) : Type 0 where
   pub was : IsSound g h r → g.is_honest registry × h.is_faithful journal
   pub stays_open : g.is_faithful registry → g.is_faithful r.provider
@@ -197,8 +227,30 @@ pub record Runs {R J : Type 0} (g : Registries R) (h : Journals J) (old new : Ru
   pub is : IsSound g h new → (w : World) → Is g h old w → Is g h new (run w events)
   pub told_so : IsSound g h new → (w : World) → Is g h old w → map report_of told ≡ reports (message_size old.service) w events
 
--- What ran is the model's run of the events: its rows, its book, its messages in their bytes, and its reports. After each of the
--- events it was safe, and from each moment to each later one nothing was lost, and the headline held
+-- events up to one that fails, from a world that starts with connector and provider open
+pub record FailsAt {R J : Type 0} (g : Registries R) (h : Journals J) (registry : R) (journal : J) (base : List ℕ) (events : List Event) (fault : WorldFault) : Type 0 where
+  pub first : Running R J
+  pub last : Running R J
+  pub left : Running R J
+  pub early : List Event
+  pub event : Event
+  pub late : List Event
+  pub told : List ReportOf
+  pub split : events ≡ early ++ event ∷ late
+  pub base_is : first.service ≡ base
+  pub opens : opens_of first ≡ (true, true)
+  pub starts : Starts g h registry journal first
+  pub runs : Runs g h first last early told
+  pub fails : Fails g h last left event fault
+  pub keeps : Keeps last left event
+
+-- Why a run failed: a fault of the journal's store was counted at the start, or an event failed, or memory ran out
+abbrev pub EndsRun : {R J : Type 0} → Registries R → Journals J → R → J → (base : List ℕ) → List Event → WorldFault → Type 0
+EndsRun {R} {J} g h registry journal base events fault =
+    (fault ≡ Memory) ⊎ (((left : J) × HasRisen (h.faults journal) (h.faults left)) ⊎ FailsAt g h registry journal base events fault)
+
+-- What ran is the model's run of the events: its rows, its book, its messages with their bytes, and its reports. After
+-- each event it was safe, and from each moment to each later one nothing was lost and the headline held
 pub record IsRun {R J : Type 0} (g : Registries R) (h : Journals J) (at : List ℕ) (events : List Event) (ran : Running R J) (told : List ReportOf) : Type 0 where
   pub base : ran.service ≡ at
   pub opened : g.is_faithful ran.provider
@@ -208,7 +260,7 @@ pub record IsRun {R J : Type 0} (g : Registries R) (h : Journals J) (at : List �
   pub onward : (early middle late : List Event) → (early ++ middle) ++ late ≡ events → Onward (run empty early) (run empty (early ++ middle))
   pub headline : (early middle late : List Event) → (early ++ middle) ++ late ≡ events → Headline (run empty early) (run empty (early ++ middle))
 
--- over empty stores, of which the provider's is open, where both are sound in the end
+-- the same over empty stores, if the provider's is open and both are sound in the end
 abbrev pub RunsFromEmpty : {R J : Type 0} → Registries R → Journals J → R → J → (base : List ℕ) → List Event → (ran : Running R J) → List ReportOf → Type 0
 RunsFromEmpty g h registry journal base events ran told =
     g.is_faithful registry → g.rows registry ≡ [] → h.entries journal ≡ fin.empty → IsSound g h ran → IsRun g h base events ran told

@@ -1,4 +1,4 @@
--- Schedules: what a text of lines says should happen in a world.
+-- Schedules: what a text says, line by line, should happen in a world.
 use Rattle.std.specs.Prelude.{ℕ, ◌+◌, Bool, true, List, [], ◌∷◌, ◌++◌, Option, Some, None, Result, Ok, if◌then◌else◌, ◌==◌, ◌&&◌, codes, length, nat_le, option_to_list}
 use Rattle.std.specs.Char.{is_ascii_digit}
 use Rattle.std.specs.List.{after_first, before_first, join_with_byte, list_all}
@@ -22,7 +22,8 @@ use Rattle.world_sim.specs.declared.schedules.ScheduleFault.{ScheduleFault}
 use Rattle.world_sim.specs.declared.schedules.ScheduleFault.TheVariants.{Line}
 use Rattle.world_sim.specs.declared.schedules.TheConstants.{NUMBER_DIGITS}
 
--- the records of each file of the source. That every file has its records, and no others, is `FilesHaveRecords` of source_csv
+-- the records of each file of the source; `FilesHaveRecords` of source_csv says that every file has exactly one list of
+-- records
 abbrev pub ReadsFiles : (List ℕ → List Record) → Type 0
 ReadsFiles records_in = (bytes : List ℕ) → AreRecordsOf bytes (records_in bytes)
 
@@ -30,16 +31,16 @@ ReadsFiles records_in = (bytes : List ℕ) → AreRecordsOf bytes (records_in by
 abbrev pub file_of : Kind → List ℕ → List ℕ
 file_of of text = join_with_byte 44 (header_of of) ++ 10 ∷ text
 
--- the one row of a file, where it has exactly one record and that is a row
+-- the only row of a file, if it has exactly one record and that is a row
 abbrev pub only_row : Result (List (Result Row RowFault)) SourceFault → Option Row
 only_row (Ok (Ok row ∷ [])) = Some row
 only_row other = None
 
--- `user` or `group` and a record: that row is offered
+-- `user` or `group` and a record: the source offers that row
 unfoldable pub change_in : (List ℕ → List Record) → Kind → List ℕ → Option Event
 change_in records_in of text = option_map events.Change (only_row (rows_of of (records_in (file_of of text))))
 
--- what stands before the first space, and what stands behind it
+-- the text before the first space, and the text after it
 abbrev pub first_word : List ℕ → List ℕ
 first_word text = before_first (λ b. b == 32) text
 
@@ -57,7 +58,7 @@ record_in text =
 abbrev pub is_number : List ℕ → Bool
 is_number text = nat_le 1 (length text) && nat_le (length text) NUMBER_DIGITS && list_all is_ascii_digit text
 
--- the number that they write
+-- the number that these digits write
 unfoldable pub number_in : List ℕ → Option ℕ
 number_in text = if is_number text then Some (digits_value 10 text) else None
 
@@ -65,14 +66,14 @@ number_in text = if is_number text then Some (digits_value 10 text) else None
 unfoldable pub cut_in : List ℕ → Option Event
 cut_in text = option_and_then (λ number. option_map (λ bytes. events.Cut number bytes) (number_in (behind text))) (number_in (first_word text))
 
--- the side that is opened again
+-- the restart of a side
 unfoldable pub restart_in : List ℕ → Option Event
 restart_in text =
     if bytes_eq text (codes "provider") then Some events.RestartProvider
     else if bytes_eq text (codes "connector") then Some events.RestartConnector
     else None
 
--- the event of a line with this first word, and this behind its first space
+-- the event of a line with this first word, and this text after its first space
 unfoldable pub event_of_words : (List ℕ → List Record) → (word rest : List ℕ) → Option Event
 event_of_words records_in word rest =
     if bytes_eq word (codes "user") then change_in records_in kind.User rest
@@ -83,20 +84,20 @@ event_of_words records_in word rest =
     else if bytes_eq word (codes "restart") then restart_in rest
     else None
 
--- The event that a line spells
+-- The event in a line
 abbrev pub event_in : (List ℕ → List Record) → List ℕ → Option Event
 event_in records_in line = event_of_words records_in (first_word line) (behind line)
 
--- an empty line, and one that begins with `#`, says nothing
+-- an empty line and a line that begins with `#` are skipped
 abbrev pub is_silent : List ℕ → Bool
 is_silent [] = true
 is_silent (b ∷ line) = b == 35
 
--- what the line with this number says: nothing, or an event; or that it spells none
+-- the event in the line with this number; none if the line is skipped; or the fault that it isn't an event
 unfoldable pub said_at : (List ℕ → List Record) → ℕ → List ℕ → Result (Option Event) ScheduleFault
 said_at records_in number line = if is_silent line then Ok None else ok_or (option_map Some (event_in records_in line)) (Line number)
 
--- what these lines say, of which the first has this number
+-- the events in these lines, the first of which has this number
 abbrev pub events_from : (List ℕ → List Record) → ℕ → List (List ℕ) → Result (List Event) ScheduleFault
 events_from records_in number [] = Ok []
 events_from records_in number (line ∷ lines) = do
@@ -104,6 +105,6 @@ events_from records_in number (line ∷ lines) = do
   events ← events_from records_in (number + 1) lines
   Ok (option_to_list said ++ events)
 
--- What a schedule says: the events of its lines, which are numbered from 1, or the first line that spells none
+-- The events in the lines of a schedule, which are numbered from 1, or the first line that isn't an event
 abbrev pub events_in : (List ℕ → List Record) → List ℕ → Result (List Event) ScheduleFault
 events_in records_in text = events_from records_in 1 (lines text)

@@ -1,4 +1,4 @@
--- Opening the connector's side again.
+-- Opens the connector's side again.
 use Rattle.std.specs.Prelude.{◌≡◌, ◌≤◌, ℕ}
 use Rattle.scim_key.specs.Stores.{HasRisen}
 use Rattle.journal_core.specs.declared.journals.Journal.{Ghosts as Journals}
@@ -8,7 +8,7 @@ use Rattle.world_sim.specs.declared.reports.WorldFault.TheVariants.{Memory, Stor
 use Rattle.world_sim.specs.declared.sides.Side.{Side}
 use Rattle.world_sim.specs.declared.sides.Side.TheVariants.{Open, Shut}
 
--- a store fault is counted, and out of memory is none
+-- a store fault is counted; out of memory isn't
 abbrev pub CountsWorldFault : (old new : ℕ) → WorldFault → Type 0
 CountsWorldFault old new Store = (old ≤ new) × HasRisen old new
 CountsWorldFault old new Memory = new ≡ old
@@ -23,6 +23,6 @@ abbrev pub IsOpenedIn : {J : Type 0} → Journals J → (journal : J) → Side J
 IsOpenedIn h journal (Open connector) = h.is_faithful connector.journal → IsOpened (h.entries journal) connector.book
 IsOpenedIn h journal (Shut now) = Unit {0}
 
--- the same, where the fault comes with both stores
+-- the same for a fault that comes with both stores
 abbrev pub CountsStart : {R J : Type 0} → (old new : ℕ) → WorldFault × R × J → Type 0
 CountsStart old new refused = CountsWorldFault old new refused.0

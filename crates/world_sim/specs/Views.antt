@@ -19,7 +19,7 @@ use Rattle.world_sim.specs.declared.sides.Side.{Side}
 use Rattle.world_sim.specs.declared.views.View.{View}
 use Rattle.world_sim.specs.declared.worlds.World.{World as Running}
 
--- by the provider's row of the record, if it has one
+-- the view of a record, given the provider's row of it, if there is one
 abbrev pub viewed : RecordName → (wanted confirmed : RevisionValue) → Option StoredRecord → View
 viewed name wanted confirmed None = record {
   name = name;
@@ -40,7 +40,7 @@ viewed name wanted confirmed (Some row) = record {
   members = length (content_members row.content);
 }
 
--- What the connector wants and counts as confirmed of a record, and what the provider holds of it
+-- What the connector wants and counts as confirmed for a record, and what the provider holds of it
 abbrev pub view : World → RecordName → View
 view w name = viewed name (wanted_of w.book name) (confirmed_of w.book name) (row_named name (rows w))
 
@@ -50,17 +50,18 @@ Shows g h old new name shown = IsSound g h new → (w : World) → Is g h old w 
 
 -- ---- faults
 
--- the names aren't told: out of memory, or the connector is shut
+-- the names can't be shown: out of memory, or the connector is shut
 abbrev pub IsNoName : {J : Type 0} → Side J → WorldFault → Type 0
 IsNoName side Memory = Unit {0}
 IsNoName side Store = is_open side ≡ false
 
--- nothing is shown: out of memory, which is no fault of a store, or a side is shut, or a fault of the registry was counted
+-- nothing can be shown: out of memory, which isn't a fault of a store; or a side is shut; or a fault of the registry
+-- was counted
 abbrev pub IsBlind : {R J : Type 0} → Registries R → (old new : Running R J) → WorldFault → Type 0
 IsBlind g old new Memory = g.faults new.provider ≡ g.faults old.provider
 IsBlind g old new Store = (is_open old.connector ≡ false) ⊎ ((old.is_provider_open ≡ false) ⊎ HasRisen (g.faults old.provider) (g.faults new.provider))
 
--- A look at what runs: of each world that ran before it the same one runs after it
+-- A look at the running world: each world that ran before it runs after it
 pub record Looks {R J : Type 0} (g : Registries R) (h : Journals J) (old new : Running R J) : Type 0 where
   pub was : IsSound g h new → IsSound g h old
   pub base : new.service ≡ old.service

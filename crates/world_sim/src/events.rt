@@ -7,11 +7,11 @@ use source_csv::Row;
 pub enum Event {
     /// The source offers a row.
     Change(Row),
-    /// The connector sends what it asks for next of a record.
+    /// The connector sends its next request for a record.
     Send(RecordName),
     /// The message with this number, counted from 1, arrives.
     Deliver(usize),
-    /// Of the message with this number only the first `length` bytes arrive.
+    /// Only the first `length` bytes of the message with this number arrive.
     Cut { number: usize, length: usize },
     /// The provider is opened again on its rows.
     RestartProvider,

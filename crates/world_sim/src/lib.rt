@@ -4,18 +4,22 @@
 mod events;
 mod laws;
 mod messages;
+mod random;
 mod reading;
 mod reports;
 mod runs;
 mod schedules;
+mod settling;
 mod sides;
 mod views;
 mod worlds;
 
 pub use events::Event;
 pub use laws::messages_are_read;
+pub use random::random_schedule;
 pub use reports::{Report, WorldFault};
 pub use runs::run;
 pub use schedules::{NUMBER_DIGITS, ScheduleFault, read_schedule};
+pub use settling::{Count, MOST_EXCHANGES, settle};
 pub use views::View;
 pub use worlds::World;

@@ -10,8 +10,8 @@ use scim_client::ScimService;
 use scim_message::{Answer, Request};
 use std::alloc::{AllocError, Global};
 
-/// What a message says. Of a message that arrives only its bytes are read: what it says tells which
-/// side they go to, and which request a reply answers.
+/// What a message says. When a message arrives, only its bytes are read: this value only says which side
+/// they go to, and which request a reply answers.
 #[derive(Drop)]
 pub(crate) enum Said {
     Asked(Request),

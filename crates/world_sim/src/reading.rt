@@ -1,4 +1,4 @@
-//! Messages read anew, from their bytes.
+//! Reads messages from their bytes.
 ghost use Rattle.std.specs.Prelude.{◌≡◌, ◌<◌, ◌++◌, ℕ, List, length, false, IfOk};
 ghost use Rattle.scim_message.specs.declared.messages.Answer.{Answer};
 ghost use Rattle.scim_message.specs.declared.messages.Request.{Request};
@@ -15,18 +15,18 @@ use scim_message::{Answer, Request};
 use scim_server::{MeaningFault, meaning};
 use std::alloc::{AllocError, Global};
 
-/// Why bytes weren't read as a message.
+/// Why bytes couldn't be read as a message.
 #[derive(Clone, Copy, Debug, PartialEq, Eq)]
 pub(crate) enum ReadingFault {
-    /// They aren't one whole message that asks for something, or that answers the request.
+    /// They aren't exactly one message that asks for something, or that answers the request.
     Unread,
     Memory,
 }
 
-/// The request that these bytes ask for, as the server reads them.
+/// Reads the request that these bytes ask for, as the server does.
 pub(crate) fn read_asked(alloc: Global, bytes: &[u8]) -> Result<Request, ReadingFault>
     ensures ok { IfOk result (SpellsRequest bytes.now) }
-    // The request that they spell is what comes, or out of memory.
+    // The result is the request that they spell, or out of memory.
     ensures only { (request : Request) → SpellsRequest bytes.now request → IsOrMemory request result }
 {
     match request_in(alloc, bytes) {
@@ -47,14 +47,14 @@ fn asked_by(alloc: Global, incoming: &Incoming) -> Result<Request, ReadingFault>
     }
 }
 
-/// The answer to a request that these bytes are, as the client reads them.
+/// Reads the answer to a request from these bytes, as the client does.
 pub(crate) fn read_answered(
     alloc: Global,
     request: &Request,
     bytes: &[u8],
 ) -> Result<Answer, ReadingFault>
     ensures ok { IfOk result (AnswersSo bytes.now request.now) }
-    // The answer that they are is what comes, or out of memory.
+    // The result is the answer that they are, or out of memory.
     ensures only { (answer : Answer) → AnswersSo bytes.now request.now answer → IsOrMemory answer result }
 {
     match read_answer(alloc, request, bytes) {
@@ -63,7 +63,7 @@ pub(crate) fn read_answered(
     }
 }
 
-/// Bytes that are no answer are unread.
+/// Bytes that aren't an answer are unread.
 fn reading_fault(fault: AnswerFault) -> ReadingFault
     ensures { result ≡ spec.reading_fault fault }
 {
@@ -75,7 +75,7 @@ fn reading_fault(fault: AnswerFault) -> ReadingFault
     }
 }
 
-/// Whether these bytes are read as a request. Of a request that goes on behind them they aren't.
+/// Whether these bytes are read as a request. They aren't if they are only the first bytes of one.
 fn is_request(alloc: Global, bytes: &[u8]) -> Result<bool, AllocError>
     ensures { (more : List ℕ) (request : Request) → 0 < length more
         → SpellsRequest (bytes.now ++ more) request → IfOk result (λ read. read ≡ false) }
@@ -87,8 +87,8 @@ fn is_request(alloc: Global, bytes: &[u8]) -> Result<bool, AllocError>
     }
 }
 
-/// Whether these bytes are read as an answer to a request. Of one that goes on behind them they
-/// aren't.
+/// Whether these bytes are read as an answer to a request. They aren't if they are only the first bytes of
+/// one.
 fn is_answer(alloc: Global, request: &Request, bytes: &[u8]) -> Result<bool, AllocError>
     ensures { (more : List ℕ) (answer : Answer) → 0 < length more
         → AnswersSo (bytes.now ++ more) request.now answer → IfOk result (λ read. read ≡ false) }
@@ -100,8 +100,8 @@ fn is_answer(alloc: Global, request: &Request, bytes: &[u8]) -> Result<bool, All
     }
 }
 
-/// Whether the first bytes of a message are read as one by the side that it goes to. Where more
-/// follow in the message, they never are.
+/// Whether the first bytes of a message are read as a whole one by the side that they go to. They never are
+/// if the message has more bytes.
 pub(crate) fn read_cut(alloc: Global, said: &Said, front: &[u8]) -> Result<bool, AllocError>
     ensures { (more : List ℕ) → 0 < length more → IsReadAs (front.now ++ more) (says said.now)
         → IfOk result (λ read. read ≡ false) }

@@ -12,13 +12,13 @@ use thiserror::Error;
 /// What an event reports.
 #[derive(Debug, Drop)]
 pub enum Report {
-    /// What the connector says of a row.
+    /// What the connector says about a row.
     Judged(Result<Verdict, ChangeFault>),
     /// The source gave no row of the record.
     UnknownRecord,
-    /// Nothing is asked for: the wanted revision is confirmed.
+    /// There is nothing to ask for: the wanted revision is confirmed.
     Idle,
-    /// Nothing is asked for yet: this member has no id so far.
+    /// There is nothing to ask for yet: this member has no id.
     Waiting(Key),
     /// A Search was sent, as the message with this number.
     Finding(usize),
@@ -30,9 +30,9 @@ pub enum Report {
     Answering { number: usize, status: u16 },
     /// What the connector learnt from a reply.
     Taught(Result<Learnt, LearnFault>),
-    /// There is no message with this number, or it isn't longer than what was to arrive of it.
+    /// There is no message with this number, or it has no more bytes than should arrive.
     NoMessage,
-    /// Too few bytes arrived, and nothing changed.
+    /// Too few bytes arrived; nothing changed.
     CutShort,
     Restarted,
 }
@@ -74,7 +74,7 @@ impl fmt::Display for Report {
 pub enum WorldFault {
     #[error("Z1")]
     Memory,
-    /// A store failed, or a side that wasn't opened again is needed.
+    /// A store failed, or the event needs a side that couldn't be opened again.
     #[error("Z2")]
     Store,
 }

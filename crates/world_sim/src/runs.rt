@@ -1,7 +1,7 @@
 //! Whole runs.
-ghost use Rattle.std.specs.Prelude.{IfOk};
+ghost use Rattle.std.specs.Prelude.{IfErr, IfOk};
 ghost use Rattle.world_sim.specs.Events.{events_of};
-ghost use Rattle.world_sim.specs.Running.{RunsFromEmpty};
+ghost use Rattle.world_sim.specs.Running.{EndsRun, RunsFromEmpty};
 
 use crate::events::Event;
 use crate::reports::{Report, WorldFault};
@@ -11,11 +11,11 @@ use provider_core::Reopen;
 use scim_key::Base;
 use std::alloc::Global;
 
-/// The world after these events, one after the other, over a registry without rows and a journal
-/// without entries, and the report of each event. The headline: whatever is lost, repeated, late
-/// or restarted, the provider holds at most one resource per name, its source revision never goes
-/// back, it is that revision's image, and every revision that the connector counts as confirmed is
-/// held or surpassed. A fault drops both stores.
+/// The world after these events, one after the other, over a registry without rows and a journal without
+/// entries, and the report of each event. The headline holds: whatever is lost, repeated, late or
+/// restarted, the provider holds at most one resource per name, its source revision never goes back, it is
+/// that revision's image, and every revision that the connector counts as confirmed is held or surpassed.
+/// If an event fails, both stores are dropped.
 pub fn run<R: Reopen + Drop, J: Journal + Drop>(
     alloc: Global,
     registry: R,
@@ -23,7 +23,8 @@ pub fn run<R: Reopen + Drop, J: Journal + Drop>(
     base: Base,
     events: &[Event],
 ) -> Result<(World<R, J>, Vec<Report>), WorldFault>
-    ensures { IfOk result (λ ran. RunsFromEmpty R.Registry J.Journal registry journal base (events_of events.now) ran.0 ran.1.items) }
+    ensures ran { IfOk result (λ ran. RunsFromEmpty R.Registry J.Journal registry journal base (events_of events.now) ran.0 ran.1.items) }
+    ensures fault { IfErr result (EndsRun R.Registry J.Journal registry journal base (events_of events.now)) }
 {
     let mut world = match World::new(alloc, registry, journal, base) {
         Ok(world) => world,

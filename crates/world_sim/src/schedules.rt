@@ -1,4 +1,4 @@
-//! Schedules: texts that say, a line each, what should happen in a world.
+//! Schedules: texts that say, line by line, what happens in a world.
 ghost use Rattle.std.specs.Prelude.{◌≡◌, ◌&&◌, IfOk, List, ℕ, map, string_bytes};
 ghost use Rattle.std.specs.Char.{is_ascii_digit};
 ghost use Rattle.std.specs.List.{join_with_byte, list_all};
@@ -20,13 +20,13 @@ use source_csv::{
 use std::alloc::{AllocError, AllocFailed, Global};
 use thiserror::Error;
 
-/// How many digits a number in a schedule has at most.
+/// The most digits of a number in a schedule.
 pub const NUMBER_DIGITS: usize = 18;
 
 /// Why a schedule gives no events.
 #[derive(Clone, Copy, Debug, PartialEq, Eq, Error)]
 pub enum ScheduleFault {
-    /// The line with this number, counted from 1, is the first that spells no event.
+    /// The line with this number, counted from 1, is the first that isn't an event.
     #[error("line {0}: L1")]
     Line(usize),
     #[error("memory")]
@@ -64,7 +64,7 @@ fn header(alloc: Global, columns: &[&str]) -> Result<String, AllocError>
     Ok(header)
 }
 
-/// The file of this kind that has one record alone.
+/// The file of this kind with only this record.
 fn file_of(alloc: Global, kind: Kind, text: &str) -> Result<String, AllocError>
     ensures { IfOk result (λ file. string_bytes file ≡ file_of kind text.now) }
 {
@@ -87,7 +87,7 @@ fn read_rows(alloc: Global, kind: Kind, bytes: &[u8]) -> Result<SourceRows, Sour
     }
 }
 
-/// The row, where there is exactly one record and that is a row.
+/// The row, if there is exactly one record and it is a row.
 fn only_row(mut rows: Vec<Result<Row, RowFault>>) -> Option<Row>
     ensures { result ≡ only_row (Ok rows.items) }
 {
@@ -100,7 +100,7 @@ fn only_row(mut rows: Vec<Result<Row, RowFault>>) -> Option<Row>
     }
 }
 
-/// The row of a file of this kind, where it has exactly one record and that is a row.
+/// The row of a file of this kind, if it has exactly one record and that is a row.
 fn only_row_in(alloc: Global, kind: Kind, bytes: &[u8]) -> Result<Option<Row>, AllocError>
     ensures { (records : List Record) → AreRecordsOf bytes.now records → IfOk result (λ row. row ≡ only_row (rows_of kind records)) }
 {
@@ -111,9 +111,9 @@ fn only_row_in(alloc: Global, kind: Kind, bytes: &[u8]) -> Result<Option<Row>, A
     }
 }
 
-/// The change to a row that a record of this kind is.
+/// The event that offers this record of a file of this kind.
 #[tactic(auto, unfolding(crate::specs::Schedules::change_in))]
-fn change_in(alloc: Global, kind: Kind, text: &str) -> Result<Option<Event>, AllocError>
+pub(crate) fn change_in(alloc: Global, kind: Kind, text: &str) -> Result<Option<Event>, AllocError>
     ensures { (records_in : List ℕ → List Record) → ReadsFiles records_in → IfOk result (λ event. event ≡ spec.change_in records_in kind text.now) }
 {
     let file = file_of(alloc, kind, text)?;
@@ -121,14 +121,14 @@ fn change_in(alloc: Global, kind: Kind, text: &str) -> Result<Option<Event>, All
     Ok(row.map(Event::Change))
 }
 
-/// A text's first word, and what stands behind the first space.
+/// The first word of a text, and the rest after the first space.
 fn words_of(text: &str) -> (&str, &str)
     ensures { (result.0.now ≡ first_word text.now) × (result.1.now ≡ behind text.now) }
 {
     text.split_once(' ').unwrap_or((text, ""))
 }
 
-/// Whether a text is a lawful name of this kind.
+/// Whether a text is a valid name for this kind.
 fn is_lawful(alloc: Global, kind: Kind, name: &str) -> Result<bool, AllocError>
     ensures { IfOk result (λ lawful. lawful ≡ is_lawful kind name.now) }
 {
@@ -144,7 +144,11 @@ fn is_lawful(alloc: Global, kind: Kind, name: &str) -> Result<bool, AllocError>
 }
 
 /// The record with this name.
-fn record_named(alloc: Global, kind: Kind, name: &str) -> Result<Option<RecordName>, AllocError>
+pub(crate) fn record_named(
+    alloc: Global,
+    kind: Kind,
+    name: &str,
+) -> Result<Option<RecordName>, AllocError>
     ensures { IfOk result (λ found. found ≡ record_named name.now kind) }
 {
     if !is_lawful(alloc, kind, name)? {
@@ -205,7 +209,7 @@ fn cut_in(text: &str) -> Option<Event>
     })
 }
 
-/// The side that is opened again.
+/// The restart of a side.
 #[tactic(auto, unfolding(crate::specs::Schedules::restart_in))]
 fn restart_in(text: &str) -> Option<Event>
     ensures { result ≡ spec.restart_in text.now }
@@ -217,7 +221,7 @@ fn restart_in(text: &str) -> Option<Event>
     }
 }
 
-/// The event that a line spells.
+/// The event in a line.
 #[tactic(auto, unfolding(crate::specs::Schedules::event_of_words))]
 fn event_in(alloc: Global, line: &str) -> Result<Option<Event>, AllocError>
     ensures { (records_in : List ℕ → List Record) → ReadsFiles records_in → IfOk result (λ event. event ≡ event_in records_in line.now) }
@@ -234,7 +238,7 @@ fn event_in(alloc: Global, line: &str) -> Result<Option<Event>, AllocError>
     }
 }
 
-/// Whether a line says nothing.
+/// Whether a line is empty or a comment.
 fn is_silent(line: &str) -> bool
     ensures { result ≡ is_silent line.now }
 {
@@ -251,7 +255,7 @@ fn lines_of(alloc: Global, text: &str) -> Result<Vec<&str>, AllocError>
     text.lines().collect(alloc)
 }
 
-/// What the line with this number says, if anything.
+/// The event in the line with this number; none if the line is empty or a comment.
 #[tactic(auto, unfolding(crate::specs::Schedules::said_at))]
 fn said_at(alloc: Global, number: usize, line: &str) -> Result<Option<Event>, ScheduleFault>
     ensures { (records_in : List ℕ → List Record) → ReadsFiles records_in → Gives ScheduleFault.Memory result (spec.said_at records_in number line.now) }
@@ -265,7 +269,7 @@ fn said_at(alloc: Global, number: usize, line: &str) -> Result<Option<Event>, Sc
     }
 }
 
-/// What these lines say, which are numbered from 1.
+/// The events in these lines, which are numbered from 1.
 fn events_of(alloc: Global, lines: &[&str]) -> Result<Vec<Event>, ScheduleFault>
     ensures { (records_in : List ℕ → List Record) → ReadsFiles records_in → GivesBy (λ events. events.items) ScheduleFault.Memory result (events_from records_in 1 (map (λ line. line.now) lines.now)) }
 {
@@ -280,10 +284,10 @@ fn events_of(alloc: Global, lines: &[&str]) -> Result<Vec<Event>, ScheduleFault>
     Ok(events)
 }
 
-/// Reads a schedule: its lines end with LF or CR LF, empty ones and those that begin with `#` say
-/// nothing, and each other spells an event: `user` or `group` and a record of a file of that kind,
-/// `send user` or `send group` and a name, `deliver` and a number, `cut` and two, `restart provider`
-/// or `restart connector`.
+/// Reads a schedule. Its lines end with LF or CR LF; empty lines and lines that begin with `#` are skipped.
+/// Each other line is an event: `user` or `group` and a record of a file of that kind, `send user` or `send
+/// group` and a name, `deliver` and a number, `cut` and two numbers, `restart provider` or `restart
+/// connector`.
 pub fn read_schedule(alloc: Global, text: &str) -> Result<Vec<Event>, ScheduleFault>
     ensures { (records_in : List ℕ → List Record) → ReadsFiles records_in → GivesBy (λ events. events.items) ScheduleFault.Memory result (events_in records_in text.now) }
 {

@@ -9,14 +9,14 @@ use connector_core::Connector;
 use journal_core::Journal;
 use std::alloc::Global;
 
-/// The connector, or its journal alone where it wasn't opened again.
+/// The connector, or only its journal if the connector couldn't be opened again.
 #[derive(Drop)]
 pub enum Side<J: Journal> {
     Open(Connector<J>),
     Shut(J),
 }
 
-/// The side over a journal, which is opened if it can be.
+/// Opens the connector over a journal, if it can.
 fn opened<J: Journal + Drop>(alloc: Global, journal: J) -> (Side<J>, Result<(), WorldFault>)
     ensures opened { IsOpenedIn J.Journal journal result.0 }
     ensures open { is_open result.0 ≡ is_ok result.1 }
@@ -28,7 +28,7 @@ fn opened<J: Journal + Drop>(alloc: Global, journal: J) -> (Side<J>, Result<(), 
     }
 }
 
-/// The side is opened again on the journal.
+/// Opens the side again on its journal.
 pub(crate) fn reopened<J: Journal + Drop>(
     side: Side<J>,
     alloc: Global,

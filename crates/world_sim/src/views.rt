@@ -19,21 +19,21 @@ use scim_key::{Kind, RecordName, Revision};
 use scim_resource::Stored;
 use std::fmt;
 
-/// What is wanted, confirmed and held of a record.
+/// What is wanted, confirmed and held for a record.
 #[derive(Debug, Drop)]
 pub struct View {
     pub name: RecordName,
-    /// The revision of the last row, none where the source gave no row.
+    /// The revision of the last row, or none if the source gave no row.
     pub wanted: Revision,
     /// The highest revision that the connector counts as confirmed, or none.
     pub confirmed: Revision,
     /// The revision of what the provider holds, or none.
     pub held: Revision,
-    /// The version of what the provider holds, 0 where it holds nothing.
+    /// The version of what the provider holds; 0 if it holds nothing.
     pub version: u64,
-    /// Whether the user that the provider holds is switched on.
+    /// Whether the user that the provider holds is active.
     pub active: Option<bool>,
-    /// How many members the group that the provider holds has.
+    /// The number of members of the group that the provider holds.
     pub members: usize,
 }
 
@@ -81,7 +81,7 @@ impl fmt::Display for View {
     }
 }
 
-/// What is held of a record, by the provider's row of it.
+/// The view of a record, given the provider's row of it.
 fn held_in(name: RecordName, wanted: Revision, confirmed: Revision, row: &Stored) -> View
     ensures { result ≡ viewed name wanted confirmed (Some row.now) }
 {
@@ -96,7 +96,7 @@ fn held_in(name: RecordName, wanted: Revision, confirmed: Revision, row: &Stored
     }
 }
 
-/// What nothing is held of.
+/// The view of a record that the provider doesn't hold.
 fn held_nowhere(name: RecordName, wanted: Revision, confirmed: Revision) -> View
     ensures { result ≡ viewed name wanted confirmed None }
 {
@@ -112,8 +112,7 @@ fn held_nowhere(name: RecordName, wanted: Revision, confirmed: Revision) -> View
 }
 
 impl View {
-    /// What is wanted and confirmed of a record, and what is held of it by the provider's row, if it
-    /// has one.
+    /// The view of a record with these revisions, and with the provider's row of it, if there is one.
     pub fn of(name: RecordName, wanted: Revision, confirmed: Revision, row: Option<&Stored>) -> View
         ensures { result ≡ viewed name wanted confirmed (option_copied row.entry) }
     {
@@ -142,7 +141,7 @@ fn row_of<R: Registry>(
 }
 
 impl<R: Registry + Drop, J: Journal + Drop> World<R, J> {
-    /// The bytes of the message with this number, counted from 1. It takes no memory.
+    /// The bytes of the message with this number, counted from 1. It allocates nothing.
     pub fn message(&self, number: usize) -> Option<&[u8]>
         ensures { option_copied result ≡ text_at (texts_of self.now.sent.items) number }
     {
@@ -163,7 +162,7 @@ impl<R: Registry + Drop, J: Journal + Drop> World<R, J> {
         }
     }
 
-    /// What is wanted, confirmed and held of a record.
+    /// What is wanted, confirmed and held for a record.
     pub fn view(&mut self, name: &RecordName) -> Result<View, WorldFault>
         ensures shows { IfOk result (Shows R.Registry J.Journal self.old self.new name.now) }
         ensures looks { Looks R.Registry J.Journal self.old self.new }

@@ -1,5 +1,5 @@
 //! The world that runs.
-ghost use Rattle.std.specs.Prelude.{◌≡◌, ℕ, IfErr, IfOk, OnErr, OnOk, Err, false, is_ok};
+ghost use Rattle.std.specs.Prelude.{◌≡◌, ℕ, IfErr, IfOk, OnErr, OnOk, Err, false, true, is_ok};
 ghost use Rattle.std.specs.FinMap.{keys};
 ghost use Rattle.connector_core.specs.Changing.{accepted_map, judging};
 ghost use Rattle.connector_core.specs.Learning as spec;
@@ -15,7 +15,7 @@ ghost use Rattle.world_model.specs.Reports.{Judged, Taught, learnt_of, next_numb
 ghost use Rattle.world_model.specs.World.{Answered, Asked, Changes, Cuts, Delivers, Restarts_connector, Restarts_provider, Sends, with_message};
 ghost use Rattle.world_sim.specs.Events.{event_of, report_of};
 ghost use Rattle.world_sim.specs.Fitting.{IsFormed};
-ghost use Rattle.world_sim.specs.Running.{Arrives, Fails, Happens, IsOpenedBy, IsShutOff, Makes, Mirrors, Starts, Stays, journal_after, opens_after, opens_of};
+ghost use Rattle.world_sim.specs.Running.{Arrives, Fails, Happens, IsOpenedBy, IsShutOff, Keeps, KeepsConnector, Makes, Mirrors, Starts, Stays, journal_after, opens_after, opens_of};
 ghost use Rattle.world_sim.specs.Sides.{CountsStart, CountsWorldFault};
 ghost use Rattle.world_sim.specs.declared.reports.Report.TheVariants.{CutShort};
 ghost use Rattle.world_sim.specs.declared.reports.WorldFault.TheVariants.{Memory, Store};
@@ -42,13 +42,13 @@ pub struct World<R: Registry, J: Journal> {
     pub(crate) alloc: Global,
     pub(crate) service: ScimService,
     pub(crate) provider: Provider<R>,
-    /// Whether the provider's registry was opened again where that was tried last.
+    /// Whether the provider's registry is open: false after a reopening that failed.
     pub(crate) is_provider_open: bool,
     pub(crate) connector: Side<J>,
     pub(crate) sent: Vec<Sent>,
 }
 
-/// The report of a request that was sent, as the message with this number.
+/// The report of a request that was sent, with the number of its message.
 fn sending(number: usize, request: &Request) -> Report
     ensures { report_of result ≡ sending_report number request.now }
 {
@@ -85,7 +85,7 @@ fn learn<J: Journal>(
     }
 }
 
-/// What the connector says of a row.
+/// What the connector says about a row.
 fn judge<J: Journal>(connector: &mut Connector<J>, row: Row) -> Result<Report, WorldFault>
     ensures report { IfOk result (λ told. report_of told ≡ Judged (judging (book_of connector.old.book) (keys connector.old.book) row)) }
     ensures book { OnOk result (connector.new.book ≡ accepted_map connector.old.book row (judging (book_of connector.old.book) (keys connector.old.book) row)) }
@@ -101,7 +101,7 @@ fn judge<J: Journal>(connector: &mut Connector<J>, row: Row) -> Result<Report, W
     }
 }
 
-/// The answer to a request arrives, in these bytes.
+/// The answer to a request arrives in these bytes.
 fn hear<J: Journal>(
     alloc: Global,
     connector: &mut Connector<J>,
@@ -135,21 +135,21 @@ fn cut_short(is_read: bool) -> Report
     }
 }
 
-/// The type of a row keeps the limits of the source.
+/// The type of a row guarantees the limits of the source.
 fn keeps_limits(row: &Row)
     ensures { IsRow row.now }
 {
     let _ = row.revision();
 }
 
-/// The type of a base keeps its form.
+/// The type of a base guarantees its form.
 fn keeps_form(base: &Base)
     ensures { IsBase base.now }
 {
     let _ = base.as_str();
 }
 
-/// What a request is answered and what becomes of the rows, and the bytes of the reply.
+/// The answer to a request, the change of the rows, and the bytes of the reply.
 fn prepared<R: Registry>(
     alloc: Global,
     provider: &mut Provider<R>,
@@ -167,8 +167,8 @@ fn prepared<R: Registry>(
 }
 
 impl<R: Registry + Drop, J: Journal + Drop> World<R, J> {
-    /// A provider over a registry and a connector over a journal, between which nothing was sent
-    /// yet. With a fault both come back.
+    /// A provider over a registry and a connector over a journal, with no message sent yet. If it fails, it
+    /// hands both stores back.
     pub fn new(
         alloc: Global,
         registry: R,
@@ -177,6 +177,7 @@ impl<R: Registry + Drop, J: Journal + Drop> World<R, J> {
     ) -> Result<World<R, J>, (WorldFault, R, J)>
         ensures base { IfOk result (λ world. world.service ≡ base) }
         ensures starts { IfOk result (Starts R.Registry J.Journal registry journal) }
+        ensures open { IfOk result (λ world. opens_of world ≡ (true, true)) }
         ensures refused { IfErr result (λ refused. refused.1 ≡ registry) }
         ensures journal { OnlyReads J.entries J.is_faithful J.is_honest J.may_hold J.faults J.writes CountsStart journal (journal_after result) result }
     {
@@ -198,6 +199,7 @@ impl<R: Registry + Drop, J: Journal + Drop> World<R, J> {
     fn change(&mut self, row: &Row) -> Result<Report, WorldFault>
         ensures done { IfOk result (Happens R.Registry J.Journal self.old self.new (Changes row.now)) }
         ensures fails { IfErr result (Fails R.Registry J.Journal self.old self.new (Changes row.now)) }
+        ensures keeps { OnErr result (Keeps self.old self.new (Changes row.now)) }
         ensures shut { IsShutOff self.old (Changes row.now) → result ≡ Err Store }
         ensures opens { opens_of self.new ≡ opens_of self.old }
     {
@@ -210,10 +212,11 @@ impl<R: Registry + Drop, J: Journal + Drop> World<R, J> {
         }
     }
 
-    /// The connector sends what it asks for next of a record.
-    fn send(&mut self, name: &RecordName) -> Result<Report, WorldFault>
+    /// The connector sends its next request for a record.
+    pub(crate) fn send(&mut self, name: &RecordName) -> Result<Report, WorldFault>
         ensures done { IfOk result (Happens R.Registry J.Journal self.old self.new (Sends name.now)) }
         ensures fails { IfErr result (Fails R.Registry J.Journal self.old self.new (Sends name.now)) }
+        ensures keeps { OnErr result (Keeps self.old self.new (Sends name.now)) }
         ensures shut { IsShutOff self.old (Sends name.now) → result ≡ Err Store }
         ensures opens { opens_of self.new ≡ opens_of self.old }
     {
@@ -243,9 +246,10 @@ impl<R: Registry + Drop, J: Journal + Drop> World<R, J> {
     }
 
     /// The message with a number arrives.
-    fn deliver(&mut self, number: usize) -> Result<Report, WorldFault>
+    pub(crate) fn deliver(&mut self, number: usize) -> Result<Report, WorldFault>
         ensures done { IfOk result (Happens R.Registry J.Journal self.old self.new (Delivers number)) }
         ensures fails { IfErr result (Fails R.Registry J.Journal self.old self.new (Delivers number)) }
+        ensures keeps { OnErr result (Keeps self.old self.new (Delivers number)) }
         ensures shut { IsShutOff self.old (Delivers number) → result ≡ Err Store }
         ensures opens { opens_of self.new ≡ opens_of self.old }
     {
@@ -266,11 +270,12 @@ impl<R: Registry + Drop, J: Journal + Drop> World<R, J> {
         }
     }
 
-    /// A request arrives, and its reply is sent. All that takes memory is done before the rows
+    /// A request arrives, and its reply is sent. Everything that needs memory is done before the rows
     /// change.
     fn answer(&mut self, request: Request) -> Result<Report, WorldFault>
         ensures done { IfOk result (Arrives R.Registry J.Journal self.old self.new (Asked request)) }
         ensures fails { IfErr result (λ fault. (number : ℕ) → Fails R.Registry J.Journal self.old self.new (Delivers number) fault) }
+        ensures keeps { KeepsConnector self.old self.new }
         ensures opens { opens_of self.new ≡ opens_of self.old }
     {
         let (pending, bytes) = prepared(
@@ -288,7 +293,7 @@ impl<R: Registry + Drop, J: Journal + Drop> World<R, J> {
         Ok(Report::Answering { number, status })
     }
 
-    /// Only the first bytes of a message arrive: they aren't read as one, and nothing happens.
+    /// Only the first bytes of a message arrive. They aren't read as a message, and nothing happens.
     fn cut(&self, number: usize, length: usize) -> Result<Report, WorldFault>
         ensures done { IfOk result (Happens R.Registry J.Journal self.now self.now (Cuts number length)) }
         ensures fails { IfErr result (Fails R.Registry J.Journal self.now self.now (Cuts number length)) }
@@ -302,10 +307,11 @@ impl<R: Registry + Drop, J: Journal + Drop> World<R, J> {
         }
     }
 
-    /// The connector is opened again on its journal.
+    /// Opens the connector again on its journal.
     fn restart_connector(&mut self) -> Result<Report, WorldFault>
         ensures done { IfOk result (Happens R.Registry J.Journal self.old self.new Restarts_connector) }
         ensures fails { IfErr result (Fails R.Registry J.Journal self.old self.new Restarts_connector) }
+        ensures keeps { self.new.provider ≡ self.old.provider }
         ensures opens { opens_of self.new ≡ opens_after Restarts_connector (is_ok result) (opens_of self.old) }
     {
         match replace_with(&mut self.connector, self.alloc, reopened) {
@@ -316,10 +322,11 @@ impl<R: Registry + Drop, J: Journal + Drop> World<R, J> {
 }
 
 impl<R: Reopen + Drop, J: Journal + Drop> World<R, J> {
-    /// The provider is opened again on its rows.
+    /// Opens the provider again on its rows.
     fn restart_provider(&mut self) -> Result<Report, WorldFault>
         ensures done { IfOk result (Happens R.Registry J.Journal self.old self.new Restarts_provider) }
         ensures fails { IfErr result (Fails R.Registry J.Journal self.old self.new Restarts_provider) }
+        ensures keeps { KeepsConnector self.old self.new }
         ensures opened { OnOk result (R.is_honest self.new.provider → R.is_faithful self.new.provider) }
         ensures opens { opens_of self.new ≡ opens_after Restarts_provider (is_ok result) (opens_of self.old) }
     {
@@ -329,11 +336,12 @@ impl<R: Reopen + Drop, J: Journal + Drop> World<R, J> {
         Ok(Report::Restarted)
     }
 
-    /// One event. After a fault the world goes on as it was, but for a restart that failed: what
-    /// needs that side answers `WorldFault::Store` until a restart of it succeeds.
+    /// Makes one event. After a fault, the connector knows and has seen what it had, unless a restart
+    /// failed: events that need that side return `WorldFault::Store` until a restart of it succeeds.
     pub fn step(&mut self, event: &Event) -> Result<Report, WorldFault>
         ensures done { IfOk result (Happens R.Registry J.Journal self.old self.new (event_of event.now)) }
         ensures fails { IfErr result (Fails R.Registry J.Journal self.old self.new (event_of event.now)) }
+        ensures keeps { OnErr result (Keeps self.old self.new (event_of event.now)) }
         ensures shut { IsShutOff self.old (event_of event.now) → result ≡ Err Store }
         ensures opened { OnOk result (IsOpenedBy R.Registry self.new.provider (event_of event.now)) }
         ensures opens { opens_of self.new ≡ opens_after (event_of event.now) (is_ok result) (opens_of self.old) }

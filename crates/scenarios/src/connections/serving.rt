@@ -14,7 +14,7 @@ static CREATE_BOB: &[u8] =
 static FIND_BOB: &[u8] =
     b"GET /v2/Users/5c1a0000-0000-8000-8000-000000000001 HTTP/1.1\r\nHost: h\r\n\r\n";
 
-/// Connections in memory, and the statuses of their answers: three digits each, 0 for none.
+/// Connections in memory, and the statuses of their answers: three digits each, 000 for no answer.
 #[derive(Drop)]
 struct Queue<'a> {
     alloc: Global,
@@ -49,7 +49,7 @@ impl<'a> Listen for Queue<'a> {
     }
 }
 
-/// Serves so many of these connections: the outcome, and the statuses.
+/// Serves `count` of these connections, and returns the outcome and the statuses.
 fn served<R: Eprint + Abort>(
     rt: &R,
     alloc: Global,

@@ -1,4 +1,4 @@
-//! Streams by a clock that a test winds, and their drains.
+//! Streams with a clock that the test moves, and how they are drained.
 use crate::support::assert_same;
 use connection::{Deadline, Listen, Sockets, TimedStream, timed_handles};
 use std::alloc::Global;
@@ -9,7 +9,7 @@ use std::net::{Ipv4Addr, OpenListener, OpenStream, SocketAddr};
 use std::process::Abort;
 use std::time::{Clock, Duration};
 
-/// A clock that goes on by a second whenever it's read.
+/// A clock that goes on by a second at each reading.
 #[derive(Drop)]
 struct Ticks {
     seconds: Cell<u64>,
@@ -27,15 +27,15 @@ impl Clock for Ticks {
     }
 }
 
-/// What was done last, a digit each.
+/// What was done last, one digit each.
 type Notes<'a> = &'a Cell<u64>;
 
 fn note(notes: Notes<'_>, what: u64) {
     notes.set(notes.get() % 10_000_000_000 * 10 + what % 10);
 }
 
-/// Gives a byte at each read, so many times. It notes the seconds of each timeout as a digit, and each
-/// read as a 0.
+/// Gives a byte at each read, `left` times. It notes the seconds of each timeout as a digit, and each read
+/// as a 0.
 #[derive(Drop)]
 struct Trickle<'a> {
     left: u32,
@@ -83,7 +83,7 @@ fn many_short_reads_take_no_longer(rt: HostRuntime) {
     assert_same(&rt, notes.get(), 10_000);
 }
 
-/// A stream on which nothing comes: a read waits for its limit, which winds the clock.
+/// A stream on which nothing comes: a read waits for its limit, which moves the clock.
 #[derive(Drop)]
 struct Silent<'a> {
     clock: &'a Ticks,
@@ -150,7 +150,7 @@ fn handles_are_on_one_stream(rt: HostRuntime) {
 
 #[test]
 fn a_drain_is_bounded(rt: HostRuntime) {
-    // what its time leaves, what the connection's leaves, and the stream's end
+    // limited by its own time, by the connection's time, and by the stream's end
     for (limit, drain, bytes, wanted) in [(30, 3, 9, 100), (3, 30, 9, 10), (30, 9, 2, 1_000)] {
         let clock = Ticks {
             seconds: Cell::new(0),
@@ -170,8 +170,8 @@ fn a_drain_is_bounded(rt: HostRuntime) {
     }
 }
 
-/// A stream of a peer that sends nothing more, whose end is noted as a 5. Then so many connections
-/// more wait.
+/// A stream whose peer sends nothing more; its end is noted as a 5. After it, `brings` more connections
+/// wait.
 #[derive(Drop)]
 struct Ended<'a> {
     notes: Notes<'a>,
@@ -207,8 +207,8 @@ impl<'a> OpenStream for Ended<'a> {
     }
 }
 
-/// A listener for which so many connections wait. One more comes whenever it blocks. It notes that it
-/// gives up from now on (1), blocks again (2), takes a connection (3), and that none waits (4).
+/// A listener for which `left` connections wait. Whenever it blocks, one more comes. It notes that it stops
+/// blocking (1), blocks again (2), accepts a connection (3), and finds none waiting (4).
 #[derive(Drop)]
 struct Waiting<'a> {
     left: &'a Cell<u32>,
@@ -243,8 +243,8 @@ impl<'a> OpenListener for Waiting<'a> {
     }
 }
 
-/// Takes and ends so many connections of which so many wait, and each drain brings so many more. It
-/// tells what was done by then, and once the listener is dropped.
+/// Accepts and ends `count` connections. At first `waiting` of them wait, and each drain brings `brings`
+/// more. It returns the notes at that point, and the notes after the listener is dropped.
 fn taken(rt: &impl Abort, alloc: Global, waiting: u32, count: u32, brings: u32) -> (u64, u64) {
     let (notes, left) = (Cell::new(0), Cell::new(waiting));
     let clock = Ticks {

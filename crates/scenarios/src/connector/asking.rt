@@ -1,4 +1,4 @@
-//! What the connector asks for next of a record, over exchanges with a provider in memory.
+//! The connector's next request for a record, in exchanges with a provider in memory.
 use crate::connector::offers::{named, new_connector, offer_rows, opened_again};
 use crate::support::{assert_same, empty};
 use connector_core::{Ask, Connector};
@@ -52,7 +52,7 @@ fn replaced(
     content_told(rt, alloc, what.as_str(), content)
 }
 
-/// The one tag of a list.
+/// The only tag of a list.
 fn only_tag<'a>(rt: &impl Abort, tags: &'a TagList) -> &'a str {
     match tags.as_slice() {
         [tag] => from_utf8(tag.text()).expect(rt, "no text"),
@@ -72,10 +72,10 @@ fn content_told(rt: &impl Abort, alloc: Global, what: &str, content: &Content) -
     text
 }
 
-/// A record, and what is asked for next of it.
+/// A record, and the connector's next request for it.
 type Exchange<'a> = (Kind, &'a str, &'a str);
 
-/// A request is answered by the provider, and the connector learns from the answer.
+/// The provider answers a request, and the connector learns from the answer.
 fn carry(
     rt: &impl Abort,
     alloc: Global,
@@ -87,8 +87,8 @@ fn carry(
     connector.learn(request, &answer).expect(rt, "it is learnt");
 }
 
-/// What the connector asks for next of a record, as a short text. Where it is a request, the
-/// provider answers it, and the connector learns from the answer.
+/// The connector's next request for a record, as a short text. If there is a request, the provider answers
+/// it, and the connector learns from the answer.
 pub fn exchange(
     rt: &impl Abort,
     alloc: Global,
@@ -109,7 +109,7 @@ pub fn exchange(
     }
 }
 
-/// Asserts what the connector asks for next of these records, one exchange after the other.
+/// Asserts the connector's next requests for these records, one exchange after the other.
 fn exchanges(
     rt: &impl Abort,
     alloc: Global,
@@ -151,7 +151,7 @@ fn a_record_is_searched_for_by_its_name_as_it_is_spelled(rt: HostRuntime) {
     exchanges(&rt, alloc, &mut connector, &mut empty(alloc), NAMES)
 }
 
-/// Rows of users and of groups, and what is asked for once they are offered.
+/// Rows of users and of groups, and the next requests once they are offered.
 type Round = (
     &'static [&'static str],
     &'static [&'static str],

@@ -1,4 +1,4 @@
-//! Rows that the source offers to the connector: what it says of them, and what it then wants.
+//! Rows that the source offers to the connector: its verdicts, and what it then wants.
 use crate::connector::offers::{
     groups, named, new_connector, offer, offer_all, offer_group, offer_rows, offer_user,
     opened_again, users,
@@ -10,7 +10,7 @@ use scim_key::Kind;
 use std::alloc::Global;
 use std::process::Abort;
 
-/// A record of a file, and what the connector says of its row.
+/// A record of a file, and the connector's verdict on its row.
 type Offer<'a> = (&'a str, &'a str);
 
 static USERS: &[Offer<'static>] = &[
@@ -51,7 +51,7 @@ fn wants(
     }
 }
 
-/// Asserts what a connector says of the rows of these users.
+/// Asserts a connector's verdicts on the rows of these users.
 fn says_of_users(
     rt: &impl Abort,
     alloc: Global,
@@ -64,7 +64,7 @@ fn says_of_users(
     }
 }
 
-/// Asserts what a connector says of the rows of these groups.
+/// Asserts a connector's verdicts on the rows of these groups.
 fn says_of_groups(
     rt: &impl Abort,
     alloc: Global,
@@ -86,7 +86,7 @@ fn each_row_has_its_verdict(rt: HostRuntime) {
     wants(&rt, alloc, &connector, WANTED)
 }
 
-/// What USERS and GROUPS come to.
+/// What the connector wants after USERS and GROUPS.
 static WANTED: &[(Kind, &str, u32)] = &[
     (Kind::User, "ann", 2_000_000_000),
     (Kind::User, "bob", 2),
@@ -104,7 +104,7 @@ fn records_of(rt: &impl Abort, alloc: Global, offers: &[Offer]) -> String {
     text
 }
 
-/// Asserts what was said of these offers.
+/// Asserts the verdicts on these offers.
 fn were_said(rt: &impl Abort, offers: &[Offer], said: &[String]) {
     assert_same(rt, said.len(), offers.len());
     for ((record, expected), said) in offers.iter().zip(said) {
@@ -112,7 +112,7 @@ fn were_said(rt: &impl Abort, offers: &[Offer], said: &[String]) {
     }
 }
 
-/// Asserts what a connector says of the rows of a file, which it is offered together.
+/// Asserts a connector's verdicts on the rows of a file, which are offered together.
 fn says_of_all(
     rt: &impl Abort,
     alloc: Global,
@@ -139,7 +139,7 @@ fn rows_that_are_offered_together_have_the_same_verdicts(rt: HostRuntime) {
     wants(&rt, alloc, &opened_again(&rt, alloc, connector), WANTED)
 }
 
-/// The names of a connector's records in its order, a line each.
+/// The names of a connector's records in its order, one on each line.
 fn names_told(rt: &impl Abort, alloc: Global, connector: &Connector<MemoryJournal>) -> String {
     let mut text = String::new(alloc);
     for name in connector.names().expect(rt, "memory").as_slice() {

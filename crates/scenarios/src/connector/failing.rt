@@ -1,4 +1,4 @@
-//! Stores in memory of which one opening fails.
+//! Stores in memory with one opening that fails.
 ghost use Rattle.std.specs.Prelude.{◌≡◌, refl};
 
 use journal_core::{Entry, Journal, JournalFault, MemoryJournal};
@@ -8,7 +8,7 @@ use scim_resource::Stored;
 use source_csv::Row;
 use std::alloc::Global;
 
-/// A registry whose first reopening fails. Its rows have no other fault than out of memory.
+/// A registry whose first reopening fails. Its only other fault is out of memory.
 #[derive(Drop)]
 pub struct FailingRegistry {
     rows: MemoryRegistry,

@@ -13,8 +13,8 @@ use std::process::Abort;
 /// The user of all tests at revision 3, which the source wants.
 static BOB: &[u8] = b"login,revision,number,given,family,mail,status\nbob,3,,,,,active\n";
 
-/// What may be known of bob: what was seen, the id and the confirmed revision. That a resource is
-/// absent beside an id, and that one was seen without an id, don't come.
+/// What may be known about bob: what was seen, the id and the confirmed revision. A resource that is absent
+/// though its id is known, and one that was seen without an id, don't occur.
 static STATES: [&str; 4] = ["unknown, - 0", "absent, - 0", "unknown, b 2", "at t 2, b 2"];
 
 static SEARCH: &str = "users where userName eq \"bob\"";
@@ -55,7 +55,7 @@ fn wanting(rt: &impl Abort, alloc: Global) -> Connector<MemoryJournal> {
     connector
 }
 
-/// What a connector learns from an answer to a request.
+/// Lets a connector learn from an answer to a request.
 fn taught(
     rt: &impl Abort,
     alloc: Global,
@@ -124,7 +124,7 @@ fn seen_text(rt: &impl Abort, alloc: Global, seen: Option<&Seen>) -> String {
     text
 }
 
-/// What is known of bob: what was seen, and the id and the confirmed revision of the journal.
+/// What is known about bob: what was seen, and the id and the confirmed revision of the journal.
 fn known_text(rt: &impl Abort, alloc: Global, connector: Connector<MemoryJournal>) -> String {
     let name = bob(rt, alloc);
     let seen = seen_text(rt, alloc, connector.seen(&name));
@@ -142,7 +142,7 @@ fn known_text(rt: &impl Abort, alloc: Global, connector: Connector<MemoryJournal
     format!(in alloc; "{seen}, {id} {confirmed}").expect(rt, "memory")
 }
 
-/// Asserts what is learnt in a state, and what is known afterwards where that is another.
+/// Asserts what is learnt in a state, and what is known afterwards if that changes.
 fn learns_in(
     rt: &impl Abort,
     alloc: Global,
@@ -303,7 +303,7 @@ fn an_answer_without_a_resource_changes_what_was_seen_alone(rt: HostRuntime) {
     }
 }
 
-/// Asserts that each of these requests meets one fault at each of these answers, in each state.
+/// Asserts that each of these answers to each of these requests has this one fault, in each state.
 fn all_refused(rt: &impl Abort, alloc: Global, asked: &[&str], answered: &[&str], fault: &str) {
     for request in asked {
         for answer in answered {

@@ -1,4 +1,4 @@
-//! Rows that meet every limit of a row, from the source to the provider and over a restart.
+//! Rows that meet every limit of a row, from the source to the provider and after a restart.
 use crate::connector::asking::exchange;
 use crate::connector::offers::{named, new_connector, offer_group, offer_user, opened_again};
 use crate::support::{assert_same, assert_that, empty, repeated};
@@ -9,7 +9,7 @@ use scim_key::{Kind, RecordName};
 use std::alloc::Global;
 use std::process::Abort;
 
-/// What is asked for by the second exchange of a record that was offered: its creation.
+/// The request of the second exchange for a record that was offered: its creation.
 fn created(
     rt: &impl Abort,
     alloc: Global,
@@ -53,7 +53,7 @@ fn a_user_with_the_longest_fields(rt: HostRuntime) {
     is_settled(&rt, alloc, connector, &mut provider, &name)
 }
 
-/// Offers 400 users and creates them: their names, in their order, with a space between any two.
+/// Offers 400 users and creates them; returns their names, in order, separated by spaces.
 fn with_400_users(
     rt: &impl Abort,
     alloc: Global,
@@ -75,7 +75,7 @@ fn with_400_users(
     names
 }
 
-/// The text of the creation has the group's name and revision, and each id after a space.
+/// The text of the creation has the group's name and revision, and then each id after a space.
 #[test]
 fn a_group_with_the_longest_name_and_400_members(rt: HostRuntime) {
     let alloc = rt.alloc();

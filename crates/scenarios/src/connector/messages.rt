@@ -98,7 +98,7 @@ fn replacement(rt: &impl Abort, alloc: Global, name: &str, if_match: Condition) 
     }
 }
 
-/// A replacement of a user, under a condition where there is one.
+/// A replacement of a user, with a condition if there is one.
 fn replacement_of(rt: &impl Abort, alloc: Global, text: &str) -> Request {
     match text.split_once(" under ") {
         Some((name, tags)) => {
@@ -109,7 +109,7 @@ fn replacement_of(rt: &impl Abort, alloc: Global, text: &str) -> Request {
     }
 }
 
-/// A request that is no creation and no replacement.
+/// A request that is neither a creation nor a replacement.
 fn reading(rt: &impl Abort, alloc: Global, text: &str) -> Request {
     if let Some(filter) = text.strip_prefix("users where ") {
         return search(rt, alloc, Kind::User, filter);
@@ -156,7 +156,7 @@ fn list(rt: &impl Abort, alloc: Global, text: &str) -> Answer {
     })
 }
 
-/// An error of this status, whose body is no error message.
+/// An error with this status, whose body isn't an error message.
 fn error(rt: &impl Abort, alloc: Global, status: &str) -> Answer {
     let any = reading(rt, alloc, "any");
     read_body(

@@ -1,4 +1,4 @@
-//! Connectors over journals in memory, and rows that they are offered.
+//! Connectors over journals in memory, and the rows offered to them.
 use connector_core::{ChangeFault, Connector};
 use journal_core::MemoryJournal;
 use scim_key::{Key, Kind, RecordName};
@@ -47,7 +47,7 @@ pub fn groups(rt: &impl Abort, alloc: Global, records: &str) -> SourceRows {
     read_groups(alloc, text.as_bytes()).expect(rt, "a file")
 }
 
-/// What a connector says of a row, as it is printed: the verdict, or the code of the refusal.
+/// A connector's verdict on a row, as it is printed: the verdict, or the code of the refusal.
 fn said(rt: &impl Abort, alloc: Global, verdict: Result<Verdict, ChangeFault>) -> String {
     match verdict {
         Ok(Verdict::New) => String::from_str(alloc, "new").expect(rt, "memory"),
@@ -57,7 +57,7 @@ fn said(rt: &impl Abort, alloc: Global, verdict: Result<Verdict, ChangeFault>) -
     }
 }
 
-/// What a connector says of the row of a record.
+/// A connector's verdict on the row of a record.
 pub fn offer(
     rt: &impl Abort,
     alloc: Global,
@@ -74,7 +74,7 @@ pub fn offer(
     }
 }
 
-/// What a connector says of the rows of a file, which it is offered together.
+/// A connector's verdicts on the rows of a file, which are offered together.
 pub fn offer_all(
     rt: &impl Abort,
     alloc: Global,
@@ -97,7 +97,7 @@ pub fn offer_all(
     lines
 }
 
-/// What a connector says of the one row of a file of users.
+/// A connector's verdict on the only row of a file of users.
 pub fn offer_user(
     rt: &impl Abort,
     alloc: Global,
@@ -113,7 +113,7 @@ pub fn offer_user(
     )
 }
 
-/// What a connector says of the one row of a file of groups.
+/// A connector's verdict on the only row of a file of groups.
 pub fn offer_group(
     rt: &impl Abort,
     alloc: Global,
@@ -129,7 +129,7 @@ pub fn offer_group(
     )
 }
 
-/// Offers rows of users, then of groups, whatever is said of them.
+/// Offers rows of users, then of groups, whatever the verdicts.
 pub fn offer_rows(
     rt: &impl Abort,
     alloc: Global,

@@ -1,11 +1,11 @@
-//! Exchanges for every record, over streams in memory: with a provider, and with answers by hand.
+//! Exchanges for every record, over streams in memory: with a provider, and with written answers.
 use crate::connector::offers::{new_connector, offer_rows};
 use crate::support::assert_same;
 use connector_core::Connector;
 use http_text::{Input, Output};
 use journal_core::MemoryJournal;
 use provider_core::{MemoryRegistry, Provider};
-use provisioning::{Dial, PushFault, Pushed, Standing, Tally, Tell, push_all};
+use provisioning::{Dial, Pushed, RunFault, Standing, Tally, Tell, push_all};
 use scim_client::ScimService;
 use scim_key::{Base, Kind, RecordName};
 use scim_server::serve;
@@ -15,7 +15,7 @@ use std::io;
 use std::io::{ErrorKind, Read, Write};
 use std::process::Abort;
 
-/// A provider in memory, and what it is being asked.
+/// A provider in memory, and the request that it is being sent.
 #[derive(Drop)]
 struct Peer {
     base: Base,
@@ -23,7 +23,7 @@ struct Peer {
     asked: Vec<u8>,
 }
 
-/// Streams to a provider in memory. It answers once it is read from.
+/// Streams to a provider in memory. The provider answers when a stream is read from.
 #[derive(Drop)]
 struct Streams<'a> {
     alloc: Global,
@@ -47,7 +47,7 @@ fn busy() -> io::Error {
     io::Error::from(ErrorKind::ResourceBusy)
 }
 
-/// What the provider answers to what it was asked.
+/// The provider's answer to its request.
 fn answer_of(alloc: Global, peer: &RefCell<Peer>) -> io::Result<Vec<u8>> {
     let mut guard = peer.try_borrow_mut().map_err(|_| busy())?;
     let peer = &mut *guard;
@@ -110,7 +110,7 @@ impl<'a> Dial for Streams<'a> {
     fn end(&self, _: Reply<'a>, _: Question<'a>) {}
 }
 
-/// Streams whose answers were written by hand, one after another. There is no stream after the last.
+/// Streams whose answers are written in the test, one after another. There is no stream after the last.
 #[derive(Drop)]
 struct Answers {
     alloc: Global,
@@ -136,14 +136,14 @@ impl Dial for Answers {
     fn end(&self, _: &'static [u8], _: Vec<u8>) {}
 }
 
-/// What was told of each record, a line each.
+/// The report of each record, one on each line.
 #[derive(Drop)]
 struct Lines {
     alloc: Global,
     text: String,
 }
 
-/// What is told of a record, in a line.
+/// The report of a record, as a line.
 fn line(alloc: Global, name: &RecordName, pushed: &Pushed) -> Result<String, AllocError> {
     let kind = match name.kind {
         Kind::User => "user",
@@ -173,13 +173,21 @@ impl Tell for Lines {
     }
 }
 
-/// Asserts what becomes of the records of a connector: how the run ends, and what is told.
+/// The text of the fault that ended a run, which is empty where none did.
+fn text_of(rt: &impl Abort, alloc: Global, ended: Result<Tally, RunFault>) -> String {
+    match ended {
+        Ok(_) => String::new(alloc),
+        Err(fault) => fault.to_string(alloc).expect(rt, "memory"),
+    }
+}
+
+/// Asserts the results for the records of a connector: how the run ends, and what is reported.
 fn pushes<D: Dial>(
     rt: &impl Abort,
     alloc: Global,
     connector: &mut Connector<MemoryJournal>,
     dial: &mut D,
-    end: Result<Tally, PushFault>,
+    end: Result<Tally, &str>,
     told: &str,
 ) {
     let service = ScimService::new(Base::read(alloc, "http://localhost:8080/v2").expect(
@@ -190,20 +198,23 @@ fn pushes<D: Dial>(
         text: String::new(alloc),
     };
     let ended = push_all(alloc, &service, connector, dial, &mut lines);
-    assert_same(rt, ended, end);
+    match end {
+        Ok(tally) => assert_same(rt, ended.ok(), Some(tally)),
+        Err(fault) => assert_same(rt, text_of(rt, alloc, ended).as_str(), fault),
+    }
     assert_same(rt, lines.text.as_str(), told);
 }
 
-/// All is confirmed after so many exchanges.
-fn settled(exchanges: u32) -> Result<Tally, PushFault> {
+/// Everything is confirmed after this many exchanges.
+fn settled(exchanges: u32) -> Result<Tally, &'static str> {
     Ok(Tally {
         exchanges,
         is_settled: true,
     })
 }
 
-/// Some record isn't confirmed after so many exchanges.
-fn unsettled(exchanges: u32) -> Result<Tally, PushFault> {
+/// Some record isn't confirmed after this many exchanges.
+fn unsettled(exchanges: u32) -> Result<Tally, &'static str> {
     Ok(Tally {
         exchanges,
         is_settled: false,
@@ -219,7 +230,7 @@ fn new_peer(rt: &impl Abort, alloc: Global) -> RefCell<Peer> {
     })
 }
 
-/// Rows of users and of groups, and then after how many exchanges all is confirmed, and what is told.
+/// Rows of users and of groups; after how many exchanges everything is confirmed; and what is reported.
 type Round = (
     &'static [&'static str],
     &'static [&'static str],
@@ -227,7 +238,7 @@ type Round = (
     &'static str,
 );
 
-/// Asserts what becomes of the records of a connector once the rows of each round are offered.
+/// Asserts the results for the records of a connector after the rows of each round are offered.
 fn settles(rt: &impl Abort, alloc: Global, rounds: &[Round]) {
     let peer = new_peer(rt, alloc);
     let mut streams = Streams { alloc, peer: &peer };
@@ -288,10 +299,10 @@ const NO_JSON: &[u8] = b"HTTP/1.1 200 OK\r\nContent-Length: 6\r\n\r\n<html>";
 
 const TAKEN: &[u8] = b"HTTP/1.1 409 Conflict\r\nContent-Length: 0\r\n\r\n";
 
-/// Answers by hand, how the run ends, and what is told.
+/// Answers of the test, how the run ends, and what is reported.
 type Given = (
     &'static [&'static [u8]],
-    Result<(u32, bool), PushFault>,
+    Result<(u32, bool), &'static str>,
     &'static str,
 );
 
@@ -331,7 +342,7 @@ static GIVEN: &[Given] = &[
         Ok((3, false)),
         "user bob 3 unconfirmed H10\n",
     ),
-    // a fault stays though what follows is clean
+    // a fault stays, even if what follows has none
     (
         &[CUT_SHORT, NONE, TAKEN],
         Ok((3, false)),
@@ -342,8 +353,8 @@ static GIVEN: &[Given] = &[
         Ok((3, false)),
         "user bob 3 unconfirmed -\n",
     ),
-    (&[], Err(PushFault::Connection), ""),
-    (&[REFUSED, NONE], Err(PushFault::Connection), ""),
+    (&[], Err("connection fault"), ""),
+    (&[REFUSED, NONE], Err("connection fault"), ""),
 ];
 
 #[test]

@@ -1,4 +1,4 @@
-//! Whole runs of both sides over memory: messages lost, late, repeated, and restarts.
+//! Whole runs of connector and provider in memory: messages lost, late and repeated, and restarts.
 use crate::connector::failing::{FailingJournal, FailingRegistry};
 use crate::connector::offers::named;
 use crate::support::{BOB_CREATED, CREATE_BOB, are_printed, assert_same, assert_that};
@@ -12,7 +12,7 @@ use world_sim::{Event, Report, World, WorldFault, read_schedule, run};
 
 type MemoryWorld = World<MemoryRegistry, MemoryJournal>;
 
-/// An event, as a line of a schedule, and what it reports.
+/// An event, as a line of a schedule, and its report.
 type Told = (&'static str, &'static str);
 
 // ---- the parts of runs
@@ -41,7 +41,7 @@ const TWO_REPLACEMENTS: &[Told] = &[
 
 // ---- runs
 
-/// What a run shows, its parts, and what is shown of each record in the end.
+/// What a run shows, its parts, and the view of each record at the end.
 type Run = (
     &'static str,
     &'static [&'static [Told]],
@@ -245,7 +245,7 @@ fn are_reported(rt: &impl Abort, alloc: Global, parts: &[&[Told]], reports: &[Re
     }
 }
 
-/// Asserts the report of each event of a run, and gives the world after it.
+/// Asserts the report of each event of a run, and returns the world after it.
 fn runs(rt: &impl Abort, alloc: Global, parts: &[&[Told]]) -> MemoryWorld {
     let events = events(rt, alloc, parts);
     let (world, reports) = ran(rt, alloc, events.as_slice());
@@ -253,7 +253,7 @@ fn runs(rt: &impl Abort, alloc: Global, parts: &[&[Told]]) -> MemoryWorld {
     world
 }
 
-/// Asserts what is shown of each record of this run, in the order of names.
+/// Asserts the view of each record after this run, in the order of names.
 fn shows(rt: &impl Abort, alloc: Global, mut world: MemoryWorld, run: &str, lines: &[&str]) {
     let names = world.names().expect(rt, "memory");
     assert_same(rt, (run, names.len()), (run, lines.len()));
@@ -281,7 +281,7 @@ fn messages_are_kept_in_their_bytes(rt: HostRuntime) {
     assert_that(&rt, world.message(5).is_none());
 }
 
-/// What a run reports of the connector's own requests is never one of these.
+/// No run reports one of these for the connector's own requests.
 #[test]
 fn refusals_are_told_by_their_codes(rt: HostRuntime) {
     let reports = [
@@ -299,9 +299,9 @@ fn refusals_are_told_by_their_codes(rt: HostRuntime) {
     are_printed(&rt, rt.alloc(), &faults)
 }
 
-// ---- a side that isn't opened again
+// ---- a side that can't be opened again
 
-/// The connector isn't opened again at first.
+/// The connector can't be opened again at first.
 const CONNECTOR: &[Told] = &[
     ("restart connector", "Z2"),
     ("send user bob", "Z2"),
@@ -312,7 +312,7 @@ const CONNECTOR: &[Told] = &[
     ("send user bob", "nothing"),
 ];
 
-/// Then the provider isn't.
+/// Then the provider can't.
 const PROVIDER: &[Told] = &[
     ("restart provider", "Z2"),
     ("deliver 1", "Z2"),

@@ -1,4 +1,4 @@
-//! Responses of a provider are read by its client, where memory is there.
+//! The client reads the responses of a provider, if memory doesn't run out.
 use crate::readings::copies::{ANN, ANN_SHOWN};
 use crate::support::{assert_same, assert_that};
 use http_text::{Input, read_response};
@@ -14,8 +14,8 @@ static ID: &str = "5c1a0000-0000-8000-8000-000000000007";
 static UNKNOWN: &str =
     "{\"detail\":\"no such resource\",\"schemas\":[\"urn:ietf:params:scim:api:messages:2.0:Error\"],\"status\":\"404\"}";
 
-/// Asserts that a response with this status and body is read, and its body as an answer to the
-/// request of which the same body is written.
+/// Asserts that a response with this status and body is read, and its body is read as an answer to the
+/// request and written as the same body again.
 fn is_read_back(rt: &impl Abort, alloc: Global, request: &Request, status: u16, body: &str) {
     let length = body.len();
     let response = format!(in alloc;

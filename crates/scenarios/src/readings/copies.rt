@@ -50,7 +50,7 @@ fn stored(rt: &impl Abort, alloc: Global, text: &str, kind: Kind) -> Stored {
     Stored::new(7, 3, content)
 }
 
-/// Asserts what the content of a row and its copy are written as, and by which key it is named.
+/// Asserts the text of a row's content and of its copy, and the key of its name.
 fn is_kept(rt: &impl Abort, alloc: Global, content: &Content, text: &str, kind: Kind, key: &str) {
     is_written(rt, alloc, content, text);
     let copy = content.clone().expect(rt, "memory");
@@ -58,7 +58,7 @@ fn is_kept(rt: &impl Abort, alloc: Global, content: &Content, text: &str, kind: 
     is_named(rt, content.name(alloc), kind, key);
 }
 
-/// Asserts what the copy of a row is shown as.
+/// Asserts how the copy of a row is shown.
 fn is_copied(rt: &impl Abort, alloc: Global, row: &Stored, shown: &str) {
     let copy = row.clone().expect(rt, "memory");
     let resource = Shown::of(alloc, &copy).expect(rt, "memory");

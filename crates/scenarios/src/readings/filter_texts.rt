@@ -1,4 +1,4 @@
-//! Which texts are no filters, how filters are written, and which record they name.
+//! Which texts aren't filters, how filters are written, and which record they name.
 use crate::readings::filters::{around, filter_of, hits, refuses, rows, text_of};
 use crate::support::assert_same;
 use scim_filter::Filter;
@@ -13,7 +13,7 @@ fn is_rewritten(rt: &impl Abort, alloc: Global, text: &str, wanted: &str) {
     assert_same(rt, (text, written.as_str()), (text, wanted));
 }
 
-/// Asserts that each text is written as the one beside it, which is written as it is.
+/// Asserts that each text is written as the one beside it, which is written unchanged.
 fn written_as(rt: &impl Abort, alloc: Global, table: &[(&str, &str)]) {
     for (text, wanted) in table {
         is_rewritten(rt, alloc, text, wanted);
@@ -405,7 +405,7 @@ fn is_written(rt: &impl Abort, alloc: Global, filter: &Filter, text: &str) {
     assert_same(rt, written.as_str(), text);
 }
 
-/// Asserts which record a filter names and which row it hits.
+/// Asserts which record a filter names and which row it finds.
 fn asks(rt: &impl Abort, alloc: Global, filter: &Filter, record: &str, row: &str) {
     assert_same(rt, record_named(rt, alloc, filter).as_str(), record);
     let rows = rows(rt, alloc);

@@ -1,4 +1,4 @@
-//! What filters hit, and how long and deep they may be (RFC 7644 section 3.4.2.2).
+//! What filters find, and how long and deep they may be (RFC 7644 section 3.4.2.2).
 use crate::support::{assert_same, repeated};
 use scim_filter::{Filter, FilterFault};
 use scim_key::Kind;
@@ -23,7 +23,7 @@ static BOB: &str = r#"{
     "emails": [{"value": "bob@example.org"}]
 }"#;
 
-/// The full user of RFC 7643 section 8.2, as far as it is kept.
+/// The full user of RFC 7643 section 8.2, with the attributes that are kept.
 static BABS: &str = r#"{
     "schemas": ["urn:ietf:params:scim:schemas:core:2.0:User"],
     "externalId": "701984",
@@ -71,7 +71,7 @@ fn add<T: Drop>(rt: &impl Abort, rows: &mut Vec<T>, row: T) {
     rows.push(row).expect(rt, "memory");
 }
 
-/// The rows that the tables speak of, and their words there.
+/// The rows that the tables are about, with their words.
 pub fn rows(rt: &impl Abort, alloc: Global) -> Vec<Worded> {
     let mut rows = Vec::new(alloc);
     add(
@@ -104,7 +104,7 @@ pub fn filter_of(rt: &impl Abort, alloc: Global, text: &str) -> Filter {
     Filter::read(alloc, text).expect(rt, "a filter")
 }
 
-/// What a filter is written as.
+/// The text that is written for a filter.
 pub fn text_of(rt: &impl Abort, alloc: Global, filter: &Filter) -> String {
     filter.to_text(alloc).expect(rt, "memory")
 }
@@ -116,7 +116,7 @@ fn add_word(rt: &impl Abort, words: &mut String, word: &str) {
     words.push_str(word).expect(rt, "memory");
 }
 
-/// The words of the rows that a filter hits.
+/// The words of the rows that a filter finds.
 pub fn hits(rt: &impl Abort, alloc: Global, rows: &[Worded], filter: &Filter) -> String {
     let mut words = String::new(alloc);
     for (word, row) in rows {
@@ -127,7 +127,7 @@ pub fn hits(rt: &impl Abort, alloc: Global, rows: &[Worded], filter: &Filter) ->
     words
 }
 
-/// Asserts that each filter hits the rows of which the words stand beside it.
+/// Asserts that each filter finds the rows with the words beside it.
 fn hit(rt: &impl Abort, alloc: Global, table: &[(&str, &str)]) {
     let rows = rows(rt, alloc);
     for (text, wanted) in table {
@@ -135,7 +135,7 @@ fn hit(rt: &impl Abort, alloc: Global, table: &[(&str, &str)]) {
     }
 }
 
-/// Asserts that a filter hits these rows, and so do its copy and the filter that its text spells.
+/// Asserts that a filter finds these rows, and so do its copy and the filter that its text spells.
 fn text_hits(rt: &impl Abort, alloc: Global, rows: &[Worded], text: &str, wanted: &str) {
     let filter = filter_of(rt, alloc, text);
     filter_hits(rt, alloc, rows, &filter, wanted);
@@ -163,7 +163,7 @@ pub fn refuses(rt: &impl Abort, alloc: Global, texts: &[&str]) {
     }
 }
 
-/// A text so many times, another, and a third so many times.
+/// `before` repeated `count` times, then `within`, then `after` repeated `count` times.
 pub fn around(
     rt: &impl Abort,
     alloc: Global,
@@ -422,7 +422,7 @@ fn connectives_spaces_and_spelled_texts(rt: HostRuntime) {
     hit(&rt, alloc, SPELLED_TEXTS);
 }
 
-/// Asserts that a filter in so many parentheses hits every user.
+/// Asserts that a filter in `count` pairs of parentheses finds every user.
 fn hits_within(rt: &impl Abort, alloc: Global, count: usize, before: &str, after: &str) {
     let text = around(rt, alloc, count, before, "userName pr", after);
     hit(rt, alloc, &[(text.as_str(), "ann bob babs zoe")])
@@ -450,7 +450,7 @@ fn deeper_parentheses_are_refused(rt: HostRuntime) {
     refuses_within(&rt, alloc, 33, "(active pr or ");
 }
 
-/// Asserts that a text of 2,048 bytes hits these rows, and is refused with a space more.
+/// Asserts that a text of 2,048 bytes finds these rows, and is refused with one more space.
 fn is_longest(rt: &impl Abort, alloc: Global, text: &str, wanted: &str) {
     assert_same(rt, text.len(), 2048);
     hit(rt, alloc, &[(text, wanted)]);
@@ -458,7 +458,7 @@ fn is_longest(rt: &impl Abort, alloc: Global, text: &str, wanted: &str) {
     refuses(rt, alloc, &[longer.as_str()]);
 }
 
-/// A test whose text has so many letters.
+/// A test whose text has `count` letters.
 fn with_letters(rt: &impl Abort, alloc: Global, count: usize, test: &str, letter: &str) -> String {
     let open = around(rt, alloc, count, "", test, letter);
     around(rt, alloc, 1, "", open.as_str(), "\"")

@@ -1,4 +1,4 @@
-//! Groups on their way to the provider: which have all of their members there, and their images.
+//! Groups on their way to the provider: which of them have all members there, and their images.
 ghost use Rattle.std.specs.Prelude.{Some, None, if◌then◌else◌, codes};
 ghost use Rattle.std.specs.Str.{bytes_eq};
 
@@ -62,7 +62,7 @@ fn image(rt: &impl Abort, alloc: Global, row: &Row, known: &Known) -> Group {
     }
 }
 
-/// Where a group waits, or how many ids it has where it is ready.
+/// The place of the member that a group waits for, or how many ids it has if it is ready.
 fn readiness(
     rt: &impl Abort,
     alloc: Global,

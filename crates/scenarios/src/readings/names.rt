@@ -4,7 +4,7 @@ use scim_key::{Base, GroupName, Key, NameFault, ResourceId, UserName};
 use std::alloc::Global;
 use std::process::Abort;
 
-/// So many letters.
+/// `count` letters.
 fn letters(rt: &impl Abort, alloc: Global, count: usize) -> String {
     repeated(rt, alloc, "a", count)
 }
@@ -129,7 +129,7 @@ fn is_no_base(rt: &impl Abort, alloc: Global, text: &str, fault: NameFault) {
     assert_same(rt, Base::read(alloc, text).err(), Some(fault));
 }
 
-/// The base of a host with so many letters.
+/// The base of a host with `count` letters.
 fn long_base(rt: &impl Abort, alloc: Global, count: usize) -> String {
     let host = letters(rt, alloc, count);
     format!(in alloc; "http://{host}/v2").expect(rt, "memory")

@@ -1,4 +1,4 @@
-//! What was written is read again, where memory is there.
+//! What was written is read again, if memory doesn't run out.
 use crate::readings::copies::{ANN, ANN_SHOWN, CREW, CREW_SHOWN, is_shown, is_written};
 use crate::support::assert_same;
 use scim_json::{JsonFault, json_of};
@@ -14,7 +14,7 @@ static REVISIONS: &[(&str, u64, &str)] = &[
     ("2000000000", 2_000_000_000, "2000000000"),
 ];
 
-/// Asserts that a revision is read from a text, and from what is written of it.
+/// Asserts that a revision is read from a text, and from the text that is written for it.
 fn is_revision(rt: &impl Abort, alloc: Global, revision: Revision, text: &str, written: &str) {
     assert_same(rt, Revision::read(text), Some(revision));
     let again = revision.to_string(alloc).expect(rt, "memory");
@@ -64,7 +64,7 @@ fn is_content(rt: &impl Abort, alloc: Global, kind: Kind, text: &str) {
     is_written(rt, alloc, &content, text);
 }
 
-/// Asserts that a resource is read from the text that it is shown as, with its content.
+/// Asserts that a resource is read from its shown text, with its content.
 fn is_resource(rt: &impl Abort, alloc: Global, kind: Kind, text: &str, shown: &str) {
     let json = json_of(alloc, shown.as_bytes()).expect(rt, "JSON");
     let resource = Shown::read(alloc, &json, kind).expect(rt, "a resource");

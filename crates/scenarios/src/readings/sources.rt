@@ -19,7 +19,7 @@ static ANN: &str = "ann,7,1001,Ann,Lee,ann@example.com,active\n";
 static ANN_LINE: &[u8] =
     b"{\"active\":true,\"emails\":[{\"primary\":true,\"type\":\"work\",\"value\":\"ann@example.com\"}],\"externalId\":\"1001\",\"name\":{\"familyName\":\"Lee\",\"givenName\":\"Ann\"},\"schemas\":[\"urn:ietf:params:scim:schemas:core:2.0:User\",\"urn:example:params:scim:schemas:extension:source:1.0\"],\"urn:example:params:scim:schemas:extension:source:1.0\":{\"revision\":7},\"userName\":\"ann\"}\n";
 
-/// The image of a user who left and of whom nothing else is known.
+/// The image of a user who left and about whom nothing else is known.
 static BOB_LINE: &[u8] =
     b"{\"active\":false,\"schemas\":[\"urn:ietf:params:scim:schemas:core:2.0:User\",\"urn:example:params:scim:schemas:extension:source:1.0\"],\"urn:example:params:scim:schemas:extension:source:1.0\":{\"revision\":1},\"userName\":\"bob\"}\n";
 
@@ -50,7 +50,7 @@ pub fn row<'a>(rt: &impl Abort, record: Option<&'a Result<Row, RowFault>>) -> &'
     }
 }
 
-/// Why a record is refused.
+/// Why a record is rejected.
 fn fault(record: Option<&Result<Row, RowFault>>) -> Option<RowFault> {
     match record {
         Some(Err(fault)) => Some(*fault),
@@ -62,7 +62,7 @@ fn refused(place: usize, code: RowCode) -> Option<RowFault> {
     Some(RowFault { place, code })
 }
 
-/// Asserts that the records at these places, from 1 on, are refused so.
+/// Asserts that the records at these places, from 1 on, are rejected with these codes.
 fn are_refused(rt: &impl Abort, records: &[Result<Row, RowFault>], codes: &[(usize, RowCode)]) {
     for (place, code) in codes {
         let record = records.get(place.saturating_sub(1));
@@ -110,7 +110,7 @@ fn revisions_have_their_range(rt: HostRuntime) {
     has_revision(&rt, rows.get(4), 7);
 }
 
-/// Asserts what becomes of each row after the first of them.
+/// Asserts the verdict on each row after the first.
 fn become_of(
     rt: &impl Abort,
     records: &[Result<Row, RowFault>],
@@ -285,7 +285,7 @@ fn add_member(rt: &impl Abort, alloc: Global, members: &mut String, number: u32)
     members.push_str(member.as_str()).expect(rt, "memory");
 }
 
-/// A group with the most members, and one with a member more.
+/// A group with the most members, and one with one member more.
 fn large_groups(rt: &impl Abort, alloc: Global) -> String {
     let mut members = String::from_str(alloc, "m1").expect(rt, "memory");
     for number in 2..401 {
@@ -349,7 +349,7 @@ fn a_row_has_its_image(rt: HostRuntime) {
     content_is_named(&rt, alloc, ann, "ann");
 }
 
-/// The row of which the line is longest.
+/// The row with the longest line.
 fn longest_row(rt: &impl Abort, alloc: Global) -> String {
     let login = repeated(rt, alloc, "a", 128);
     let field = repeated(rt, alloc, "\x01", 256);

@@ -36,7 +36,7 @@ fn tags_have_their_form(rt: HostRuntime) {
     assert_same(&rt, fault, Some(TagFault::Malformed));
 }
 
-/// Asserts whether a condition holds of a version as `If-Match`, and as `If-None-Match`.
+/// Asserts whether a condition holds for a version as `If-Match`, and as `If-None-Match`.
 fn holds(rt: &impl Abort, alloc: Global, text: &str, version: Option<u64>, wanted: (bool, bool)) {
     let condition = Condition::read_list(alloc, text.as_bytes()).expect(rt, "a condition");
     assert_same(rt, condition.holds_match(version), wanted.0);

@@ -1,5 +1,5 @@
-//! Statements of a connection, each with no clause, so that the proof of a test doesn't carry what
-//! they keep.
+//! Statements of a connection. They have no clauses, so that the proofs of tests don't carry what
+//! statements keep.
 use sqlite::{Alter, Connection, Error, Row};
 use std::alloc::Global;
 use std::process::Abort;
@@ -13,7 +13,7 @@ fn asked<S: Alter>(conn: &mut Connection<S>, sql: &str) -> Result<Vec<Row>, Erro
     conn.query_all(sql, &[])
 }
 
-/// The texts that a query shows, each in a line.
+/// The texts that a query shows, one on each line.
 pub fn shown<S: Alter>(
     rt: &impl Abort,
     alloc: Global,
@@ -29,7 +29,7 @@ pub fn shown<S: Alter>(
     lines
 }
 
-/// Lets each statement take so many steps.
+/// Limits the steps of each statement.
 pub fn limit<S: Alter>(conn: &mut Connection<S>, steps: Option<u64>) {
     conn.set_step_limit(steps);
 }

@@ -1,9 +1,9 @@
-//! The connector's journal: its entries are kept, and a refused opening leaves them.
+//! The connector's journal: its entries are kept, and an opening that is refused leaves them.
 use crate::stores::connections::{limit, run, shown};
 use crate::stores::exchanges::{Run, entries, runs};
 use crate::support::assert_same;
 use connector_core::Connector;
-use journal_core::{Journal, MemoryJournal};
+use journal_core::{Journal, MemoryJournal, ReopenJournal};
 use journal_store::{OpenFault, SqlJournal};
 use provider_core::{MemoryRegistry, Provider};
 use sqlite::{Alter, Connection, MemStore};
@@ -24,7 +24,7 @@ static RUNS: &[Run] = &[
     ),
 ];
 
-/// The entries that stand then, of which the last run confirmed none.
+/// The entries at the end; the last run confirmed none.
 static KEPT: &str =
     "ann|ann|3||Ann|Lee|ann@example.com|1|2|5c1a0000-0000-8000-8000-000000000001\nbob|bob|2|||||0|2|5c1a0000-0000-8000-8000-000000000002\nzoe|Zoe|2000000000|1003||||1|0|-\nband|band|7|ann zoe|0|-\ncrew|crew|3||3|5c1a0000-0000-8000-8000-000000000003\n";
 
@@ -34,7 +34,7 @@ static USERS: &str =
 static GROUPS: &str =
     "SELECT name_key || '|' || name || '|' || revision || '|' || members || '|' || confirmed || '|' || ifnull(id, '-') FROM group_entry ORDER BY name_key";
 
-/// The rows of both tables, each in a line.
+/// The rows of both tables, one on each line.
 fn rows<S: Alter>(rt: &impl Abort, alloc: Global, conn: &mut Connection<S>) -> String {
     let mut lines = shown(rt, alloc, conn, USERS);
     lines
@@ -51,7 +51,7 @@ fn open<S: Alter>(
     SqlJournal::open(alloc, conn)
 }
 
-/// Opens a journal that isn't refused.
+/// Opens a journal; it must succeed.
 fn opened<S: Alter + Drop>(rt: &impl Abort, alloc: Global, conn: Connection<S>) -> SqlJournal<S> {
     match open(alloc, conn) {
         Ok(journal) => journal,
@@ -64,7 +64,7 @@ fn close<S: Alter>(journal: SqlJournal<S>) -> Connection<S> {
     journal.close()
 }
 
-/// Runs a connector over a journal, which comes back.
+/// Runs a connector over a journal, and returns the journal.
 fn carried<J: Journal>(
     rt: &impl Abort,
     alloc: Global,
@@ -81,7 +81,7 @@ fn carried<J: Journal>(
     }
 }
 
-/// Runs a connector over the journal of a connection, which is opened for it and closed after it.
+/// Runs a connector over the journal of a connection, which it opens before and closes after.
 fn turn<S: Alter + Drop>(
     rt: &impl Abort,
     alloc: Global,
@@ -92,7 +92,7 @@ fn turn<S: Alter + Drop>(
     close(carried(rt, alloc, opened(rt, alloc, conn), provider, run))
 }
 
-/// A connection to a journal after all runs, each of which closed it.
+/// A connection to a journal after all runs; each run closed it.
 fn with_entries(rt: &impl Abort, alloc: Global) -> Connection<MemStore> {
     let mut provider = Provider::new(MemoryRegistry::new(alloc));
     let mut conn = Connection::open_in_memory(alloc).expect(rt, "a connection");
@@ -128,7 +128,7 @@ fn entries_are_loaded_as_from_memory(rt: HostRuntime) {
     assert_same(&rt, loaded.as_str(), expected.as_str());
 }
 
-/// All runs over one journal, which is tested again after each.
+/// All runs over one journal, which is checked again after each.
 fn reopens<S: Alter + Drop>(
     rt: &impl Abort,
     alloc: Global,
@@ -152,7 +152,7 @@ fn entries_are_kept_where_a_journal_is_reopened(rt: HostRuntime) {
     assert_same(&rt, rows.as_str(), KEPT);
 }
 
-/// What spoils the journal with those entries, and the fault of its opening.
+/// What damages the journal with those entries, and the fault of its opening.
 static SPOILS: &[(&str, OpenFault)] = &[
     (
         "UPDATE user_entry SET confirmed = 4 WHERE name_key = 'ann'",
@@ -186,7 +186,7 @@ fn refused(
     }
 }
 
-/// Asserts that the spoilt journal is refused, and has the rows that it had.
+/// Asserts that the damaged journal is refused, and that its rows stay.
 fn refuses(rt: &impl Abort, alloc: Global, spoils: &str, expected: OpenFault) {
     let mut conn = with_entries(rt, alloc);
     run(&mut conn, spoils).expect(rt, "a run");

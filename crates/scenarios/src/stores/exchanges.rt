@@ -1,4 +1,4 @@
-//! A connector that is offered rows, and its exchanges with a provider in memory.
+//! A connector that takes rows, and its exchanges with a provider in memory.
 use connector_core::{Ask, Connector};
 use journal_core::Journal;
 use provider_core::{MemoryRegistry, Provider};
@@ -7,7 +7,7 @@ use source_csv::{SourceRows, read_groups, read_users};
 use std::alloc::Global;
 use std::process::Abort;
 
-/// The records of a file of users and of one of groups, and whether exchanges follow.
+/// The records of a file of users and of a file of groups, and whether exchanges follow.
 pub type Run = (&'static str, &'static str, bool);
 
 /// Offers rows together.
@@ -58,7 +58,8 @@ fn exchange<J: Journal>(
     }
 }
 
-/// Offers the users of a run together and its groups one by one, and makes three exchanges for each record where they follow.
+/// Offers the users of a run together and its groups one by one. If exchanges follow, it makes three for
+/// each record.
 pub fn runs<J: Journal>(
     rt: &impl Abort,
     alloc: Global,
@@ -92,7 +93,7 @@ pub fn runs<J: Journal>(
     }
 }
 
-/// The entries of a journal, each in a line.
+/// The entries of a journal, one on each line.
 pub fn entries<J: Journal>(rt: &impl Abort, alloc: Global, journal: &mut J) -> String {
     let mut lines = String::new(alloc);
     for entry in journal.load().expect(rt, "entries").as_slice() {

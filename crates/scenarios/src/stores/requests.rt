@@ -30,7 +30,7 @@ pub const GET_BOB: Request = (
     "",
 );
 
-/// A group of bob's name, with bob as its member.
+/// A group with bob's name, and with bob as its member.
 pub const CREATE_GROUP: Request = (
     "POST /v2/Groups HTTP/1.1",
     "{\"displayName\":\"bob\",\"members\":[{\"value\":\"5c1a0000-0000-8000-8000-000000000001\"}],\"schemas\":[\"urn:ietf:params:scim:schemas:core:2.0:Group\"]}",
@@ -38,7 +38,7 @@ pub const CREATE_GROUP: Request = (
 
 pub const LIST_GROUPS: Request = ("GET /v2/Groups HTTP/1.1", "");
 
-/// The status of an answer, or none, and its text.
+/// The status of an answer, if there is one, and its text.
 pub fn answer<R: Registry>(
     rt: &impl Abort,
     alloc: Global,
@@ -60,7 +60,7 @@ pub fn answer<R: Registry>(
     (served, written)
 }
 
-/// Asserts what a provider answers.
+/// Asserts a provider's answer.
 pub fn answers<R: Registry>(
     rt: &impl Abort,
     alloc: Global,

@@ -1,4 +1,4 @@
-//! The provider's store: its rows are kept, and a refused opening leaves them.
+//! The provider's store: its rows are kept, and an opening that is refused leaves them.
 use crate::stores::connections::{limit, run, shown};
 use crate::stores::requests::{
     Asked, CREATE_BOB, CREATE_GROUP, FIND_BOB, GET_BOB, LIST_GROUPS, REPLACE_BOB, answers,
@@ -34,7 +34,7 @@ static ASKED: &[Asked] = &[
     ),
 ];
 
-/// The rows that stand then.
+/// The rows at the end.
 static KEPT: &str =
     "1 1 bob 2 {\"active\":true,\"schemas\":[\"urn:ietf:params:scim:schemas:core:2.0:User\",\"urn:example:params:scim:schemas:extension:source:1.0\"],\"urn:example:params:scim:schemas:extension:source:1.0\":{\"revision\":2},\"userName\":\"bob\"}\n2 2 bob 1 {\"displayName\":\"bob\",\"members\":[{\"value\":\"5c1a0000-0000-8000-8000-000000000001\"}],\"schemas\":[\"urn:ietf:params:scim:schemas:core:2.0:Group\"]}\n";
 
@@ -46,7 +46,7 @@ fn open<S: Alter>(
     SqlRegistry::open(alloc, conn)
 }
 
-/// Opens a store that isn't refused.
+/// Opens a store; it must succeed.
 fn opened<S: Alter + Drop>(rt: &impl Abort, alloc: Global, conn: Connection<S>) -> SqlRegistry<S> {
     match open(alloc, conn) {
         Ok(registry) => registry,
@@ -59,7 +59,7 @@ fn close<S: Alter>(registry: SqlRegistry<S>) -> Connection<S> {
     registry.close()
 }
 
-/// The rows of a store, each in a line.
+/// The rows of a store, one on each line.
 fn rows<S: Alter>(rt: &impl Abort, alloc: Global, conn: &mut Connection<S>) -> String {
     shown(
         rt,
@@ -69,7 +69,7 @@ fn rows<S: Alter>(rt: &impl Abort, alloc: Global, conn: &mut Connection<S>) -> S
     )
 }
 
-/// A request to the provider of a connection, which is opened for it and closed after it.
+/// A request to the provider of a connection, which it opens before and closes after.
 fn turn<S: Alter + Drop>(
     rt: &impl Abort,
     alloc: Global,
@@ -91,7 +91,7 @@ fn rows_are_kept_where_a_store_is_closed(rt: HostRuntime) {
     assert_same(&rt, rows.as_str(), KEPT);
 }
 
-/// Requests to a provider whose store is tested again after each.
+/// Requests to a provider whose store is checked again after each.
 fn asks_and_reopens<R: Reopen>(rt: &impl Abort, alloc: Global, provider: &mut Provider<R>) {
     for asked in ASKED {
         answers(rt, alloc, provider, asked);
@@ -109,7 +109,7 @@ fn rows_are_kept_where_a_store_is_reopened(rt: HostRuntime) {
     assert_same(&rt, rows.as_str(), KEPT);
 }
 
-/// What spoils the store with those rows, and the fault of its opening, with the number of a row.
+/// What damages the store with those rows, and the fault of its opening, with the number of a row.
 static SPOILS: &[(&str, OpenFault)] = &[
     (
         "UPDATE resource SET number = 4 WHERE number = 2",
@@ -156,7 +156,7 @@ fn refused(
     }
 }
 
-/// Asserts that the spoilt store is refused, and has the rows that it had.
+/// Asserts that the damaged store is refused, and that its rows stay.
 fn refuses(rt: &impl Abort, alloc: Global, spoils: &str, expected: OpenFault) {
     let mut conn = with_rows(rt, alloc);
     run(&mut conn, spoils).expect(rt, "a run");

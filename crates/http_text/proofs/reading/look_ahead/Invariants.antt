@@ -3,7 +3,7 @@ use Rattle.std.specs.Io.KnownBytes.{Keeps}
 use Rattle.http_text.specs.Steps.{SpendsTurns}
 use Rattle.http_text.proofs.reading.look_ahead.Given as goal
 
--- what is left is as it was, with nothing failed
+-- the remaining bytes are unchanged, and nothing failed
 abbrev pub invariant-loop-turns : goal.invariant-loop-turns
 invariant-loop-turns g l = record {
   keeps : Keeps l.fn.reader.remaining l.reader.remaining;

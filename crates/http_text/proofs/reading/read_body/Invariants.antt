@@ -1,7 +1,7 @@
 use Rattle.http_text.proofs.BodyLemmas.{HasRead}
 use Rattle.http_text.proofs.reading.read_body.Given as goal
 
--- what has come stands at the body's end
+-- what has come is at the body's end
 abbrev pub invariant-loop-left : goal.invariant-loop-left
 invariant-loop-left g l = HasRead l.fn.reader l.reader l.fn.message l.message l.length l.left l.fn.turns l.turns
 

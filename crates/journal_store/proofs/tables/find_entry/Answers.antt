@@ -16,4 +16,4 @@ returns-in-Ok-clause-found g c clean =
     let early : HasCleanDisk (state g.S.Store c.args.conn.now) = omega (arith, clean, c.in-Ok.ensures.quiet.clean) in
     let laid = c.requires.laid early ((c.in-Ok.ensures.keeps clean).was_open (c.in-Ok.ensures.open clean)) in
     found_by (state g.S.Store c.args.conn.now) c.args.name.now c.find_statement.result.now (bound_value (owned c.text_param.result) ∷ []) c.in-Ok.rows.items c.as_slice.result.now c.only.result
-    c.find_statement.ensures (λ i. (c.text_param.ensures ∙ ap Text c.as_str.ensures.value) i ∷ []) c.as_slice.ensures.value laid (c.in-Ok.ensures.rows clean) c.only.ensures
+    c.find_statement.ensures (λ i. (c.text_param.ensures ∙ ap Text c.as_str.ensures.value) i ∷ []) c.as_slice.ensures.value laid (c.in-Ok.ensures.rows clean) c.only.ensures.only

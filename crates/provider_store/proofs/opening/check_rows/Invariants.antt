@@ -7,7 +7,7 @@ use Rattle.provider_store.specs.Lawful.{AreLawfulTo}
 use Rattle.provider_store.specs.Opening.{HoldsFirst, Looks}
 use Rattle.provider_store.proofs.opening.check_rows.Given as goal
 
--- the connection is as it was, and so many rows follow each other
+-- the connection is unchanged, and `count` rows follow each other
 abbrev pub invariant-loop-count : goal.invariant-loop-count
 invariant-loop-count g l =
     Looks (state g.S.Store l.fn.conn) (state g.S.Store l.conn)

@@ -6,13 +6,13 @@ use Rattle.connector_core.specs.declared.asking.Ask.TheVariants.{Send}
 use Rattle.connector_core.specs.declared.asking.AskFault.TheVariants.{NoSuchRecord}
 use Rattle.provisioning.proofs.TurnLemmas.{turn_taken, was_asked}
 use Rattle.provisioning.specs.Turns.{TakesTurn}
-use Rattle.provisioning.specs.declared.faults.PushFault.{PushFault}
+use Rattle.provisioning.specs.declared.faults.RunFault.{RunFault}
 use Rattle.provisioning.specs.declared.turns.Turn.{Turn}
 use Rattle.provisioning.proofs.turns.take_turn.Goals as goal
 
 pub returns-in-Ok-Send : goal.returns-in-Ok-Send
 returns-in-Ok-Send g c =
     let said : ok_or (asking (book_of c.args.connector.now.book) c.args.name.now) NoSuchRecord ≡ Ok (Send c.in-Ok-Send.request) = c.in-Ok-Send.ensures ∙ ap Ok c.in-Ok-Send.field-0-is in
-    subst (λ (r : Result Turn PushFault). TakesTurn g.D.Reader.Read.remaining g.D.Writer.Write.contents g.J.Journal c.args.service.now c.args.name.now c.args.connector.now c.exchange.new.connector r) (sym c.exchanged.ensures)
+    subst (λ (r : Result Turn RunFault). TakesTurn g.D.Reader.Read.remaining g.D.Writer.Write.contents g.J.Journal c.args.service.now c.args.name.now c.args.connector.now c.exchange.new.connector r) (sym c.exchanged.ensures)
     (turn_taken g.D.Reader.Read.remaining g.D.Writer.Write.contents g.J.Journal c.args.service.now c.args.name.now c.args.connector.now c.exchange.new.connector c.in-Ok-Send.request c.exchange.result
     (was_asked (asking (book_of c.args.connector.now.book) c.args.name.now) (Send c.in-Ok-Send.request) said) c.exchange.ensures)

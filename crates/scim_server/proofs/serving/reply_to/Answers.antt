@@ -1,9 +1,10 @@
-use Rattle.std.proofs.Common.{◌≡◌, Ok, Err, refl, subst, rules}
+use Rattle.std.proofs.Common.{◌≡◌, Ok, Err, refl, subst, inl, inr, rules}
 use Rattle.std.specs.Prelude.{IfOk}
 use Rattle.scim_server.specs.declared.requests.MeaningFault.TheVariants.{Refused}
 use Rattle.scim_server.specs.Meaning.{Asks, TellsOf}
 use Rattle.scim_server.specs.Serving.{AnswersRequest}
 use Rattle.scim_server.proofs.SearchLemmas.{if_ok}
+use Rattle.scim_server.proofs.ServedLemmas.{leaves_all}
 use Rattle.scim_server.proofs.serving.reply_to.Goals as goal
 
 pub returns-in-Ok-clause-reply : goal.returns-in-Ok-clause-reply
@@ -19,3 +20,23 @@ returns-in_ok-refusal_reply-in-Err-Refused-clause-reply g c =
     let refused : c.in-Err-Refused.field-0 ≡ Refused c.in-Err-Refused.refusal = search rules in
     let asks = subst (λ fault. TellsOf (Asks c.args.incoming.now) (Err fault)) refused c.in-Err-Refused.ensures in
     record { asked = Err c.in-Err-Refused.refusal; asked_is = asks; answer = record { reply_is = search rules; rows = refl } }
+
+pub returns-in-Ok-clause-leaves : goal.returns-in-Ok-clause-leaves
+returns-in-Ok-clause-leaves g c =
+    let writes = c.carry_out.ensures.writes in
+    record {
+      honest = writes.honest;
+      stop = λ honest found may. elim (writes.stop honest found may) [
+        | inl before ↦ inl before
+        | inr after ↦ inr (after.0, (c.in-Ok.request, c.in-Ok.ensures, after.1))
+      ];
+    }
+
+pub returns-in_ok-refusal_reply-in-Err-Refused-clause-leaves : goal.returns-in_ok-refusal_reply-in-Err-Refused-clause-leaves
+returns-in_ok-refusal_reply-in-Err-Refused-clause-leaves g c = leaves_all g.R.Registry _ _
+
+pub returns-in_err-refusal_reply-in-Err-Refused-clause-leaves : goal.returns-in_err-refusal_reply-in-Err-Refused-clause-leaves
+returns-in_err-refusal_reply-in-Err-Refused-clause-leaves g c = leaves_all g.R.Registry _ _
+
+pub returns-in-Err-OutOfMemory-clause-leaves : goal.returns-in-Err-OutOfMemory-clause-leaves
+returns-in-Err-OutOfMemory-clause-leaves g c = leaves_all g.R.Registry _ _

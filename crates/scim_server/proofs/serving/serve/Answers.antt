@@ -1,5 +1,5 @@
-use Rattle.std.proofs.Common.{Ok, Err, refl}
-use Rattle.scim_server.proofs.ServedLemmas.{serves_known}
+use Rattle.std.proofs.Common.{Ok, Err, refl, inl}
+use Rattle.scim_server.proofs.ServedLemmas.{leaves_all, serves_known}
 use Rattle.scim_server.proofs.serving.serve.Goals as goal
 
 pub returns-in-Ok-clause-known : goal.returns-in-Ok-clause-known
@@ -15,3 +15,15 @@ returns-in-Err-clause-known g c =
     serves_known _ _ _ _ _ _ _ c.args.reader.now c.read_request.new.reader (Err c.in-Err.fault)
     (record { message = tt; refused = read.refused; found = read.found; refused_head = read.refused_head; ended = read.ended; long = read.long; malformed = read.malformed; counts = read.counts; clean = tt; fault = read.fault })
     (c.serve_fault.ensures.served, refl)
+
+pub returns-in-Err-clause-served : goal.returns-in-Err-clause-served
+returns-in-Err-clause-served g c =
+    let read = c.in-Err.ensures in (
+      Err c.in-Err.fault,
+      record { message = tt; refused = read.refused; found = read.found; refused_head = read.refused_head; ended = read.ended; long = read.long; malformed = read.malformed; counts = read.counts; clean = tt; fault = read.fault },
+      (c.serve_fault.ensures.served, refl),
+      leaves_all g.R.Registry _ _,
+    )
+
+pub returns-in-Err-clause-faults : goal.returns-in-Err-clause-faults
+returns-in-Err-clause-faults g c = inl (record { counts = refl; stays_open = λ honest faithful. faithful })

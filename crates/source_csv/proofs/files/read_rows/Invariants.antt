@@ -6,7 +6,7 @@ use Rattle.source_csv.specs.Files.{AreRecordsOf, rows_from, rows_of}
 use Rattle.source_csv.specs.Reader.{IsAt}
 use Rattle.source_csv.proofs.files.read_rows.Given as goal
 
--- the rows so far are those before the records that are left
+-- the rows so far are those before the remaining records
 abbrev pub invariant-loop-fields : goal.invariant-loop-fields
 invariant-loop-fields l = (state : State) × (rest : List ℕ) × IsAt state rest l.fields-iterator
     × ((records : List Record) → AreRecordsOf l.fn.bytes records

@@ -7,3 +7,6 @@ returns-clause-by_three c = laws.settles
 
 pub returns-clause-one_way : goal.returns-clause-one_way
 returns-clause-one_way c = ways.one_way
+
+pub returns-clause-leads_on : goal.returns-clause-leads_on
+returns-clause-leads_on c = ways.leads_on

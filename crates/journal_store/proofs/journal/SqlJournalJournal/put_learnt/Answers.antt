@@ -33,6 +33,6 @@ returns-in-Some-clause-puts g c =
 
 pub returns-in-None-clause-puts : goal.returns-in-None-clause-puts
 returns-in-None-clause-puts g c =
-    let mid : Kept g.row.S.Denot = record { conn = c.self.inside.conn; is_usable = c.self.inside.is_usable; faults = c.self.inside.faults; writes = c.self.inside.writes } in
-    let here = subst (λ (k : Kept g.row.S.Denot). OnlyReads (kept_entries g.S.Store) (IsFaithful g.S.Store) (IsHonest g.S.Store) (MayHold g.S.Store) (λ j. j.faults) (λ j. j.writes) CountsFault c.args.self.now k (Ok c.in_ok-entry.field-0)) (sym c.self.view_is) c.in_ok-entry.ensures.reads in
+    let mid : Kept g.row.S.Denot = record { conn = c.self-in-None.inside.conn; is_usable = c.self-in-None.inside.is_usable; faults = c.self-in-None.inside.faults; writes = c.self-in-None.inside.writes } in
+    let here = subst (λ (k : Kept g.row.S.Denot). OnlyReads (kept_entries g.S.Store) (IsFaithful g.S.Store) (IsHonest g.S.Store) (MayHold g.S.Store) (λ j. j.faults) (λ j. j.writes) CountsFault c.args.self.now k (Ok c.in_ok-entry.field-0)) (sym c.self-in-None.view_is) c.in_ok-entry.ensures.reads in
     fails_first _ (counted_so g.S.Store (Unit {0}) mid c.counted.new.faults c.counted.result here c.counted.ensures.counts)

@@ -45,16 +45,16 @@ returns-in-Ok-clause-open g c =
 pub invariant_of-self-in-Err : goal.invariant_of-self-in-Err
 invariant_of-self-in-Err g c =
     let old : Kept g.row.S.Denot = record { conn = c.self.inside.conn; is_usable = c.self.inside.is_usable; faults = c.self.inside.faults; writes = c.self.inside.writes } in
-    let new : Kept g.row.S.Denot = record { conn = c.put_all.new.conn; is_usable = c.self.inside.is_usable; faults = c.counted-in-Err.new.faults; writes = c.self.inside.writes } in
+    let new : Kept g.row.S.Denot = record { conn = c.put_all.new.conn; is_usable = c.self.inside.is_usable; faults = c.counted.new.faults; writes = c.self.inside.writes } in
     let was_usable : IsTrue c.self.inside.is_usable = search (rules, tests) in
     let can = subst (λ (k : Kept g.row.S.Denot). IsFaithful g.S.Store k → CanPutRows (kept_entries g.S.Store k) c.args.rows.now) (sym c.self.view_is) c.requires.lawful in
-    failed_sound g.S.Store old new (with_rows (kept_entries g.S.Store old) c.args.rows.now) (PutsRows c.args.rows.now) c.self.invariant was_usable refl (rows_mean g.S.Store old c.args.rows.now can) c.in-Err.ensures.stop c.counted-in-Err.result c.in-Err.ensures.keeps
+    failed_sound g.S.Store old new (with_rows (kept_entries g.S.Store old) c.args.rows.now) (PutsRows c.args.rows.now) c.self.invariant was_usable refl (rows_mean g.S.Store old c.args.rows.now can) c.in-Err.ensures.stop c.counted.result c.in-Err.ensures.keeps
 
 pub returns-in-Err-clause-puts : goal.returns-in-Err-clause-puts
 returns-in-Err-clause-puts g c =
     let old : Kept g.row.S.Denot = record { conn = c.self.inside.conn; is_usable = c.self.inside.is_usable; faults = c.self.inside.faults; writes = c.self.inside.writes } in
-    let new : Kept g.row.S.Denot = record { conn = c.put_all.new.conn; is_usable = c.self.inside.is_usable; faults = c.counted-in-Err.new.faults; writes = c.self.inside.writes } in
+    let new : Kept g.row.S.Denot = record { conn = c.put_all.new.conn; is_usable = c.self.inside.is_usable; faults = c.counted.new.faults; writes = c.self.inside.writes } in
     let was_usable : IsTrue c.self.inside.is_usable = search (rules, tests) in
     let can = subst (λ (k : Kept g.row.S.Denot). IsFaithful g.S.Store k → CanPutRows (kept_entries g.S.Store k) c.args.rows.now) (sym c.self.view_is) c.requires.lawful in
-    subst (λ (k : Kept g.row.S.Denot). WritesOnce (kept_entries g.S.Store) (IsFaithful g.S.Store) (IsHonest g.S.Store) (MayHold g.S.Store) (λ j. j.faults) (λ j. j.writes) CountsFault k new (with_rows (kept_entries g.S.Store k) c.args.rows.now) (failing c.counted-in-Err.result)) c.self.view_is
-    (failed g.S.Store old new (with_rows (kept_entries g.S.Store old) c.args.rows.now) (PutsRows c.args.rows.now) c.self.invariant was_usable refl (rows_mean g.S.Store old c.args.rows.now can) c.in-Err.ensures.stop c.counted-in-Err.result c.in-Err.ensures.keeps c.counted-in-Err.ensures.counts refl)
+    subst (λ (k : Kept g.row.S.Denot). WritesOnce (kept_entries g.S.Store) (IsFaithful g.S.Store) (IsHonest g.S.Store) (MayHold g.S.Store) (λ j. j.faults) (λ j. j.writes) CountsFault k new (with_rows (kept_entries g.S.Store k) c.args.rows.now) (failing c.counted.result)) c.self.view_is
+    (failed g.S.Store old new (with_rows (kept_entries g.S.Store old) c.args.rows.now) (PutsRows c.args.rows.now) c.self.invariant was_usable refl (rows_mean g.S.Store old c.args.rows.now can) c.in-Err.ensures.stop c.counted.result c.in-Err.ensures.keeps c.counted.ensures.counts refl)

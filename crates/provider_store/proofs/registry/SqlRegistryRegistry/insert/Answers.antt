@@ -40,7 +40,7 @@ returns-in-Ok-clause-open g c =
 pub invariant_of-self-in-Err : goal.invariant_of-self-in-Err
 invariant_of-self-in-Err g c =
     let old : Kept g.row.S.Denot = record { conn = c.self.inside.conn; is_usable = c.self.inside.is_usable; count = c.self.inside.count; faults = c.self.inside.faults; writes = c.self.inside.writes } in
-    let new : Kept g.row.S.Denot = record { conn = c.insert_row.new.conn; is_usable = c.self.inside.is_usable; count = c.self.inside.count; faults = c.counted-in-Err.new.faults; writes = c.self.inside.writes } in
+    let new : Kept g.row.S.Denot = record { conn = c.insert_row.new.conn; is_usable = c.self.inside.is_usable; count = c.self.inside.count; faults = c.counted.new.faults; writes = c.self.inside.writes } in
     let was_usable : IsTrue c.self.inside.is_usable = search (rules, tests) in
     let next = subst (λ (k : Kept g.row.S.Denot). IsFaithful g.S.Store k → c.args.row.number ≡ length (kept_rows g.S.Store k) + 1) (sym c.self.view_is) c.requires.next in
     let none = subst (λ (k : Kept g.row.S.Denot). IsFaithful g.S.Store k → row_named (content_name c.args.row.content) (kept_rows g.S.Store k) ≡ None) (sym c.self.view_is) c.requires.free in
@@ -49,9 +49,9 @@ invariant_of-self-in-Err g c =
 pub returns-clause-adds : goal.returns-clause-adds
 returns-clause-adds g c =
     let old : Kept g.row.S.Denot = record { conn = c.self.inside.conn; is_usable = c.self.inside.is_usable; count = c.self.inside.count; faults = c.self.inside.faults; writes = c.self.inside.writes } in
-    let new : Kept g.row.S.Denot = record { conn = c.insert_row.new.conn; is_usable = c.self.inside.is_usable; count = c.self.inside.count; faults = c.counted-in-Err.new.faults; writes = c.self.inside.writes } in
+    let new : Kept g.row.S.Denot = record { conn = c.insert_row.new.conn; is_usable = c.self.inside.is_usable; count = c.self.inside.count; faults = c.counted.new.faults; writes = c.self.inside.writes } in
     let was_usable : IsTrue c.self.inside.is_usable = search (rules, tests) in
     let next = subst (λ (k : Kept g.row.S.Denot). IsFaithful g.S.Store k → c.args.row.number ≡ length (kept_rows g.S.Store k) + 1) (sym c.self.view_is) c.requires.next in
     let none = subst (λ (k : Kept g.row.S.Denot). IsFaithful g.S.Store k → row_named (content_name c.args.row.content) (kept_rows g.S.Store k) ≡ None) (sym c.self.view_is) c.requires.free in
-    subst (λ (k : Kept g.row.S.Denot). WritesOnce (kept_rows g.S.Store) (IsFaithful g.S.Store) (IsHonest g.S.Store) (MayHold g.S.Store) (λ j. j.faults) (λ j. j.writes) CountsFault k new (kept_rows g.S.Store k ++ c.args.row ∷ []) (failing c.counted-in-Err.result)) c.self.view_is
-    (failed g.S.Store old new c.args.row (added c.args.row (resources (state g.S.Store old.conn))) (kept_rows g.S.Store old ++ c.args.row ∷ []) c.self.invariant was_usable refl (λ it lawful spelled. insert_holds g.S.Store old c.args.row it.whole lawful spelled (next it) (none it)) c.in-Err.ensures.stop c.counted-in-Err.result c.in-Err.ensures.keeps refl c.counted-in-Err.ensures.counts refl)
+    subst (λ (k : Kept g.row.S.Denot). WritesOnce (kept_rows g.S.Store) (IsFaithful g.S.Store) (IsHonest g.S.Store) (MayHold g.S.Store) (λ j. j.faults) (λ j. j.writes) CountsFault k new (kept_rows g.S.Store k ++ c.args.row ∷ []) (failing c.counted.result)) c.self.view_is
+    (failed g.S.Store old new c.args.row (added c.args.row (resources (state g.S.Store old.conn))) (kept_rows g.S.Store old ++ c.args.row ∷ []) c.self.invariant was_usable refl (λ it lawful spelled. insert_holds g.S.Store old c.args.row it.whole lawful spelled (next it) (none it)) c.in-Err.ensures.stop c.counted.result c.in-Err.ensures.keeps refl c.counted.ensures.counts refl)

@@ -44,7 +44,7 @@ returns-in-Ok-clause-open g c =
 pub invariant_of-self-in-Err : goal.invariant_of-self-in-Err
 invariant_of-self-in-Err g c =
     let old : Kept g.row.S.Denot = record { conn = c.self.inside.conn; is_usable = c.self.inside.is_usable; count = c.self.inside.count; faults = c.self.inside.faults; writes = c.self.inside.writes } in
-    let new : Kept g.row.S.Denot = record { conn = c.update_row.new.conn; is_usable = c.self.inside.is_usable; count = c.self.inside.count; faults = c.counted-in-Err.new.faults; writes = c.self.inside.writes } in
+    let new : Kept g.row.S.Denot = record { conn = c.update_row.new.conn; is_usable = c.self.inside.is_usable; count = c.self.inside.count; faults = c.counted.new.faults; writes = c.self.inside.writes } in
     let was_usable : IsTrue c.self.inside.is_usable = search (rules, tests) in
     let there = subst (λ (k : Kept g.row.S.Denot). IsFaithful g.S.Store k → HoldsNumber (kept_rows g.S.Store k) c.args.row.now) (sym c.self.view_is) c.requires.there in
     failed_sound g.S.Store old new c.args.row.now (renewed c.args.row.now (resources (state g.S.Store old.conn))) (with_row c.args.row.now (kept_rows g.S.Store old)) c.self.invariant was_usable refl (λ it lawful spelled. update_holds g.S.Store old c.args.row.now it.whole lawful spelled (there it)) c.in-Err.ensures.stop c.in-Err.ensures.keeps refl
@@ -52,8 +52,8 @@ invariant_of-self-in-Err g c =
 pub returns-in-Err-clause-replaces : goal.returns-in-Err-clause-replaces
 returns-in-Err-clause-replaces g c =
     let old : Kept g.row.S.Denot = record { conn = c.self.inside.conn; is_usable = c.self.inside.is_usable; count = c.self.inside.count; faults = c.self.inside.faults; writes = c.self.inside.writes } in
-    let new : Kept g.row.S.Denot = record { conn = c.update_row.new.conn; is_usable = c.self.inside.is_usable; count = c.self.inside.count; faults = c.counted-in-Err.new.faults; writes = c.self.inside.writes } in
+    let new : Kept g.row.S.Denot = record { conn = c.update_row.new.conn; is_usable = c.self.inside.is_usable; count = c.self.inside.count; faults = c.counted.new.faults; writes = c.self.inside.writes } in
     let was_usable : IsTrue c.self.inside.is_usable = search (rules, tests) in
     let there = subst (λ (k : Kept g.row.S.Denot). IsFaithful g.S.Store k → HoldsNumber (kept_rows g.S.Store k) c.args.row.now) (sym c.self.view_is) c.requires.there in
-    subst (λ (k : Kept g.row.S.Denot). WritesOnce (kept_rows g.S.Store) (IsFaithful g.S.Store) (IsHonest g.S.Store) (MayHold g.S.Store) (λ j. j.faults) (λ j. j.writes) CountsFault k new (with_row c.args.row.now (kept_rows g.S.Store k)) (failing c.counted-in-Err.result)) c.self.view_is
-    (failed g.S.Store old new c.args.row.now (renewed c.args.row.now (resources (state g.S.Store old.conn))) (with_row c.args.row.now (kept_rows g.S.Store old)) c.self.invariant was_usable refl (λ it lawful spelled. update_holds g.S.Store old c.args.row.now it.whole lawful spelled (there it)) c.in-Err.ensures.stop c.counted-in-Err.result c.in-Err.ensures.keeps refl c.counted-in-Err.ensures.counts refl)
+    subst (λ (k : Kept g.row.S.Denot). WritesOnce (kept_rows g.S.Store) (IsFaithful g.S.Store) (IsHonest g.S.Store) (MayHold g.S.Store) (λ j. j.faults) (λ j. j.writes) CountsFault k new (with_row c.args.row.now (kept_rows g.S.Store k)) (failing c.counted.result)) c.self.view_is
+    (failed g.S.Store old new c.args.row.now (renewed c.args.row.now (resources (state g.S.Store old.conn))) (with_row c.args.row.now (kept_rows g.S.Store old)) c.self.invariant was_usable refl (λ it lawful spelled. update_holds g.S.Store old c.args.row.now it.whole lawful spelled (there it)) c.in-Err.ensures.stop c.counted.result c.in-Err.ensures.keeps refl c.counted.ensures.counts refl)

@@ -12,11 +12,9 @@ invariant_of-self g c clean still usable =
     let it = c.in-Ok.ensures.store clean in
     whole_of g.S.Store new it.0 (store_on (state g.S.Store c.self.inside.conn) (state g.S.Store c.check_tables.new.conn) it.0 c.in-Ok.ensures.looks it.1 clean still) it.2
 
-pub returns-in-Ok : goal.returns-in-Ok
-returns-in-Ok g c =
+pub returns-in-Ok-clause-reopens : goal.returns-in-Ok-clause-reopens
+returns-in-Ok-clause-reopens g c =
     let old : Kept g.row.S.Denot = record { conn = c.self.inside.conn; is_usable = c.self.inside.is_usable; count = c.self.inside.count; faults = c.self.inside.faults; writes = c.self.inside.writes } in
     let new : Kept g.row.S.Denot = record { conn = c.check_tables.new.conn; is_usable = true; count = c.in-Ok.count; faults = c.self.inside.faults; writes = c.self.inside.writes } in
-    record {
-      reopens = subst (λ (k : Kept g.row.S.Denot). Reopens (kept_rows g.S.Store) (IsFaithful g.S.Store) (IsHonest g.S.Store) (MayHold g.S.Store) (λ j. j.faults) (λ j. j.writes) CountsFault k new answered) c.self.view_is
-          (reopened g.S.Store old new c.in-Ok.ensures.looks g.met.S.Store.stays refl c.in-Ok.ensures.store c.in-Ok.ensures.open refl refl);
-    }
+    subst (λ (k : Kept g.row.S.Denot). Reopens (kept_rows g.S.Store) (IsFaithful g.S.Store) (IsHonest g.S.Store) (MayHold g.S.Store) (λ j. j.faults) (λ j. j.writes) CountsFault k new answered) c.self.view_is
+    (reopened g.S.Store old new c.in-Ok.ensures.looks g.met.S.Store.stays refl c.in-Ok.ensures.store c.in-Ok.ensures.open refl refl)

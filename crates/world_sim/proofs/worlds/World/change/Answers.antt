@@ -1,5 +1,6 @@
-use Rattle.std.proofs.Common.{◌≡◌, rules}
+use Rattle.std.proofs.Common.{◌≡◌, refl, rules}
 use Rattle.world_sim.proofs.Steps.{changes_told}
+use Rattle.world_sim.proofs.Keeping.{book_keeps, on_err}
 use Rattle.world_sim.proofs.worlds.World.change.Goals as goal
 
 pub returns-in_ok-clone-in-Open-clause-done : goal.returns-in_ok-clone-in-Open-clause-done
@@ -8,3 +9,6 @@ returns-in_ok-clone-in-Open-clause-done g c =
     let told = c.judge.ensures in
     changes_told g.R.Registry g.J.Journal c.args.self.now c.in-Open.connector c.judge.new.connector c.args.row.now c.in_ok-clone-in-Open.field-0 c.judge.result (search rules) copied c.in-Open.is
     told.was told.book told.report
+
+pub returns-in_ok-clone-in-Open-clause-keeps : goal.returns-in_ok-clone-in-Open-clause-keeps
+returns-in_ok-clone-in-Open-clause-keeps g c = on_err c.judge.result (book_keeps c.args.self.now _ c.in-Open.connector c.judge.new.connector c.in-Open.is refl refl) c.judge.ensures.same

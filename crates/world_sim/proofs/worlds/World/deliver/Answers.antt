@@ -1,9 +1,10 @@
-use Rattle.std.proofs.Common.{◌≡◌, Some, Err, subst, rules}
+use Rattle.std.proofs.Common.{◌≡◌, Some, Err, refl, subst, rules}
 use Rattle.world_model.specs.World.{Answered, Asked, message_at}
 use Rattle.world_sim.specs.Messages.{messages_of, text_at, texts_of}
 use Rattle.world_sim.specs.Reading.{IsOrMemory}
 use Rattle.world_sim.specs.declared.reading.ReadingFault.TheVariants.{Unread}
 use Rattle.world_sim.proofs.Steps.{delivers_unread, fails_numbered, learns_told, request_told}
+use Rattle.world_sim.proofs.Keeping.{all_err, answered_keeps, asked_keeps, book_keeps, on_err}
 use Rattle.world_sim.proofs.worlds.World.deliver.Goals as goal
 
 pub returns-in-Ok-clause-done : goal.returns-in-Ok-clause-done
@@ -31,3 +32,14 @@ returns-in-Open-clause-done g c =
     let heard = c.hear.ensures in
     learns_told g.R.Registry g.J.Journal c.args.self.now c.in-Open.connector c.hear.new.connector c.args.number c.in-Answered.request c.in-Answered.field-1 c.deref-in-Open.result.now c.hear.result
     sent text c.in-Open.is heard.report heard.book heard.names heard.was
+
+pub returns-in-Ok-clause-keeps : goal.returns-in-Ok-clause-keeps
+returns-in-Ok-clause-keeps g c =
+    let said : message_at (messages_of c.args.self.now.sent.items) c.args.number ≡ Some (Asked c.in-Asked-2.field-0) = search rules in
+    all_err c.answer.result (asked_keeps c.args.self.now c.answer.new.self (message_at (messages_of c.args.self.now.sent.items) c.args.number) c.in-Asked-2.field-0 said c.answer.ensures.keeps)
+
+pub returns-in-Open-clause-keeps : goal.returns-in-Open-clause-keeps
+returns-in-Open-clause-keeps g c =
+    let sent : message_at (messages_of c.args.self.now.sent.items) c.args.number ≡ Some (Answered c.in-Answered.request c.in-Answered.field-1) = search rules in
+    on_err c.hear.result (λ same. answered_keeps c.args.self.now _ (message_at (messages_of c.args.self.now.sent.items) c.args.number) c.in-Answered.request c.in-Answered.field-1 sent
+    (book_keeps c.args.self.now _ c.in-Open.connector c.hear.new.connector c.in-Open.is refl refl same)) c.hear.ensures.same

@@ -1,0 +1,94 @@
+//! The events that the arguments of `simulate` ask for.
+ghost use Rattle.std.specs.Prelude.{◌≡◌, IfSome, Ok, Some, codes, string_bytes, true};
+ghost use Rattle.std.specs.Option.{option_map};
+ghost use Rattle.clap.specs.Matches.{first_value, found_of, one_text};
+ghost use Rattle.scim_key.specs.Outcome.{GivesBy};
+ghost use Rattle.commands.specs.Simulating.{wanted_events};
+ghost use Rattle.commands.specs.Words.{number_in};
+ghost use Rattle.commands.specs.declared.status.CommandFault.TheVariants.{Memory};
+
+use crate::status::CommandFault;
+use clap::ArgMatches;
+use std::alloc::Global;
+use thiserror::Error;
+
+/// The most random events of a run.
+pub const MOST_EVENTS: u32 = 100_000;
+
+/// How many random events there are if the arguments don't say.
+pub const DEFAULT_EVENTS: u32 = 1_000;
+
+/// Where the events of a simulation come from.
+#[derive(Debug, Drop)]
+pub enum Events {
+    /// The schedule in this file.
+    Scheduled(String),
+    /// `count` random events of this seed.
+    Random { seed: u64, count: u32 },
+}
+
+/// Why the arguments of `simulate` ask for no events.
+#[derive(Clone, Copy, Debug, PartialEq, Eq, Error)]
+pub enum EventsFault {
+    #[error("simulate takes one of FILE and --seed S")]
+    Source,
+    #[error("--events is 1 to {most}, with --seed", most = MOST_EVENTS)]
+    Count,
+}
+
+/// The events of a schedule, or random ones, but not both.
+pub fn wanted_events(
+    file: Option<String>,
+    seed: Option<u64>,
+    count: Option<u32>,
+) -> Result<Events, CommandFault>
+    ensures { result ≡ wanted_events file seed count }
+{
+    match (file, seed, count) {
+        (Some(file), None, None) => Ok(Events::Scheduled(file)),
+        (None, Some(seed), None) => Ok(Events::Random {
+            seed,
+            count: DEFAULT_EVENTS,
+        }),
+        (None, Some(seed), Some(count)) if (1..=MOST_EVENTS).contains(&count) => {
+            Ok(Events::Random { seed, count })
+        }
+        (None, Some(_), Some(_)) => Err(CommandFault::Events(EventsFault::Count)),
+        (Some(_), None, Some(_)) => Err(CommandFault::Events(EventsFault::Count)),
+        (Some(_), Some(_), _) | (None, None, _) => Err(CommandFault::Events(EventsFault::Source)),
+    }
+}
+
+/// The file of a schedule in the arguments, if there is one.
+pub fn schedule(alloc: Global, matches: &ArgMatches<'_>) -> Result<Option<String>, CommandFault>
+    ensures { GivesBy (option_map string_bytes) Memory result
+        (Ok (first_value (found_of matches.now) (codes "FILE"))) }
+{
+    match matches.get_str("FILE") {
+        Some(text) => Ok(Some(String::from_str(alloc, text)?)),
+        None => Ok(None),
+    }
+}
+
+/// The seed in the arguments, if there is one.
+pub fn seed(matches: &ArgMatches<'_>) -> Option<u64>
+    ensures { IfSome result
+        (λ seed. option_map number_in (one_text (found_of matches.now) (codes "seed")) ≡ Some seed) }
+{
+    matches.get_one("seed")
+}
+
+/// The number of events in the arguments, if there is one.
+pub fn count(matches: &ArgMatches<'_>) -> Option<u32>
+    ensures { IfSome result
+        (λ count. option_map number_in (one_text (found_of matches.now) (codes "events")) ≡ Some count) }
+{
+    matches.get_one("events")
+}
+
+/// Whether the arguments ask for every record to be settled after the events.
+pub fn settles(matches: &ArgMatches<'_>) -> bool
+    ensures { one_text (found_of matches.now) (codes "settle") ≡ Some (codes "true") → result ≡ true }
+{
+    matches.get_flag("settle")
+}

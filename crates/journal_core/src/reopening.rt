@@ -1,0 +1,23 @@
+//! Journals that can be opened again.
+ghost use Rattle.std.specs.Prelude.{◌≡◌, IsOk};
+ghost use Rattle.journal_core.specs.Stores.{CountsFault, Reopens};
+
+use crate::journals::{Journal, JournalFault};
+use crate::memory::MemoryJournal;
+
+/// A journal that can be opened again, for example after a stop of its program.
+pub trait ReopenJournal: Journal {
+    /// Opens the store again. After a stop, it holds what the stop left.
+    fn reopen(&mut self) -> Result<(), JournalFault>
+        ensures reopens { Reopens Self.entries Self.is_faithful Self.is_honest Self.may_hold Self.faults Self.writes CountsFault self.old self.new result };
+}
+
+impl ReopenJournal for MemoryJournal {
+    /// The entries are in memory, and stay.
+    fn reopen(&mut self) -> Result<(), JournalFault>
+        ensures kept { self.new ≡ self.old }
+        ensures done { IsOk result }
+    {
+        Ok(())
+    }
+}

@@ -1,0 +1,51 @@
+-- A whole run of the connector: the rows of its files, then its records.
+use Rattle.std.specs.Prelude.{◌≡◌, ◌⊎◌, ◌&&◌, ℕ, Bool, List, Option, None, Result, Ok, Err, IfOk}
+use Rattle.journal_core.specs.declared.journals.Journal.{Ghosts}
+use Rattle.connector_core.specs.State.{State}
+use Rattle.provisioning.specs.Runs.{Done, PushesAll}
+use Rattle.provisioning.specs.declared.faults.RunFault.{RunFault}
+use Rattle.provisioning.specs.declared.pushing.Tally.{Tally}
+use Rattle.provisioning.specs.Offering.{OffersAll}
+use Rattle.provisioning.specs.Sources.{are_whole}
+use Rattle.provisioning.specs.declared.faults.OfferFault.{OfferFault}
+use Rattle.provisioning.specs.Faults.{run_fault}
+use Rattle.provisioning.specs.declared.carrying.Outcome.{Outcome}
+use Rattle.provisioning.specs.declared.faults.LoopFault.{LoopFault}
+use Rattle.provisioning.specs.declared.offering.Judged.{Judged}
+use Rattle.provisioning.specs.declared.sources.Sources.{Sources}
+
+-- nothing was refused, and every record's wanted revision is confirmed
+abbrev pub is_done : Outcome → Bool
+is_done outcome = outcome.is_taken && outcome.tally.is_settled
+
+abbrev pub outcome_of : (taken : Bool) → Sources → Result Tally RunFault → Result Outcome RunFault
+outcome_of taken sources (Ok tally) = Ok (record { is_taken = taken && are_whole sources; tally = tally })
+outcome_of taken sources (Err fault) = Err fault
+
+-- The rows were offered, and then the records were pushed; or the rows of a file, or reporting one, ended the run
+abbrev pub Carries : {I O J T : Type 0} → (I → Option (List ℕ)) → (O → Option (List ℕ)) → Ghosts J → (heard : T → Option (List Judged)) → (told : T → Option (List Done)) → List ℕ → Sources → (old new : State J) → (before after : T) → Result Outcome RunFault → Type 0
+Carries {I} {O} {J} {T} remaining contents g heard told base sources old new before after result =
+    ((between : State J) × (mid : T) × (taken : Bool) × (tally : Result Tally RunFault) × OffersAll g sources old between (heard before) (heard mid) (Ok taken)
+    × PushesAll {I = I} {O = O} remaining contents g base between new (told mid) (told after) tally × (result ≡ outcome_of taken sources tally))
+    ⊎ ((fault : OfferFault) × OffersAll g sources old new (heard before) (heard after) (Err fault) × (result ≡ Err (run_fault fault)))
+
+-- the same, if it isn't known what was reported
+abbrev pub CarriesSilently : {I O J : Type 0} → (I → Option (List ℕ)) → (O → Option (List ℕ)) → Ghosts J → List ℕ → Sources → (old new : State J) → Result Outcome RunFault → Type 0
+CarriesSilently remaining contents g base sources old new result = Carries {T = Unit {0}} remaining contents g (λ told. None) (λ told. None) base sources old new tt tt result
+
+-- ---- with a provider in the same program
+
+-- such a run; or the provider couldn't listen, and nothing was offered
+abbrev pub CarriesHere : {I O J : Type 0} → (I → Option (List ℕ)) → (O → Option (List ℕ)) → Ghosts J → List ℕ → Sources → (old new : State J) → Result Outcome RunFault → Type 0
+CarriesHere remaining contents g base sources old new result =
+    CarriesSilently remaining contents g base sources old new result
+    ⊎ ((fault : RunFault) × (result ≡ Err fault) × (new ≡ old))
+
+-- the result of a run is its outcome, if no fault came after it
+abbrev pub IsOutcome : Result Outcome RunFault → Result Outcome LoopFault → Type 0
+IsOutcome carried result = IfOk result (λ outcome. carried ≡ Ok outcome)
+
+-- However it ends, nothing but such a run changed the connector
+abbrev pub Loops : {I O J : Type 0} → (I → Option (List ℕ)) → (O → Option (List ℕ)) → Ghosts J → List ℕ → Sources → (old new : State J) → Result Outcome LoopFault → Type 0
+Loops remaining contents g base sources old new result =
+    (carried : Result Outcome RunFault) × CarriesHere remaining contents g base sources old new carried × IsOutcome carried result

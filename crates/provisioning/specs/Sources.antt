@@ -1,0 +1,52 @@
+-- What the files of a run say.
+use Rattle.std.specs.Prelude.{ℕ, Bool, true, false, ◌&&◌, codes, List, [], Option, Some, None, Result, Ok, Err, is_ok}
+use Rattle.std.specs.List.{list_all}
+use Rattle.scim_key.specs.declared.records.Kind.{Kind}
+use Rattle.scim_key.specs.declared.records.Kind.TheVariants as kinds
+use Rattle.source_csv.specs.declared.faults.RowFault.{RowFault}
+use Rattle.source_csv.specs.declared.faults.SourceFault.{SourceFault}
+use Rattle.source_csv.specs.declared.faults.SourceFault.TheVariants.{Header}
+use Rattle.source_csv.specs.declared.rows.Row.{Row}
+use Rattle.provisioning.specs.declared.sources.Source.{Source}
+use Rattle.provisioning.specs.declared.sources.Sources.{Sources}
+
+-- ---- one file
+
+-- the records of a file; none if its header is wrong
+abbrev pub records_in : Option (List (Result Row RowFault)) → List (Result Row RowFault)
+records_in (Some rows) = rows
+records_in None = []
+
+abbrev pub records_of : Source → List (Result Row RowFault)
+records_of source = records_in source.rows
+
+abbrev pub as_read : Option (List (Result Row RowFault)) → Result (List (Result Row RowFault)) SourceFault
+as_read (Some rows) = Ok rows
+as_read None = Err Header
+
+-- what reading the file gave
+abbrev pub read_as : Source → Result (List (Result Row RowFault)) SourceFault
+read_as source = as_read source.rows
+
+abbrev pub are_rows : Option (List (Result Row RowFault)) → Bool
+are_rows (Some rows) = list_all is_ok rows
+are_rows None = false
+
+-- the header is there, and each record is a row
+abbrev pub is_whole : Source → Bool
+is_whole source = are_rows source.rows
+
+-- ---- the files of a run
+
+abbrev pub is_whole_if : Option Source → Bool
+is_whole_if (Some source) = is_whole source
+is_whole_if None = true
+
+abbrev pub are_whole : Sources → Bool
+are_whole sources = is_whole sources.users && is_whole_if sources.groups
+
+-- ---- what files are called
+
+abbrev pub label : Kind → List ℕ
+label kinds.User = codes "users"
+label kinds.Group = codes "groups"

@@ -1,0 +1,72 @@
+//! A whole run of the connector.
+ghost use Rattle.std.specs.Prelude.{◌≡◌};
+ghost use Rattle.provisioning.specs.Carrying.{Carries, is_done, outcome_of};
+
+use crate::dialing::Dial;
+use crate::faults::{RunFault, run_fault};
+use crate::offering::{Hear, offer_all};
+use crate::pushing::{Tally, push_all};
+use crate::sources::Sources;
+use crate::telling::Tell;
+use connector_core::Connector;
+use journal_core::Journal;
+use scim_client::ScimService;
+use std::alloc::Global;
+
+/// The result of a run that no fault ended.
+#[derive(Clone, Copy, Debug, PartialEq, Eq)]
+pub struct Outcome {
+    /// Every record of the files is a row, and the connector took each, new or not.
+    pub is_taken: bool,
+    /// The result for the connector's records.
+    pub tally: Tally,
+}
+
+impl Outcome {
+    /// Whether nothing was refused and every record's wanted revision is confirmed.
+    pub fn is_done(self) -> bool
+        ensures { result ≡ is_done self }
+    {
+        self.is_taken && self.tally.is_settled
+    }
+}
+
+/// Offers the rows of the files to the connector, the rows of each file together, then pushes each of its
+/// records: users by key, then groups by key. It reports each row once its file is taken, and each record
+/// as soon as the record is done.
+pub fn carry<J: Journal, D: Dial, T: Hear + Tell>(
+    alloc: Global,
+    service: &ScimService,
+    connector: &mut Connector<J>,
+    sources: &Sources,
+    dial: &mut D,
+    teller: &mut T,
+) -> Result<Outcome, RunFault>
+    ensures { Carries D.Reader.remaining D.Writer.contents J.Journal T.heard T.told service.now
+        sources.now connector.old connector.new teller.old teller.new result }
+{
+    match offer_all(alloc, connector, sources, teller) {
+        Ok(is_taken) => {
+            let tally = push_all(alloc, service, connector, dial, teller);
+            outcome_of(is_taken, sources, tally)
+        }
+        Err(fault) => Err(run_fault(fault)),
+    }
+}
+
+/// The result of a run, from the results of its rows and its records.
+fn outcome_of(
+    is_taken: bool,
+    sources: &Sources,
+    tally: Result<Tally, RunFault>,
+) -> Result<Outcome, RunFault>
+    ensures { result ≡ outcome_of is_taken sources.now tally }
+{
+    match tally {
+        Ok(tally) => Ok(Outcome {
+            is_taken: is_taken && sources.are_whole(),
+            tally,
+        }),
+        Err(fault) => Err(fault),
+    }
+}

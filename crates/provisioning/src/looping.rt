@@ -1,0 +1,174 @@
+//! Connector and provider in turn: the connector against a provider in the same program, over TCP.
+ghost use Rattle.std.specs.Prelude.{Ok};
+ghost use Rattle.provisioning.specs.Carrying.{CarriesHere, CarriesSilently, IsOutcome, Loops};
+
+use crate::carrying::{Outcome, carry};
+use crate::faults::{LoopFault, RunFault, open_fault, unwritten};
+use crate::lines::Reports;
+use crate::over_tcp::{CONNECTION_SECONDS, remote};
+use crate::own::{OwnProvider, OwnReader, OwnStreams, has_failed};
+use crate::sources::Sources;
+use crate::views::print_views;
+use connection::{Listen, Sockets, TimedHandle};
+use connector_core::Connector;
+use journal_core::Journal;
+use provider_core::Provider;
+use provider_file::StoredRows;
+use scim_client::ScimService;
+use std::alloc::Global;
+use std::cell::RefCell;
+use std::io::{Read, Write};
+use std::net::{Net, OpenListener, TcpListener};
+use std::time::{Clock, Duration};
+use world_sim::Count;
+
+/// Where the provider of `run_loop` listens: at a free port that only this machine reaches.
+pub const OWN_ADDRESS: &str = "127.0.0.1:0";
+
+/// Runs the connector against a provider that listens at a free port, and gives the provider back. It
+/// prints a report for each row, then, if every record is settled, how many exchanges there were, then a
+/// line for each record. A fault of the provider's store ends the run.
+pub fn run_loop<'a, N: Net + Clock, R: StoredRows + 'a, J: Journal, W: Write>(
+    rt: &'a N,
+    alloc: Global,
+    service: &ScimService,
+    connector: &mut Connector<J>,
+    provider: Provider<R>,
+    sources: &Sources,
+    out: &mut W,
+) -> (Provider<R>, Result<Outcome, LoopFault>)
+    ensures { Loops ⟦<OwnReader<'a, 'a, 'a, N, Sockets<'a, N::Listener, N>, R> as Read>⟧.remaining
+        ⟦<TimedHandle<'a, N::Stream, N> as Write>⟧.contents J.Journal service.now sources.now
+        connector.old connector.new result.1 }
+{
+    let (provider, carried) = carry_here(rt, alloc, service, connector, provider, sources, out);
+    finish(carried, connector, provider, out)
+}
+
+/// Prints the result of a run, and gives the provider back.
+fn finish<R: StoredRows, J: Journal, W: Write>(
+    carried: Result<Outcome, RunFault>,
+    connector: &Connector<J>,
+    provider: Provider<R>,
+    out: &mut W,
+) -> (Provider<R>, Result<Outcome, LoopFault>)
+    ensures { IsOutcome carried result.1 }
+{
+    let mut provider = provider;
+    let told = match carried {
+        Ok(outcome) => print_end(outcome, connector, &mut provider, out),
+        Err(fault) => Err(ended(fault, &mut provider)),
+    };
+    (provider, told)
+}
+
+/// The fault that ended a run: the one of the provider's store, if it failed.
+fn ended<R: StoredRows>(fault: RunFault, provider: &mut Provider<R>) -> LoopFault {
+    if has_failed(provider) {
+        LoopFault::Store
+    } else {
+        LoopFault::Ended(fault)
+    }
+}
+
+/// Prints the result of a run that no fault ended, and the state of its records.
+fn print_end<R: StoredRows, J: Journal, W: Write>(
+    outcome: Outcome,
+    connector: &Connector<J>,
+    provider: &mut Provider<R>,
+    out: &mut W,
+) -> Result<Outcome, LoopFault>
+    ensures { IsOutcome (Ok outcome) result }
+{
+    if has_failed(provider) {
+        return Err(LoopFault::Store);
+    }
+    if outcome.tally.is_settled {
+        let exchanges = outcome.tally.exchanges;
+        writeln!(out, "{}", Count { exchanges }).map_err(unwritten)?;
+    }
+    print_views(connector, provider, out)?;
+    out.flush().map_err(unwritten)?;
+    Ok(outcome)
+}
+
+/// Runs the connector against a provider over TCP, and gives the provider back.
+fn carry_here<'a, N: Net + Clock, R: StoredRows + 'a, J: Journal, W: Write>(
+    rt: &'a N,
+    alloc: Global,
+    service: &ScimService,
+    connector: &mut Connector<J>,
+    provider: Provider<R>,
+    sources: &Sources,
+    out: &mut W,
+) -> (Provider<R>, Result<Outcome, RunFault>)
+    ensures { CarriesHere ⟦<OwnReader<'a, 'a, 'a, N, Sockets<'a, N::Listener, N>, R> as Read>⟧.remaining
+        ⟦<TimedHandle<'a, N::Stream, N> as Write>⟧.contents J.Journal service.now sources.now
+        connector.old connector.new result.1 }
+{
+    match listen(rt, alloc) {
+        Ok((listener, address)) => {
+            let own = RefCell::new(OwnProvider {
+                alloc,
+                base: service.base(),
+                listener,
+                provider,
+            });
+            let carried = carry_to(
+                rt,
+                alloc,
+                service,
+                connector,
+                sources,
+                address.as_str(),
+                &own,
+                out,
+            );
+            (own.into_inner().provider, carried)
+        }
+        Err(fault) => (provider, Err(fault)),
+    }
+}
+
+/// Runs the connector against a provider in this program.
+fn carry_to<'r, 'p, 'b, N: Net + Clock, L: Listen + Drop, R: StoredRows, J: Journal, W: Write>(
+    rt: &'r N,
+    alloc: Global,
+    service: &ScimService,
+    connector: &mut Connector<J>,
+    sources: &Sources,
+    address: &str,
+    own: &'p RefCell<OwnProvider<'b, L, R>>,
+    out: &mut W,
+) -> Result<Outcome, RunFault>
+    ensures { CarriesSilently ⟦<OwnReader<'r, 'p, 'b, N, L, R> as Read>⟧.remaining
+        ⟦<TimedHandle<'r, N::Stream, N> as Write>⟧.contents J.Journal service.now sources.now
+        connector.old connector.new result }
+{
+    let mut streams = OwnStreams {
+        remote: remote(alloc, rt, address),
+        own,
+    };
+    let mut reports = Reports::new(&mut *out);
+    carry(
+        alloc,
+        service,
+        connector,
+        sources,
+        &mut streams,
+        &mut reports,
+    )
+}
+
+/// The connections of a free port, each with its deadline, and the port's address.
+fn listen<'a, N: Net + Clock>(
+    rt: &'a N,
+    alloc: Global,
+) -> Result<(Sockets<'a, N::Listener, N>, String), RunFault> {
+    let listener = TcpListener::bind(rt, OWN_ADDRESS).map_err(open_fault)?;
+    let taken = listener.local_addr().map_err(open_fault)?;
+    let address = format!(in alloc; "{taken}")?;
+    let limit = Duration::from_secs(CONNECTION_SECONDS);
+    let sockets = Sockets::new(alloc, listener, rt, limit);
+    Ok((sockets, address))
+}

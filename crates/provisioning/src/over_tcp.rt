@@ -1,0 +1,49 @@
+//! The connector against the provider at an address.
+ghost use Rattle.provisioning.specs.Carrying.{CarriesSilently};
+
+use crate::carrying::{Outcome, carry};
+use crate::faults::RunFault;
+use crate::lines::Lines;
+use crate::sockets::Remote;
+use crate::sources::Sources;
+use connection::TimedHandle;
+use connector_core::Connector;
+use journal_core::Journal;
+use scim_client::ScimService;
+use std::alloc::Global;
+use std::io::{Eprint, Read, Write};
+use std::net::Net;
+use std::time::{Clock, Duration};
+
+/// How many seconds a connection may take in all, for connector and provider.
+pub const CONNECTION_SECONDS: u64 = 30;
+
+/// The provider at an address. Each exchange has its own time limit.
+pub(crate) fn remote<'a, N>(alloc: Global, runtime: &'a N, address: &'a str) -> Remote<'a, N> {
+    Remote {
+        alloc,
+        runtime,
+        address,
+        limit: Duration::from_secs(CONNECTION_SECONDS),
+    }
+}
+
+/// Runs the connector against the provider at an address, HOST:PORT. It prints a line for each record as
+/// soon as the record is done, and reports rows that the connector refuses on standard error.
+pub fn push<'a, N: Net + Clock + Eprint, J: Journal, W: Write>(
+    rt: &'a N,
+    alloc: Global,
+    service: &ScimService,
+    connector: &mut Connector<J>,
+    sources: &Sources,
+    address: &str,
+    out: &mut W,
+) -> Result<Outcome, RunFault>
+    ensures { CarriesSilently ⟦<TimedHandle<'a, N::Stream, N> as Read>⟧.remaining
+        ⟦<TimedHandle<'a, N::Stream, N> as Write>⟧.contents J.Journal service.now sources.now
+        connector.old connector.new result }
+{
+    let mut remote = remote(alloc, rt, address);
+    let mut lines = Lines { out, stderr: rt };
+    carry(alloc, service, connector, sources, &mut remote, &mut lines)
+}

@@ -1,0 +1,172 @@
+//! The files of a run.
+ghost use Rattle.std.specs.Prelude.{◌≡◌, IfOk, List, is_ok};
+ghost use Rattle.std.specs.List.{list_all};
+ghost use Rattle.source_csv.specs.Fields.{Record};
+ghost use Rattle.source_csv.specs.Files.{AreRecordsOf, rows_of};
+ghost use Rattle.provisioning.specs.Sources.{are_whole, is_whole, label, read_as, records_of};
+
+use scim_key::Kind;
+use source_csv::{Row, RowFault, SourceFault, SourceRows, read_groups, read_users};
+use source_lines::multiline_records;
+use std::alloc::{AllocError, Global};
+use std::fs::Files;
+use std::io::Eprint;
+use std::{fs, io};
+
+/// What a file says about the records of a type.
+#[derive(Debug, Drop)]
+pub struct Source {
+    pub kind: Kind,
+    /// Its records; none if its header isn't that of such a file (S1).
+    pub rows: Option<SourceRows>,
+}
+
+/// The files of a run.
+#[derive(Debug, Drop)]
+pub struct Sources {
+    pub users: Source,
+    pub groups: Option<Source>,
+}
+
+/// A file that can't be read, and the system's error.
+#[derive(Clone, Copy, Debug)]
+pub struct UnreadFile {
+    pub kind: Kind,
+    pub error: io::Error,
+}
+
+/// Whether each record is a row.
+fn all_rows(records: &[Result<Row, RowFault>]) -> bool
+    ensures { result ≡ list_all is_ok records.now }
+{
+    records.iter().all(|record| record.is_ok())
+}
+
+impl Source {
+    /// The records of the file; the one at place 1 comes first.
+    pub fn records(&self) -> &[Result<Row, RowFault>]
+        ensures { result.now ≡ records_of self.now }
+    {
+        match &self.rows {
+            Some(rows) => rows.as_slice(),
+            None => &[],
+        }
+    }
+
+    /// Whether the file has its header, and each of its records is a row.
+    pub fn is_whole(&self) -> bool
+        ensures { result ≡ is_whole self.now }
+    {
+        match &self.rows {
+            Some(rows) => all_rows(rows.as_slice()),
+            None => false,
+        }
+    }
+}
+
+impl Sources {
+    /// Whether each file is whole.
+    pub fn are_whole(&self) -> bool
+        ensures { result ≡ are_whole self.now }
+    {
+        match &self.groups {
+            Some(groups) => self.users.is_whole() && groups.is_whole(),
+            None => self.users.is_whole(),
+        }
+    }
+}
+
+/// Reads a file of this type from these bytes.
+pub fn read_source(alloc: Global, kind: Kind, bytes: &[u8]) -> Result<Source, AllocError>
+    ensures { (records : List Record) → AreRecordsOf bytes.now records →
+        IfOk result (λ source. read_as source ≡ rows_of kind records) }
+{
+    let rows = match kind {
+        Kind::User => read_users(alloc, bytes),
+        Kind::Group => read_groups(alloc, bytes),
+    };
+    match rows {
+        Ok(rows) => Ok(Source {
+            kind,
+            rows: Some(rows),
+        }),
+        Err(SourceFault::Header) => Ok(Source { kind, rows: None }),
+        Err(SourceFault::Memory) => Err(AllocError),
+    }
+}
+
+/// Reads the files, the one of users first. It reports on standard error which records are rejected,
+/// and which have a field over several lines.
+pub fn read_sources<R: Files + Eprint + AllocGlobal>(
+    rt: &R,
+    users: &str,
+    groups: Option<&str>,
+) -> Result<Sources, UnreadFile> {
+    let users = source_in(rt, Kind::User, users)?;
+    let groups = match groups {
+        Some(file) => Some(source_in(rt, Kind::Group, file)?),
+        None => None,
+    };
+    Ok(Sources { users, groups })
+}
+
+/// Reads a file.
+fn source_in<R: Files + Eprint + AllocGlobal>(
+    rt: &R,
+    kind: Kind,
+    file: &str,
+) -> Result<Source, UnreadFile> {
+    told_source(rt, kind, file).map_err(|error| UnreadFile { kind, error })
+}
+
+fn told_source<R: Files + Eprint + AllocGlobal>(
+    rt: &R,
+    kind: Kind,
+    file: &str,
+) -> io::Result<Source> {
+    let bytes = fs::read(rt, file)?;
+    let source = read_source(rt.alloc(), kind, bytes.as_slice())?;
+    tell_refused(rt, &source);
+    if source.rows.is_some() {
+        tell_multiline(rt, kind, bytes.as_slice())?;
+    }
+    Ok(source)
+}
+
+/// The word for files of this type in printed lines.
+pub fn label(kind: Kind) -> &'static str
+    ensures { result.now ≡ label kind }
+{
+    match kind {
+        Kind::User => "users",
+        Kind::Group => "groups",
+    }
+}
+
+/// Reports the rejected records of a file.
+fn tell_refused(rt: &impl Eprint, source: &Source) {
+    let label = label(source.kind);
+    if source.rows.is_none() {
+        let fault = SourceFault::Header;
+        let _ = eprintln!(rt; "{label}: {fault}");
+    }
+    for record in source.records() {
+        if let Err(fault) = record {
+            let _ = eprintln!(rt; "{label} {fault}");
+        }
+    }
+}
+
+/// Reports the records of a file with these bytes that have a field over several lines: a quote may be
+/// missing there.
+pub fn tell_multiline<R: Eprint + AllocGlobal>(
+    rt: &R,
+    kind: Kind,
+    bytes: &[u8],
+) -> Result<(), AllocError> {
+    let label = label(kind);
+    for found in multiline_records(rt.alloc(), bytes)? {
+        let _ = eprintln!(rt; "{label} {found}");
+    }
+    Ok(())
+}

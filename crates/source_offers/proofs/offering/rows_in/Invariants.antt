@@ -1,7 +1,0 @@
-use Rattle.std.proofs.Common.{◌≡◌, take}
-use Rattle.source_offers.specs.Offering.{rows_in}
-use Rattle.source_offers.proofs.offering.rows_in.Given as goal
-
--- the rows so far
-abbrev pub invariant-loop-record : goal.invariant-loop-record
-invariant-loop-record l = l.rows.items ≡ rows_in (take l.record-index l.records)

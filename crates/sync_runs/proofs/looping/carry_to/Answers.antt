@@ -1,6 +1,0 @@
-use Rattle.sync_runs.proofs.CarryLemmas.{silent}
-use Rattle.sync_runs.proofs.looping.carry_to.Goals as goal
-
--- nothing is known of a teller, so any stands for the first
-pub returns : goal.returns
-returns g c = silent _ _ g.J.Journal c.args.service.now c.args.sources.now c.args.connector.now c.carry.new.connector c.carry.new.teller c.carry.new.teller c.carry.result c.carry.ensures

@@ -1,0 +1,82 @@
+"""Runs of the program of which one call fails, and how many such calls there are."""
+import concurrent.futures
+import itertools
+import multiprocessing
+import os
+import pathlib
+import shutil
+import struct
+import subprocess
+import tempfile
+
+from support import ROOT
+
+# The calls that tests/shim.c counts
+KINDS = ("ALLOCATION", "WRITE", "READ")
+# The status of a run that the shim ends
+ENDED = 99
+WORKERS = os.cpu_count() or 1
+
+
+def build_shim(folder):
+    compiler = shutil.which("cc")
+    if not compiler:
+        raise FileNotFoundError("the tests of faults need a C compiler, and there is no cc")
+    shim = folder / "shim.so"
+    subprocess.run([compiler, "-shared", "-fPIC", "-O2", "-o", shim, ROOT / "tests/shim.c"], check=True)
+    return shim
+
+
+class Fault:
+    """The call of a kind that fails in a run, by its place from 1, and how, in the words of tests/shim.c."""
+
+    def __init__(self, shim, folder, kind, place, how=""):
+        self.counts = folder / "counts"
+        self.counts.write_bytes(bytes(8 * len(KINDS)))
+        self.kind, self.place, self.how = kind, place, how
+        words = {f"FAULT_{kind}": str(place), "FAULT_HOW": how, "FAULT_COUNTS": str(self.counts), "LD_PRELOAD": str(shim)}
+        # The options of the run
+        self.options = {"env": os.environ | words}
+
+    def count(self):
+        """How many calls of the kind there were."""
+        return struct.unpack(f"{len(KINDS)}Q", self.counts.read_bytes())[KINDS.index(self.kind)]
+
+    @property
+    def has_come(self):
+        return self.count() >= self.place
+
+    @property
+    def ends_run(self):
+        """Whether the run ends there."""
+        return self.how in ("torn", "cut")
+
+    def __str__(self):
+        return f"{self.kind.lower()} {self.place} {self.how}".rstrip()
+
+
+def tell(story, shim, kind, place, how):
+    """Tells a story with this fault, in a new folder: whether the fault came, and what was wrong then."""
+    with tempfile.TemporaryDirectory(dir=shim.parent) as name:
+        folder = pathlib.Path(name)
+        fault = Fault(shim, folder, kind, place, how)
+        try:
+            story(folder, fault)
+        except Exception as error:
+            return True, f"{fault}: {type(error).__name__}: {error}"
+        return fault.has_come, None
+
+
+def tell_all(story, shim, kind, how="", opening=0, step=1):
+    """Tells a story with each call of a kind failing in turn, until one that no fault disturbs: how many
+    failed, and what was wrong. Of the first calls, which open files, it takes one in so many."""
+    places = itertools.chain(range(step, opening, step), itertools.count(opening + 1))
+    failed, wrong = 0, []
+    with concurrent.futures.ProcessPoolExecutor(WORKERS, multiprocessing.get_context("fork")) as pool:
+        while True:
+            some = [(story, shim, kind, place, how) for place in itertools.islice(places, 8 * WORKERS)]
+            told = list(pool.map(tell, *zip(*some)))
+            failed += sum(came for came, _ in told)
+            wrong += [what for _, what in told if what]
+            if not all(came for came, _ in told) or len(wrong) > 100:
+                return failed, wrong

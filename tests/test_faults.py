@@ -1,0 +1,369 @@
+"""Each allocation refused in turn, and each write, sync and read of a disk: what was answered or confirmed stands."""
+import contextlib
+import dataclasses
+import os
+import pathlib
+import shutil
+import socket
+import tempfile
+import time
+import unittest
+
+from faults import ENDED, Fault, build_shim, tell_all
+from support import BOB_CREATED, CREATE_BOB, EXAMPLES, ROOT, Provider, Running, Site, resource_id, scimlink, without_causes
+
+UNDONE = (
+    b"HTTP/1.1 500 Internal Server Error\r\nConnection: close\r\nContent-Length: 129\r\n"
+    b"Content-Type: application/scim+json\r\n\r\n"
+    b'{"detail":"the provider could not complete the request",'
+    b'"schemas":["urn:ietf:params:scim:api:messages:2.0:Error"],"status":"500"}'
+)
+BOB_SHOWN = "user bob held=1 version=1 active=true"
+SCHEDULE = ROOT / "tests/schedules/restarts.schedule"
+RECORDS = EXAMPLES / "personnel.csv"
+
+# What a run tells of a fault
+TOLD = {
+    "ALLOCATION": {"memory fault"},
+    "WRITE": {"store fault Y1", "journal fault J1"},
+    "READ": {"store fault Y1", "journal fault J1", "file fault"},
+}
+# How a disk fails: by EIO, once; full (ENOSPC) from there on; the run ends within that write; the power is cut
+WRITE_FAULTS = ("5", "28+", "torn", "cut")
+# The exchanges that carry three records: each is looked for, then created or replaced
+EXCHANGES = 6
+# A new store is opened with each allocation refused in turn, and what is there already with one in so many
+STEP = int(os.environ.get("FAULT_STEP", "10"))
+
+
+def check(found, wanted, what):
+    if found != wanted:
+        raise AssertionError(f"{what}: {found!r} and not {wanted!r}")
+
+
+def check_ending(run, fault, *more):
+    """A run with a fault ends as documented. Status 1 is for records that are left."""
+    if fault.has_come and fault.ends_run and run.status == ENDED:
+        check(run.errors, "", "told by a run that was ended")
+        return
+    told = set(without_causes(run.errors).splitlines())
+    allowed = TOLD[fault.kind] | set(more) if fault.has_come else set()
+    if run.status not in (0, 1, 3) or (run.status == 3) != bool(told) or not told <= allowed:
+        raise AssertionError(f"status {run.status}, told {run.errors!r}")
+
+
+def check_lines(run, fault, lines, status=0, told=()):
+    """A run that only prints prints all this, or the first of it and then a fault."""
+    if fault.has_come and run.status == 3:
+        check(run.lines, lines[: len(run.lines)], "lines before a fault")
+        check_ending(run, fault, *told)
+    else:
+        check((run.status, run.lines, run.errors.splitlines()), (status, lines, list(told)), "an undisturbed run")
+
+
+def show(option, file):
+    run = scimlink("show", option, file)
+    check((run.status, run.errors), (0, ""), f"show {option}")
+    return run.lines
+
+
+def read_shown(lines):
+    """The numbers of each record in lines of `show`."""
+    records = [line.split() for line in lines]
+    shown = {(kind, name): dict(part.split("=") for part in parts) for kind, name, *parts in records}
+    check(len(shown), len(records), "records")
+    return shown
+
+
+def kept(site):
+    """The bytes of the files of both ends."""
+    files = [file for base in (site.store, site.journal) for file in (base, base.with_name(f"{base.name}-wal"))]
+    return [file.read_bytes() if file.exists() else None for file in files]
+
+
+def use_up(provider, address):
+    """Connects until a provider has had its connections."""
+    host, _, port = address.rpartition(":")
+    while provider.process.poll() is None:
+        with contextlib.suppress(OSError):
+            socket.create_connection((host, int(port))).close()
+        time.sleep(0.001)
+
+
+# ---- stories of one run
+
+
+def answer(_, fault):
+    """A request in memory: it is answered, or by the fixed text, or it isn't read."""
+    check_answer(scimlink("answer", stdin=CREATE_BOB, **fault.options), fault)
+
+
+def check_answer(run, fault):
+    check_ending(run, fault)
+    outputs = {0: [BOB_CREATED, UNDONE], ENDED: [BOB_CREATED, UNDONE, b""]}.get(run.status, [b""])
+    if run.output not in (outputs if fault.has_come else [BOB_CREATED]):
+        raise AssertionError(f"status {run.status}, printed {run.output!r}")
+
+
+def answer_stored(folder, fault):
+    """A request over a new store: its row is there if it was answered, and none where memory was refused."""
+    command = ["answer", "--store", folder / "store"]
+    run = scimlink(*command, stdin=CREATE_BOB, **fault.options)
+    check_answer(run, fault)
+    again = scimlink(*command, stdin=CREATE_BOB)
+    check((again.status, again.errors), (0, ""), "the next answer")
+    if run.output == BOB_CREATED:
+        check(again.output[:12], b"HTTP/1.1 409", "the answer after a creation")
+    elif fault.kind == "ALLOCATION":
+        check(again.output, BOB_CREATED, "the answer after refused memory")
+    if fault.kind != "ALLOCATION":
+        check(show("--store", folder / "store"), [BOB_SHOWN], "rows in the end")
+
+
+def simulate(_, fault):
+    lines = SCHEDULE.with_suffix(".out").read_text().splitlines()
+    check_lines(scimlink("simulate", SCHEDULE, **fault.options), fault, lines)
+
+
+def map_users(_, fault):
+    lines = scimlink("map", RECORDS).lines
+    check_lines(scimlink("map", RECORDS, **fault.options), fault, lines, 1, ["users record 3: S5"])
+
+
+# ---- stories of both ends
+
+
+@dataclasses.dataclass
+class Job:
+    """Files of a source, and of both ends where there are some, and what both ends keep in the end."""
+
+    folder: pathlib.Path
+    # The revision at which both ends keep a record at first
+    before: dict
+    # What `show` prints of the store in the end: records in the order of the source
+    rows: list
+
+    def start(self, folder):
+        """The files, in a new folder."""
+        shutil.copytree(self.folder, folder, dirs_exist_ok=True)
+        return Site(folder)
+
+    @property
+    def wanted(self):
+        """The revision at which each record is wanted."""
+        return {name: int(row["held"]) for name, row in read_shown(self.rows).items()}
+
+    @property
+    def confirmed(self):
+        """What `push` prints."""
+        return [f"{kind} {name} confirmed {wanted}" for (kind, name), wanted in self.wanted.items()]
+
+    @property
+    def records(self):
+        """What `loop` prints of the records."""
+        revisions = [f"wanted={wanted} confirmed={wanted} held=" for wanted in self.wanted.values()]
+        return [row.replace("held=", revision) for row, revision in zip(self.rows, revisions)]
+
+    @property
+    def entries(self):
+        """What `show` prints of the journal in the end."""
+        ids = [f"id={resource_id(place)}" for place in range(1, len(self.rows) + 1)]
+        return [f"{record.partition(' held=')[0]} {id}" for record, id in zip(self.records, ids)]
+
+    def check_kept(self, site, accepted, confirmed):
+        """Both ends keep what they kept, and what was printed; the store keeps what is confirmed."""
+        entries = self.check_entries(site, accepted, confirmed)
+        self.check_rows(site, [f"{kind} {name} confirmed {entry['confirmed']}" for (kind, name), entry in entries.items()])
+
+    def check_entries(self, site, accepted, confirmed):
+        """The journal keeps what it kept, the first rows of the source that were accepted, and what was confirmed."""
+        entries = read_shown(show("--journal", site.journal))
+        for place, (name, wanted) in enumerate(self.wanted.items()):
+            before, entry = self.before.get(name, 0), entries.get(name, {"wanted": 0, "confirmed": 0})
+            is_confirmed = " ".join([*name, f"confirmed {wanted}"]) in confirmed
+            self.check_number(name, entry["wanted"], wanted if place < accepted else before)
+            self.check_number(name, entry["confirmed"], wanted if is_confirmed else before)
+        return entries
+
+    def check_rows(self, site, confirmed):
+        """The store keeps what it kept, and what was confirmed."""
+        lines = show("--store", site.store)
+        rows = read_shown(lines)
+        for name, wanted in self.wanted.items():
+            is_confirmed = " ".join([*name, f"confirmed {wanted}"]) in confirmed
+            row = rows.get(name, {"held": 0})
+            self.check_number(name, row["held"], wanted if is_confirmed else self.before.get(name, 0))
+        return lines
+
+    def check_number(self, name, number, least):
+        """A revision is this one, or the one that is wanted."""
+        if int(number) not in (least, self.wanted[name]):
+            raise AssertionError(f"{name} is at {number}, and not at {least}")
+
+    def push_again(self, site, provider):
+        run = site.push(provider.address)
+        check((run.status, run.lines, run.errors), (0, self.confirmed, ""), "the next push")
+
+    def push(self, folder, fault):
+        """A push with a fault, then one without."""
+        site = self.start(folder)
+        with Provider(1_000_000, "--store", site.store) as provider:
+            before = kept(site)
+            run = site.push(provider.address, **fault.options)
+            check_ending(run, fault)
+            check(run.lines, self.confirmed[: len(run.lines)], "lines")
+            if run.status == 0:
+                check(len(run.lines), len(self.rows), "lines of a push that ends well")
+            if kept(site) == before:
+                return
+            self.check_entries(site, 0, run.lines)
+            self.push_again(site, provider)
+        check(show("--store", site.store), self.rows, "the store in the end")
+
+    def serve(self, folder, fault):
+        """A push to a provider with a fault, then one to a provider without."""
+        site = self.start(folder)
+        options = ["--listen", "127.0.0.1:0", "--requests", EXCHANGES, "--store", site.store]
+        before = kept(site)
+        with Running("serve", *options, **fault.options) as provider:
+            address = provider.read_line().removeprefix("listening ").strip()
+            run = site.push(address) if address else None
+            if run:
+                use_up(provider, address)
+            check_ending(provider.ends(), fault, "connection fault")
+        if kept(site) == before:
+            return
+        rows = self.check_rows(site, run.lines if run else ())
+        if run and run.status == 0 and rows == self.rows:
+            return
+        with Provider(1_000_000, "--store", site.store) as provider:
+            self.push_again(site, provider)
+        check(show("--store", site.store), self.rows, "the store in the end")
+
+    def loop(self, folder, fault):
+        """A loop with a fault, then one without."""
+        site = self.start(folder)
+        both = ["--store", site.store, "--journal", site.journal]
+        before = kept(site)
+        run = site.loop(*both, **fault.options)
+        check_ending(run, fault)
+        reports = [line for line in run.lines if line[0].isdigit()]
+        records = [line for line in run.lines if line.startswith(("user ", "group "))]
+        check(records, self.records[: len(records)], "records")
+        if run.status == 0:
+            check(len(records), len(self.rows), "records of a loop that ends well")
+        if kept(site) == before:
+            return
+        if fault.kind == "WRITE":
+            self.check_kept(site, len(reports), self.confirmed[: len(records)])
+        again = site.loop(*both)
+        known = [report.replace("new", "known") for report in reports]
+        check(again.lines[: len(known)], known, "the rows that were accepted")
+        if records:
+            check(again.lines[len(reports)], "settled in 0 exchanges", "the loop after all was confirmed")
+        check((again.status, again.errors, again.lines[-len(self.rows) :]), (0, "", self.records), "the next loop")
+
+    def show_store(self, folder, fault):
+        self.shows(folder, fault, "--store", [BOB_SHOWN])
+
+    def show_journal(self, folder, fault):
+        self.shows(folder, fault, "--journal", [f"user bob wanted=1 confirmed=1 id={resource_id(1)}"])
+
+    def shows(self, folder, fault, option, lines):
+        """A show with a fault of what is kept at first, then one without."""
+        site = self.start(folder)
+        file = site.store if option == "--store" else site.journal
+        before = kept(site)
+        check_lines(scimlink("show", option, file, **fault.options), fault, lines)
+        if kept(site) != before:
+            check(show(option, file), lines, "the next show")
+
+
+# ---- tests
+
+
+class FaultsTest(unittest.TestCase):
+    @classmethod
+    def setUpClass(cls):
+        # in memory where there is such a folder: no test here needs a disk
+        memory = "/dev/shm" if os.access("/dev/shm", os.W_OK) else None
+        folder = tempfile.TemporaryDirectory(prefix="scimlink-", dir=memory)
+        cls.addClassCleanup(folder.cleanup)
+        cls.folder = pathlib.Path(folder.name)
+        cls.shim = build_shim(cls.folder)
+        group = "group crew held=1 version=1 members=2"
+        cls.joiners = cls.job("joiners", {}, ["user ann held=1 version=1 active=true", BOB_SHOWN, group])
+        site = Site(cls.joiners.folder)
+        site.write_users("ann,1,1001,Ann,Lee,ann@example.com,active", "bob,1,,,,,active")
+        site.write_groups("crew,1,ann bob")
+        left = "user bob held=2 version=2 active=false"
+        cls.leaver = cls.job("leaver", {("user", "bob"): 1}, [left, "user cid held=1 version=1 active=true", group])
+        site = Site(cls.leaver.folder)
+        site.write_users("bob,1,,,,,active")
+        check(site.loop("--store", site.store, "--journal", site.journal).status, 0, "the loop before")
+        site.write_users("bob,2,,,,,left", "cid,1,1003,Cid,Poe,cid@example.com,active")
+        site.write_groups("crew,1,bob cid")
+
+    @classmethod
+    def job(cls, name, *parts):
+        folder = cls.folder / name
+        folder.mkdir()
+        return Job(folder, *parts)
+
+    def refuse(self, kind, *stories, ways=("",), **more):
+        """Tells each story with each call of this kind refused in turn, in each of these ways."""
+        for story in stories:
+            for how in ways:
+                with self.subTest(story=story.__name__, how=how):
+                    count, wrong = tell_all(story, self.shim, kind, how, **more)
+                    print(f"{story.__name__}: refused {count} {kind.lower()}s {how}".rstrip(), *wrong[:5], sep="\n", flush=True)
+                    self.assertEqual(wrong[:5], [], f"{len(wrong)} of {count}")
+                    self.assertGreater(count, 0)
+
+    def refuse_memory_after(self, opening, story):
+        """Tells a story with each allocation refused in turn, but for those of the first run: it opens files alone."""
+        with tempfile.TemporaryDirectory(dir=self.folder) as name:
+            folder = pathlib.Path(name)
+            site = self.leaver.start(folder)
+            fault = Fault(self.shim, folder, "ALLOCATION", 0)
+            run = scimlink(*opening(site), **fault.options)
+            check((run.status, run.output), (3, b""), "an opening alone")
+            # it closed the files too
+            self.refuse("ALLOCATION", story, opening=fault.count() - 100, step=STEP)
+
+    def test_memory_of_answer(self):
+        self.refuse("ALLOCATION", answer, answer_stored)
+
+    def test_memory_of_simulate_and_map(self):
+        self.refuse("ALLOCATION", simulate, map_users)
+
+    def test_memory_of_show(self):
+        for option, story in ("--store", self.leaver.show_store), ("--journal", self.leaver.show_journal):
+            self.refuse("ALLOCATION", story, step=STEP)
+
+    def test_memory_of_push(self):
+        self.refuse_memory_after(
+            lambda site: ["push", "--users", "nowhere", "--journal", site.journal, "--to", "127.0.0.1:1"], self.leaver.push
+        )
+
+    def test_memory_of_serve(self):
+        self.refuse_memory_after(
+            lambda site: ["serve", "--listen", "192.0.2.1:1", "--requests", "1", "--store", site.store], self.leaver.serve
+        )
+
+    def test_memory_of_loop(self):
+        self.refuse_memory_after(
+            lambda site: ["loop", "--users", "nowhere", "--store", site.store, "--journal", site.journal], self.leaver.loop
+        )
+
+    def test_writes(self):
+        self.refuse("WRITE", answer_stored, ways=WRITE_FAULTS)
+        for job in self.joiners, self.leaver:
+            self.refuse("WRITE", job.push, job.serve, job.loop, ways=WRITE_FAULTS)
+
+    def test_reads(self):
+        self.refuse("READ", answer_stored, self.leaver.push, self.leaver.serve, self.leaver.loop, ways=["5"])
+
+
+if __name__ == "__main__":
+    unittest.main()
