@@ -5,7 +5,7 @@ use connector_core::Connector;
 use http_text::{Input, Output};
 use journal_core::MemoryJournal;
 use provider_core::{MemoryRegistry, Provider};
-use provisioning::{Dial, Pushed, RunFault, Standing, Tally, Tell, push_all};
+use provisioning::{Dial, Pushed, Standing, Tally, Tell, push_all};
 use scim_client::ScimService;
 use scim_key::{Base, Kind, RecordName};
 use scim_server::serve;
@@ -173,21 +173,13 @@ impl Tell for Lines {
     }
 }
 
-/// The text of the fault that ended a run, which is empty where none did.
-fn text_of(rt: &impl Abort, alloc: Global, ended: Result<Tally, RunFault>) -> String {
-    match ended {
-        Ok(_) => String::new(alloc),
-        Err(fault) => fault.to_string(alloc).expect(rt, "memory"),
-    }
-}
-
-/// Asserts the results for the records of a connector: how the run ends, and what is reported.
+/// Asserts the results for the records of a connector: the run's tally, which is none if it ends with a fault, and what is reported.
 fn pushes<D: Dial>(
     rt: &impl Abort,
     alloc: Global,
     connector: &mut Connector<MemoryJournal>,
     dial: &mut D,
-    end: Result<Tally, &str>,
+    end: Option<Tally>,
     told: &str,
 ) {
     let service = ScimService::new(Base::read(alloc, "http://localhost:8080/v2").expect(
@@ -198,24 +190,21 @@ fn pushes<D: Dial>(
         text: String::new(alloc),
     };
     let ended = push_all(alloc, &service, connector, dial, &mut lines);
-    match end {
-        Ok(tally) => assert_same(rt, ended.ok(), Some(tally)),
-        Err(fault) => assert_same(rt, text_of(rt, alloc, ended).as_str(), fault),
-    }
+    assert_same(rt, ended.ok(), end);
     assert_same(rt, lines.text.as_str(), told);
 }
 
 /// Everything is confirmed after this many exchanges.
-fn settled(exchanges: u32) -> Result<Tally, &'static str> {
-    Ok(Tally {
+fn settled(exchanges: u32) -> Option<Tally> {
+    Some(Tally {
         exchanges,
         is_settled: true,
     })
 }
 
 /// Some record isn't confirmed after this many exchanges.
-fn unsettled(exchanges: u32) -> Result<Tally, &'static str> {
-    Ok(Tally {
+fn unsettled(exchanges: u32) -> Option<Tally> {
+    Some(Tally {
         exchanges,
         is_settled: false,
     })
@@ -299,62 +288,46 @@ const NO_JSON: &[u8] = b"HTTP/1.1 200 OK\r\nContent-Length: 6\r\n\r\n<html>";
 
 const TAKEN: &[u8] = b"HTTP/1.1 409 Conflict\r\nContent-Length: 0\r\n\r\n";
 
-/// Answers of the test, how the run ends, and what is reported.
-type Given = (
-    &'static [&'static [u8]],
-    Result<(u32, bool), &'static str>,
-    &'static str,
-);
+/// Answers of the test; after how many exchanges the run ends, which is none if it ends with a fault; and what is reported.
+type Given = (&'static [&'static [u8]], Option<u32>, &'static str);
 
 static GIVEN: &[Given] = &[
     (
         &[REFUSED, REFUSED, REFUSED],
-        Ok((3, false)),
+        Some(3),
         "user bob 3 unconfirmed C4\n",
     ),
     (
         &[UNMEASURED, UNMEASURED, UNMEASURED],
-        Ok((3, false)),
+        Some(3),
         "user bob 3 unconfirmed K1\n",
     ),
-    (
-        &[TWO, NO_JSON, TWO],
-        Ok((3, false)),
-        "user bob 3 unconfirmed C1\n",
-    ),
-    (
-        &[TWO, TWO, NO_JSON],
-        Ok((3, false)),
-        "user bob 3 unconfirmed K2\n",
-    ),
+    (&[TWO, NO_JSON, TWO], Some(3), "user bob 3 unconfirmed C1\n"),
+    (&[TWO, TWO, NO_JSON], Some(3), "user bob 3 unconfirmed K2\n"),
     (
         &[NONE, CREATED, CREATED],
-        Ok((3, false)),
+        Some(3),
         "user bob 3 unconfirmed C2\n",
     ),
     (
         &[NONE, CREATED, NONE],
-        Ok((3, false)),
+        Some(3),
         "user bob 3 unconfirmed K3\n",
     ),
     (
         &[REFUSED, CUT_SHORT, CUT_SHORT],
-        Ok((3, false)),
+        Some(3),
         "user bob 3 unconfirmed H10\n",
     ),
     // a fault stays, even if what follows has none
     (
         &[CUT_SHORT, NONE, TAKEN],
-        Ok((3, false)),
+        Some(3),
         "user bob 3 unconfirmed H10\n",
     ),
-    (
-        &[NONE, TAKEN, NONE],
-        Ok((3, false)),
-        "user bob 3 unconfirmed -\n",
-    ),
-    (&[], Err("connection fault"), ""),
-    (&[REFUSED, NONE], Err("connection fault"), ""),
+    (&[NONE, TAKEN, NONE], Some(3), "user bob 3 unconfirmed -\n"),
+    (&[], None, ""),
+    (&[REFUSED, NONE], None, ""),
 ];
 
 #[test]
@@ -368,10 +341,10 @@ fn answers_of_another_provider(rt: HostRuntime) {
             answers,
             taken: 0,
         };
-        let end = end.map(|(exchanges, is_settled)| Tally {
-            exchanges,
-            is_settled,
-        });
+        let end = match end {
+            Some(exchanges) => unsettled(*exchanges),
+            None => None,
+        };
         pushes(&rt, alloc, &mut connector, &mut streams, end, told);
     }
 }
