@@ -125,6 +125,14 @@ def simulate(_, fault):
     check_lines(scimlink("simulate", SCHEDULE, **fault.options), fault, lines)
 
 
+def settle(folder, fault):
+    """A run that settles. What it leaves if memory is refused is in the contract of `settle`."""
+    schedule = folder / "schedule"
+    schedule.write_text("user bob,1,,,,,active\nsend user bob\n")
+    lines = ["1 new", "2 find 1", "settled in 2 exchanges", "user bob wanted=1 confirmed=1 held=1 version=1 active=true"]
+    check_lines(scimlink("simulate", schedule, "--settle", **fault.options), fault, lines)
+
+
 def map_users(_, fault):
     lines = scimlink("map", RECORDS).lines
     check_lines(scimlink("map", RECORDS, **fault.options), fault, lines, 1, ["users record 3: S5"])
@@ -335,7 +343,7 @@ class FaultsTest(unittest.TestCase):
         self.refuse("ALLOCATION", answer, answer_stored)
 
     def test_memory_of_simulate_and_map(self):
-        self.refuse("ALLOCATION", simulate, map_users)
+        self.refuse("ALLOCATION", simulate, settle, map_users)
 
     def test_memory_of_show(self):
         for option, story in ("--store", self.leaver.show_store), ("--journal", self.leaver.show_journal):

@@ -93,27 +93,35 @@ class DatabaseTest(Case):
                 (["loop", *SOURCES, "--journal", file], "journal fault J1"),
                 (["push", *SOURCES, "--journal", file, *to], "journal fault J1")]
 
-    def each_tells(self, file):
+    def each_tells(self, file, why):
         for words, fault in self.opening(file):
-            self.tells(words, f"{fault}\n")
+            self.tells(words, f"{fault}\n {file}: {why}\n")
 
     def test_no_such_folder(self):
-        self.each_tells("folder/rows.db")
+        self.each_tells("folder/rows.db", "No such file or directory")
 
     def test_a_folder(self):
         (self.folder / "folder").mkdir()
-        self.each_tells("folder")
+        self.each_tells("folder", "Is a directory")
 
     def test_no_database(self):
         self.write("text.db", "no database\n" * 1000)
-        self.each_tells("text.db")
+        self.each_tells("text.db", "file is not a database that obeys its schema")
+
+    def test_a_journal_of_sqlite_that_was_left(self):
+        self.run_program("loop", *SOURCES, "--store", "rows.db", "--journal", "journal.db")
+        for name in ("rows.db-journal", "journal.db-journal"):
+            self.write(name, "a transaction that only SQLite can undo\n")
+        why = "the database has a rollback journal, or something else has its name: open it with sqlite3 first"
+        self.tells(["show", "--store", "rows.db"], f"store fault Y1\n rows.db: {why}\n")
+        self.tells(["show", "--journal", "journal.db"], f"journal fault J1\n journal.db: {why}\n")
 
     def test_another_process(self):
         for option, name in (("--store", "rows.db"), ("--journal", "journal.db")):
             self.lock(name, option)
             for words, fault in self.opening(name):
                 if option in words:
-                    self.tells(words, f"{fault}\n")
+                    self.tells(words, f"{fault}\n {name}: the database is in use\n")
 
 
 class FullDiskTest(Case):
@@ -141,10 +149,12 @@ class FullDiskTest(Case):
         return ["sh", "-c", f"trap '' XFSZ; ulimit -f {blocks}; exec \"$@\"", "sh", PROGRAM, *words]
 
     def test_stores(self):
-        for words, fault in ((["loop", *SOURCES, "--store", "rows.db"], "store fault Y1"),
-                             (["loop", *SOURCES, "--journal", "journal.db"], "journal fault J1")):
+        for words, told in (
+            (["loop", *SOURCES, "--store", "rows.db"], "store fault Y1\n rows.db: database or disk is full\n"),
+            (["loop", *SOURCES, "--journal", "journal.db"], "journal fault J1\n journal.db: database or disk is full\n"),
+        ):
             ended = subprocess.run(self.limited(words, 8), cwd=self.folder, capture_output=True, text=True, timeout=60)
-            self.assertEqual((ended.returncode, ended.stderr), (3, f"{fault}\n"), words)
+            self.assertEqual((ended.returncode, ended.stderr), (3, told), words)
 
 
 class AddressTest(Case):

@@ -16,5 +16,5 @@ pub use endings::{carried_status, outcome_status, run_status, simulated_status};
 pub use images::print_images;
 pub use output::NotedWriter;
 pub use status::{
-    Cause, CommandFault, Part, Status, listen_fault, told, unread_fault, words_fault,
+    Cause, CommandFault, Part, Reason, Status, listen_fault, told, unread_fault, words_fault,
 };

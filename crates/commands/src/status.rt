@@ -362,11 +362,20 @@ impl From<ShowFault> for CommandFault {
     }
 }
 
-/// What a run used when a fault ended it, by its name in the arguments, and the system's error.
+/// Why a part of a run failed. Its text is what the system says, or the library of the stores.
+#[derive(Clone, Copy, Debug, Error)]
+pub enum Reason {
+    #[error("{0}")]
+    System(io::Error),
+    #[error("{0}")]
+    Database(database_file::Reason),
+}
+
+/// What a run used when a fault ended it, by its name in the arguments, and why it failed.
 #[derive(Clone, Copy, Debug)]
 pub struct Cause<'a> {
     pub name: &'a str,
-    pub error: io::Error,
+    pub reason: Reason,
 }
 
 /// Reports a fault on standard error, with its cause in a second line, and returns the exit status.
@@ -384,16 +393,16 @@ pub fn told<R: Eprint + AllocGlobal>(
     fault.status()
 }
 
-/// Prints the system's error. The error number is left out, unless memory has run out.
+/// Prints the reason. The number of a system's error is left out, unless memory has run out.
 fn tell_cause<R: Eprint + AllocGlobal>(rt: &R, cause: Cause<'_>) {
-    let Cause { name, error } = cause;
-    match format!(in rt.alloc(); "{error}") {
+    let Cause { name, reason } = cause;
+    match format!(in rt.alloc(); "{reason}") {
         Ok(text) => {
             let words = without_number(text.as_str());
             let _ = eprintln!(rt; " {name}: {words}");
         }
         Err(_) => {
-            let _ = eprintln!(rt; " {name}: {error}");
+            let _ = eprintln!(rt; " {name}: {reason}");
         }
     }
 }

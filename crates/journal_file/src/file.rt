@@ -3,18 +3,20 @@ ghost use Rattle.std.specs.Prelude.{IfOk};
 ghost use Rattle.journal_file.specs.Opened.{IsOpened};
 
 use crate::storage::{Storage, StoredEntries};
+use database_file::{DatabaseFile, Reason};
 use journal_core::Journal;
 use journal_store::{OpenFault, SqlJournal};
-use sqlite::{Alter, Connection, Error, File, FileStore, Unknown};
+use sqlite::{Alter, Connection, Error, File, FileStore};
 use sqlite_disk::{Disk, Files};
 use std::alloc::Global;
-use std::rt::HostRuntime;
+
+/// A statement that leaves the contents of the file as they are.
+const SAME: &str = "UPDATE journal_format SET number = number";
 
 /// A file that keeps the journal of a connector. Opening makes the file if there is none.
 #[derive(Clone, Copy)]
 pub struct JournalFile<'a> {
-    pub rt: &'a HostRuntime,
-    pub path: &'a str,
+    pub file: DatabaseFile<'a>,
 }
 
 impl<'a> Storage for JournalFile<'a> {
@@ -22,10 +24,15 @@ impl<'a> Storage for JournalFile<'a> {
 
     /// If the file is refused, it is closed unchanged.
     fn open(&self) -> Result<Self::Entries, OpenFault> {
-        match Connection::open_from(self.rt, self.path, false, Unknown) {
-            Ok(conn) => entries_over(self.rt.alloc(), conn),
-            Err((error, _left)) => Err(OpenFault::from(error)),
-        }
+        entries_over(self.file.rt.alloc(), self.file.open()?)
+    }
+
+    fn reason(&self) -> Option<Reason> {
+        self.file.reason(SAME)
+    }
+
+    fn name(&self) -> &str {
+        self.file.path
     }
 }
 

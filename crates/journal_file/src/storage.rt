@@ -2,6 +2,7 @@
 ghost use Rattle.std.specs.Prelude.{IfOk};
 ghost use Rattle.journal_file.specs.Opened.{IsOpened};
 
+use database_file::Reason;
 use journal_core::Journal;
 use journal_store::OpenFault;
 
@@ -24,4 +25,10 @@ pub trait Storage {
     /// Opens the entries.
     fn open(&self) -> Result<Self::Entries, OpenFault>
         ensures { IfOk result (IsOpened Self.Entries.Journal) };
+
+    /// Why they can't be opened now, if the system or the database says it. They must be closed.
+    fn reason(&self) -> Option<Reason>;
+
+    /// The name of the place in the arguments.
+    fn name(&self) -> &str;
 }

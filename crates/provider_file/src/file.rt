@@ -3,18 +3,20 @@ ghost use Rattle.std.specs.Prelude.{IfOk};
 ghost use Rattle.provider_file.specs.Opened.{IsOpened};
 
 use crate::storage::{Storage, StoredRows};
+use database_file::{DatabaseFile, Reason};
 use provider_core::Registry;
 use provider_store::{OpenFault, SqlRegistry};
-use sqlite::{Alter, Connection, Error, File, FileStore, Unknown};
+use sqlite::{Alter, Connection, Error, File, FileStore};
 use sqlite_disk::{Disk, Files};
 use std::alloc::Global;
-use std::rt::HostRuntime;
+
+/// A statement that leaves the contents of the file as they are.
+const SAME: &str = "UPDATE provider_format SET number = number";
 
 /// A file that keeps the rows of a provider. Opening makes the file if there is none.
 #[derive(Clone, Copy)]
 pub struct StoreFile<'a> {
-    pub rt: &'a HostRuntime,
-    pub path: &'a str,
+    pub file: DatabaseFile<'a>,
 }
 
 impl<'a> Storage for StoreFile<'a> {
@@ -25,10 +27,15 @@ impl<'a> Storage for StoreFile<'a> {
 
     /// If the file is refused, it is closed unchanged.
     fn open(&self) -> Result<Self::Rows, OpenFault> {
-        match Connection::open_from(self.rt, self.path, false, Unknown) {
-            Ok(conn) => rows_over(self.rt.alloc(), conn),
-            Err((error, _left)) => Err(OpenFault::from(error)),
-        }
+        rows_over(self.file.rt.alloc(), self.file.open()?)
+    }
+
+    fn reason(&self) -> Option<Reason> {
+        self.file.reason(SAME)
+    }
+
+    fn name(&self) -> &str {
+        self.file.path
     }
 }
 

@@ -1,5 +1,6 @@
 //! Memory that keeps the rows.
 use crate::storage::{Storage, StoredRows};
+use database_file::Reason;
 use provider_core::MemoryRegistry;
 use provider_store::OpenFault;
 use std::alloc::Global;
@@ -18,6 +19,14 @@ impl Storage for InMemory {
 
     fn open(&self) -> Result<MemoryRegistry, OpenFault> {
         Ok(MemoryRegistry::new(self.alloc))
+    }
+
+    fn reason(&self) -> Option<Reason> {
+        None
+    }
+
+    fn name(&self) -> &str {
+        "memory"
     }
 }
 

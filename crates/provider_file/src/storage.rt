@@ -3,6 +3,7 @@ ghost use Rattle.std.specs.Prelude.{◌<◌, ◌↔◌, IfErr, IfOk, IsTrue};
 ghost use Rattle.provider_file.specs.Opened.{IsOpened};
 ghost use Rattle.provider_store.specs.declared.opening.OpenFault.{OpenFault as Refusal};
 
+use database_file::Reason;
 use provider_core::Registry;
 use provider_store::OpenFault;
 
@@ -33,4 +34,10 @@ pub trait Storage {
     fn open(&self) -> Result<Self::Rows, OpenFault>
         ensures opened { IfOk result (IsOpened Self.Rows.Registry) }
         ensures refused { IfErr result (refuses self.now) };
+
+    /// Why they can't be opened now, if the system or the database says it. They must be closed.
+    fn reason(&self) -> Option<Reason>;
+
+    /// The name of the place in the arguments.
+    fn name(&self) -> &str;
 }

@@ -13,6 +13,7 @@ mod simulating;
 
 use command::{Choice, Chosen, SourceFiles, choose};
 use commands::{CommandFault, Status, told};
+use database_file::DatabaseFile;
 use journal_file::JournalFile;
 use parts::Parts;
 use provider_file::{Storage, StoreFile};
@@ -45,8 +46,12 @@ fn done(rt: &HostRuntime, chosen: Chosen) -> Status {
         store,
         journal,
     } = chosen;
-    let store = store.as_deref().map(|path| StoreFile { rt, path });
-    let journal = journal.as_deref().map(|path| JournalFile { rt, path });
+    let store = store.as_deref().map(|path| StoreFile {
+        file: DatabaseFile { rt, path },
+    });
+    let journal = journal.as_deref().map(|path| JournalFile {
+        file: DatabaseFile { rt, path },
+    });
     carry_out(rt, choice, store.as_ref(), journal.as_ref())
 }
 
@@ -57,7 +62,7 @@ fn carry_out<R: Runtime + Net + AllocGlobal, K: Storage, J: journal_file::Storag
     store: Option<&K>,
     journal: Option<&J>,
 ) -> Status {
-    let parts = Parts::none();
+    let parts = Parts::over(store, journal);
     match choice {
         Choice::Answer { base } => parts.ended(rt, answering::answer(rt, &base, store)),
         Choice::Loop { files, base } => parts

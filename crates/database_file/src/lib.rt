@@ -1,0 +1,8 @@
+//! A database file: how it is opened, and why it can't be used.
+#![tactic(auto)]
+
+mod file;
+mod reason;
+
+pub use file::DatabaseFile;
+pub use reason::Reason;
