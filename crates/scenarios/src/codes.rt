@@ -4,7 +4,7 @@ use http_text::{ReadFault, SendFault};
 use provider_core::{ProviderFault, RegistryFault};
 use scim_client::{AnswerFault, ExchangeFault};
 use scim_message::Refusal;
-use scim_server::MeaningFault;
+use scim_http::MeaningFault;
 
 static REFUSALS: &[(Refusal, &str)] = &[
     (Refusal::UnreadableBody, "P1"),

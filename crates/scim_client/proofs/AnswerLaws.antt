@@ -10,9 +10,9 @@ use Rattle.scim_message.specs.declared.messages.Answer.TheVariants.{Created, Fou
 use Rattle.scim_message.specs.declared.messages.Answer.TheVariants as answers
 use Rattle.scim_message.specs.declared.messages.Request.{Request}
 use Rattle.scim_message.proofs.BodyTrips.{body_read}
-use Rattle.scim_server.specs.Laws.{HasLawfulParts, response_message}
-use Rattle.scim_server.specs.Replies.{answer_text}
-use Rattle.scim_server.proofs.ResponseLaws.{answers_are_responses}
+use Rattle.scim_http.specs.Laws.{HasLawfulParts, response_message}
+use Rattle.scim_http.specs.Replies.{answer_text}
+use Rattle.scim_http.proofs.ResponseLaws.{answers_are_responses}
 use Rattle.scim_client.specs.Answers.{etag_of, AnswersSo}
 use Rattle.scim_client.specs.Spelling.{HasLawfulTarget}
 use Rattle.scim_client.proofs.Utf8Bytes.{utf8_bytes}

@@ -27,10 +27,10 @@ use Rattle.http_text.specs.declared.fault.ReadFault.TheVariants.{HostMissingOrRe
 use Rattle.http_text.specs.Judging.{◌>>=◌, refused_where, readable_length, length_wanted, is_any, is_host_wrong}
 use Rattle.http_text.specs.Texts.{IsFieldLine}
 use Rattle.http_text.proofs.TextLemmas.{IsFieldLine-visible}
-use Rattle.scim_server.specs.Media.{is_type_served}
-use Rattle.scim_server.specs.Meaning.{condition_in, condition_read}
-use Rattle.scim_server.specs.Replies.{line_with, written_lines, stated_type}
-use Rattle.scim_server.proofs.NumberLemmas.{all_digits}
+use Rattle.scim_http.specs.Media.{is_type_served}
+use Rattle.scim_http.specs.Meaning.{condition_in, condition_read}
+use Rattle.scim_http.specs.Replies.{line_with, written_lines, stated_type}
+use Rattle.scim_http.proofs.NumberLemmas.{all_digits}
 use Rattle.scim_client.specs.Requests.{condition_value, lines_of}
 use Rattle.scim_client.specs.Spelling.{HasEntityTags, HasSomeTag}
 

@@ -7,7 +7,7 @@ use Rattle.std.proofs.lemmas.Str.{IsCharBoundary-from_take}
 use Rattle.scim_key.specs.declared.records.Kind.{Kind}
 use Rattle.scim_key.specs.declared.records.Kind.TheVariants as kinds
 use Rattle.scim_resource.specs.Locations.{collection_path, escaped, location_text}
-use Rattle.scim_server.specs.Laws.{resource_path}
+use Rattle.scim_http.specs.Laws.{resource_path}
 
 -- the text after the base
 abbrev pub below : Kind → List ℕ → List ℕ

@@ -7,8 +7,8 @@ use Rattle.http_text.specs.Message.{Message}
 use Rattle.http_text.specs.Forms.{request_form}
 use Rattle.http_text.proofs.FormLaws.{request_laws}
 use Rattle.http_text.proofs.MessageLemmas.{messages_same}
-use Rattle.scim_server.specs.Meaning.{Asks}
-use Rattle.scim_server.proofs.MeaningLaws.{one_meaning}
+use Rattle.scim_http.specs.Meaning.{Asks}
+use Rattle.scim_http.proofs.MeaningLaws.{one_meaning}
 use Rattle.scim_client.specs.Spelling.{OneRequest}
 
 pub one_request : OneRequest

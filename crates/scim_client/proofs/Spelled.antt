@@ -30,12 +30,12 @@ use Rattle.http_text.specs.Judging.{judge_head}
 use Rattle.http_text.specs.Message.{NamedValue, Head, Message, request_line, values, length_in, stated, absent, body_length, head_limit, body_limit}
 use Rattle.http_text.specs.Texts.{IsTarget, request_text}
 use Rattle.http_text.proofs.TextLemmas as texts
-use Rattle.scim_server.specs.Laws.{resource_path}
-use Rattle.scim_server.specs.Meaning.{IsAsked, routed_asked, collection_asked, resource_request, content_read, condition_in}
-use Rattle.scim_server.specs.Replies.{written_lines}
-use Rattle.scim_server.specs.Routes.{path_of, route_of, collection_path}
-use Rattle.scim_server.specs.Searches.{IsFilter, IsSearch, IsSearchOn, start_in, count_in, start_of, count_of, page_of}
-use Rattle.scim_server.proofs.LocationLaws.{locations_are_routed}
+use Rattle.scim_http.specs.Laws.{resource_path}
+use Rattle.scim_http.specs.Meaning.{IsAsked, routed_asked, collection_asked, resource_request, content_read, condition_in}
+use Rattle.scim_http.specs.Replies.{written_lines}
+use Rattle.scim_http.specs.Routes.{path_of, route_of, collection_path}
+use Rattle.scim_http.specs.Searches.{IsFilter, IsSearch, IsSearchOn, start_in, count_in, start_of, count_of, page_of}
+use Rattle.scim_http.proofs.LocationLaws.{locations_are_routed}
 use Rattle.scim_client.specs.Requests.{with_query, query_text, start_value, condition_value, content_text, lines_of, text_of}
 use Rattle.scim_client.specs.Spelling.{IsIdText, IsSentContent, IsFilterText, KeepsFilterLimits, IsShortNumber, HasLawfulParts, IsWritable, KeepsLimits, SpellsRequest, RequestsAreSpelled}
 use Rattle.scim_client.proofs.Lines.{IsSentCondition, host_value, decimal_value, condition_is_value, condition_found, lines_are, finds, stated_decimal, judged, judged_body, judged_bodiless}

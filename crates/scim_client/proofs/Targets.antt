@@ -14,8 +14,8 @@ use Rattle.scim_key.specs.declared.records.Kind.{Kind}
 use Rattle.scim_key.specs.declared.records.Kind.TheVariants as kinds
 use Rattle.scim_resource.specs.Locations.{is_unreserved, upper_hex, escaped_byte, escaped}
 use Rattle.http_text.specs.Texts.{IsTarget}
-use Rattle.scim_server.specs.Laws.{resource_path}
-use Rattle.scim_server.specs.Routes.{path_of, query_of, collection_path}
+use Rattle.scim_http.specs.Laws.{resource_path}
+use Rattle.scim_http.specs.Routes.{path_of, query_of, collection_path}
 use Rattle.scim_client.specs.Requests.{with_parameter, with_query}
 use Rattle.scim_client.proofs.Lines.{together}
 use Rattle.scim_client.proofs.Queries.{query_with}

@@ -7,7 +7,7 @@ use Rattle.scim_message.specs.Fitting.{Fits}
 use Rattle.scim_message.specs.declared.messages.Answer.{Answer}
 use Rattle.scim_message.specs.declared.messages.Request.{Request}
 use Rattle.http_text.specs.Message.{head_limit, response_body_limit}
-use Rattle.scim_server.specs.Replies.{answer_text}
+use Rattle.scim_http.specs.Replies.{answer_text}
 use Rattle.scim_client.specs.Answers.{AnswersSo}
 use Rattle.scim_client.specs.Spelling.{HasLawfulTarget}
 

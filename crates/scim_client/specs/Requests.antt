@@ -17,10 +17,10 @@ use Rattle.scim_filter.specs.Texts.{filter_text}
 use Rattle.scim_message.specs.declared.messages.Request.{Request}
 use Rattle.scim_message.specs.declared.messages.Request.TheVariants.{Create, Retrieve, Search, Replace}
 use Rattle.http_text.specs.Texts.{request_text}
-use Rattle.scim_server.specs.Laws.{resource_path}
-use Rattle.scim_server.specs.Media.{media_type}
-use Rattle.scim_server.specs.Replies.{Line, written_lines, stated_type}
-use Rattle.scim_server.specs.Routes.{collection_path}
+use Rattle.scim_http.specs.Laws.{resource_path}
+use Rattle.scim_http.specs.Media.{media_type}
+use Rattle.scim_http.specs.Replies.{Line, written_lines, stated_type}
+use Rattle.scim_http.specs.Routes.{collection_path}
 
 -- ---- the target
 

@@ -16,7 +16,7 @@ use Rattle.scim_message.specs.declared.messages.Request.{Request}
 use Rattle.scim_message.specs.declared.messages.Request.TheVariants.{Create, Retrieve, Search, Replace}
 use Rattle.http_text.specs.Message.{Message, head_limit, body_limit}
 use Rattle.http_text.specs.Forms.{IsRequestMessage, IsAccepted}
-use Rattle.scim_server.specs.Meaning.{Asks}
+use Rattle.scim_http.specs.Meaning.{Asks}
 use Rattle.scim_client.specs.Requests.{content_sent, content_text, body_text, if_match_of, if_none_match_of, text_of}
 
 -- the text is a message that isn't refused, and it asks for this request

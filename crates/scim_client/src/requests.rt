@@ -7,9 +7,9 @@ ghost use Rattle.http_text.specs.Response.{named_value};
 ghost use Rattle.scim_version.specs.declared.conditions.Condition.TheVariants.{Always};
 ghost use Rattle.scim_version.specs.Tags.{IsEntityTag};
 ghost use Rattle.scim_filter.specs.Texts.{filter_text};
-ghost use Rattle.scim_server.specs.Laws as paths;
-ghost use Rattle.scim_server.specs.Replies.{line_with, written_lines};
-ghost use Rattle.scim_server.specs.Routes as routes;
+ghost use Rattle.scim_http.specs.Laws as paths;
+ghost use Rattle.scim_http.specs.Replies.{line_with, written_lines};
+ghost use Rattle.scim_http.specs.Routes as routes;
 ghost use Rattle.scim_client.specs.Requests as spec;
 ghost use Rattle.scim_client.specs.Spelling.{HasEntityTags, HasLawfulTarget, IsFilterText, IsIdText, IsSentContent, IsWritable, KeepsLimits, SpellsRequest};
 
@@ -20,7 +20,7 @@ use scim_filter::Filter;
 use scim_key::{Base, Kind, ResourceId};
 use scim_message::Request;
 use scim_resource::{Content, location};
-use scim_server::{MEDIA_TYPE, push_line, stated_type};
+use scim_http::{MEDIA_TYPE, push_line, stated_type};
 use scim_version::{Condition, EntityTag};
 use std::alloc::{AllocError, Global};
 

@@ -1,9 +1,1 @@
-pub mod ReplyLaws
-pub mod ResponseLaws
-pub mod LocationLaws
-pub mod MeaningLaws
-pub mod NumberLemmas
-pub mod SearchLemmas
-pub mod SegmentLaws
-pub mod SegmentLemmas
 pub mod ServedLemmas

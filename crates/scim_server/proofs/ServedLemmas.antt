@@ -14,9 +14,9 @@ use Rattle.http_text.specs.Heads.{IsStreamFault, Answers}
 use Rattle.http_text.specs.Judging.{is_head}
 use Rattle.http_text.specs.Requests.{FindsMessage, AnswersMalformed}
 use Rattle.scim_server.specs.declared.serving.Served.{Served}
-use Rattle.scim_server.specs.Meaning.{Asks}
-use Rattle.scim_server.proofs.MeaningLaws.{one_meaning}
-use Rattle.scim_server.specs.Replies.{ReplyRecord}
+use Rattle.scim_http.specs.Meaning.{Asks}
+use Rattle.scim_http.proofs.MeaningLaws.{one_meaning}
+use Rattle.scim_http.specs.Replies.{ReplyRecord}
 use Rattle.provider_core.specs.declared.registry.Registry.{Ghosts}
 use Rattle.scim_server.specs.Serving.{AnswersMeaning, AnswersMessage, GivesUp, LeavesRows, Sends, IsSent, Serves, HasRead}
 use Rattle.scim_server.specs.Known.{IsHindered, MeetsFault, ServesKnown}

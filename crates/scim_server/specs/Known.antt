@@ -13,7 +13,7 @@ use Rattle.http_text.specs.Forms.{IsRequestHead, IsRequestMessage, IsAccepted}
 use Rattle.http_text.specs.Judging.{judge_head, is_head}
 use Rattle.http_text.specs.Requests.{IsPartOfHead, IsPartOfBody, IsLongPart, HasLongSection}
 use Rattle.scim_server.specs.declared.serving.Served.{Served}
-use Rattle.scim_server.specs.Meaning.{Asks}
+use Rattle.scim_http.specs.Meaning.{Asks}
 use Rattle.scim_server.specs.Reactions.{reaction_to}
 use Rattle.scim_server.specs.Serving.{AnswersMeaning, GivesUp, Sends, IsSilent, Reacts}
 

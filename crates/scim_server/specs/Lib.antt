@@ -1,12 +1,3 @@
 pub mod Known
-pub mod Laws
-pub mod Meaning
-pub mod Media
-pub mod Numbers
-pub mod Queries
 pub mod Reactions
-pub mod Replies
-pub mod Routes
-pub mod Searches
-pub mod Segments
 pub mod Serving

@@ -22,9 +22,9 @@ use Rattle.scim_server.specs.declared.serving.Served.{Served}
 use Rattle.scim_server.specs.declared.serving.Served.TheVariants.{Answered, NoRequest, Lost}
 use Rattle.scim_server.specs.declared.reactions.Reaction.{Reaction}
 use Rattle.scim_server.specs.declared.reactions.Reaction.TheVariants.{Refuse, GiveUp, StaySilent}
-use Rattle.scim_server.specs.Meaning.{Asks}
+use Rattle.scim_http.specs.Meaning.{Asks}
 use Rattle.scim_server.specs.Reactions.{reaction_to}
-use Rattle.scim_server.specs.Replies.{ReplyRecord, reply_of, fixed_reply}
+use Rattle.scim_http.specs.Replies.{ReplyRecord, reply_of, fixed_reply}
 
 -- the model's answer to a request, and its change of the rows, while the store is faithful
 pub record AnswersRequest (faithful : Type 0) (base : List ℕ) (old new : List StoredRecord) (leaves_body_out : Bool) (request : Request) (reply : ReplyRecord) : Type 0 where

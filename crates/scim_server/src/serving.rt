@@ -8,15 +8,14 @@ ghost use Rattle.http_text.specs.declared.fault.ReadFault.{ReadFault};
 ghost use Rattle.provider_core.specs.Stores.{IsQuiet, CountsFaults, CountsProviderFault};
 ghost use Rattle.provider_core.specs.Outcomes.{outcome, changed_rows};
 ghost use Rattle.provider_core.specs.Calls.{Writes};
-ghost use Rattle.scim_server.specs.Replies.{fixed_reply};
+ghost use Rattle.scim_http.specs.Replies.{fixed_reply};
 ghost use Rattle.scim_server.specs.Serving as spec;
 ghost use Rattle.scim_server.specs.Known.{ServesKnown};
 
 use crate::reactions::{Reaction, reaction_to};
-use crate::replies::{Reply, fixed_response};
-use crate::requests::{MeaningFault, meaning};
 use http_text::{Incoming, Input, Output, ReadFault, read_request, send};
 use provider_core::{Answer, ErrorResponse, Provider, ProviderFault, Registry, Request};
+use scim_http::{MeaningFault, Reply, fixed_response, meaning};
 use scim_key::Base;
 use scim_message::Refusal;
 use std::alloc::{AllocError, Global};

@@ -63,7 +63,7 @@ use Rattle.scim_client.proofs.AnswerLaws.{answers_are_read}
 use Rattle.scim_message.specs.declared.answers.BodyFault.{BodyFault}
 use Rattle.scim_message.specs.Answers.{read_body, said_if, is_error_status, error_in}
 use Rattle.scim_json.specs.Parsing.{json_of}
-use Rattle.scim_server.specs.Replies.{answer_text}
+use Rattle.scim_http.specs.Replies.{answer_text}
 use Rattle.http_text.specs.Message.{code_of}
 use Rattle.world_sim.specs.Fitting.{IsWithinLimits, IsFormed, MessagesKeepLimits, MessagesAreRead}
 use Rattle.world_sim.specs.Messages.{message_text}

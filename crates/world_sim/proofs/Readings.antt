@@ -10,8 +10,8 @@ use Rattle.http_text.specs.Forms.{request_form, response_form}
 use Rattle.http_text.specs.Wholes.{IsNoRequest, IsOneRequest}
 use Rattle.http_text.proofs.FormLaws.{request_laws, response_laws}
 use Rattle.http_text.proofs.MessageLemmas.{messages_same, messages_apart}
-use Rattle.scim_server.specs.Meaning.{Asks}
-use Rattle.scim_server.proofs.MeaningLaws.{one_meaning}
+use Rattle.scim_http.specs.Meaning.{Asks}
+use Rattle.scim_http.proofs.MeaningLaws.{one_meaning}
 use Rattle.scim_client.specs.declared.answers.AnswerFault.{AnswerFault}
 use Rattle.scim_client.specs.declared.answers.AnswerFault.TheVariants.{NotOneResponse, NotJson, WrongShape, OutOfMemory}
 use Rattle.scim_client.specs.Answers.{AnswersSo, IsOrMemory as IsAnswerOrMemory}

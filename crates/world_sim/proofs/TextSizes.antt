@@ -12,7 +12,7 @@ use Rattle.scim_resource.specs.Locations.{is_unreserved, escaped_byte, escaped, 
 use Rattle.http_text.specs.Message.{NamedValue}
 use Rattle.http_text.specs.Response.{field_line, phrase_of, response_text}
 use Rattle.http_text.specs.Texts.{request_text}
-use Rattle.scim_server.specs.Replies.{Line, written_lines}
+use Rattle.scim_http.specs.Replies.{Line, written_lines}
 
 -- ---- field lines
 

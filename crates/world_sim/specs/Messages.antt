@@ -2,7 +2,7 @@
 use Rattle.std.specs.Prelude.{◌≡◌, ℕ, zero, suc, List, Option, None, map, length, false}
 use Rattle.std.specs.List.{slice_get}
 use Rattle.scim_client.specs.Requests.{text_of}
-use Rattle.scim_server.specs.Replies.{answer_text}
+use Rattle.scim_http.specs.Replies.{answer_text}
 use Rattle.world_model.specs.World.{Message, Asked, Answered}
 use Rattle.world_sim.specs.declared.messages.Said.{Said}
 use Rattle.world_sim.specs.declared.messages.Said.TheVariants as said

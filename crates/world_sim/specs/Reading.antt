@@ -3,7 +3,7 @@ use Rattle.std.specs.Prelude.{◌≡◌, ◌⊎◌, List, ℕ, Result, Ok, Err, 
 use Rattle.scim_message.specs.declared.messages.Request.{Request}
 use Rattle.scim_message.specs.declared.refusals.Refusal.{Refusal}
 use Rattle.http_text.specs.Message.{Message as Incoming}
-use Rattle.scim_server.specs.Meaning.{Asks}
+use Rattle.scim_http.specs.Meaning.{Asks}
 use Rattle.scim_client.specs.declared.answers.AnswerFault.{AnswerFault}
 use Rattle.scim_client.specs.declared.answers.AnswerFault.TheVariants.{NotOneResponse, NotJson, WrongShape, OutOfMemory}
 use Rattle.scim_client.specs.Answers.{AnswersSo}

@@ -12,7 +12,7 @@ use crate::messages::Said;
 use http_text::{Incoming, request_in};
 use scim_client::{AnswerFault, read_answer};
 use scim_message::{Answer, Request};
-use scim_server::{MeaningFault, meaning};
+use scim_http::{MeaningFault, meaning};
 use std::alloc::{AllocError, Global};
 
 /// Why bytes couldn't be read as a message.

@@ -9,7 +9,7 @@ ghost use Rattle.provider_core.specs.Outcomes.{outcome};
 ghost use Rattle.scim_client.specs.Answers.{AnswersSo};
 ghost use Rattle.scim_key.specs.Bases.{IsBase};
 ghost use Rattle.scim_message.specs.declared.messages.Answer.{Answer};
-ghost use Rattle.scim_server.specs.Replies.{answer_text};
+ghost use Rattle.scim_http.specs.Replies.{answer_text};
 ghost use Rattle.source_csv.specs.Records.{IsRow};
 ghost use Rattle.world_model.specs.Reports.{Judged, Taught, learnt_of, next_number, sending_report};
 ghost use Rattle.world_model.specs.World.{Answered, Asked, Changes, Cuts, Delivers, Restarts_connector, Restarts_provider, Sends, with_message};
@@ -32,7 +32,7 @@ use provider_core::{Pending, Provider, Registry, Reopen};
 use scim_client::ScimService;
 use scim_key::{Base, RecordName};
 use scim_message::{Answer, Request};
-use scim_server::response_of;
+use scim_http::response_of;
 use source_csv::Row;
 use std::alloc::Global;
 

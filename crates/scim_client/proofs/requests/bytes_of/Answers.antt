@@ -4,8 +4,8 @@ use Rattle.std.specs.Option.{option_map_or}
 use Rattle.scim_key.specs.Bases.{IsAuthority}
 use Rattle.http_text.specs.Response.{named_value}
 use Rattle.http_text.specs.Texts.{request_text}
-use Rattle.scim_server.specs.Replies.{written_lines}
-use Rattle.scim_server.proofs.SearchLemmas.{if_ok}
+use Rattle.scim_http.specs.Replies.{written_lines}
+use Rattle.scim_http.proofs.SearchLemmas.{if_ok}
 use Rattle.scim_client.specs.Requests.{condition_value, lines_of, request_lines, text_of, stated_length, body_text}
 use Rattle.scim_client.specs.Spelling.{HasEntityTags, HasLawfulParts, SpellsRequest}
 use Rattle.scim_client.proofs.Spelled.{spelled_by}

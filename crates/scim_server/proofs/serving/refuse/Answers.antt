@@ -1,5 +1,5 @@
 use Rattle.std.proofs.Common.{inr, refl}
-use Rattle.scim_server.specs.Replies.{fixed_reply}
+use Rattle.scim_http.specs.Replies.{fixed_reply}
 use Rattle.scim_server.proofs.serving.refuse.Goals as goal
 
 pub returns-in-Err-clause-sent : goal.returns-in-Err-clause-sent

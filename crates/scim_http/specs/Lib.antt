@@ -1,0 +1,9 @@
+pub mod Laws
+pub mod Meaning
+pub mod Media
+pub mod Numbers
+pub mod Queries
+pub mod Replies
+pub mod Routes
+pub mod Searches
+pub mod Segments

@@ -1,5 +1,0 @@
-use Rattle.scim_server.proofs.ResponseLaws as lemmas
-use Rattle.scim_server.proofs.laws.answers_are_responses.Goals as goal
-
-pub returns : goal.returns
-returns c = lemmas.answers_are_responses

@@ -1,5 +1,0 @@
-use Rattle.scim_server.proofs.LocationLaws.{locations_are_routed}
-use Rattle.scim_server.proofs.laws.locations_are_routed.Goals as goal
-
-pub returns : goal.returns
-returns c = locations_are_routed

@@ -1,5 +1,0 @@
-use Rattle.scim_server.proofs.ReplyLaws.{replies_are_lawful}
-use Rattle.scim_server.proofs.laws.replies_are_lawful.Goals as goal
-
-pub returns : goal.returns
-returns c = replies_are_lawful

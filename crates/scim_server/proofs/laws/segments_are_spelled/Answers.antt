@@ -1,5 +1,0 @@
-use Rattle.scim_server.proofs.SegmentLaws.{segments_are_spelled}
-use Rattle.scim_server.proofs.laws.segments_are_spelled.Goals as goal
-
-pub returns : goal.returns
-returns c = segments_are_spelled

@@ -1,8 +1,0 @@
-use Rattle.std.proofs.Common.{refl}
-use Rattle.httparse.specs.Grammar.{print_response}
-use Rattle.scim_server.specs.Replies.{fixed_text}
-use Rattle.scim_server.proofs.replies.fixed_response.Goals as goal
-
-pub returns : goal.returns
-unfolding fixed_text print_response
-returns c = refl
