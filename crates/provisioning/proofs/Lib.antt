@@ -1,3 +1,4 @@
+mod ListLemmas
 mod OnwardLemmas
 mod RestLemmas
 mod RunLemmas

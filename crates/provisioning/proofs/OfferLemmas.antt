@@ -1,5 +1,5 @@
 -- One record more.
-use Rattle.std.proofs.Common.{◌≡◌, ◌≢◌, ◌+◌, ◌<◌, ℕ, Bool, false, List, [], ◌∷◌, ◌++◌, ◌&&◌, length, take, drop, Option, Some, None, Result, Ok, Err, refl, ap, sym, ◌∙◌, append_assoc, append-nil, add-one, drop-cons}
+use Rattle.std.proofs.Common.{◌≡◌, ◌≢◌, ◌+◌, ◌<◌, ℕ, Bool, false, List, [], ◌∷◌, ◌++◌, ◌&&◌, length, take, drop, Option, Result, Ok, Err, refl, ap, sym, ◌∙◌, append_assoc, append-nil, add-one, drop-cons}
 use Rattle.std.proofs.Math.ListN.{get_or}
 use Rattle.std.proofs.lemmas.List.{take_more}
 use Rattle.std.proofs.lemmas.List.Elements.{filter_map-append}
@@ -11,6 +11,7 @@ use Rattle.source_book.specs.declared.accepting.Verdict.{Verdict}
 use Rattle.source_csv.specs.declared.faults.RowFault.{RowFault}
 use Rattle.source_csv.specs.declared.rows.Row.{Row}
 use Rattle.connector_core.specs.declared.changing.ChangeFault.{ChangeFault}
+use Rattle.provisioning.proofs.ListLemmas.{adds_more}
 use Rattle.provisioning.specs.Faults.{IsUntold}
 use Rattle.provisioning.specs.Offering.{Hears, Tells, is_taken, judged_of, rows_in}
 use Rattle.provisioning.specs.declared.faults.OfferFault.{OfferFault}
@@ -44,12 +45,6 @@ none_next records i found refusal less is here =
 
 -- ---- reporting
 
-pub heard_more : (old between new : Option (List Judged)) (first then : List Judged) → Hears old between first → Hears between new then → Hears old new (first ++ then)
-heard_more None between new first then a b = tt
-heard_more (Some all) None new first then a b = absurd a
-heard_more (Some all) (Some more) None first then a b = absurd b
-heard_more (Some all) (Some more) (Some most) first then a b = b ∙ ap (λ xs. xs ++ then) a ∙ append_assoc all first then
-
 -- Of these rows, the first were reported, and the remaining ones aren't yet
 pub record IsTold (all left : List Judged) (before now : Option (List Judged)) (taken : Bool) : Type 0 where
   pub told : List Judged
@@ -63,7 +58,7 @@ pub told_more : (all left rest : List Judged) (judged : Judged) (before mid now 
 told_more all left rest judged before mid now taken more both left_is so_far one both_is = record {
   told = so_far.told ++ judged ∷ [];
   all_are = so_far.all_are ∙ ap (λ xs. so_far.told ++ xs) left_is ∙ sym (append_assoc so_far.told (judged ∷ []) rest);
-  hears = heard_more before mid now so_far.told (judged ∷ []) so_far.hears one.0;
+  hears = adds_more before mid now so_far.told (judged ∷ []) so_far.hears one.0;
   taken_is = both_is ∙ ap (λ b. b && more) so_far.taken_is ∙ ap (λ b. list_all is_taken so_far.told && b) one.1 ∙ sym (list_all-append is_taken so_far.told (judged ∷ []));
 }
 

@@ -1,7 +1,8 @@
 -- A whole run of the connector: the rows of its files, then its records.
-use Rattle.std.specs.Prelude.{◌≡◌, ◌⊎◌, ◌&&◌, ℕ, Bool, List, Option, None, Result, Ok, Err, IfOk}
+use Rattle.std.specs.Prelude.{◌≡◌, ◌⊎◌, ◌&&◌, ℕ, Bool, List, [], Option, None, Result, Ok, Err, IfOk}
 use Rattle.journal_core.specs.declared.journals.Journal.{Ghosts}
 use Rattle.connector_core.specs.State.{State}
+use Rattle.provisioning.specs.Openings.{Opening}
 use Rattle.provisioning.specs.Runs.{Done, PushesAll}
 use Rattle.provisioning.specs.declared.faults.RunFault.{RunFault}
 use Rattle.provisioning.specs.declared.pushing.Tally.{Tally}
@@ -22,16 +23,18 @@ abbrev pub outcome_of : (taken : Bool) → Sources → Result Tally RunFault →
 outcome_of taken sources (Ok tally) = Ok (record { is_taken = taken && are_whole sources; tally = tally })
 outcome_of taken sources (Err fault) = Err fault
 
--- The rows were offered, and then the records were pushed; or the rows of a file, or reporting one, ended the run
-abbrev pub Carries : {I O J T : Type 0} → (I → Option (List ℕ)) → (O → Option (List ℕ)) → Ghosts J → (heard : T → Option (List Judged)) → (told : T → Option (List Done)) → List ℕ → Sources → (old new : State J) → (before after : T) → Result Outcome RunFault → Type 0
-Carries {I} {O} {J} {T} remaining contents g heard told base sources old new before after result =
+-- The rows were offered, and then the records were pushed; or the rows of a file, or reporting one, ended the run before
+-- any stream was opened
+abbrev pub Carries : {I O J T : Type 0} → (I → Option (List ℕ)) → (O → Option (List ℕ)) → Ghosts J → (heard : T → Option (List Judged)) → (told : T → Option (List Done)) → List ℕ → Sources → (opened : List (Opening I O)) → (old new : State J) → (before after : T) → Result Outcome RunFault → Type 0
+Carries {I} {O} {J} {T} remaining contents g heard told base sources opened old new before after result =
     ((between : State J) × (mid : T) × (taken : Bool) × (tally : Result Tally RunFault) × OffersAll g sources old between (heard before) (heard mid) (Ok taken)
-    × PushesAll {I = I} {O = O} remaining contents g base between new (told mid) (told after) tally × (result ≡ outcome_of taken sources tally))
-    ⊎ ((fault : OfferFault) × OffersAll g sources old new (heard before) (heard after) (Err fault) × (result ≡ Err (run_fault fault)))
+    × PushesAll remaining contents g base opened between new (told mid) (told after) tally × (result ≡ outcome_of taken sources tally))
+    ⊎ ((fault : OfferFault) × (opened ≡ []) × OffersAll g sources old new (heard before) (heard after) (Err fault) × (result ≡ Err (run_fault fault)))
 
--- the same, if it isn't known what was reported
+-- the same, if it isn't known what was reported before, and which streams were opened before
 abbrev pub CarriesSilently : {I O J : Type 0} → (I → Option (List ℕ)) → (O → Option (List ℕ)) → Ghosts J → List ℕ → Sources → (old new : State J) → Result Outcome RunFault → Type 0
-CarriesSilently remaining contents g base sources old new result = Carries {T = Unit {0}} remaining contents g (λ told. None) (λ told. None) base sources old new tt tt result
+CarriesSilently {I} {O} remaining contents g base sources old new result =
+    (opened : List (Opening I O)) × Carries {T = Unit {0}} remaining contents g (λ told. None) (λ told. None) base sources opened old new tt tt result
 
 -- ---- with a provider in the same program
 

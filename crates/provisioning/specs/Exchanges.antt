@@ -1,6 +1,7 @@
 -- One exchange for a record: what is sent, what comes back, and how it changes the connector.
-use Rattle.std.specs.Prelude.{◌≡◌, ◌⊎◌, ⊤, ℕ, List, Option, Some, None, Result, Ok, Err, OnOk, OnErr}
+use Rattle.std.specs.Prelude.{◌≡◌, ◌⊎◌, ℕ, List, [], ◌∷◌, map, Option, Some, None, Result, Ok, Err, OnOk, OnErr}
 use Rattle.std.specs.FinMap.{keys}
+use Rattle.std.specs.declared.io.Error.{Error}
 use Rattle.scim_key.specs.declared.records.RecordName.{RecordName}
 use Rattle.scim_message.specs.declared.messages.Answer.{Answer}
 use Rattle.scim_message.specs.declared.messages.Request.{Request}
@@ -19,9 +20,10 @@ use Rattle.connector_core.specs.State.{State}
 use Rattle.connector_core.specs.declared.asking.Ask.TheVariants.{Send}
 use Rattle.connector_core.specs.declared.learning.LearnFault.{LearnFault}
 use Rattle.connector_core.specs.declared.learning.Learnt.{Learnt}
-use Rattle.provisioning.specs.Faults.{unanswered, unlearnt}
+use Rattle.provisioning.specs.Faults.{open_fault, unanswered, unlearnt}
+use Rattle.provisioning.specs.Openings.{Opening}
 use Rattle.provisioning.specs.declared.faults.RunFault.{RunFault}
-use Rattle.provisioning.specs.declared.faults.RunFault.TheVariants.{Connection, Memory}
+use Rattle.provisioning.specs.declared.faults.RunFault.TheVariants.{Memory}
 use Rattle.provisioning.specs.declared.faults.RecordFault.{RecordFault}
 
 -- ---- what came
@@ -74,33 +76,41 @@ pub record Exchange (I O : Type 0) : Type 0 where
   pub writer : O
   pub came : Came
 
+-- its stream
+abbrev pub opening_of : {I O : Type 0} → Exchange I O → Opening I O
+opening_of e = Ok (e.reader, e.writer)
+
+-- the streams of exchanges: one for each, in the order of the exchanges
+abbrev pub openings_of : {I O : Type 0} → List (Exchange I O) → List (Opening I O)
+openings_of es = map opening_of es
+
 -- One exchange for a record, on its own stream: the connector's request is sent, and it learns from the answer
 pub record IsExchange {I O J : Type 0} (remaining : I → Option (List ℕ)) (contents : O → Option (List ℕ)) (g : Ghosts J) (base : List ℕ) (name : RecordName) (e : Exchange I O) (old new : State J) : Type 0 where
   pub asked : asking (book_of old.book) name ≡ Some (Send e.request)
   pub sent : IsAsked remaining contents base e.request e.reader e.writer (answer_in e.came)
   pub becomes : Becomes g e.request e.came old new
 
--- no stream could be opened, or memory ran out before anything was sent
-abbrev pub IsUnmade : RunFault → Type 0
-IsUnmade (Connection error) = ⊤
-IsUnmade Memory = ⊤
-IsUnmade _ = ⊥
+-- nothing was sent: the only opening failed, with this error; or memory ran out before any
+abbrev pub IsUnmade : {I O : Type 0} → (opened : List (Opening I O)) → RunFault → Type 0
+IsUnmade opened fault = ((error : Error) × (opened ≡ Err error ∷ []) × (fault ≡ open_fault error)) ⊎ ((opened ≡ []) × (fault ≡ Memory))
 
 -- ---- the steps of an exchange
 
--- nothing came, for one of these reasons
-abbrev pub IsWithoutStream : {A : Type 0} → Result A RunFault → Type 0
-IsWithoutStream (Ok made) = ⊥
-IsWithoutStream (Err fault) = IsUnmade fault
-
--- a request was sent on a stream, and the connector learns from the answer
-pub record IsSent {I O J : Type 0} (remaining : I → Option (List ℕ)) (contents : O → Option (List ℕ)) (g : Ghosts J) (base : List ℕ) (request : Request) (old new : State J) (result : Result (Option RecordFault) RunFault) : Type 0 where
-  pub reader : I
-  pub writer : O
+-- a request was sent on this stream, and the connector learns from the answer
+pub record IsSent {I O J : Type 0} (remaining : I → Option (List ℕ)) (contents : O → Option (List ℕ)) (g : Ghosts J) (base : List ℕ) (request : Request) (stream : I × O) (old new : State J) (result : Result (Option RecordFault) RunFault) : Type 0 where
   pub came : Came
-  pub sent : IsAsked remaining contents base request reader writer (answer_in came)
+  pub sent : IsAsked remaining contents base request stream.0 stream.1 (answer_in came)
   pub becomes : Becomes g request came old new
   pub result_is : result ≡ outcome came
+
+-- the request was sent on the stream; or there is none, nothing changed, and the opening's error is the fault
+abbrev pub ComesOf : {I O J : Type 0} → (I → Option (List ℕ)) → (O → Option (List ℕ)) → Ghosts J → List ℕ → Request → Opening I O → (old new : State J) → Result (Option RecordFault) RunFault → Type 0
+ComesOf remaining contents g base request (Ok stream) old new result = IsSent remaining contents g base request stream old new result
+ComesOf remaining contents g base request (Err error) old new result = (new ≡ old) × (result ≡ Err (open_fault error))
+
+-- one stream was opened, and the result comes of it
+abbrev pub MakesExchange : {I O J : Type 0} → (I → Option (List ℕ)) → (O → Option (List ℕ)) → Ghosts J → List ℕ → Request → (opened : List (Opening I O)) → (old new : State J) → Result (Option RecordFault) RunFault → Type 0
+MakesExchange {I} {O} remaining contents g base request opened old new result = (opening : Opening I O) × (opened ≡ opening ∷ []) × ComesOf remaining contents g base request opening old new result
 
 -- this is what came, and the connector learns from it
 pub record IsTaken {J : Type 0} (g : Ghosts J) (request : Request) (answer : Result Answer ExchangeFault) (old new : State J) (result : Result (Option RecordFault) RunFault) : Type 0 where

@@ -2,8 +2,10 @@ pub mod Carrying
 pub mod Exchanges
 pub mod Faults
 pub mod Lines
+pub mod Lists
 pub mod Offering
 pub mod Onward
+pub mod Openings
 pub mod Records
 pub mod Runs
 pub mod Sources

@@ -1,5 +1,5 @@
 -- Rows of files that are offered to the connector, and its verdict on each.
-use Rattle.std.specs.Prelude.{◌≡◌, ◌≢◌, ◌⊎◌, ◌+◌, ◌&&◌, ⊤, ℕ, Bool, true, List, [], ◌∷◌, ◌++◌, Option, Some, None, Result, Ok, Err, is_ok}
+use Rattle.std.specs.Prelude.{◌≡◌, ◌≢◌, ◌⊎◌, ◌+◌, ◌&&◌, ℕ, Bool, true, List, [], ◌∷◌, Option, Some, None, Result, Ok, Err, is_ok}
 use Rattle.std.specs.List.{filter_map, list_all}
 use Rattle.std.specs.Result.{result_ok}
 use Rattle.scim_key.specs.declared.records.Kind.{Kind}
@@ -13,6 +13,7 @@ use Rattle.connector_core.specs.State.{State}
 use Rattle.connector_core.specs.declared.changing.ChangeFault.{ChangeFault}
 use Rattle.connector_core.specs.declared.changing.ChangeFault.TheVariants.{Store}
 use Rattle.provisioning.specs.Faults.{IsUntold}
+use Rattle.provisioning.specs.Lists.{Adds}
 use Rattle.provisioning.specs.Sources.{records_of}
 use Rattle.provisioning.specs.declared.faults.OfferFault.{OfferFault}
 use Rattle.provisioning.specs.declared.faults.OfferFault.TheVariants as fault_of
@@ -37,9 +38,7 @@ judged_of of place (Ok row ∷ records) (verdict ∷ said) = record { kind = of;
 
 -- if it is known what was reported before, these rows were reported after it
 abbrev pub Hears : (old new : Option (List Judged)) → List Judged → Type 0
-Hears None new judged = ⊤
-Hears (Some all) None judged = ⊥
-Hears (Some all) (Some more) judged = more ≡ all ++ judged
+Hears old new judged = Adds old new judged
 
 -- the connector didn't refuse the row
 abbrev pub is_taken : Judged → Bool

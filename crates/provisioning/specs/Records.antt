@@ -1,5 +1,5 @@
 -- The exchanges for one record, and its state after them.
-use Rattle.std.specs.Prelude.{◌≡◌, ◌≢◌, ◌⊎◌, ◌<◌, ◌≤◌, ℕ, List, [], ◌∷◌, length, Option, Some, None, Result, Ok, Err, IsOk}
+use Rattle.std.specs.Prelude.{◌≡◌, ◌≢◌, ◌⊎◌, ◌<◌, ◌≤◌, ℕ, List, [], ◌∷◌, ◌++◌, length, Option, Some, None, Result, Ok, Err, IsOk}
 use Rattle.std.specs.Option.{option_or}
 use Rattle.scim_key.specs.declared.records.RecordName.{RecordName}
 use Rattle.journal_core.specs.declared.journals.Journal.{Ghosts}
@@ -8,16 +8,20 @@ use Rattle.connector_core.specs.Book.{Book, confirmed_of, wanted_of}
 use Rattle.connector_core.specs.Maps.{book_of}
 use Rattle.connector_core.specs.State.{State}
 use Rattle.connector_core.specs.declared.asking.Ask.TheVariants as asks
-use Rattle.provisioning.specs.Exchanges.{Exchange, IsExchange, IsUnmade, outcome}
+use Rattle.provisioning.specs.Exchanges.{Exchange, IsExchange, IsUnmade, opening_of, openings_of, outcome}
+use Rattle.provisioning.specs.Openings.{Opening}
 use Rattle.provisioning.specs.declared.faults.RunFault.{RunFault}
 use Rattle.provisioning.specs.declared.faults.RecordFault.{RecordFault}
 use Rattle.provisioning.specs.declared.faults.RecordFault.TheVariants.{NoSuchRecord}
 use Rattle.provisioning.specs.declared.records.Pushed.{Pushed}
 use Rattle.provisioning.specs.declared.records.Standing.{Standing}
 use Rattle.provisioning.specs.declared.records.Standing.TheVariants.{Confirmed, Waits, Unconfirmed}
-use Rattle.world_sim.specs.declared.settling.TheConstants.{MOST_EXCHANGES}
 
 -- ---- exchanges
+
+-- the most exchanges for one record
+abbrev pub most_exchanges : ℕ
+most_exchanges = 3
 
 module _ {I O J : Type 0} (remaining : I → Option (List ℕ)) (contents : O → Option (List ℕ)) (g : Ghosts J) (base : List ℕ) (name : RecordName) where
   -- exchanges for a record, one after another, each on the connector that the one before left; none of them ended the
@@ -47,7 +51,7 @@ Rests book name (Unconfirmed fault) = (asking book name ≡ None) × (fault ≡ 
 
 -- all exchanges were made, and the wanted revision isn't confirmed
 pub record IsSpent (book : Book) (name : RecordName) (count : ℕ) (last : Option RecordFault) (standing : Standing) : Type 0 where
-  pub all : count ≡ MOST_EXCHANGES
+  pub all : count ≡ most_exchanges
   pub unconfirmed : confirmed_of book name ≢ wanted_of book name
   pub last_is : standing ≡ Unconfirmed last
 
@@ -56,26 +60,31 @@ Stands book name count last standing = Rests book name standing ⊎ IsSpent book
 
 -- ---- a record
 
--- `count` exchanges for a record, and its state after them
-pub record IsPushed {I O J : Type 0} (remaining : I → Option (List ℕ)) (contents : O → Option (List ℕ)) (g : Ghosts J) (base : List ℕ) (name : RecordName) (old new : State J) (pushed : Pushed) : Type 0 where
+-- Exchanges for a record, each on a stream of its own, and the record's state after them
+pub record IsPushed {I O J : Type 0} (remaining : I → Option (List ℕ)) (contents : O → Option (List ℕ)) (g : Ghosts J) (base : List ℕ) (name : RecordName) (opened : List (Opening I O)) (old new : State J) (pushed : Pushed) : Type 0 where
   pub exchanges : List (Exchange I O)
   pub are : AreExchanges remaining contents g base name exchanges old new
+  pub opened_are : opened ≡ openings_of exchanges
   pub count : pushed.exchanges ≡ length exchanges
-  pub most : length exchanges ≤ MOST_EXCHANGES
+  pub most : length exchanges ≤ most_exchanges
   pub stands : Stands (book_of new.book) name pushed.exchanges (last_fault exchanges) pushed.standing
 
 -- the next exchange ended the run, or couldn't be made
-abbrev pub Ends : {I O J : Type 0} → (I → Option (List ℕ)) → (O → Option (List ℕ)) → Ghosts J → List ℕ → RecordName → (old new : State J) → RunFault → Type 0
-Ends {I} {O} remaining contents g base name old new fault = ((e : Exchange I O) × IsExchange remaining contents g base name e old new × (outcome e.came ≡ Err fault)) ⊎ ((new ≡ old) × IsUnmade fault)
+abbrev pub Ends : {I O J : Type 0} → (I → Option (List ℕ)) → (O → Option (List ℕ)) → Ghosts J → List ℕ → RecordName → (opened : List (Opening I O)) → (old new : State J) → RunFault → Type 0
+Ends {I} {O} remaining contents g base name opened old new fault =
+    ((e : Exchange I O) × (opened ≡ opening_of e ∷ []) × IsExchange remaining contents g base name e old new × (outcome e.came ≡ Err fault))
+    ⊎ ((new ≡ old) × IsUnmade opened fault)
 
 -- Exchanges for a record, until this fault ended the run
-pub record EndsRun {I O J : Type 0} (remaining : I → Option (List ℕ)) (contents : O → Option (List ℕ)) (g : Ghosts J) (base : List ℕ) (name : RecordName) (old new : State J) (fault : RunFault) : Type 0 where
+pub record EndsRun {I O J : Type 0} (remaining : I → Option (List ℕ)) (contents : O → Option (List ℕ)) (g : Ghosts J) (base : List ℕ) (name : RecordName) (opened : List (Opening I O)) (old new : State J) (fault : RunFault) : Type 0 where
   pub exchanges : List (Exchange I O)
+  pub last : List (Opening I O)
   pub between : State J
   pub are : AreExchanges remaining contents g base name exchanges old between
-  pub most : length exchanges < MOST_EXCHANGES
-  pub ends : Ends remaining contents g base name between new fault
+  pub opened_are : opened ≡ openings_of exchanges ++ last
+  pub most : length exchanges < most_exchanges
+  pub ends : Ends remaining contents g base name last between new fault
 
-abbrev pub PushesRecord : {I O J : Type 0} → (I → Option (List ℕ)) → (O → Option (List ℕ)) → Ghosts J → List ℕ → RecordName → (old new : State J) → Result Pushed RunFault → Type 0
-PushesRecord remaining contents g base name old new (Ok pushed) = IsPushed remaining contents g base name old new pushed
-PushesRecord remaining contents g base name old new (Err fault) = EndsRun remaining contents g base name old new fault
+abbrev pub PushesRecord : {I O J : Type 0} → (I → Option (List ℕ)) → (O → Option (List ℕ)) → Ghosts J → List ℕ → RecordName → (opened : List (Opening I O)) → (old new : State J) → Result Pushed RunFault → Type 0
+PushesRecord remaining contents g base name opened old new (Ok pushed) = IsPushed remaining contents g base name opened old new pushed
+PushesRecord remaining contents g base name opened old new (Err fault) = EndsRun remaining contents g base name opened old new fault

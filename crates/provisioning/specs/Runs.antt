@@ -1,11 +1,13 @@
 -- Every record, one after another.
-use Rattle.std.specs.Prelude.{◌≡◌, ◌⊎◌, ◌+◌, ◌^◌, ◌-◌, ◌&&◌, ⊤, ℕ, Bool, true, false, List, [], ◌∷◌, ◌++◌, map, Option, Some, None, Result, Ok, Err, min}
+use Rattle.std.specs.Prelude.{◌≡◌, ◌⊎◌, ◌+◌, ◌^◌, ◌-◌, ◌&&◌, ℕ, Bool, true, false, List, [], ◌∷◌, ◌++◌, map, Option, Result, Ok, Err, min}
 use Rattle.std.specs.FinMap.{keys}
 use Rattle.std.specs.List.{list_all, sum_by}
 use Rattle.scim_key.specs.declared.records.RecordName.{RecordName}
 use Rattle.group_sync.specs.Settling.{IsSettleOrder}
 use Rattle.journal_core.specs.declared.journals.Journal.{Ghosts}
 use Rattle.connector_core.specs.State.{State}
+use Rattle.provisioning.specs.Lists.{Adds}
+use Rattle.provisioning.specs.Openings.{Opening}
 use Rattle.provisioning.specs.Records.{EndsRun, IsPushed}
 use Rattle.provisioning.specs.declared.faults.RunFault.{RunFault}
 use Rattle.provisioning.specs.declared.faults.RunFault.TheVariants.{Untold, Memory}
@@ -22,9 +24,7 @@ Done = RecordName × Pushed
 
 -- if it is known what was reported before, these records were reported after it
 abbrev pub Tells : (old new : Option (List Done)) → List Done → Type 0
-Tells None new done = ⊤
-Tells (Some all) None done = ⊥
-Tells (Some all) (Some more) done = more ≡ all ++ done
+Tells old new done = Adds old new done
 
 -- a record can't be reported
 abbrev pub IsUntold : RunFault → Type 0
@@ -57,37 +57,44 @@ tally_with tally pushed = record {
 -- ---- the run
 
 module _ {I O J : Type 0} (remaining : I → Option (List ℕ)) (contents : O → Option (List ℕ)) (g : Ghosts J) (base : List ℕ) where
-  -- these records, one after another, each on the connector that the one before left
-  abbrev pub AreDone : List Done → (old new : State J) → Type 0
-  AreDone [] old new = new ≡ old
-  AreDone (d ∷ done) old new = (between : State J) × IsPushed remaining contents g base d.0 old between d.1 × AreDone done between new
+  -- these records, one after another, each on the connector that the one before left; the openings are theirs, in order
+  abbrev pub AreDone : List Done → (opened : List (Opening I O)) → (old new : State J) → Type 0
+  AreDone [] opened old new = (opened ≡ []) × (new ≡ old)
+  AreDone (d ∷ done) opened old new =
+      (first : List (Opening I O)) × (others : List (Opening I O)) × (between : State J) × (opened ≡ first ++ others) × IsPushed remaining contents g base d.0 first old between d.1 × AreDone done others between new
 
   -- the first of the other records ended the run
-  abbrev pub EndsAt : List RecordName → (old new : State J) → RunFault → Type 0
-  EndsAt [] old new fault = ⊥
-  EndsAt (name ∷ names) old new fault = EndsRun remaining contents g base name old new fault
+  abbrev pub EndsAt : List RecordName → (opened : List (Opening I O)) → (old new : State J) → RunFault → Type 0
+  EndsAt [] opened old new fault = ⊥
+  EndsAt (name ∷ names) opened old new fault = EndsRun remaining contents g base name opened old new fault
 
 -- each of these records was done, reported and counted
-pub record AllDone {I O J : Type 0} (remaining : I → Option (List ℕ)) (contents : O → Option (List ℕ)) (g : Ghosts J) (base : List ℕ) (names : List RecordName) (old new : State J) (before after : Option (List Done)) (tally : Tally) : Type 0 where
+pub record AllDone {I O J : Type 0} (remaining : I → Option (List ℕ)) (contents : O → Option (List ℕ)) (g : Ghosts J) (base : List ℕ) (names : List RecordName) (opened : List (Opening I O)) (old new : State J) (before after : Option (List Done)) (tally : Tally) : Type 0 where
   pub done : List Done
   pub names_are : map (λ d. d.0) done ≡ names
-  pub are : AreDone remaining contents g base done old new
+  pub are : AreDone remaining contents g base done opened old new
   pub tells : Tells before after done
   pub tally_is : tally ≡ tally_of done
 
 -- the first of these records were done, until the next one, or reporting the last of them, ended the run
-pub record PartDone {I O J : Type 0} (remaining : I → Option (List ℕ)) (contents : O → Option (List ℕ)) (g : Ghosts J) (base : List ℕ) (names : List RecordName) (old new : State J) (fault : RunFault) : Type 0 where
+pub record PartDone {I O J : Type 0} (remaining : I → Option (List ℕ)) (contents : O → Option (List ℕ)) (g : Ghosts J) (base : List ℕ) (names : List RecordName) (opened : List (Opening I O)) (old new : State J) (fault : RunFault) : Type 0 where
   pub done : List Done
   pub rest : List RecordName
+  pub first : List (Opening I O)
+  pub last : List (Opening I O)
   pub between : State J
   pub names_are : names ≡ map (λ d. d.0) done ++ rest
-  pub are : AreDone remaining contents g base done old between
-  pub ends : EndsAt remaining contents g base rest between new fault ⊎ ((new ≡ between) × IsUntold fault)
+  pub opened_are : opened ≡ first ++ last
+  pub are : AreDone remaining contents g base done first old between
+  pub ends : EndsAt remaining contents g base rest last between new fault ⊎ ((last ≡ []) × (new ≡ between) × IsUntold fault)
 
-abbrev pub PushesEach : {I O J : Type 0} → (I → Option (List ℕ)) → (O → Option (List ℕ)) → Ghosts J → List ℕ → List RecordName → (old new : State J) → (before after : Option (List Done)) → Result Tally RunFault → Type 0
-PushesEach remaining contents g base names old new before after (Ok tally) = AllDone remaining contents g base names old new before after tally
-PushesEach remaining contents g base names old new before after (Err fault) = PartDone remaining contents g base names old new fault
+abbrev pub PushesEach : {I O J : Type 0} → (I → Option (List ℕ)) → (O → Option (List ℕ)) → Ghosts J → List ℕ → List RecordName → (opened : List (Opening I O)) → (old new : State J) → (before after : Option (List Done)) → Result Tally RunFault → Type 0
+PushesEach remaining contents g base names opened old new before after (Ok tally) = AllDone remaining contents g base names opened old new before after tally
+PushesEach remaining contents g base names opened old new before after (Err fault) = PartDone remaining contents g base names opened old new fault
 
--- The records of the connector in the order in which they settle; or memory ran out before the first of them
-abbrev pub PushesAll : {I O J : Type 0} → (I → Option (List ℕ)) → (O → Option (List ℕ)) → Ghosts J → List ℕ → (old new : State J) → (before after : Option (List Done)) → Result Tally RunFault → Type 0
-PushesAll remaining contents g base old new before after result = ((names : List RecordName) × IsSettleOrder (keys old.book) names × PushesEach remaining contents g base names old new before after result) ⊎ ((result ≡ Err Memory) × (new ≡ old))
+-- The records of the connector in the order in which they settle; or memory ran out before the first of them. The openings
+-- are those of their exchanges, in the order of the exchanges
+abbrev pub PushesAll : {I O J : Type 0} → (I → Option (List ℕ)) → (O → Option (List ℕ)) → Ghosts J → List ℕ → (opened : List (Opening I O)) → (old new : State J) → (before after : Option (List Done)) → Result Tally RunFault → Type 0
+PushesAll remaining contents g base opened old new before after result =
+    ((names : List RecordName) × IsSettleOrder (keys old.book) names × PushesEach remaining contents g base names opened old new before after result)
+    ⊎ ((opened ≡ []) × (result ≡ Err Memory) × (new ≡ old))

@@ -1,6 +1,7 @@
 //! A whole run of the connector.
 ghost use Rattle.std.specs.Prelude.{◌≡◌};
 ghost use Rattle.provisioning.specs.Carrying.{Carries, is_done, outcome_of};
+ghost use Rattle.provisioning.specs.Openings.{Opens};
 
 use crate::dialing::Dial;
 use crate::faults::{RunFault, run_fault};
@@ -42,8 +43,9 @@ pub fn carry<J: Journal, D: Dial, T: Hear + Tell>(
     dial: &mut D,
     teller: &mut T,
 ) -> Result<Outcome, RunFault>
-    ensures { Carries D.Reader.remaining D.Writer.contents J.Journal T.heard T.told service.now
-        sources.now connector.old connector.new teller.old teller.new result }
+    ensures { Opens (D.opened dial.old) (D.opened dial.new) (λ opened. Carries
+        D.Reader.remaining D.Writer.contents J.Journal T.heard T.told service.now sources.now
+        opened connector.old connector.new teller.old teller.new result) }
 {
     match offer_all(alloc, connector, sources, teller) {
         Ok(is_taken) => {

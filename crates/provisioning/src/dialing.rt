@@ -1,4 +1,8 @@
 //! What opens streams to a provider.
+ghost use Rattle.std.specs.Prelude.{◌∷◌, [], List, Option, None};
+ghost use Rattle.provisioning.specs.Lists.{Adds};
+ghost use Rattle.provisioning.specs.Openings.{Opening};
+
 use std::io;
 use std::io::{Read, Write};
 
@@ -9,8 +13,12 @@ pub trait Dial {
 
     type Writer: Write + Drop;
 
+    /// The openings so far, if they are known: of each its stream, or its error.
+    ghost opened: { Self → Option (List (Opening Self.Reader Self.Writer)) } = { λ _. None };
+
     /// Opens a stream.
-    fn dial(&mut self) -> io::Result<(Self::Reader, Self::Writer)>;
+    fn dial(&mut self) -> io::Result<(Self::Reader, Self::Writer)>
+        ensures { Adds (opened self.old) (opened self.new) (result ∷ []) };
 
     /// Ends a stream after its exchange.
     fn end(&self, reader: Self::Reader, writer: Self::Writer);

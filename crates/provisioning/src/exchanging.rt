@@ -1,6 +1,7 @@
 //! One exchange for a record, on its own stream.
-ghost use Rattle.std.specs.Prelude.{◌≡◌, ◌⊎◌, Ok};
-ghost use Rattle.provisioning.specs.Exchanges.{IsAsked, IsSent, IsTaken, IsWithoutStream};
+ghost use Rattle.std.specs.Prelude.{Ok};
+ghost use Rattle.provisioning.specs.Exchanges.{IsAsked, IsTaken, MakesExchange};
+ghost use Rattle.provisioning.specs.Openings.{Opens};
 
 use crate::dialing::Dial;
 use crate::faults::{RecordFault, RunFault, open_fault, unanswered, unlearnt};
@@ -12,7 +13,7 @@ use scim_message::{Answer, Request};
 use std::alloc::Global;
 use std::io::{Read, Write};
 
-/// Sends a request on a new stream, reads its answer, and learns from it. It returns the fault of the
+/// Opens a stream, sends a request on it, reads the answer, and learns from it. It returns the fault of the
 /// record, if there is one.
 pub(crate) fn exchange<J: Journal, D: Dial>(
     alloc: Global,
@@ -21,9 +22,9 @@ pub(crate) fn exchange<J: Journal, D: Dial>(
     dial: &mut D,
     request: &Request,
 ) -> Result<Option<RecordFault>, RunFault>
-    ensures { IsSent D.Reader.remaining D.Writer.contents J.Journal service.now request.now
-        connector.old connector.new result
-        ⊎ ((connector.new ≡ connector.old) × IsWithoutStream result) }
+    ensures { Opens (D.opened dial.old) (D.opened dial.new) (λ opened. MakesExchange
+        D.Reader.remaining D.Writer.contents J.Journal service.now request.now opened
+        connector.old connector.new result) }
 {
     let (reader, writer) = match dial.dial() {
         Ok(stream) => stream,

@@ -1,6 +1,5 @@
 //! Why a record isn't confirmed, and what ends a run.
 ghost use Rattle.std.specs.Prelude.{◌≡◌};
-ghost use Rattle.provisioning.specs.Exchanges.{IsUnmade};
 ghost use Rattle.provisioning.specs.Faults.{failed, open_fault, run_fault, unanswered, unheard_fault, unlearnt};
 ghost use Rattle.provisioning.specs.declared.faults.RunFault.TheVariants.{Untold};
 
@@ -73,8 +72,7 @@ impl From<OpenFault> for RunFault {
 
 /// The fault of a stream that couldn't be opened, or of a port that couldn't be listened on.
 pub(crate) fn open_fault(error: io::Error) -> RunFault
-    ensures exact { result ≡ open_fault error }
-    ensures unmade { IsUnmade result }
+    ensures { result ≡ open_fault error }
 {
     match error.kind() {
         ErrorKind::OutOfMemory => RunFault::Memory,

@@ -4,6 +4,7 @@ ghost use Rattle.std.specs.FinMap.{keys};
 ghost use Rattle.group_sync.specs.Settling.{IsSettleOrder};
 ghost use Rattle.provisioning.specs.declared.faults.RunFault.TheVariants.{Memory};
 ghost use Rattle.provisioning.specs.Onward.{Onward};
+ghost use Rattle.provisioning.specs.Openings.{Opens};
 ghost use Rattle.provisioning.specs.Runs.{IsUntold, PushesAll, PushesEach, Tells, is_confirmed, tally_with};
 
 use crate::dialing::Dial;
@@ -59,8 +60,9 @@ pub fn push_all<J: Journal, D: Dial, T: Tell>(
     dial: &mut D,
     teller: &mut T,
 ) -> Result<Tally, RunFault>
-    ensures pushes { PushesAll D.Reader.remaining D.Writer.contents J.Journal service.now
-        connector.old connector.new (T.told teller.old) (T.told teller.new) result }
+    ensures pushes { Opens (D.opened dial.old) (D.opened dial.new) (λ opened. PushesAll
+        D.Reader.remaining D.Writer.contents J.Journal service.now opened
+        connector.old connector.new (T.told teller.old) (T.told teller.new) result) }
     ensures onward { Onward connector.old.book connector.new.book }
 {
     let names = names_in_order(connector)?;
@@ -86,8 +88,9 @@ fn push_each<J: Journal, D: Dial, T: Tell>(
     teller: &mut T,
     names: &[RecordName],
 ) -> Result<Tally, RunFault>
-    ensures pushes { PushesEach D.Reader.remaining D.Writer.contents J.Journal service.now
-        names.now connector.old connector.new (T.told teller.old) (T.told teller.new) result }
+    ensures pushes { Opens (D.opened dial.old) (D.opened dial.new) (λ opened. PushesEach
+        D.Reader.remaining D.Writer.contents J.Journal service.now names.now opened
+        connector.old connector.new (T.told teller.old) (T.told teller.new) result) }
     ensures onward { Onward connector.old.book connector.new.book }
 {
     let mut tally = Tally {

@@ -1,7 +1,8 @@
 //! The exchanges for one record.
 ghost use Rattle.connector_core.specs.Maps.{book_of};
 ghost use Rattle.provisioning.specs.Onward.{Onward};
-ghost use Rattle.provisioning.specs.Records.{PushesRecord, Stands};
+ghost use Rattle.provisioning.specs.Openings.{Opens};
+ghost use Rattle.provisioning.specs.Records.{PushesRecord, Stands, most_exchanges};
 
 use crate::dialing::Dial;
 use crate::faults::{RecordFault, RunFault};
@@ -58,8 +59,9 @@ pub fn push_record<J: Journal, D: Dial>(
     dial: &mut D,
     name: &RecordName,
 ) -> Result<Pushed, RunFault>
-    ensures pushes { PushesRecord D.Reader.remaining D.Writer.contents J.Journal service.now
-        name.now connector.old connector.new result }
+    ensures pushes { Opens (D.opened dial.old) (D.opened dial.new) (λ opened. PushesRecord
+        D.Reader.remaining D.Writer.contents J.Journal service.now name.now opened
+        connector.old connector.new result) }
     ensures onward { Onward connector.old.book connector.new.book }
 {
     let mut last = None;
@@ -86,7 +88,7 @@ fn standing_after<J: Journal>(
     name: &RecordName,
     last: Option<RecordFault>,
 ) -> Standing
-    ensures { Stands (book_of connector.now.book) name.now MOST_EXCHANGES last result }
+    ensures { Stands (book_of connector.now.book) name.now most_exchanges last result }
 {
     let confirmed = connector.confirmed(name);
     if confirmed == connector.wanted(name) {

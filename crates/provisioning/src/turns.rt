@@ -1,5 +1,6 @@
 //! One turn of a record.
 ghost use Rattle.std.specs.Prelude.{◌≡◌};
+ghost use Rattle.provisioning.specs.Openings.{Opens};
 ghost use Rattle.provisioning.specs.Turns.{TakesTurn, exchanged};
 
 use crate::dialing::Dial;
@@ -29,8 +30,9 @@ pub(crate) fn take_turn<J: Journal, D: Dial>(
     dial: &mut D,
     name: &RecordName,
 ) -> Result<Turn, RunFault>
-    ensures { TakesTurn D.Reader.remaining D.Writer.contents J.Journal service.now name.now
-        connector.old connector.new result }
+    ensures { Opens (D.opened dial.old) (D.opened dial.new) (λ opened. TakesTurn
+        D.Reader.remaining D.Writer.contents J.Journal service.now name.now opened
+        connector.old connector.new result) }
 {
     match connector.ask(name) {
         Ok(Ask::Nothing) => Ok(Turn::Resting(Standing::Confirmed(connector.confirmed(name)))),

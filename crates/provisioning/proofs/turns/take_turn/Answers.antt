@@ -13,6 +13,10 @@ use Rattle.provisioning.proofs.turns.take_turn.Goals as goal
 pub returns-in-Ok-Send : goal.returns-in-Ok-Send
 returns-in-Ok-Send g c =
     let said : ok_or (asking (book_of c.args.connector.now.book) c.args.name.now) NoSuchRecord ≡ Ok (Send c.in-Ok-Send.request) = c.in-Ok-Send.ensures ∙ ap Ok c.in-Ok-Send.field-0-is in
-    subst (λ (r : Result Turn RunFault). TakesTurn g.D.Reader.Read.remaining g.D.Writer.Write.contents g.J.Journal c.args.service.now c.args.name.now c.args.connector.now c.exchange.new.connector r) (sym c.exchanged.ensures)
-    (turn_taken g.D.Reader.Read.remaining g.D.Writer.Write.contents g.J.Journal c.args.service.now c.args.name.now c.args.connector.now c.exchange.new.connector c.in-Ok-Send.request c.exchange.result
-    (was_asked (asking (book_of c.args.connector.now.book) c.args.name.now) (Send c.in-Ok-Send.request) said) c.exchange.ensures)
+    let made = c.exchange.ensures in (
+      made.0,
+      made.1,
+      subst (λ (r : Result Turn RunFault). TakesTurn g.D.Reader.Read.remaining g.D.Writer.Write.contents g.J.Journal c.args.service.now c.args.name.now made.0 c.args.connector.now c.exchange.new.connector r) (sym c.exchanged.ensures)
+          (turn_taken g.D.Reader.Read.remaining g.D.Writer.Write.contents g.J.Journal c.args.service.now c.args.name.now made.0 c.args.connector.now c.exchange.new.connector c.in-Ok-Send.request c.exchange.result
+          (was_asked (asking (book_of c.args.connector.now.book) c.args.name.now) (Send c.in-Ok-Send.request) said) made.2),
+    )
