@@ -39,6 +39,9 @@ pub fn serve_connections<R: Registry, L: Listen>(
     for _turn in 0..count {
         let served = serve_next(alloc, listener, base, provider);
         tell(rt, served);
+        if listener.has_lost() {
+            tell(rt, Err(ConnectionFault));
+        }
         outcome = outcome.and(served);
     }
     outcome
