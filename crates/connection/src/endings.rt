@@ -28,8 +28,9 @@ pub(crate) struct Endings<'a, S: Read + Write + OpenStream + Drop, C: Clock> {
     clock: &'a C,
     /// When all of them were looked at last.
     looked: Option<Instant>,
-    /// How many answers were lost, and not reported yet.
+    /// How many answers were lost, and how many of these were asked for.
     lost: u32,
+    told: u32,
 }
 
 impl<'a, S: Read + Write + OpenStream + Drop, C: Clock> Drop for Endings<'a, S, C> {
@@ -40,6 +41,7 @@ impl<'a, S: Read + Write + OpenStream + Drop, C: Clock> Drop for Endings<'a, S, 
             clock: _,
             looked: _,
             lost: _,
+            told: _,
         } = self;
     }
 }
@@ -53,6 +55,7 @@ impl<'a, S: Read + Write + OpenStream + Drop, C: Clock> Endings<'a, S, C> {
             clock,
             looked: None,
             lost: 0,
+            told: 0,
         }
     }
 
@@ -180,13 +183,18 @@ impl<'a, S: Read + Write + OpenStream + Drop, C: Clock> Endings<'a, S, C> {
         self.endings[place].go_on(now)
     }
 
+    /// Whether an answer was lost.
+    pub(crate) fn has_lost(&self) -> bool {
+        self.lost > 0
+    }
+
     /// How many answers were lost since the last call.
     pub(crate) fn take_lost(&mut self) -> u32
         ensures { vec_len self.new.endings ≡ vec_len self.old.endings }
     {
-        let lost = self.lost;
-        self.lost = 0;
-        lost
+        let untold = self.lost.saturating_sub(self.told);
+        self.told = self.lost;
+        untold
     }
 
     /// Waits until all of them are over. Each has its deadline.

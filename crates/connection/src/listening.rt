@@ -24,10 +24,11 @@ pub trait Listen {
     fn end(&mut self, reader: Self::Reader, writer: Self::Writer)
         ensures { waiting self.new ≡ waiting self.old };
 
-    /// Whether an answer was lost since the last call: `end` took it over, and its peer didn't take it.
-    fn has_lost(&mut self) -> bool
+    /// How many answers were lost since the last call: `end` took them over, and their peers didn't take
+    /// them.
+    fn lost(&mut self) -> u32
         ensures { waiting self.new ≡ waiting self.old }
     {
-        false
+        0
     }
 }

@@ -7,10 +7,11 @@ use crate::held::Held;
 use crate::late::LateWriter;
 use crate::listening::Listen;
 use crate::prompt::PromptStream;
+use crate::serving::{ConnectionFault, tell_lost};
 use crate::shared::SharedStream;
 use crate::waiting::Waiting;
 use std::alloc::Global;
-use std::io::{ErrorKind, Read, Write};
+use std::io::{Eprint, ErrorKind, Read, Write};
 use std::net::{OpenListener, OpenStream};
 use std::time::{Clock, Duration, Instant};
 use std::{io, thread};
@@ -115,11 +116,16 @@ where
         }
     }
 
-    /// Waits until every answer is sent and every stream is drained, or its time is over. It returns whether
-    /// an answer was lost that wasn't reported yet.
-    pub fn finish(&mut self) -> bool {
+    /// Waits until every answer is sent and every stream is drained, or its time is over. It reports answers
+    /// that are lost meanwhile on standard error. The result is a fault if an answer was ever lost.
+    pub fn finish(&mut self, rt: &impl Eprint) -> Result<(), ConnectionFault> {
         self.endings.finish();
-        self.endings.take_lost() > 0
+        tell_lost(rt, self.endings.take_lost());
+        if self.endings.has_lost() {
+            Err(ConnectionFault)
+        } else {
+            Ok(())
+        }
     }
 }
 
@@ -179,8 +185,8 @@ where
         }
     }
 
-    fn has_lost(&mut self) -> bool {
-        self.endings.take_lost() > 0
+    fn lost(&mut self) -> u32 {
+        self.endings.take_lost()
     }
 }
 
