@@ -26,13 +26,13 @@ class ConnectionTest(ProgramTest):
     def assert_not_found(self, answer):
         self.assert_whole(answer, b"404 Not Found")
 
-    def test_connections_are_served_in_their_order(self):
+    def test_connections_are_served_as_they_ask(self):
         with self.serving(2) as provider, provider.connect() as first, provider.connect() as second:
             # the second one asks first, for what the first one creates
             second.sendall(FIND_BOB)
+            self.assert_not_found(read_all(second))
             first.sendall(CREATE_BOB)
             self.assertEqual(read_all(first), BOB_CREATED)
-            self.assert_found(read_all(second))
 
     def test_clients_that_leave(self):
         with self.serving(5, connection_faults=4) as provider:

@@ -1,2 +1,3 @@
 mod RequestLemmas
+mod StreamLemmas
 mod TurnLemmas

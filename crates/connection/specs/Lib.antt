@@ -1,4 +1,5 @@
 pub mod Deadlines
 pub mod Listening
 pub mod Requests
+pub mod Streams
 pub mod Turns

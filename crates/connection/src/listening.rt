@@ -15,11 +15,20 @@ pub trait Listen {
     /// The connections that will be accepted from now on, if they are known.
     ghost waiting: { Self → Option (List (Self.Reader × Self.Writer)) } = { λ _. None };
 
-    /// Accepts the next connection.
+    /// Accepts the next connection that can be served.
     fn accept(&mut self) -> io::Result<(Self::Reader, Self::Writer)>
         ensures { Accepts (waiting self.old) (waiting self.new) result };
 
-    /// Ends a connection that was served. Its peer gets the whole answer, and may still send for a while.
+    /// Ends a connection that was served. Its peer gets the rest of the answer, and may still send for a
+    /// while.
     fn end(&mut self, reader: Self::Reader, writer: Self::Writer)
         ensures { waiting self.new ≡ waiting self.old };
+
+    /// How many answers were lost since the last call: `end` took them over, and their peers didn't take
+    /// them.
+    fn lost(&mut self) -> u32
+        ensures { waiting self.new ≡ waiting self.old }
+    {
+        0
+    }
 }

@@ -39,6 +39,7 @@ pub fn serve_connections<R: Registry, L: Listen>(
     for _turn in 0..count {
         let served = serve_next(alloc, listener, base, provider);
         tell(rt, served);
+        tell_lost(rt, listener.lost());
         outcome = outcome.and(served);
     }
     outcome
@@ -65,6 +66,13 @@ pub fn serve_from_memory<L: Listen>(
 fn tell(rt: &impl Eprint, served: Result<(), ConnectionFault>) {
     if let Err(fault) = served {
         let _ = eprintln!(rt; "{fault}");
+    }
+}
+
+/// Reports lost answers on standard error.
+pub(crate) fn tell_lost(rt: &impl Eprint, count: u32) {
+    for _ in 0..count {
+        tell(rt, Err(ConnectionFault));
     }
 }
 

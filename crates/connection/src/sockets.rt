@@ -1,33 +1,56 @@
 //! The connections of a listening socket.
+use crate::ahead::AheadReader;
 use crate::deadline::Deadline;
-use crate::lingering::{Lingering, MOST_KEPT};
+use crate::ending::Ending;
+use crate::endings::Endings;
+use crate::held::Held;
+use crate::late::LateWriter;
 use crate::listening::Listen;
-use crate::shared::{SharedStream, TimedHandle, timed_handles};
+use crate::prompt::PromptStream;
+use crate::serving::{ConnectionFault, tell_lost};
+use crate::shared::SharedStream;
+use crate::waiting::Waiting;
 use std::alloc::Global;
-use std::io;
-use std::io::{Read, Write};
+use std::io::{Eprint, ErrorKind, Read, Write};
 use std::net::{OpenListener, OpenStream};
-use std::time::{Clock, Duration};
+use std::time::{Clock, Duration, Instant};
+use std::{io, thread};
 
-/// The connections of a listening socket. Each has this time in all, from when it is accepted. Streams that
-/// were served are drained, one after another, while no connection waits.
+/// How often it is looked for something to do before the first pause.
+const LOOKS_AT_ONCE: u32 = 50;
+
+/// A pause, in milliseconds.
+const PAUSE: u64 = 1;
+
+/// The connections of a listening socket. Each has this time in all, from when it is accepted. A connection
+/// is given out when its request is whole, is refused by its form, has ended or failed, or is out of time.
+/// Meanwhile, other connections are read, answers are sent as their peers take them, and streams that were
+/// served are drained.
 #[derive(Drop)]
 pub struct Sockets<'a, L: OpenListener + Drop, C: Clock>
 where
-    L::Stream: Read + OpenStream,
+    L::Stream: Read + Write + OpenStream,
 {
     alloc: Global,
     listener: L,
     clock: &'a C,
     limit: Duration,
-    /// Whether `accept` returns at once if no connection waits.
+    /// Whether `accept` of the listener returns at once if no connection waits.
     gives_up: bool,
-    served: Lingering<'a, SharedStream<L::Stream>, C>,
+    waiting: Waiting<L::Stream>,
+    endings: Endings<'a, SharedStream<L::Stream>, C>,
+}
+
+/// What a look at all connections found.
+enum Look<S: Drop> {
+    Ready(Held<S>),
+    Moves,
+    Waits,
 }
 
 impl<'a, L: OpenListener + Drop, C: Clock> Sockets<'a, L, C>
 where
-    L::Stream: Read + OpenStream,
+    L::Stream: Read + Write + OpenStream,
 {
     pub fn new(alloc: Global, listener: L, clock: &'a C, limit: Duration) -> Self {
         Sockets {
@@ -36,60 +59,142 @@ where
             clock,
             limit,
             gives_up: false,
-            served: Lingering::new(alloc),
+            waiting: Waiting::new(alloc),
+            endings: Endings::new(alloc, clock),
         }
     }
 
-    /// The stream of the next connection. If none waits, it first drains the streams that were served.
-    fn next_stream(&mut self) -> io::Result<L::Stream> {
-        if self.gives_up {
-            if let Some(stream) = self.stream_between_drains() {
-                return Ok(stream);
-            }
-            self.listener.set_nonblocking(false)?;
-            self.gives_up = false;
+    /// Looks at all connections once, and takes out the first that can be served.
+    fn look(&mut self) -> io::Result<Look<L::Stream>> {
+        let now = Instant::now(self.clock)?;
+        let has_moved = self.endings.are_due(now) && self.endings.go_on(now);
+        if let Some(held) = self.waiting.take_ready(self.alloc, now) {
+            return Ok(Look::Ready(held));
         }
-        let (stream, _) = self.listener.accept()?;
-        Ok(stream)
+        if let Some(stream) = self.next_stream(now)? {
+            return self.look_at(stream);
+        }
+        if has_moved || self.endings.go_on(now) {
+            Ok(Look::Moves)
+        } else {
+            Ok(Look::Waits)
+        }
     }
 
-    /// The stream of a connection that waits. While none waits, it drains a stream that was served; `None`
-    /// if all are drained.
-    fn stream_between_drains(&mut self) -> Option<L::Stream> {
-        for _ in 0..MOST_KEPT {
-            if let Ok((stream, _)) = self.listener.accept() {
-                return Some(stream);
-            }
-            if !self.served.drain_longest() {
-                return None;
-            }
+    /// The stream of a connection that the system has accepted. If there is nothing else to do, it waits for
+    /// one.
+    fn next_stream(&mut self, now: Instant) -> io::Result<Option<L::Stream>> {
+        if !self.waiting.has_room(now) {
+            return Ok(None);
         }
-        None
+        let gives_up = !(self.waiting.is_empty() && self.endings.is_empty());
+        if gives_up != self.gives_up {
+            self.listener.set_nonblocking(gives_up)?;
+            self.gives_up = gives_up;
+        }
+        match self.listener.accept() {
+            Ok((stream, _)) => Ok(Some(stream)),
+            Err(error) if !gives_up => Err(error),
+            Err(_) => Ok(None),
+        }
     }
+
+    /// Reads what has come of a new connection. If that isn't a whole request, the connection is held. It
+    /// fails if another one had to be dropped.
+    fn look_at(&mut self, stream: L::Stream) -> io::Result<Look<L::Stream>> {
+        stream.set_nonblocking(true)?;
+        let deadline = Deadline::after(self.clock, self.limit)?;
+        let now = Instant::now(self.clock)?;
+        let mut held = Held::new(self.alloc, stream, deadline, now);
+        if held.is_ready(self.alloc, now) {
+            return Ok(Look::Ready(held));
+        }
+        if self.waiting.hold(held, now) {
+            Ok(Look::Moves)
+        } else {
+            Err(io::Error::from(ErrorKind::TimedOut))
+        }
+    }
+
+    /// Waits until every answer is sent and every stream is drained, or its time is over. It reports answers
+    /// that are lost meanwhile on standard error. The result is a fault if an answer was ever lost.
+    pub fn finish(&mut self, rt: &impl Eprint) -> Result<(), ConnectionFault> {
+        self.endings.finish();
+        tell_lost(rt, self.endings.take_lost());
+        if self.endings.has_lost() {
+            Err(ConnectionFault)
+        } else {
+            Ok(())
+        }
+    }
+}
+
+/// The reader of a connection: what was read before, and then the stream.
+type Asked<'a, S, C> = AheadReader<PromptStream<'a, SharedStream<S>, C>>;
+
+/// The writer of a connection.
+type Answering<'a, S, C> = LateWriter<PromptStream<'a, SharedStream<S>, C>>;
+
+/// A reader and a writer of a connection that was held.
+fn opened<'a, S: Read + Write + OpenStream + Drop, C: Clock>(
+    alloc: Global,
+    held: Held<S>,
+    clock: &'a C,
+) -> io::Result<(Asked<'a, S, C>, Answering<'a, S, C>)> {
+    let Held {
+        stream,
+        deadline,
+        received,
+        pace: _,
+    } = held;
+    let stream = SharedStream::new(alloc, stream)?;
+    let reader = PromptStream::new(stream.try_clone()?, clock, deadline);
+    let writer = PromptStream::new(stream, clock, deadline);
+    Ok((
+        AheadReader::new(received, reader),
+        LateWriter::new(alloc, writer),
+    ))
 }
 
 impl<'a, L: OpenListener + Drop, C: Clock> Listen for Sockets<'a, L, C>
 where
     L::Stream: Read + Write + OpenStream,
 {
-    type Reader = TimedHandle<'a, L::Stream, C>;
+    type Reader = Asked<'a, L::Stream, C>;
 
-    type Writer = TimedHandle<'a, L::Stream, C>;
+    type Writer = Answering<'a, L::Stream, C>;
 
     fn accept(&mut self) -> io::Result<(Self::Reader, Self::Writer)> {
-        let stream = self.next_stream()?;
-        let deadline = Deadline::after(self.clock, self.limit)?;
-        timed_handles(self.alloc, stream, self.clock, deadline)
-    }
-
-    fn end(&mut self, reader: Self::Reader, writer: Self::Writer) {
-        writer.shut_down();
-        self.served.keep(reader);
-        if !self.gives_up {
-            match self.listener.set_nonblocking(true) {
-                Ok(()) => self.gives_up = true,
-                Err(_) => self.served.drain_all(),
+        let mut idle: u32 = 0;
+        for _ in 0..u64::MAX {
+            match self.look()? {
+                Look::Ready(held) => return opened(self.alloc, held, self.clock),
+                Look::Moves => idle = 0,
+                Look::Waits => {
+                    pause(self.clock, idle);
+                    idle = idle.saturating_add(1);
+                }
             }
         }
+        Err(io::Error::from(ErrorKind::TimedOut))
+    }
+
+    fn end(&mut self, _: Self::Reader, writer: Self::Writer) {
+        if let Ok(now) = Instant::now(self.clock) {
+            self.endings.keep(Ending::new(writer, now), now);
+        }
+    }
+
+    fn lost(&mut self) -> u32 {
+        self.endings.take_lost()
+    }
+}
+
+/// Lets others run, and after some looks without anything to do sleeps for a while.
+fn pause(clock: &impl Clock, idle: u32) {
+    if idle < LOOKS_AT_ONCE {
+        thread::yield_now();
+    } else {
+        thread::sleep(clock, Duration::from_millis(PAUSE));
     }
 }

@@ -11,9 +11,6 @@ use std::io::{ErrorKind, Read, Write};
 use std::net::{OpenStream, Shutdown};
 use std::time::{Clock, Duration};
 
-/// The most reads that look for the end of a stream.
-const DRAIN_LIMIT: u32 = 400_000;
-
 /// The most seconds that one read waits.
 const WAIT_SECONDS: u64 = 1;
 
@@ -72,26 +69,6 @@ impl<'a, S: OpenStream + Drop, C: Clock> TimedStream<'a, S, C> {
     /// Shuts down writing, so that the peer sees the end.
     pub fn shut_down(&self) {
         let _ = self.stream.shutdown(Shutdown::Write);
-    }
-}
-
-impl<'a, S: Read + OpenStream + Drop, C: Clock> TimedStream<'a, S, C> {
-    /// Reads and discards what comes, to the stream's end, for at most this long. Closing a stream while
-    /// its peer still sends resets it, and the peer may lose its answer.
-    pub fn drain(&mut self, limit: Duration) {
-        let Ok(deadline) = Deadline::after(self.clock, limit) else {
-            return;
-        };
-        self.deadline.end = self.deadline.end.min(deadline.end);
-        let mut buffer = [0; 1_024];
-        for _ in 0..DRAIN_LIMIT {
-            match self.read(&mut buffer) {
-                Ok(0) => return,
-                Ok(_) => {}
-                Err(error) if error.kind() == ErrorKind::Interrupted => {}
-                Err(_) => return,
-            }
-        }
     }
 }
 

@@ -1,4 +1,4 @@
-//! `serve`: connections to a socket, answered by one provider, one after another.
+//! `serve`: connections to a socket, answered by one provider, as their requests are whole.
 use commands::{CommandFault, Status, listen_fault, outcome_status};
 use connection::{Sockets, serve_from_memory};
 use provider_file::{Storage, StoredRows, serve_stored};
@@ -23,7 +23,7 @@ pub fn serve<R: Runtime + Net + AllocGlobal, K: Storage>(
         None => {
             let mut sockets = sockets(rt, address)?;
             let outcome = serve_from_memory(rt, rt.alloc(), &mut sockets, requests, base);
-            Ok(outcome_status(outcome))
+            Ok(outcome_status(outcome.and(sockets.finish(rt))))
         }
     }
 }
@@ -48,7 +48,7 @@ fn serve_from_file<R: Runtime + Net + AllocGlobal, K: Storage>(
                 requests,
                 base,
             )?;
-            Ok(outcome_status(outcome))
+            Ok(outcome_status(outcome.and(sockets.finish(rt))))
         }
         Err(fault) => {
             rows.close();

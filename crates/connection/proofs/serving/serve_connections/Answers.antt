@@ -1,7 +1,8 @@
 use Rattle.std.proofs.Common.{ℕ, ◌≤◌, subst, ◌≡◌, ◌∙◌, arith}
 use Rattle.connection.specs.Requests.{FollowRequests}
 use Rattle.connection.proofs.RequestLemmas.{turns_follow}
-use Rattle.connection.proofs.TurnLemmas.{no_turn, one_more}
+use Rattle.connection.specs.Turns.{all_opened}
+use Rattle.connection.proofs.TurnLemmas.{no_turn, one_more, taken_still}
 use Rattle.connection.proofs.serving.serve_connections.Goals as goal
 
 pub loop-turn-init : goal.loop-turn-init
@@ -11,7 +12,7 @@ pub loop-turn-preserved : goal.loop-turn-preserved
 loop-turn-preserved g c = let m = one_more g.L.Listen.waiting g.L.Reader.Read.remaining g.L.Writer.Write.contents g.R.Registry c.args.base.now c.loop-turn.invariant c.serve_next-served.ensures in record {
   turns = m.turns;
   count_is = m.count_is;
-  takes = m.takes;
+  takes = taken_still _ _ _ (all_opened m.turns) m.takes c.lost.ensures;
   served = m.served;
   result_is = c.and-outcome.ensures ∙ m.result_is;
 }

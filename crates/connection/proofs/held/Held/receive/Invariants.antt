@@ -1,0 +1,11 @@
+use Rattle.std.proofs.Common.{◌≡◌}
+use Rattle.std.specs.Io.KnownBytes.{Keeps, prepend_known}
+use Rattle.connection.proofs.held.Held.receive.Given as goal
+
+-- no byte was lost
+abbrev pub invariant-loop : goal.invariant-loop
+invariant-loop g l = record {
+  bytes : Keeps (prepend_known l.initial.self.received.items (g.S.Read.remaining l.initial.self.stream)) (prepend_known l.self.received.items (g.S.Read.remaining l.self.stream));
+  deadline : l.self.deadline ≡ l.initial.self.deadline;
+  pace : l.self.pace ≡ l.initial.self.pace;
+}

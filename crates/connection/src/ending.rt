@@ -1,0 +1,145 @@
+//! A connection that was served, up to its end.
+ghost use Rattle.std.specs.Prelude.{◌≡◌, ◌≤◌};
+ghost use Rattle.std.specs.Io.KnownBytes.{Keeps};
+ghost use Rattle.connection.specs.Streams.{with_unsent};
+
+use crate::late::LateWriter;
+use crate::pace::Pace;
+use crate::prompt::PromptStream;
+use std::io;
+use std::io::{ErrorKind, Read, Write};
+use std::net::OpenStream;
+use std::time::{Clock, Duration, Instant};
+
+/// For how many seconds a peer may still send after it has its answer.
+const DRAIN_SECONDS: u64 = 2;
+
+/// The most bytes that one read discards, and the most reads of one look.
+const DRAIN_READ: usize = 4_096;
+
+const DRAIN_READS: u32 = 16;
+
+/// A connection that was served. The rest of its answer is sent as its peer takes it. Then what the peer
+/// still sends is discarded for a while: closing a stream while its peer sends resets it, and the peer may
+/// lose its answer.
+#[derive(Drop)]
+pub(crate) struct Ending<'a, S: Drop, C> {
+    stream: PromptStream<'a, S, C>,
+    unsent: Vec<u8>,
+    /// How many of the unsent bytes were sent since.
+    sent: usize,
+    pace: Pace,
+}
+
+/// What a look at an ending found.
+#[derive(Clone, Copy, PartialEq, Eq)]
+pub(crate) enum Step {
+    /// Nothing moved.
+    Waits,
+    /// Something moved, and more may come.
+    Moves,
+    /// The connection can be closed.
+    Over,
+}
+
+impl<'a, S: Read + Write + OpenStream + Drop, C: Clock> Ending<'a, S, C> {
+    /// The ending of a connection whose answer was written.
+    pub(crate) fn new(writer: LateWriter<PromptStream<'a, S, C>>, now: Instant) -> Self {
+        let LateWriter { writer, unsent } = writer;
+        let mut ending = Ending {
+            stream: writer,
+            unsent,
+            sent: 0,
+            pace: Pace::new(now),
+        };
+        if ending.is_sent() {
+            ending.shut_down(now);
+        }
+        ending
+    }
+
+    /// Whether the whole answer was sent.
+    pub(crate) fn is_sent(&self) -> bool {
+        self.sent >= self.unsent.len()
+    }
+
+    /// When something moved last.
+    pub(crate) fn moved(&self) -> Instant {
+        self.pace.moved
+    }
+
+    /// How many bytes are kept for the peer.
+    pub(crate) fn size(&self) -> usize {
+        if self.is_sent() { 0 } else { self.unsent.len() }
+    }
+
+    /// Goes on, if it is time to look, and doesn't wait.
+    pub(crate) fn go_on(&mut self, now: Instant) -> Step {
+        if !self.pace.is_due(now) {
+            return Step::Waits;
+        }
+        let step = self.send_or_drain(now);
+        match step {
+            Step::Moves => self.pace = Pace::new(now),
+            _ => self.pace.wait(now),
+        }
+        step
+    }
+
+    fn send_or_drain(&mut self, now: Instant) -> Step {
+        if self.is_sent() {
+            return self.drain();
+        }
+        let sent = self.sent;
+        match self.send() {
+            Ok(()) => {
+                self.shut_down(now);
+                Step::Moves
+            }
+            Err(error) => match error.kind() {
+                ErrorKind::WouldBlock | ErrorKind::Interrupted if self.sent > sent => Step::Moves,
+                ErrorKind::WouldBlock | ErrorKind::Interrupted => Step::Waits,
+                _ => Step::Over,
+            },
+        }
+    }
+
+    /// Sends what the peer takes now of the answer.
+    fn send(&mut self) -> io::Result<()>
+        ensures { Keeps (with_unsent (S.contents self.old.stream.stream) self.old.unsent.items self.old.sent)
+            (with_unsent (S.contents self.new.stream.stream) self.new.unsent.items self.new.sent) }
+    {
+        while self.sent < self.unsent.len() {
+            match self.stream.write(&self.unsent[self.sent..])? {
+                0 => return Err(io::Error::from(ErrorKind::WriteZero)),
+                count => self.sent += count,
+            }
+        }
+        Ok(())
+    }
+
+    /// Lets the peer see the end of the answer. It has a while to send what it still sends.
+    fn shut_down(&mut self, now: Instant) {
+        self.stream.shut_down();
+        if let Some(end) = now.checked_add(Duration::from_secs(DRAIN_SECONDS)) {
+            self.stream.end_by(end);
+        }
+    }
+
+    /// Discards what has come.
+    fn drain(&mut self) -> Step {
+        let mut buffer = [0; DRAIN_READ];
+        let mut step = Step::Waits;
+        for _ in 0..DRAIN_READS {
+            match self.stream.read(&mut buffer) {
+                Ok(0) => return Step::Over,
+                Ok(_) => step = Step::Moves,
+                Err(error) => match error.kind() {
+                    ErrorKind::WouldBlock | ErrorKind::Interrupted => return step,
+                    _ => return Step::Over,
+                },
+            }
+        }
+        step
+    }
+}

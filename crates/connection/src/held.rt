@@ -1,0 +1,126 @@
+//! Connections whose requests aren't whole yet.
+ghost use Rattle.std.specs.Prelude.{◌≡◌, []};
+ghost use Rattle.std.specs.Io.KnownBytes.{Keeps, prepend_known};
+
+use crate::deadline::Deadline;
+use crate::pace::Pace;
+use crate::readiness::is_ready;
+use http_text::{BODY_LIMIT, HEAD_LIMIT};
+use std::alloc::Global;
+use std::io::{ErrorKind, Read};
+use std::time::Instant;
+
+/// The most bytes that a request has.
+const MOST_BYTES: usize = HEAD_LIMIT + BODY_LIMIT as usize;
+
+/// The most bytes that one read takes.
+const READ_LIMIT: usize = 4_096;
+
+/// The most reads of one look, which are enough for a whole request.
+const MOST_READS: u32 = 12;
+
+/// A connection, and what its peer has sent so far.
+#[derive(Drop)]
+pub(crate) struct Held<S: Drop> {
+    pub(crate) stream: S,
+    pub(crate) deadline: Deadline,
+    pub(crate) received: Vec<u8>,
+    pub(crate) pace: Pace,
+}
+
+/// What a look at a connection found.
+#[derive(Clone, Copy)]
+enum Arrival {
+    Bytes,
+    Nothing,
+    /// No more comes: the stream has ended or failed, there is no room, or out of memory.
+    End,
+}
+
+impl<S: Read + Drop> Held<S> {
+    /// A connection that was accepted now.
+    pub(crate) fn new(alloc: Global, stream: S, deadline: Deadline, now: Instant) -> Self
+        ensures stream { result.stream ≡ stream }
+        ensures deadline { result.deadline ≡ deadline }
+        ensures received { result.received.items ≡ [] }
+    {
+        Held {
+            stream,
+            deadline,
+            received: Vec::new(alloc),
+            pace: Pace::new(now),
+        }
+    }
+
+    /// Whether the connection can be served: its request is whole or refused, no more comes, or its time is
+    /// over. It looks only if it is time to look, and doesn't wait.
+    pub(crate) fn is_ready(&mut self, alloc: Global, now: Instant) -> bool
+        ensures bytes { Keeps (prepend_known self.old.received.items (S.remaining self.old.stream))
+            (prepend_known self.new.received.items (S.remaining self.new.stream)) }
+        ensures deadline { self.new.deadline ≡ self.old.deadline }
+    {
+        if !self.pace.is_due(now) {
+            return false;
+        }
+        if self.deadline.left_at(now).is_none() {
+            return true;
+        }
+        match self.receive() {
+            Arrival::Bytes => {
+                self.pace = Pace::new(now);
+                is_ready(alloc, &self.received)
+            }
+            Arrival::Nothing => {
+                self.pace.wait(now);
+                false
+            }
+            Arrival::End => true,
+        }
+    }
+
+    /// Takes what has come.
+    fn receive(&mut self) -> Arrival
+        ensures bytes { Keeps (prepend_known self.old.received.items (S.remaining self.old.stream))
+            (prepend_known self.new.received.items (S.remaining self.new.stream)) }
+        ensures deadline { self.new.deadline ≡ self.old.deadline }
+        ensures pace { self.new.pace ≡ self.old.pace }
+    {
+        let mut arrival = Arrival::Nothing;
+        for _ in 0..MOST_READS {
+            match self.read_once() {
+                Arrival::Bytes => arrival = Arrival::Bytes,
+                Arrival::Nothing => return arrival,
+                Arrival::End => return Arrival::End,
+            }
+        }
+        arrival
+    }
+
+    /// Takes what one read gives.
+    fn read_once(&mut self) -> Arrival
+        ensures bytes { Keeps (prepend_known self.old.received.items (S.remaining self.old.stream))
+            (prepend_known self.new.received.items (S.remaining self.new.stream)) }
+        ensures deadline { self.new.deadline ≡ self.old.deadline }
+        ensures pace { self.new.pace ≡ self.old.pace }
+    {
+        let mut buffer = [0; READ_LIMIT];
+        let room = MOST_BYTES
+            .saturating_sub(self.received.len())
+            .min(READ_LIMIT);
+        if self.received.reserve(room).is_err() {
+            return Arrival::End;
+        }
+        match self.stream.read(&mut buffer[..room]) {
+            Ok(0) => Arrival::End,
+            Ok(count) => {
+                let kept = self.received.extend_from_slice(&buffer[..count]);
+                prove!(kept.is_ok());
+                Arrival::Bytes
+            }
+            Err(error) => match error.kind() {
+                ErrorKind::WouldBlock | ErrorKind::Interrupted => Arrival::Nothing,
+                _ => Arrival::End,
+            },
+        }
+    }
+}

@@ -1,0 +1,91 @@
+"""`serve`: slow clients hold nobody up, and lose nothing."""
+import contextlib
+import socket
+import time
+
+from support import BOB_CREATED, CREATE_BOB, USER, ProgramTest, read_all, resource_id, wait_until
+
+FIND_BOB = f"GET /v2/Users/{resource_id(1)} HTTP/1.1\r\nHost: h\r\n\r\n".encode()
+LIST = b"GET /v2/Users HTTP/1.1\r\nHost: h\r\n\r\n"
+# Seconds within which an answer comes if nobody holds it up
+PROMPTLY = 5
+# The most connections that wait for their requests, and the seconds that each may be silent even then
+MOST_HELD, SILENCE = 256, 0.1
+
+
+def narrow_connection(port):
+    """A connection that takes few bytes ahead, so that a long answer isn't sent at once."""
+    stream = socket.socket()
+    stream.setsockopt(socket.SOL_SOCKET, socket.SO_RCVBUF, 1)
+    stream.setsockopt(socket.IPPROTO_TCP, socket.TCP_MAXSEG, 88)
+    stream.settimeout(60)
+    stream.connect(("127.0.0.1", port))
+    return stream
+
+
+class SlowClientTest(ProgramTest):
+    def assert_prompt(self, provider, request, status):
+        """A request is answered at once."""
+        began = time.monotonic()
+        answer = provider.exchange(request)
+        self.assertLess(time.monotonic() - began, PROMPTLY)
+        self.assertTrue(answer.startswith(b"HTTP/1.1 " + status), answer[:100])
+
+    def fill(self, provider, count):
+        """Creates so many users."""
+        for number in range(count):
+            user = f'{{"schemas":["{USER}"],"userName":"user-{number:04}"}}'
+            self.assertEqual(provider.ask("POST", "/v2/Users", user).status, 201)
+
+    def test_silent_clients_hold_nobody_up(self):
+        with self.serving(5, connection_faults=3) as provider, contextlib.ExitStack() as silent:
+            for _ in range(3):
+                silent.enter_context(provider.connect())
+            self.assert_prompt(provider, CREATE_BOB, b"201")
+            self.assert_prompt(provider, FIND_BOB, b"200")
+
+    def test_a_request_in_parts(self):
+        with self.serving(1 + 3) as provider, provider.connect() as stream:
+            for part in (CREATE_BOB[:1], CREATE_BOB[1:200], CREATE_BOB[200:-1]):
+                stream.sendall(part)
+                self.assert_prompt(provider, FIND_BOB, b"404")
+            stream.sendall(CREATE_BOB[-1:])
+            self.assertEqual(read_all(stream), BOB_CREATED)
+
+    def test_the_longest_request(self):
+        head = b"POST /v2/Users HTTP/1.1\r\nHost: h\r\nContent-Length: 32768\r\nA: "
+        head += b"a" * (16_384 - len(head) - 4) + b"\r\n\r\n"
+        body = b'{"schemas":[],"userName":"bob"}'
+        request = head + body + b" " * (32_768 - len(body))
+        with self.serving(2) as provider, provider.connect() as stream:
+            for place in range(0, len(request), 20_000):
+                stream.sendall(request[place:place + 20_000])
+                time.sleep(0.02)
+            self.assertTrue(read_all(stream).startswith(b"HTTP/1.1 201"))
+            self.assert_prompt(provider, head + body.ljust(32_768, b"x"), b"400")
+
+    def test_a_client_that_reads_its_answer_late(self):
+        with self.serving(200 + 3) as provider:
+            self.fill(provider, 200)
+            whole = provider.exchange(LIST)
+            with narrow_connection(provider.port) as stream:
+                stream.sendall(LIST)
+                self.assert_prompt(provider, FIND_BOB, b"200")
+                self.assertEqual(read_all(stream), whole)
+            self.assertGreater(len(whole), 50_000)
+
+    def test_a_client_that_does_not_read_its_answer(self):
+        with self.serving(200 + 2, connection_faults=1) as provider:
+            self.fill(provider, 200)
+            with narrow_connection(provider.port) as stream:
+                stream.sendall(LIST)
+                self.assert_prompt(provider, FIND_BOB, b"200")
+
+    def test_the_most_silent_client_makes_room(self):
+        with self.serving(2, connection_faults=1) as provider, contextlib.ExitStack() as silent:
+            streams = [silent.enter_context(provider.connect()) for _ in range(MOST_HELD)]
+            time.sleep(10 * SILENCE)
+            silent.enter_context(provider.connect())
+            streams[0].settimeout(PROMPTLY)
+            self.assertEqual(streams[0].recv(1), b"")
+            self.assert_prompt(provider, CREATE_BOB, b"201")
