@@ -39,7 +39,11 @@ impl<'a> DatabaseFile<'a> {
 
     /// What the system says if the file is there and can't be written.
     fn refused_by_system(&self) -> Option<Reason> {
-        match OpenOptions::new().read(true).write(true).open(self.rt, self.path) {
+        match OpenOptions::new()
+            .read(true)
+            .write(true)
+            .open(self.rt, self.path)
+        {
             Ok(_file) => None,
             Err(error) => match error.kind() {
                 ErrorKind::NotFound => None,
@@ -50,10 +54,7 @@ impl<'a> DatabaseFile<'a> {
 }
 
 /// Why the database doesn't execute a statement.
-fn refused_by_store(
-    mut conn: Connection<FileStore<File>>,
-    statement: &str,
-) -> Option<Reason> {
+fn refused_by_store(mut conn: Connection<FileStore<File>>, statement: &str) -> Option<Reason> {
     match conn.execute(statement, &[]) {
         Ok(_) => None,
         Err(error) => failure_of(error),

@@ -2,9 +2,9 @@
 use crate::support::{BOB_CREATED, assert_that, base, empty};
 use provider_core::{Answer, MemoryRegistry, Provider, Request};
 use scim_filter::Filter;
+use scim_http::response_of;
 use scim_key::{GroupName, Kind, ResourceId};
 use scim_resource::Content;
-use scim_http::response_of;
 use scim_version::Condition;
 use serde_json::Value;
 use std::alloc::Global;

@@ -3,8 +3,8 @@ use crate::support::are_printed;
 use http_text::{ReadFault, SendFault};
 use provider_core::{ProviderFault, RegistryFault};
 use scim_client::{AnswerFault, ExchangeFault};
-use scim_message::Refusal;
 use scim_http::MeaningFault;
+use scim_message::Refusal;
 
 static REFUSALS: &[(Refusal, &str)] = &[
     (Refusal::UnreadableBody, "P1"),

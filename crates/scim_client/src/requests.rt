@@ -17,10 +17,10 @@ use form_urlencoded::Serializer;
 use http_text::{FieldLine, write_request};
 use itoa::Buffer;
 use scim_filter::Filter;
+use scim_http::{MEDIA_TYPE, push_line, stated_type};
 use scim_key::{Base, Kind, ResourceId};
 use scim_message::Request;
 use scim_resource::{Content, location};
-use scim_http::{MEDIA_TYPE, push_line, stated_type};
 use scim_version::{Condition, EntityTag};
 use std::alloc::{AllocError, Global};
 

@@ -11,8 +11,8 @@ ghost use Rattle.world_sim.specs.Reading.{IsOrMemory, IsReadAs, MeansSo};
 use crate::messages::Said;
 use http_text::{Incoming, request_in};
 use scim_client::{AnswerFault, read_answer};
-use scim_message::{Answer, Request};
 use scim_http::{MeaningFault, meaning};
+use scim_message::{Answer, Request};
 use std::alloc::{AllocError, Global};
 
 /// Why bytes couldn't be read as a message.

@@ -30,9 +30,9 @@ use core::mem::replace_with;
 use journal_core::Journal;
 use provider_core::{Pending, Provider, Registry, Reopen};
 use scim_client::ScimService;
+use scim_http::response_of;
 use scim_key::{Base, RecordName};
 use scim_message::{Answer, Request};
-use scim_http::response_of;
 use source_csv::Row;
 use std::alloc::Global;
 
