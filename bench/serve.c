@@ -1,9 +1,12 @@
 #define _GNU_SOURCE
-/* Both ends of a measurement, for bench/serve.py:
+/* Both ends of a measurement, for bench/serve.py and bench/slow.py:
  *   serve load PORT CLIENTS COUNT STEP AMONG STATUS REQUEST
  *       asks so many times from so many clients at once, a connection each, wants this status each
  *       time, and prints the seconds. The n-th asking has the number (n * STEP) % AMONG; eight `@` in
  *       the request stand for it, and twelve `$` for the one after it in hexadecimal.
+ *   serve wait PORT CLIENTS SECONDS STATUS REQUEST
+ *       asks for so many seconds from so many clients, and prints how many were answered, and the
+ *       milliseconds that 99 of 100 and that all of them took at most.
  *   serve limit COUNT ANSWER [STORE insert|update AMONG]
  *       prints a port, and answers so many connections by the same bytes: what accepting, reading,
  *       writing and closing alone take. With a store, the row of a user is put or changed by SQLite
@@ -99,6 +102,44 @@ static int load(void) {
         if (pthread_create(&threads[n], 0, client, (void *)n)) fail(3);
     for (int n = 0; n < clients; n++) pthread_join(threads[n], 0);
     printf("%.6f\n", seconds() - start);
+    return 0;
+}
+
+enum { MOST_WAITS = 4000000 };
+
+/* How long each answer took, of all clients. */
+static float *waits;
+static int answered;
+static double until;
+
+static void *waiting_client(void *unused) {
+    char *taken = malloc(ROOM);
+    if (!taken) fail(2);
+    for (double begin = seconds(), end; begin < until; begin = end) {
+        ask(text.bytes, text.length, taken, status);
+        end = seconds();
+        int place = __atomic_fetch_add(&answered, 1, __ATOMIC_RELAXED);
+        if (place < MOST_WAITS) waits[place] = (end - begin) * 1e3;
+    }
+    free(taken);
+    return unused;
+}
+
+static int is_longer(const void *one, const void *other) {
+    float a = *(const float *)one, b = *(const float *)other;
+    return (a > b) - (a < b);
+}
+
+static int waiting(double length) {
+    pthread_t threads[MOST_CLIENTS];
+    if (clients < 1 || clients > MOST_CLIENTS || !(waits = malloc(MOST_WAITS * sizeof *waits))) return 2;
+    until = seconds() + length;
+    for (long n = 0; n < clients; n++)
+        if (pthread_create(&threads[n], 0, waiting_client, 0)) fail(3);
+    for (int n = 0; n < clients; n++) pthread_join(threads[n], 0);
+    if (answered > MOST_WAITS) answered = MOST_WAITS;
+    qsort(waits, answered, sizeof *waits, is_longer);
+    printf("%d %.3f %.3f\n", answered, waits[answered * 99L / 100], waits[answered - 1]);
     return 0;
 }
 
@@ -211,6 +252,11 @@ int main(int words, char **word) {
         step = atol(word[5]), among = atol(word[6]), status = word[7];
         take_text(&text, word[8]);
         return load();
+    }
+    if (words == 7 && !strcmp(word[1], "wait")) {
+        port = atoi(word[2]), clients = atoi(word[3]), status = word[5];
+        take_text(&text, word[6]);
+        return waiting(atof(word[4]));
     }
 #ifdef STORE
     if (words == 7 && !strcmp(word[1], "push")) {

@@ -3,7 +3,7 @@ import contextlib
 import socket
 import time
 
-from support import BOB_CREATED, CREATE_BOB, USER, ProgramTest, read_all, resource_id, wait_until
+from support import BOB, BOB_CREATED, CREATE_BOB, ProgramTest, read_all, resource_id
 
 FIND_BOB = f"GET /v2/Users/{resource_id(1)} HTTP/1.1\r\nHost: h\r\n\r\n".encode()
 LIST = b"GET /v2/Users HTTP/1.1\r\nHost: h\r\n\r\n"
@@ -34,7 +34,7 @@ class SlowClientTest(ProgramTest):
     def fill(self, provider, count):
         """Creates so many users."""
         for number in range(count):
-            user = f'{{"schemas":["{USER}"],"userName":"user-{number:04}"}}'
+            user = BOB.replace('"bob"', f'"user-{number:04}"')
             self.assertEqual(provider.ask("POST", "/v2/Users", user).status, 201)
 
     def test_silent_clients_hold_nobody_up(self):
@@ -55,7 +55,7 @@ class SlowClientTest(ProgramTest):
     def test_the_longest_request(self):
         head = b"POST /v2/Users HTTP/1.1\r\nHost: h\r\nContent-Length: 32768\r\nA: "
         head += b"a" * (16_384 - len(head) - 4) + b"\r\n\r\n"
-        body = b'{"schemas":[],"userName":"bob"}'
+        body = BOB.encode()
         request = head + body + b" " * (32_768 - len(body))
         with self.serving(2) as provider, provider.connect() as stream:
             for place in range(0, len(request), 20_000):

@@ -1,3 +1,4 @@
 //! The connections of a provider, as tests over memory.
 mod serving;
+mod sockets;
 mod streams;
