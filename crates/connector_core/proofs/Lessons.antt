@@ -178,7 +178,7 @@ own-turn Greater e = absurd (cc)
 found-again : (book : BookMap) (name : RecordName) (known : Known) → get (insert book name known) name ≡ Some known
 found-again book name known = get-insert names_total book name known name ∙ ap (λ b. cond b (Some known) (get book name)) (own-turn (name_cmp name name) (names_total.antisymm name name))
 
-changed-is : (change : Known → Known) (book : BookMap) (name : RecordName) (known : Known) → get book name ≡ Some known → changed change book name ≡ insert book name (change known)
+pub changed-is : (change : Known → Known) (book : BookMap) (name : RecordName) (known : Known) → get book name ≡ Some known → changed change book name ≡ insert book name (change known)
 changed-is change book name known there = ap (changed_at change book name) there
 
 -- nothing changes

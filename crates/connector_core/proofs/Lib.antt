@@ -1,5 +1,6 @@
 pub mod BookLaws
 pub mod Keeping
+pub mod Leaving
 pub mod Lessons
 pub mod Located
 pub mod Offered

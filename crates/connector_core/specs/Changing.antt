@@ -81,6 +81,14 @@ IsNoVerdict TooMany = ⊥
 IsNoVerdict Store = Unit {0}
 IsNoVerdict Memory = Unit {0}
 
+-- the fault is the verdict on the row
+abbrev pub IsRejection : ChangeFault → Type 0
+IsRejection Differs = Unit {0}
+IsRejection (NoSuchMember key) = Unit {0}
+IsRejection TooMany = Unit {0}
+IsRejection Store = ⊥
+IsRejection Memory = ⊥
+
 -- only a store fault is counted
 abbrev pub CountsChange : (old new : ℕ) → ChangeFault → Type 0
 CountsChange old new Differs = new ≡ old

@@ -72,6 +72,15 @@ MayStandFor answer NoSuchRecord = ⊥
 MayStandFor answer Store = IsOk answer
 MayStandFor answer Memory = Unit {0}
 
+-- the answer is rejected
+abbrev pub IsRejection : LearnFault → Type 0
+IsRejection Unfit = Unit {0}
+IsRejection Unversioned = Unit {0}
+IsRejection (Refused status) = Unit {0}
+IsRejection NoSuchRecord = Unit {0}
+IsRejection Store = ⊥
+IsRejection Memory = ⊥
+
 -- only a store fault is counted
 abbrev pub CountsLearn : (old new : ℕ) → LearnFault → Type 0
 CountsLearn old new Unfit = new ≡ old

@@ -1,5 +1,5 @@
 -- The connector: its journal and its book.
-use Rattle.std.specs.Prelude.{◌≡◌, ◌≤◌, ℕ, List, Some, Result, Ok, Err, map}
+use Rattle.std.specs.Prelude.{◌≡◌, ◌⊎◌, ◌≤◌, ℕ, List, Some, Result, Ok, Err, OnErr, OnOk, map}
 use Rattle.std.specs.FinMap.{from_entries, get, keys}
 use Rattle.std.specs.Option.{option_map}
 use Rattle.scim_key.specs.Revisions.{◌≼◌}
@@ -8,9 +8,11 @@ use Rattle.source_csv.specs.Records.{row_name, row_revision}
 use Rattle.journal_core.specs.Entries.{EntryMap}
 use Rattle.journal_core.specs.Stores.{HasRisen}
 use Rattle.journal_core.specs.declared.entries.Entry.{Entry}
+use Rattle.journal_core.specs.declared.journals.Journal.{Ghosts as Journals}
 use Rattle.journal_core.specs.declared.journals.JournalFault.{JournalFault}
 use Rattle.journal_core.specs.declared.journals.JournalFault.TheVariants as journal
-use Rattle.connector_core.specs.Maps.{BookMap}
+use Rattle.connector_core.specs.Book.{Book}
+use Rattle.connector_core.specs.Maps.{BookMap, book_of}
 use Rattle.connector_core.specs.declared.knowledge.Known.{Known}
 use Rattle.connector_core.specs.declared.knowledge.Seen.TheVariants.{Unknown}
 use Rattle.connector_core.specs.declared.opening.OpenFault.{OpenFault}
@@ -32,6 +34,27 @@ pub record IsKept (kept : EntryMap) (book : BookMap) : Type 0 where
   pub same : (name : RecordName) → get kept name ≡ option_map entry_of (get book name)
   pub names : keys kept ≡ keys book
   pub within : (name : RecordName) (known : Known) → get book name ≡ Some known → known.confirmed ≼ row_revision known.wanted
+
+-- ---- what a stop leaves of the book
+
+-- the entries are those of the book with these names: of each record its row, its confirmed revision and its id
+pub record AreOf (found : EntryMap) (book : Book) (names : List RecordName) : Type 0 where
+  pub same : (name : RecordName) → get found name ≡ option_map entry_of (book name)
+  pub listed : keys found ≡ names
+
+-- a stop at this moment leaves the entries of the book
+abbrev pub LeavesBook : {J : Type 0} → Journals J → State J → Type 0
+LeavesBook h s = (found : EntryMap) → h.may_hold s.journal found → AreOf found (book_of s.book) (keys s.book)
+
+-- a stop leaves the entries of one of these books
+abbrev pub LeavesOneOf : {J : Type 0} → Journals J → J → (book later : Book) → (names more : List RecordName) → Type 0
+LeavesOneOf h journal book later names more = (found : EntryMap) → h.may_hold journal found → AreOf found book names ⊎ AreOf found later more
+
+-- What a stop leaves after a call that changes the book to `later`, if it left the entries of the book before. After a
+-- success it leaves those of the book; after a fault those of the book, or of `later`
+pub record Leaves {J T F : Type 0} (h : Journals J) (old new : State J) (later : Book) (names : List RecordName) (result : Result T F) : Type 0 where
+  pub done : OnOk result (LeavesBook h new)
+  pub failed : OnErr result (LeavesOneOf h new.journal (book_of old.book) later (keys old.book) names)
 
 -- ---- opening
 

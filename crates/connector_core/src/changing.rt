@@ -10,9 +10,9 @@ ghost use Rattle.source_book.specs.declared.accepting.Verdict.TheVariants as ver
 ghost use Rattle.journal_core.specs.Entries.{with_row};
 ghost use Rattle.journal_core.specs.Stores.{WritesOnce};
 ghost use Rattle.connector_core.specs.Book.{wanted_row, wanting};
-ghost use Rattle.connector_core.specs.Changing.{CountsChange, IsNoVerdict, accepted_entries, accepted_map, is_full, judging, limited, member_at, unknown_member};
+ghost use Rattle.connector_core.specs.Changing.{CountsChange, IsNoVerdict, IsRejection, accepted_entries, accepted_map, book_after, is_full, judging, limited, member_at, unknown_member};
 ghost use Rattle.connector_core.specs.Maps.{GivesUnless, book_of};
-ghost use Rattle.connector_core.specs.State.{IsKept};
+ghost use Rattle.connector_core.specs.State.{IsKept, Leaves, LeavesBook};
 
 use crate::books::Book;
 use crate::connectors::Connector;
@@ -214,6 +214,9 @@ impl<J: Journal> Connector<J> {
         ensures kept { J.is_faithful self.new.journal → IsKept (J.entries self.new.journal) self.new.book }
         ensures journal { WritesOnce J.entries J.is_faithful J.is_honest J.may_hold J.faults J.writes CountsChange self.old.journal self.new.journal (accepted_entries (J.entries self.old.journal) row (judging (book_of self.old.book) (keys self.old.book) row)) result }
         ensures quiet { IfOk result (λ verdict. verdict ≢ verdicts.New → J.writes self.new.journal ≡ J.writes self.old.journal) }
+        ensures rejected { IfErr result (λ fault. IsRejection fault → self.new.journal ≡ self.old.journal) }
+        ensures open { J.is_honest self.new.journal → J.is_faithful self.old.journal → OnOk result (J.is_faithful self.new.journal) }
+        ensures leaves { J.is_honest self.new.journal → LeavesBook J.Journal self.old → Leaves J.Journal self.old self.new (book_after (book_of self.old.book) row (judging (book_of self.old.book) (keys self.old.book) row)) (keys (accepted_map self.old.book row (judging (book_of self.old.book) (keys self.old.book) row))) result }
     {
         let name = row.record_name(self.alloc)?;
         match judge(self.alloc, &self.book, &name, &row) {
@@ -234,6 +237,7 @@ impl<J: Journal> Connector<J> {
         ensures err { OnErr result (self.new.book ≡ self.old.book) }
         ensures kept { J.is_faithful self.new.journal → IsKept (J.entries self.new.journal) self.new.book }
         ensures journal { WritesOnce J.entries J.is_faithful J.is_honest J.may_hold J.faults J.writes CountsChange self.old.journal self.new.journal (with_row (J.entries self.old.journal) row) result }
+        ensures open { J.is_honest self.new.journal → OnOk result (J.is_faithful self.new.journal) }
     {
         if self.book.get(&name).is_some() {
             self.accept_next(&name, row)
@@ -253,6 +257,7 @@ impl<J: Journal> Connector<J> {
         ensures err { OnErr result (self.new.book ≡ self.old.book) }
         ensures kept { J.is_faithful self.new.journal → IsKept (J.entries self.new.journal) self.new.book }
         ensures journal { WritesOnce J.entries J.is_faithful J.is_honest J.may_hold J.faults J.writes CountsChange self.old.journal self.new.journal (with_row (J.entries self.old.journal) row) result }
+        ensures open { J.is_honest self.new.journal → OnOk result (J.is_faithful self.new.journal) }
     {
         self.journal.put_row(&row)?;
         self.book.want(name, row);
@@ -270,6 +275,7 @@ impl<J: Journal> Connector<J> {
         ensures err { OnErr result (self.new.book ≡ self.old.book) }
         ensures kept { J.is_faithful self.new.journal → IsKept (J.entries self.new.journal) self.new.book }
         ensures journal { WritesOnce J.entries J.is_faithful J.is_honest J.may_hold J.faults J.writes CountsChange self.old.journal self.new.journal (with_row (J.entries self.old.journal) row) result }
+        ensures open { J.is_honest self.new.journal → OnOk result (J.is_faithful self.new.journal) }
     {
         self.book.put(name.clone()?, first_known(row.clone()?))?;
         match self.journal.put_row(&row) {

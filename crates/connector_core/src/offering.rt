@@ -1,13 +1,13 @@
 //! Accepts rows that the source offers together.
 ghost use Rattle.std.specs.Prelude.{◌≡◌, ◌++◌, ◌∷◌, [], IfErr, IfOk, None, OnErr, OnOk, Some};
-ghost use Rattle.std.specs.FinMap.{get, insert};
+ghost use Rattle.std.specs.FinMap.{get, insert, keys};
 ghost use Rattle.source_csv.specs.Records.{row_name};
 ghost use Rattle.journal_core.specs.Stores.{WritesOnce};
 ghost use Rattle.connector_core.specs.Book.{wanted_row, wanting};
 ghost use Rattle.connector_core.specs.Changing.{CountsChange, IsNoVerdict, entries_all, if_new, judged, new_rows, taking, taking_all, verdicts};
 ghost use Rattle.connector_core.specs.Maps.{book_of};
 ghost use Rattle.connector_core.specs.Offering.{AreOffered, all_back, taken_back};
-ghost use Rattle.connector_core.specs.State.{IsKept};
+ghost use Rattle.connector_core.specs.State.{IsKept, Leaves, LeavesBook};
 
 use crate::books::Book;
 use crate::changing::{ChangeFault, first_known, judge};
@@ -215,6 +215,8 @@ impl<J: Journal> Connector<J> {
         ensures kept { J.is_faithful self.new.journal → IsKept (J.entries self.new.journal) self.new.book }
         ensures journal { WritesOnce J.entries J.is_faithful J.is_honest J.may_hold J.faults J.writes CountsChange self.old.journal self.new.journal (entries_all (J.entries self.old.journal) self.old.book rows.items) result }
         ensures quiet { OnOk result (new_rows self.old.book rows.items ≡ [] → J.writes self.new.journal ≡ J.writes self.old.journal) }
+        ensures open { J.is_honest self.new.journal → J.is_faithful self.old.journal → OnOk result (J.is_faithful self.new.journal) }
+        ensures leaves { J.is_honest self.new.journal → LeavesBook J.Journal self.old → Leaves J.Journal self.old self.new (book_of (taking_all self.old.book rows.items)) (keys (taking_all self.old.book rows.items)) result }
     {
         let Offered { said, fresh, notes } = offer(self.alloc, &mut self.book, rows)?;
         let put = fresh.as_slice();

@@ -9,25 +9,28 @@ use Rattle.scim_key.specs.declared.records.RecordName.{RecordName}
 use Rattle.provider_core.specs.declared.registry.Registry.{Ghosts as Registries}
 use Rattle.journal_core.specs.declared.journals.Journal.{Ghosts as Journals}
 use Rattle.connector_core.specs.Asking.{asking}
+use Rattle.connector_core.specs.Book.{Book}
 use Rattle.connector_core.specs.declared.asking.Ask.{Ask}
 use Rattle.connector_core.specs.declared.asking.Ask.TheVariants.{Nothing, Waits, Send}
 use Rattle.scim_message.specs.declared.messages.Request.{Request}
 use Rattle.world_model.specs.Reports as model
 use Rattle.world_model.specs.Settled.{Exchanges, Rests, Turns, Wants, exchange}
-use Rattle.world_model.specs.World.{World, Message, Asked, Answered, Event, Changes, Sends, Delivers, Cuts, Restarts_provider, Restarts_connector, empty, happens, names, run, sends}
+use Rattle.world_model.specs.World.{World, Message, Asked, Answered, Event, Changes, Sends, Delivers, Cuts, Restarts_provider, Restarts_connector, empty, happens, message_at, names, run, sends}
 use Rattle.world_model.proofs.Calm.{always_calm}
 use Rattle.world_model.proofs.Counting.{few_names}
 use Rattle.world_model.proofs.Exchanging.{answer_to, sent_is}
 use Rattle.world_model.proofs.OneWay.{leads_on}
 use Rattle.world_model.proofs.Settling.{settles}
 use Rattle.world_sim.specs.Events.{report_of}
-use Rattle.world_sim.specs.Messages.{message_size}
-use Rattle.world_sim.specs.Running.{Fails, Happens, Is, IsExcused, IsKnown, IsReached, IsSound, Runs, if_restart, names_in}
+use Rattle.world_sim.specs.Messages.{message_size, messages_of}
+use Rattle.world_sim.specs.Running.{Fails, Happens, HasBook, Is, IsExcused, IsKnown, IsOpenTo, IsReached, IsSound, Runs, if_restart, is_open, journal_in, names_in}
 use Rattle.world_sim.specs.Settling.{IsSendOrDeliver, IsSettling, MaySettle, SendsAndDelivers, Settles, SettlesRecord, Stops, TakesStep}
 use Rattle.world_sim.specs.Views.{IsNoName}
 use Rattle.world_sim.specs.declared.reports.Report.{Report}
 use Rattle.world_sim.specs.declared.reports.WorldFault.{WorldFault}
 use Rattle.world_sim.specs.declared.reports.WorldFault.TheVariants.{Memory, Store}
+use Rattle.world_sim.specs.declared.sides.Side.{Side}
+use Rattle.world_sim.specs.declared.sides.Side.TheVariants.{Open, Shut}
 use Rattle.world_sim.specs.declared.worlds.World.{World as Running}
 use Rattle.world_sim.proofs.Steps.{as_many}
 use Rattle.world_sim.proofs.WholeRuns.{runs_none, runs_on}
@@ -112,6 +115,7 @@ module _ {R J : Type 0} (g : Registries R) (h : Journals J) where
     was = λ sound. one.was (two.was sound);
     base = two.base ∙ one.base;
     stays_open = λ sound faithful. two.stays_open sound (one.stays_open (two.was sound) faithful);
+    journal_open = λ sound faithful. two.journal_open sound (one.journal_open (two.was sound) faithful);
     is = λ sound w is. subst (λ v. Is g h new v) (sym (run-append w events more)) (two.is sound (run w events) (one.is (two.was sound) w is));
     told_so = λ sound w is. map-append report_of told more_told
         ∙ ap (λ rs. rs ++ map report_of more_told) (one.told_so (two.was sound) w is)
@@ -136,13 +140,18 @@ module _ {R J : Type 0} (g : Registries R) (h : Journals J) where
 
   -- ---- faults
 
-  is_known : (registry : R) (event : Event) → IsSendOrDeliver event → g.is_faithful registry → IsKnown g registry event
-  is_known registry (Changes row) is faithful = tt
-  is_known registry (Sends name) is faithful = tt
-  is_known registry (Delivers number) is faithful = faithful
-  is_known registry (Cuts number length) is faithful = tt
-  is_known registry Restarts_provider is faithful = tt
-  is_known registry Restarts_connector is faithful = tt
+  open_to : (r : Running R J) (message : Option Message) → g.is_faithful r.provider → h.is_faithful (journal_in r.connector) → IsOpenTo g h r message
+  open_to r None registry journal = tt
+  open_to r (Some (Asked request)) registry journal = registry
+  open_to r (Some (Answered request answer)) registry journal = journal
+
+  is_known : (old new : Running R J) (event : Event) → IsSendOrDeliver event → g.is_faithful new.provider → h.is_faithful (journal_in new.connector) → IsKnown g h old new event
+  is_known old new (Changes row) is registry journal = absurd is
+  is_known old new (Sends name) is registry journal = tt
+  is_known old new (Delivers number) is registry journal = open_to new (message_at (messages_of old.sent.items) number) registry journal
+  is_known old new (Cuts number length) is registry journal = absurd is
+  is_known old new Restarts_provider is registry journal = absurd is
+  is_known old new Restarts_connector is registry journal = absurd is
 
   no_restart : (w : World) (event : Event) → IsSendOrDeliver event → if_restart w event ≡ w
   no_restart w (Changes row) is = refl
@@ -160,9 +169,9 @@ module _ {R J : Type 0} (g : Registries R) (h : Journals J) where
     next = next;
     is_next = is_next;
     fails = fails;
-    again = λ sound faithful w is.
+    again = λ sound faithful journal w is.
         let there = done.runs.is (fails.was sound) w is in
-        let failed = fails.is sound (is_known new.provider next is_next faithful) (run w done.events) there in
+        let failed = fails.is sound (is_known between new next is_next faithful journal) (run w done.events) there in
         let still : Is g h new (run w done.events) = subst (λ v. Is g h new v) (no_restart (run w done.events) next is_next) failed in
         (still, may_settle (run w done.events) still.reached);
   }
@@ -179,7 +188,14 @@ module _ {R J : Type 0} (g : Registries R) (h : Journals J) where
   stops_unnamed r fault why =
       let name : RecordName = record { kind = User; key = [] } in
       stops r r r (none_done r) (Sends name) tt fault
-      (record { was = λ sound. sound; base = refl; sent = refl; is = λ sound known w is. is; excused = is_excused r name fault why })
+      (record {
+        was = λ sound. sound;
+        base = refl;
+        sent = refl;
+        is = λ sound known w is. is;
+        leaves = λ sound w is. record { rows = λ found holds. inl (is.mirrors.found found holds); entries = λ found holds. inl (is.mirrors.kept found holds) };
+        excused = is_excused r name fault why;
+      })
 
   -- ---- one exchange
 
@@ -288,14 +304,18 @@ module _ {R J : Type 0} (g : Registries R) (h : Journals J) where
         (others, subst (λ (y : World). Turns y (drop (place + 1) all) others v) (sym is_there) more, omega (arith, total, counted, both, same, small));
   }
 
-  pub all_settled : (old new : Running R J) (all : List RecordName) (place exchanges : ℕ) → place ≡ length all → all ≡ names_in h old.connector → AreSoFar old new all place exchanges
+  open_names : (side : Side J) (book : Book) (all : List RecordName) → is_open side ≡ true → HasBook side book all → names_in h side ≡ all
+  open_names (Open connector) book all is has = has.1
+  open_names (Shut journal) book all is has = absurd (cc)
+
+  pub all_settled : (old new : Running R J) (all : List RecordName) (place exchanges : ℕ) → place ≡ length all → all ≡ names_in h old.connector → is_open old.connector ≡ true → AreSoFar old new all place exchanges
       → Settles g h old new (record { exchanges = exchanges })
-  all_settled old new all place exchanges past named so = record {
+  all_settled old new all place exchanges past named opened so = record {
     done = so.done;
     most = omega (arith, so.most, past, ap (λ (ns : List RecordName). length ns) named);
     settling = λ sound w is.
         let (count, v, s) = may_settle w is.reached in
-        let same : all ≡ names w = named ∙ is.mirrors.names in
+        let same : all ≡ names w = named ∙ open_names old.connector w.book (names w) opened is.mirrors.book in
         let small = small_count w is.reached count v s.turns in
         let (left, rest, counted) = so.lead sound w is count v small (subst (λ (ns : List RecordName). Turns w ns count v) (sym same) s.turns) in
         let end : (v ≡ run w so.done.events) × (left ≡ 0) = subst (λ (ns : List RecordName). Turns (run w so.done.events) ns left v) (drop_all place all (omega (arith, past))) rest in

@@ -29,11 +29,12 @@ use Rattle.journal_core.specs.declared.journals.Journal.{Ghosts as Journals}
 use Rattle.connector_core.proofs.Keeping.{names-put}
 use Rattle.connector_core.proofs.LawProofs.{maps_accept}
 use Rattle.connector_core.specs.Asking.{asking}
-use Rattle.connector_core.specs.Book.{wanting}
+use Rattle.journal_core.specs.Entries.{EntryMap}
+use Rattle.connector_core.specs.Book.{Book, wanting}
 use Rattle.connector_core.specs.Changing.{names_of, names_with, judging, history_after, book_after, accepted_map}
 use Rattle.connector_core.specs.Learning.{learn, after_learning}
 use Rattle.connector_core.specs.Maps.{BookMap, book_of}
-use Rattle.connector_core.specs.State.{State}
+use Rattle.connector_core.specs.State.{AreOf, Leaves, LeavesBook, State, entry_of}
 use Rattle.connector_core.specs.declared.asking.Ask.{Ask}
 use Rattle.connector_core.specs.declared.asking.Ask.TheVariants as asks
 use Rattle.connector_core.specs.declared.changing.ChangeFault.{ChangeFault}
@@ -43,7 +44,7 @@ use Rattle.world_model.specs.Safe.{rows as world_rows}
 use Rattle.world_sim.specs.Events.{report_of}
 use Rattle.world_sim.specs.Fitting.{IsFormed}
 use Rattle.world_sim.specs.Messages.{IsMessage, messages_of, text_at, texts_of, message_text, message_size, says}
-use Rattle.world_sim.specs.Running.{Is, Mirrors, Makes, Happens, Arrives, Fails, book_in, names_in, journal_in}
+use Rattle.world_sim.specs.Running.{Is, Mirrors, Makes, Happens, Arrives, Fails, FailsToArrive, HasBook, HoldsOneOf, IsOpenTo, journal_in}
 use Rattle.world_sim.specs.Reading.{IsReadAs, IsOrMemory}
 use Rattle.world_sim.specs.declared.messages.Sent.{Sent}
 use Rattle.world_sim.specs.declared.reading.ReadingFault.TheVariants.{Unread}
@@ -80,55 +81,89 @@ pub bytes_at : (sent : List Sent) (number : ℕ) (found : Option Sent) → numbe
 bytes_at sent zero found some e = absurd (some refl)
 bytes_at sent (suc place) found some e = ap (option_map (λ s. s.bytes.items)) (e ∙ ap (slice_get sent) (less_one place)) ∙ at_map (λ s. s.bytes.items) sent place
 
+-- ---- what a stop leaves
+
+-- the same of the same book with the same names
+pub are_moved : (found : EntryMap) (book later : Book) (names more : List RecordName) → book ≡ later → names ≡ more → AreOf found book names → AreOf found later more
+are_moved found book later names more same alike are = record { same = λ name. are.same name ∙ ap (λ (b : Book). option_map entry_of (b name)) same; listed = are.listed ∙ alike }
+
 -- ---- rows that are offered, and requests that are sent
 
 module _ {R J : Type 0} (g : Registries R) (h : Journals J) (old : Running R J) where
   -- the book and the names of an open connector are those of the world
   pub here_book : (before : State J) → old.connector ≡ Open before → (w : World) → Is g h old w → book_of before.book ≡ w.book
-  here_book before e w is = sym (ap (book_in h) e) ∙ is.mirrors.book
+  here_book before e w is = (subst (λ s. HasBook s w.book (world_names w)) e is.mirrors.book).0
 
   pub here_names : (before : State J) → old.connector ≡ Open before → (w : World) → Is g h old w → keys before.book ≡ world_names w
-  here_names before e w is = sym (ap (names_in h) e) ∙ is.mirrors.names
+  here_names before e w is = (subst (λ s. HasBook s w.book (world_names w)) e is.mirrors.book).1
 
-  pub was_faithful : (before : State J) → old.connector ≡ Open before → h.is_faithful before.journal → h.is_faithful (journal_in old.connector)
-  was_faithful before e faithful = subst (λ s. h.is_faithful (journal_in s)) (sym e) faithful
+  -- a stop leaves its book
+  pub here_leaves : (before : State J) → old.connector ≡ Open before → (w : World) → Is g h old w → LeavesBook h before
+  here_leaves before e w is found holds = are_moved found w.book (book_of before.book) (world_names w) (keys before.book) (sym (here_book before e w is)) (sym (here_names before e w is))
+      (is.mirrors.kept found (subst (λ s. h.may_hold (journal_in s) found) (sym e) holds))
+
+  pub was_honest : (before : State J) → old.connector ≡ Open before → h.is_honest before.journal → h.is_honest (journal_in old.connector)
+  was_honest before e honest = subst (λ s. h.is_honest (journal_in s)) (sym e) honest
+
+  pub here_faithful : (before : State J) → old.connector ≡ Open before → h.is_faithful (journal_in old.connector) → h.is_faithful before.journal
+  here_faithful before e faithful = subst (λ s. h.is_faithful (journal_in s)) e faithful
 
   -- the connector says the same of a row by the book of the world
   judged_same : (before : State J) → old.connector ≡ Open before → (row : Row) (w : World) → Is g h old w → judging (book_of before.book) (keys before.book) row ≡ judged w row
   judged_same before e row w is = ap (λ b. judging b (keys before.book) row) (here_book before e w is) ∙ ap (λ names. judging w.book names row) (here_names before e w is)
 
+  -- the book and the names after a row, which are those of the world after it
+  pub changed_book : (before : State J) (row : Row) → old.connector ≡ Open before → (w : World) → Is g h old w
+      → book_after (book_of before.book) row (judging (book_of before.book) (keys before.book) row) ≡ book_after w.book row (judged w row)
+  changed_book before row e w is = ap (λ b. book_after b row (judging (book_of before.book) (keys before.book) row)) (here_book before e w is) ∙ ap (book_after w.book row) (judged_same before e row w is)
+
+  pub names_after_row : (before : State J) (row : Row) → old.connector ≡ Open before → (w : World) → Is g h old w
+      → keys (accepted_map before.book row (judging (book_of before.book) (keys before.book) row)) ≡ names_of (history_after w.history row (judged w row))
+  names_after_row before row e w is = changed_names before.book w.history row (judging (book_of before.book) (keys before.book) row) (here_names before e w is)
+      ∙ ap (λ v. names_of (history_after w.history row v)) (judged_same before e row w is)
+
   pub changes_row : (before after : State J) (row : Row) (told : Report) → IsRow row → old.connector ≡ Open before
-      → (h.is_faithful after.journal → h.is_faithful before.journal)
+      → (h.is_honest after.journal → h.is_honest before.journal)
+      → (h.is_honest after.journal → h.is_faithful before.journal → h.is_faithful after.journal)
+      → (h.is_honest after.journal → LeavesBook h before → LeavesBook h after)
       → after.book ≡ accepted_map before.book row (judging (book_of before.book) (keys before.book) row)
       → report_of told ≡ model.Judged (judging (book_of before.book) (keys before.book) row)
       → Happens g h old (record old { connector = Open after }) (Changes row) told
-  changes_row before after row told law e was made said = record {
-    was = λ sound. record { registry = sound.registry; journal = was_faithful before e (was sound.journal) };
+  changes_row before after row told law e was stays leaves made said = record {
+    was = λ sound. record { registry = sound.registry; journal = was_honest before e (was sound.journal) };
     base = refl;
     stays_open = λ sound faithful. faithful;
-    is = λ sound w is. is_after g h old (record old { connector = Open after }) w (Changes row) law refl is (record {
-      rows = is.mirrors.rows;
-      found = is.mirrors.found;
-      table = is.mirrors.table;
-      book = ap book_of made ∙ maps_accept before.book row (judging (book_of before.book) (keys before.book) row)
-          ∙ ap (λ b. book_after b row (judging (book_of before.book) (keys before.book) row)) (here_book before e w is) ∙ ap (book_after w.book row) (judged_same before e row w is);
-      names = ap keys made ∙ changed_names before.book w.history row (judging (book_of before.book) (keys before.book) row) (here_names before e w is)
-          ∙ ap (λ v. names_of (history_after w.history row v)) (judged_same before e row w is);
-      messages = is.mirrors.messages;
-      texts = is.mirrors.texts;
-      formed = is.mirrors.formed;
-    });
+    journal_open = λ sound faithful. stays sound.journal (here_faithful before e faithful);
+    is = λ sound w is.
+        let book = ap book_of made ∙ maps_accept before.book row (judging (book_of before.book) (keys before.book) row) ∙ changed_book before row e w is in
+        let names = ap keys made ∙ names_after_row before row e w is in
+        is_after g h old (record old { connector = Open after }) w (Changes row) law refl is (record {
+          rows = is.mirrors.rows;
+          found = is.mirrors.found;
+          table = is.mirrors.table;
+          book = (book, names);
+          kept = λ found holds. are_moved found (book_of after.book) (book_after w.book row (judged w row)) (keys after.book) (names_of (history_after w.history row (judged w row))) book names
+              (leaves sound.journal (here_leaves before e w is) found holds);
+          messages = is.mirrors.messages;
+          texts = is.mirrors.texts;
+          formed = is.mirrors.formed;
+        });
     report = λ sound w is. said ∙ ap model.Judged (judged_same before e row w is);
   }
 
   -- the same of what the connector said, if it said something
   pub changes_told : (before after : State J) (row copy : Row) (result : Result Report WorldFault) → IsRow row → copy ≡ row → old.connector ≡ Open before
-      → (h.is_faithful after.journal → h.is_faithful before.journal)
+      → (h.is_honest after.journal → h.is_honest before.journal)
+      → (h.is_honest after.journal → h.is_faithful before.journal → OnOk result (h.is_faithful after.journal))
+      → (h.is_honest after.journal → LeavesBook h before
+          → Leaves h before after (book_after (book_of before.book) copy (judging (book_of before.book) (keys before.book) copy)) (keys (accepted_map before.book copy (judging (book_of before.book) (keys before.book) copy))) result)
       → OnOk result (after.book ≡ accepted_map before.book copy (judging (book_of before.book) (keys before.book) copy))
       → IfOk result (λ told. report_of told ≡ model.Judged (judging (book_of before.book) (keys before.book) copy))
       → IfOk result (λ told. Happens g h old (record old { connector = Open after }) (Changes row) told)
-  changes_told before after row copy (Ok told) law same e was made said = subst (λ r. Happens g h old (record old { connector = Open after }) (Changes r) told) same (changes_row before after copy told (subst IsRow (sym same) law) e was made said)
-  changes_told before after row copy (Err fault) law same e was made said = tt
+  changes_told before after row copy (Ok told) law same e was stays leaves made said =
+      subst (λ r. Happens g h old (record old { connector = Open after }) (Changes r) told) same
+      (changes_row before after copy told (subst IsRow (sym same) law) e was stays (λ honest left. (leaves honest left).done) made said)
+  changes_told before after row copy (Err fault) law same e was stays leaves made said = tt
 
   asked_same : (before : State J) → old.connector ≡ Open before → (name : RecordName) (ask : Option Ask) → asking (book_of before.book) name ≡ ask → (w : World) → Is g h old w → asking w.book name ≡ ask
   asked_same before at name ask e w is = ap (λ b. asking b name) (sym (here_book before at w is)) ∙ e
@@ -140,6 +175,7 @@ module _ {R J : Type 0} (g : Registries R) (h : Journals J) (old : Running R J) 
     was = λ sound. sound;
     base = refl;
     stays_open = λ sound faithful. faithful;
+    journal_open = λ sound faithful. faithful;
     is = λ sound w is. subst (λ v. Is g h old v) (sym (ap (sends w) (asked_same before at name ask e w is) ∙ same w)) is;
     report = λ sound w is. said (model.next_number w) ∙ sym (ap (model.ask_report (model.next_number w)) (asked_same before at name ask e w is));
   }
@@ -151,6 +187,7 @@ module _ {R J : Type 0} (g : Registries R) (h : Journals J) (old : Running R J) 
     was = m.was;
     base = m.base;
     stays_open = m.stays_open;
+    journal_open = m.journal_open;
     is = λ sound w is. is_after g h old new w (Sends name) tt m.base is
         (subst (λ v. Mirrors g h new v) (sym (ap (sends w) (asked_same before at name (Some (asks.Send request)) e w is))) (m.is sound w is));
     report = λ sound w is. m.report sound w is ∙ sym (ap (model.ask_report (model.next_number w)) (asked_same before at name (Some (asks.Send request)) e w is));
@@ -177,15 +214,16 @@ module _ {R J : Type 0} (g : Registries R) (h : Journals J) (old : Running R J) 
       → report_of told ≡ model.sending_report (suc (length old.sent.items)) request
       → Makes g h old new (λ w. Mirrors g h new (with_message w (Asked request))) (λ w. model.sending_report (model.next_number w) request) told
   posts new message request told in_bytes formed provider connector base sent said = record {
-    was = λ sound. record { registry = subst g.is_honest provider sound.registry; journal = subst (λ s. h.is_faithful (journal_in s)) connector sound.journal };
+    was = λ sound. record { registry = subst g.is_honest provider sound.registry; journal = subst (λ s. h.is_honest (journal_in s)) connector sound.journal };
     base = base;
     stays_open = λ sound faithful. subst g.is_faithful (sym provider) faithful;
+    journal_open = λ sound faithful. subst (λ s. h.is_faithful (journal_in s)) (sym connector) faithful;
     is = λ sound w is. record {
       rows = subst (λ p. g.is_faithful p → g.rows p ≡ world_rows w) (sym provider) is.mirrors.rows;
       found = subst (λ p. (found : List StoredRecord) → g.may_hold p found → found ≡ world_rows w) (sym provider) is.mirrors.found;
       table = is.mirrors.table;
-      book = ap (book_in h) connector ∙ is.mirrors.book;
-      names = ap (names_in h) connector ∙ is.mirrors.names;
+      book = subst (λ s. HasBook s w.book (world_names w)) (sym connector) is.mirrors.book;
+      kept = λ found holds. is.mirrors.kept found (subst (λ s. h.may_hold (journal_in s) found) connector holds);
       messages = ap messages_of sent ∙ more_messages w message (Asked request) in_bytes is;
       texts = ap texts_of sent ∙ more_texts w message (Asked request) in_bytes is ∙ ap (λ b. map (message_text b) (w.messages ++ Asked request ∷ [])) (sym base);
       formed = formed_more old.service new.service w.messages (Asked request) base is.mirrors.formed formed;
@@ -195,7 +233,7 @@ module _ {R J : Type 0} (g : Registries R) (h : Journals J) (old : Running R J) 
 
   -- ---- messages that arrive
 
-  message_same : (number : ℕ) (message : Option Message) → message_at (messages_of old.sent.items) number ≡ message → (w : World) → Is g h old w → message_at w.messages number ≡ message
+  pub message_same : (number : ℕ) (message : Option Message) → message_at (messages_of old.sent.items) number ≡ message → (w : World) → Is g h old w → message_at w.messages number ≡ message
   message_same number message e w is = ap (λ ms. message_at ms number) (sym is.mirrors.messages) ∙ e
 
   pub delivers_nothing : (number : ℕ) (told : Report) → message_at (messages_of old.sent.items) number ≡ None → report_of told ≡ model.No_message → Happens g h old old (Delivers number) told
@@ -203,6 +241,7 @@ module _ {R J : Type 0} (g : Registries R) (h : Journals J) (old : Running R J) 
     was = λ sound. sound;
     base = refl;
     stays_open = λ sound faithful. faithful;
+    journal_open = λ sound faithful. faithful;
     is = λ sound w is. subst (λ v. Is g h old v) (sym (ap (delivers w) (message_same number None e w is))) is;
     report = λ sound w is. said ∙ sym (ap (model.delivery_report w) (message_same number None e w is));
   }
@@ -220,6 +259,7 @@ module _ {R J : Type 0} (g : Registries R) (h : Journals J) (old : Running R J) 
     was = m.was;
     base = m.base;
     stays_open = m.stays_open;
+    journal_open = m.journal_open;
     is = λ sound w is. is_after g h old new w (Delivers number) tt m.base is (subst (λ v. Mirrors g h new v) (sym (ap (delivers w) (heard_at w is))) (m.is sound w is));
     report = λ sound w is. m.report sound w is ∙ sym (ap (model.delivery_report w) (heard_at w is));
   }
@@ -242,6 +282,7 @@ module _ {R J : Type 0} (g : Registries R) (h : Journals J) (old : Running R J) 
     was = λ sound. sound;
     base = refl;
     stays_open = λ sound faithful. faithful;
+    journal_open = λ sound faithful. faithful;
     is = λ sound w is. absurd (never w is);
     report = λ sound w is. absurd (never w is);
   }
@@ -249,35 +290,49 @@ module _ {R J : Type 0} (g : Registries R) (h : Journals J) (old : Running R J) 
       never : (w : World) → Is g h old w → ⊥
       never w is = no_unread asked (only asked (sent_is_read g h old number (Asked asked) bytes said text w is))
 
+  -- the bytes of an answer are read as it
+  pub answer_read : (number : ℕ) (request : Request) (answer : Answer) (bytes : List ℕ) → message_at (messages_of old.sent.items) number ≡ Some (Answered request answer) → text_at (texts_of old.sent.items) number ≡ Some bytes
+      → (w : World) → Is g h old w → AnswersSo bytes request answer
+  answer_read number request answer bytes sent text w is = sent_is_read g h old number (Answered request answer) bytes sent text w is
+
+  pub learnt_book : (before : State J) (request : Request) (answer : Answer) → old.connector ≡ Open before → (w : World) → Is g h old w
+      → after_learning (book_of before.book) (learn (book_of before.book) request answer) ≡ after_learning w.book (learn w.book request answer)
+  learnt_book before request answer e w is = ap (λ b. after_learning b (learn b request answer)) (here_book before e w is)
+
   pub learns : (before after : State J) (number : ℕ) (request : Request) (answer : Answer) (bytes : List ℕ) (told : Report)
       → message_at (messages_of old.sent.items) number ≡ Some (Answered request answer) → text_at (texts_of old.sent.items) number ≡ Some bytes
       → old.connector ≡ Open before
       → ((a : Answer) → AnswersSo bytes request a → report_of told ≡ model.Taught (model.learnt_of (learn (book_of before.book) request a)))
       → ((a : Answer) → AnswersSo bytes request a → book_of after.book ≡ after_learning (book_of before.book) (learn (book_of before.book) request a))
       → keys after.book ≡ keys before.book
-      → (h.is_faithful after.journal → h.is_faithful before.journal)
+      → (h.is_honest after.journal → h.is_honest before.journal)
+      → (h.is_honest after.journal → h.is_faithful before.journal → h.is_faithful after.journal)
+      → ((a : Answer) → AnswersSo bytes request a → h.is_honest after.journal → LeavesBook h before → LeavesBook h after)
       → Happens g h old (record old { connector = Open after }) (Delivers number) told
-  learns before after number request answer bytes told sent text e said made named was = record {
-    was = λ sound. record { registry = sound.registry; journal = was_faithful before e (was sound.journal) };
+  learns before after number request answer bytes told sent text e said made named was stays leaves = record {
+    was = λ sound. record { registry = sound.registry; journal = was_honest before e (was sound.journal) };
     base = refl;
     stays_open = λ sound faithful. faithful;
-    is = λ sound w is. is_after g h old (record old { connector = Open after }) w (Delivers number) tt refl is
+    journal_open = λ sound faithful. stays sound.journal (here_faithful before e faithful);
+    is = λ sound w is.
+        let read = answer_read number request answer bytes sent text w is in
+        let book = made answer read ∙ learnt_book before request answer e w is in
+        let names = named ∙ here_names before e w is in
+        is_after g h old (record old { connector = Open after }) w (Delivers number) tt refl is
         (subst (λ v. Mirrors g h (record old { connector = Open after }) v) (sym (ap (delivers w) (message_same number (Some (Answered request answer)) sent w is))) (record {
           rows = is.mirrors.rows;
           found = is.mirrors.found;
           table = is.mirrors.table;
-          book = made answer (reads w is) ∙ ap (λ b. after_learning b (learn b request answer)) (here_book before e w is);
-          names = named ∙ here_names before e w is;
+          book = (book, names);
+          kept = λ found holds. are_moved found (book_of after.book) (after_learning w.book (learn w.book request answer)) (keys after.book) (world_names w) book names
+              (leaves answer read sound.journal (here_leaves before e w is) found holds);
           messages = is.mirrors.messages;
           texts = is.mirrors.texts;
           formed = is.mirrors.formed;
         }));
-    report = λ sound w is. said answer (reads w is) ∙ ap (λ b. model.Taught (model.learnt_of (learn b request answer))) (here_book before e w is)
+    report = λ sound w is. said answer (answer_read number request answer bytes sent text w is) ∙ ap (λ b. model.Taught (model.learnt_of (learn b request answer))) (here_book before e w is)
         ∙ sym (ap (model.delivery_report w) (message_same number (Some (Answered request answer)) sent w is));
   }
-    where
-      reads : (w : World) → Is g h old w → AnswersSo bytes request answer
-      reads w is = sent_is_read g h old number (Answered request answer) bytes sent text w is
 
   pub learns_told : (before after : State J) (number : ℕ) (request : Request) (answer : Answer) (bytes : List ℕ) (result : Result Report WorldFault)
       → message_at (messages_of old.sent.items) number ≡ Some (Answered request answer) → text_at (texts_of old.sent.items) number ≡ Some bytes
@@ -285,16 +340,32 @@ module _ {R J : Type 0} (g : Registries R) (h : Journals J) (old : Running R J) 
       → ((a : Answer) → AnswersSo bytes request a → IfOk result (λ told. report_of told ≡ model.Taught (model.learnt_of (learn (book_of before.book) request a))))
       → ((a : Answer) → AnswersSo bytes request a → OnOk result (book_of after.book ≡ after_learning (book_of before.book) (learn (book_of before.book) request a)))
       → keys after.book ≡ keys before.book
-      → (h.is_faithful after.journal → h.is_faithful before.journal)
+      → (h.is_honest after.journal → h.is_honest before.journal)
+      → (h.is_honest after.journal → h.is_faithful before.journal → OnOk result (h.is_faithful after.journal))
+      → ((a : Answer) → AnswersSo bytes request a → h.is_honest after.journal → LeavesBook h before
+          → Leaves h before after (after_learning (book_of before.book) (learn (book_of before.book) request a)) (keys before.book) result)
       → IfOk result (Happens g h old (record old { connector = Open after }) (Delivers number))
-  learns_told before after number request answer bytes (Ok told) sent text e said made named was = learns before after number request answer bytes told sent text e said made named was
-  learns_told before after number request answer bytes (Err fault) sent text e said made named was = tt
+  learns_told before after number request answer bytes (Ok told) sent text e said made named was stays leaves =
+      learns before after number request answer bytes told sent text e said made named was stays (λ a read honest left. (leaves a read honest left).done)
+  learns_told before after number request answer bytes (Err fault) sent text e said made named was stays leaves = tt
 
-  -- the same fault, whichever number the request has
-  pub fails_numbered : (new : Running R J) (number : ℕ) (result : Result Report WorldFault)
-      → IfErr result (λ fault. (n : ℕ) → Fails g h old new (Delivers n) fault) → IfErr result (Fails g h old new (Delivers number))
-  fails_numbered new number (Ok told) fails = tt
-  fails_numbered new number (Err fault) fails = fails number
+  -- the request with a number didn't arrive
+  pub fails_numbered : (new : Running R J) (number : ℕ) (asked heard : Request) (bytes : List ℕ) (result : Result Report WorldFault)
+      → message_at (messages_of old.sent.items) number ≡ Some (Asked asked) → text_at (texts_of old.sent.items) number ≡ Some bytes
+      → ((request : Request) → SpellsRequest bytes request → IsOrMemory request (Ok heard))
+      → IfErr result (FailsToArrive g h old new (Asked heard)) → IfErr result (Fails g h old new (Delivers number))
+  fails_numbered new number asked heard bytes (Ok told) said text only fails = tt
+  fails_numbered new number asked heard bytes (Err fault) said text only fails = record {
+    was = fails.was;
+    base = fails.base;
+    sent = fails.sent;
+    is = λ sound known w is. fails.is sound (subst (λ m. IsOpenTo g h new m) said known) w is;
+    leaves = λ sound w is. subst (λ v. HoldsOneOf g h new w v) (sym (ap (delivers w) (heard_at w is))) (fails.leaves sound w is);
+    excused = fails.excused number;
+  }
+    where
+      heard_at : (w : World) → Is g h old w → message_at w.messages number ≡ Some (Asked heard)
+      heard_at w is = message_same number (Some (Asked asked)) said w is ∙ ap (λ r. Some (Asked r)) (sym (same_asked number asked heard bytes said text only w is))
 
   -- without a message, or with all bytes of one, nothing is cut
   pub cuts_none : (number count : ℕ) (told : Report) → message_at (messages_of old.sent.items) number ≡ None → report_of told ≡ model.No_message → Happens g h old old (Cuts number count) told
@@ -302,6 +373,7 @@ module _ {R J : Type 0} (g : Registries R) (h : Journals J) (old : Running R J) 
     was = λ sound. sound;
     base = refl;
     stays_open = λ sound faithful. faithful;
+    journal_open = λ sound faithful. faithful;
     is = λ sound w is. is_still g h old old w refl is is.mirrors;
     report = λ sound w is. said ∙ sym (ap (λ m. model.cut_report (message_size old.service) m count) (message_same number None none w is));
   }
@@ -313,6 +385,7 @@ module _ {R J : Type 0} (g : Registries R) (h : Journals J) (old : Running R J) 
     was = λ sound. sound;
     base = refl;
     stays_open = λ sound faithful. faithful;
+    journal_open = λ sound faithful. faithful;
     is = λ sound w is. is_still g h old old w refl is is.mirrors;
     report = λ sound w is. none ∙ sym (ap (λ m. model.cut_report (message_size old.service) m count) (message_same number (Some message) said w is) ∙ ap model.cut_at (is_whole w is));
   }
@@ -333,6 +406,7 @@ module _ {R J : Type 0} (g : Registries R) (h : Journals J) (old : Running R J) 
     was = λ sound. sound;
     base = refl;
     stays_open = λ sound faithful. faithful;
+    journal_open = λ sound faithful. faithful;
     is = λ sound w is. is_still g h old old w refl is is.mirrors;
     report = λ sound w is.
         let short : told ≡ CutShort = cut_read bytes count front message less first (told ≡ CutShort) cut (sent_is_read g h old number message bytes said text w is) in
@@ -356,15 +430,16 @@ module _ {R J : Type 0} (g : Registries R) (h : Journals J) (old : Running R J) 
       → report_of told ≡ model.Answering (suc (length old.sent.items)) (answer_status pending.answer)
       → Arrives g h old new (Asked request) told
   answers new mid pending request message told connector base sent was_old was_mid was_open opened stays same out done settled in_bytes formed said = record {
-    was = λ sound. record { registry = was_old (was_mid sound.registry); journal = subst (λ s. h.is_faithful (journal_in s)) connector sound.journal };
+    was = λ sound. record { registry = was_old (was_mid sound.registry); journal = subst (λ s. h.is_honest (journal_in s)) connector sound.journal };
     base = base;
     stays_open = λ sound faithful. is_open_now sound.registry;
+    journal_open = λ sound faithful. subst (λ s. h.is_faithful (journal_in s)) (sym connector) faithful;
     is = λ sound w is. let step_is = answer_same sound.registry w is in record {
       rows = λ faithful. done faithful ∙ rows_same sound.registry w is;
       found = λ found holds. settled found (is_open_now sound.registry) holds ∙ done (is_open_now sound.registry) ∙ rows_same sound.registry w is;
       table = (rows_follow_stories w.entries request is.mirrors.table).table;
-      book = ap (book_in h) connector ∙ is.mirrors.book;
-      names = ap (names_in h) connector ∙ is.mirrors.names;
+      book = subst (λ s. HasBook s w.book (world_names w)) (sym connector) is.mirrors.book;
+      kept = λ found holds. is.mirrors.kept found (subst (λ s. h.may_hold (journal_in s) found) connector holds);
       messages = ap messages_of sent ∙ more_messages w message (Answered request pending.answer) in_bytes is ∙ ap (λ a. w.messages ++ Answered request a ∷ []) step_is;
       texts = ap texts_of sent ∙ more_texts w message (Answered request pending.answer) in_bytes is
           ∙ ap (λ a. map (message_text old.service) (w.messages ++ Answered request a ∷ [])) step_is

@@ -11,7 +11,9 @@ use Rattle.scim_key.specs.declared.records.RecordName.{RecordName}
 use Rattle.scim_resource.specs.Rows.{StoredRecord}
 use Rattle.provider_core.specs.declared.registry.Registry.{Ghosts as Registries}
 use Rattle.journal_core.specs.declared.journals.Journal.{Ghosts as Journals}
-use Rattle.connector_core.specs.State.{State, IsOpened, opened}
+use Rattle.connector_core.specs.Book.{empty_book}
+use Rattle.connector_core.specs.Maps.{book_of}
+use Rattle.connector_core.specs.State.{State, IsOpened, LeavesBook, opened}
 use Rattle.world_model.specs.World.{World, Message, Event, happens, empty, run}
 use Rattle.world_model.specs.Reports as model
 use Rattle.world_model.proofs.Safety.{always_safe}
@@ -24,11 +26,12 @@ use Rattle.world_sim.specs.declared.events.Event.{Event as EventOf}
 use Rattle.world_sim.specs.declared.reports.WorldFault.{WorldFault}
 use Rattle.world_sim.specs.declared.reports.WorldFault.TheVariants.{Memory, Store}
 use Rattle.world_sim.specs.Messages.{messages_of, texts_of, message_size}
-use Rattle.world_sim.specs.Running.{IsSound, Is, Happens, Fails, Keeps, Starts, Runs, RunsFromEmpty, EndsRun, book_in, names_in, journal_in, opens_of}
+use Rattle.world_sim.specs.Running.{IsSound, Is, Happens, Fails, HasBook, Keeps, Starts, Runs, RunsFromEmpty, EndsRun, journal_in, opens_of}
 use Rattle.world_sim.specs.declared.reports.Report.{Report}
 use Rattle.world_sim.specs.declared.sides.Side.TheVariants.{Open}
 use Rattle.world_sim.specs.declared.worlds.World.{World as Running}
 use Rattle.world_sim.proofs.Reaching.{run-more, formed_none, is_empty}
+use Rattle.world_sim.proofs.Steps.{are_moved}
 use Rattle.world_sim.proofs.Walks.{events_split}
 
 nothing : {X Y : Type 0} (f : X → Y) (xs : List X) → length xs ≡ 0 → map f xs ≡ []
@@ -45,7 +48,7 @@ reports-more size w (e ∷ events) event = ap (λ rs. model.report size w e ∷ 
 
 module _ {R J : Type 0} (g : Registries R) (h : Journals J) where
   pub runs_none : (r : Running R J) → Runs g h r r [] []
-  runs_none r = record { was = λ sound. sound; base = refl; stays_open = λ sound faithful. faithful; is = λ sound w is. is; told_so = λ sound w is. refl }
+  runs_none r = record { was = λ sound. sound; base = refl; stays_open = λ sound faithful. faithful; journal_open = λ sound faithful. faithful; is = λ sound w is. is; told_so = λ sound w is. refl }
 
   pub runs_on : (old mid new : Running R J) (events : List Event) (event : Event) (told : List Report) (last : Report)
       → Runs g h old mid events told → Happens g h mid new event last → Runs g h old new (events ++ event ∷ []) (told ++ last ∷ [])
@@ -53,6 +56,7 @@ module _ {R J : Type 0} (g : Registries R) (h : Journals J) where
     was = λ sound. ran.was (more.was sound);
     base = more.base ∙ ran.base;
     stays_open = λ sound faithful. more.stays_open sound (ran.stays_open (more.was sound) faithful);
+    journal_open = λ sound faithful. more.journal_open sound (ran.journal_open (more.was sound) faithful);
     is = λ sound w is. subst (λ v. Is g h new v) (sym (run-more w events event)) (more.is sound (run w events) (ran.is (more.was sound) w is));
     told_so = λ sound w is. map_push report_of told last
         ∙ ap (λ rs. rs ++ report_of last ∷ []) (ran.told_so (more.was sound) w is)
@@ -62,34 +66,44 @@ module _ {R J : Type 0} (g : Registries R) (h : Journals J) where
 
   pub starts_now : (r : Running R J) (registry : R) (connector : State J) (journal : J) → IsBase r.service → r.provider ≡ registry → r.connector ≡ Open connector → r.sent.items ≡ []
       → (h.is_faithful connector.journal → IsOpened (h.entries journal) connector.book) → (h.is_faithful connector.journal → h.is_faithful journal)
+      → (h.is_honest connector.journal → h.is_faithful connector.journal) → (h.is_honest connector.journal → LeavesBook h connector)
       → ((found : List StoredRecord) → g.is_faithful registry → g.may_hold registry found → found ≡ g.rows registry)
       → Starts g h registry journal r
-  starts_now r registry connector journal base at e sent opens was settled = record {
-    was = λ sound. (subst g.is_honest at sound.registry, was (now sound));
+  starts_now r registry connector journal base at e sent opens was stays leaves settled = record {
+    was = λ sound. (subst g.is_honest at sound.registry, was (stays (now sound)));
     stays_open = λ faithful. subst g.is_faithful (sym at) faithful;
+    journal_open = λ sound. subst (λ s. h.is_faithful (journal_in s)) (sym e) (stays (now sound));
     is = λ sound faithful rows kept. is_empty g h r base (record {
       rows = λ _. ap g.rows at ∙ rows;
       found = λ found holds. settled found faithful (subst (λ p. g.may_hold p found) at holds) ∙ rows;
       table = tt;
-      book = λ i name. book_same sound kept name i;
-      names = ap (names_in h) e ∙ (opens (now sound)).names ∙ ap keys kept ∙ keys-empty;
+      book = subst (λ s. HasBook s empty_book []) (sym e) (book sound kept, names sound kept);
+      kept = λ found holds. are_moved found (book_of connector.book) empty_book (keys connector.book) [] (book sound kept) (names sound kept)
+          (leaves (now sound) found (subst (λ s. h.may_hold (journal_in s) found) e holds));
       messages = ap messages_of sent;
       texts = ap texts_of sent;
       formed = formed_none g h r;
     });
   }
     where
-      now : IsSound g h r → h.is_faithful connector.journal
-      now sound = subst (λ s. h.is_faithful (journal_in s)) e sound.journal
+      now : IsSound g h r → h.is_honest connector.journal
+      now sound = subst (λ s. h.is_honest (journal_in s)) e sound.journal
 
-      book_same : IsSound g h r → h.entries journal ≡ fin.empty → (name : RecordName) → book_in h r.connector name ≡ None
-      book_same sound kept name = ap (λ s. book_in h s name) e ∙ (opens (now sound)).entries name ∙ ap (λ m. option_map opened (get m name)) kept ∙ ap (option_map opened) (get-empty name_cmp name)
+      none : IsSound g h r → h.entries journal ≡ fin.empty → (name : RecordName) → book_of connector.book name ≡ None
+      none sound kept name = (opens (stays (now sound))).entries name ∙ ap (λ m. option_map opened (get m name)) kept ∙ ap (option_map opened) (get-empty name_cmp name)
+
+      book : IsSound g h r → h.entries journal ≡ fin.empty → book_of connector.book ≡ empty_book
+      book sound kept = λ i name. none sound kept name i
+
+      names : IsSound g h r → h.entries journal ≡ fin.empty → keys connector.book ≡ []
+      names sound kept = (opens (stays (now sound))).names ∙ ap keys kept ∙ keys-empty
 
   pub ran_from_empty : (first ran : Running R J) (registry : R) (journal : J) (base : List ℕ) (events : List Event) (told : List Report)
       → first.service ≡ base → Starts g h registry journal first → Runs g h first ran events told → RunsFromEmpty g h registry journal base events ran told
   ran_from_empty first ran registry journal base events told at starts runs faithful rows kept sound = record {
     base = runs.base ∙ at;
     opened = runs.stays_open sound (starts.stays_open faithful);
+    journal_open = runs.journal_open sound (starts.journal_open (runs.was sound));
     is = runs.is sound empty (starts.is (runs.was sound) faithful rows kept);
     told_so = runs.told_so sound empty (starts.is (runs.was sound) faithful rows kept) ∙ ap (λ b. model.reports (message_size b) empty events) at;
     safe = λ early late _. always_safe early;

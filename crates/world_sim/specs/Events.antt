@@ -4,6 +4,8 @@ use Rattle.provider_core.specs.declared.provider.ProviderFault.{ProviderFault}
 use Rattle.provider_core.specs.declared.provider.ProviderFault.TheVariants as provider
 use Rattle.connector_core.specs.declared.opening.OpenFault.{OpenFault}
 use Rattle.connector_core.specs.declared.opening.OpenFault.TheVariants as opening
+use Rattle.journal_core.specs.declared.journals.JournalFault.{JournalFault}
+use Rattle.journal_core.specs.declared.journals.JournalFault.TheVariants as journal
 use Rattle.world_model.specs.World.{Event, Changes, Sends, Delivers, Cuts, Restarts_provider, Restarts_connector}
 use Rattle.world_model.specs.Reports as model
 use Rattle.world_sim.specs.declared.events.Event.{Event as EventOf}
@@ -42,6 +44,11 @@ report_of reports.Restarted = model.Restarted
 abbrev pub world_fault : ProviderFault → WorldFault
 world_fault provider.Store = worlds.Store
 world_fault provider.Memory = worlds.Memory
+
+-- the world's fault for a fault of its journal
+abbrev pub journal_fault : JournalFault → WorldFault
+journal_fault journal.Store = worlds.Store
+journal_fault journal.Memory = worlds.Memory
 
 -- the world's fault for a fault of opening its connector
 abbrev pub opening_fault : OpenFault → WorldFault

@@ -1,9 +1,8 @@
 -- When the running world is a world of the model.
 use Rattle.std.specs.Prelude.{◌≡◌, ◌⊎◌, ℕ, Bool, true, false, List, [], ◌∷◌, ◌++◌, map, Option, Some, None, Result, Ok, Err}
-use Rattle.std.specs.FinMap.{get, keys}
+use Rattle.std.specs.FinMap.{keys}
 use Rattle.std.specs.FinMap as fin
 use Rattle.std.specs.List.{AllByRecursion}
-use Rattle.std.specs.Option.{option_map}
 use Rattle.scim_key.specs.Bases.{IsBase}
 use Rattle.scim_key.specs.Stores.{HasRisen}
 use Rattle.scim_key.specs.declared.records.RecordName.{RecordName}
@@ -11,9 +10,10 @@ use Rattle.scim_resource.specs.Rows.{StoredRecord}
 use Rattle.provider_core.specs.Stories.{IsTable}
 use Rattle.provider_core.specs.declared.registry.Registry.{Ghosts as Registries}
 use Rattle.journal_core.specs.declared.journals.Journal.{Ghosts as Journals}
-use Rattle.connector_core.specs.Book.{Book}
+use Rattle.journal_core.specs.Entries.{EntryMap}
+use Rattle.connector_core.specs.Book.{Book, reopened}
 use Rattle.connector_core.specs.Maps.{BookMap, book_of}
-use Rattle.connector_core.specs.State.{opened}
+use Rattle.connector_core.specs.State.{AreOf}
 use Rattle.world_model.specs.World.{World, Message, Asked, Answered, Event, Changes, Sends, Delivers, Cuts, Restarts_provider, Restarts_connector, message_at, names as world_names, arrives, happens, empty, run}
 use Rattle.world_model.specs.Reports.{Report, report, reports, arrival_report}
 use Rattle.world_model.specs.Safe.{Has, Headline, Onward, Safe, rows as world_rows}
@@ -38,10 +38,10 @@ abbrev pub is_open : {J : Type 0} → Side J → Bool
 is_open (Open connector) = true
 is_open (Shut journal) = false
 
--- the book of the connector; if there is only a journal, the book of its entries, of which nothing was seen
-abbrev pub book_in : {J : Type 0} → Journals J → Side J → Book
-book_in h (Open connector) = book_of connector.book
-book_in h (Shut journal) = λ name. option_map opened (get (h.entries journal) name)
+-- the connector has this book, with these names; if there is only a journal, nothing was seen of any record
+abbrev pub HasBook : {J : Type 0} → Side J → Book → List RecordName → Type 0
+HasBook (Open connector) book names = (book_of connector.book ≡ book) × (keys connector.book ≡ names)
+HasBook (Shut journal) book names = reopened book ≡ book
 
 -- the names of the side's records
 abbrev pub names_in : {J : Type 0} → Journals J → Side J → List RecordName
@@ -63,19 +63,19 @@ opens_after (Cuts number length) done opens = opens
 opens_after Restarts_provider done opens = (done, opens.1)
 opens_after Restarts_connector done opens = (opens.0, done)
 
--- after a restart of the provider its registry is open
-abbrev pub IsOpenedBy : {R : Type 0} → Registries R → R → Event → Type 0
-IsOpenedBy g registry (Changes row) = Unit {0}
-IsOpenedBy g registry (Sends name) = Unit {0}
-IsOpenedBy g registry (Delivers number) = Unit {0}
-IsOpenedBy g registry (Cuts number length) = Unit {0}
-IsOpenedBy g registry Restarts_provider = g.is_honest registry → g.is_faithful registry
-IsOpenedBy g registry Restarts_connector = Unit {0}
+-- after a restart of a side its store is open
+abbrev pub IsOpenedBy : {R J : Type 0} → Registries R → Journals J → Running R J → Event → Type 0
+IsOpenedBy g h r (Changes row) = Unit {0}
+IsOpenedBy g h r (Sends name) = Unit {0}
+IsOpenedBy g h r (Delivers number) = Unit {0}
+IsOpenedBy g h r (Cuts number length) = Unit {0}
+IsOpenedBy g h r Restarts_provider = g.is_honest r.provider → g.is_faithful r.provider
+IsOpenedBy g h r Restarts_connector = h.is_honest (journal_in r.connector) → h.is_faithful (journal_in r.connector)
 
--- Both stores returned what was committed, and the journal's is open
+-- Both stores returned what was committed
 pub record IsSound {R J : Type 0} (g : Registries R) (h : Journals J) (r : Running R J) : Type 0 where
   pub registry : g.is_honest r.provider
-  pub journal : h.is_faithful (journal_in r.connector)
+  pub journal : h.is_honest (journal_in r.connector)
 
 -- Valid events lead to the world
 pub record IsReached (w : World) : Type 0 where
@@ -83,14 +83,14 @@ pub record IsReached (w : World) : Type 0 where
   pub lawful : AllByRecursion IsLawful events
   pub is : run empty events ≡ w
 
--- The running world has the parts of this world: its rows, also if the registry is opened again; its book; the names of
--- its records; and its messages, each with the bytes that are formed for it
+-- The running world has the parts of this world: its rows, also if the registry is opened again; its book, also if the
+-- journal is opened again, but for what was seen; and its messages, each with the bytes that are formed for it
 pub record Mirrors {R J : Type 0} (g : Registries R) (h : Journals J) (r : Running R J) (w : World) : Type 0 where
   pub rows : g.is_faithful r.provider → g.rows r.provider ≡ world_rows w
   pub found : (found : List StoredRecord) → g.may_hold r.provider found → found ≡ world_rows w
   pub table : IsTable w.entries
-  pub book : book_in h r.connector ≡ w.book
-  pub names : names_in h r.connector ≡ world_names w
+  pub book : HasBook r.connector w.book (world_names w)
+  pub kept : (found : EntryMap) → h.may_hold (journal_in r.connector) found → AreOf found w.book (world_names w)
   pub messages : messages_of r.sent.items ≡ w.messages
   pub texts : texts_of r.sent.items ≡ map (message_text r.service) w.messages
   pub formed : (message : Message) → Has w.messages message → IsFormed r.service message
@@ -103,12 +103,13 @@ pub record Is {R J : Type 0} (g : Registries R) (h : Journals J) (r : Running R 
 
 -- ---- what an event does
 
--- What was done, with its report. If the stores are sound after it, they were sound before, an open registry stays
--- open, and `after` holds for each world that ran before
+-- What was done, with its report. If the stores are sound after it, they were sound before, an open store stays open,
+-- and `after` holds for each world that ran before
 pub record Makes {R J : Type 0} (g : Registries R) (h : Journals J) (old new : Running R J) (after : World → Type 0) (says : World → Report) (told : ReportOf) : Type 0 where
   pub was : IsSound g h new → IsSound g h old
   pub base : new.service ≡ old.service
   pub stays_open : IsSound g h new → g.is_faithful old.provider → g.is_faithful new.provider
+  pub journal_open : IsSound g h new → h.is_faithful (journal_in old.connector) → h.is_faithful (journal_in new.connector)
   pub is : IsSound g h new → (w : World) → Is g h old w → after w
   pub report : IsSound g h new → (w : World) → Is g h old w → report_of told ≡ says w
 
@@ -159,22 +160,44 @@ if_restart w (Cuts number length) = w
 if_restart w Restarts_provider = w
 if_restart w Restarts_connector = happens w Restarts_connector
 
--- if a fault has shut the store, it is unknown whether the change of the failed request was made
-abbrev pub IsKnown : {R : Type 0} → Registries R → R → Event → Type 0
-IsKnown g registry (Changes row) = Unit {0}
-IsKnown g registry (Sends name) = Unit {0}
-IsKnown g registry (Delivers number) = g.is_faithful registry
-IsKnown g registry (Cuts number length) = Unit {0}
-IsKnown g registry Restarts_provider = Unit {0}
-IsKnown g registry Restarts_connector = Unit {0}
+-- the store of the side that a message goes to is open
+abbrev pub IsOpenTo : {R J : Type 0} → Registries R → Journals J → Running R J → Option Message → Type 0
+IsOpenTo g h r None = Unit {0}
+IsOpenTo g h r (Some (Asked request)) = g.is_faithful r.provider
+IsOpenTo g h r (Some (Answered request answer)) = h.is_faithful (journal_in r.connector)
 
--- An event failed: no message was sent, and each world that ran before it runs now
+-- if a fault has shut the store, it is unknown whether the change of the failed event was made
+abbrev pub IsKnown : {R J : Type 0} → Registries R → Journals J → (old new : Running R J) → Event → Type 0
+IsKnown g h old new (Changes row) = h.is_faithful (journal_in new.connector)
+IsKnown g h old new (Sends name) = Unit {0}
+IsKnown g h old new (Delivers number) = IsOpenTo g h new (message_at (messages_of old.sent.items) number)
+IsKnown g h old new (Cuts number length) = Unit {0}
+IsKnown g h old new Restarts_provider = Unit {0}
+IsKnown g h old new Restarts_connector = Unit {0}
+
+-- what may be found if a store is opened again is what one of these worlds has
+pub record HoldsOneOf {R J : Type 0} (g : Registries R) (h : Journals J) (r : Running R J) (w v : World) : Type 0 where
+  pub rows : (found : List StoredRecord) → g.may_hold r.provider found → (found ≡ world_rows w) ⊎ (found ≡ world_rows v)
+  pub entries : (found : EntryMap) → h.may_hold (journal_in r.connector) found → AreOf found w.book (world_names w) ⊎ AreOf found v.book (world_names v)
+
+-- An event failed: no message was sent, and each world that ran before it runs now, if its fault shut no store. Whether
+-- it did or not, each store holds what it held before the event, or what the event would have made of it
 pub record Fails {R J : Type 0} (g : Registries R) (h : Journals J) (old new : Running R J) (event : Event) (fault : WorldFault) : Type 0 where
   pub was : IsSound g h new → IsSound g h old
   pub base : new.service ≡ old.service
   pub sent : new.sent.items ≡ old.sent.items
-  pub is : IsSound g h new → IsKnown g new.provider event → (w : World) → Is g h old w → Is g h new (if_restart w event)
+  pub is : IsSound g h new → IsKnown g h old new event → (w : World) → Is g h old w → Is g h new (if_restart w event)
+  pub leaves : IsSound g h new → (w : World) → Is g h old w → HoldsOneOf g h new w (happens w event)
   pub excused : IsExcused g h old new event fault
+
+-- a message didn't arrive, whatever its number
+pub record FailsToArrive {R J : Type 0} (g : Registries R) (h : Journals J) (old new : Running R J) (message : Message) (fault : WorldFault) : Type 0 where
+  pub was : IsSound g h new → IsSound g h old
+  pub base : new.service ≡ old.service
+  pub sent : new.sent.items ≡ old.sent.items
+  pub is : IsSound g h new → IsOpenTo g h new (Some message) → (w : World) → Is g h old w → Is g h new w
+  pub leaves : IsSound g h new → (w : World) → Is g h old w → HoldsOneOf g h new w (arrives w message)
+  pub excused : (number : ℕ) → IsExcused g h old new (Delivers number) fault
 
 -- what the connector knows, including what it has seen, while its side is open
 abbrev pub known_in : {J : Type 0} → Side J → Option BookMap
@@ -217,6 +240,7 @@ journal_after (Err refused) = refused.2
 pub record Starts {R J : Type 0} (g : Registries R) (h : Journals J) (registry : R) (journal : J) (r : Running R J) : Type 0 where
   pub was : IsSound g h r → g.is_honest registry × h.is_faithful journal
   pub stays_open : g.is_faithful registry → g.is_faithful r.provider
+  pub journal_open : IsSound g h r → h.is_faithful (journal_in r.connector)
   pub is : IsSound g h r → g.is_faithful registry → g.rows registry ≡ [] → h.entries journal ≡ fin.empty → Is g h r empty
 
 -- events one after the other, with their reports
@@ -224,6 +248,7 @@ pub record Runs {R J : Type 0} (g : Registries R) (h : Journals J) (old new : Ru
   pub was : IsSound g h new → IsSound g h old
   pub base : new.service ≡ old.service
   pub stays_open : IsSound g h new → g.is_faithful old.provider → g.is_faithful new.provider
+  pub journal_open : IsSound g h new → h.is_faithful (journal_in old.connector) → h.is_faithful (journal_in new.connector)
   pub is : IsSound g h new → (w : World) → Is g h old w → Is g h new (run w events)
   pub told_so : IsSound g h new → (w : World) → Is g h old w → map report_of told ≡ reports (message_size old.service) w events
 
@@ -254,6 +279,7 @@ EndsRun {R} {J} g h registry journal base events fault =
 pub record IsRun {R J : Type 0} (g : Registries R) (h : Journals J) (at : List ℕ) (events : List Event) (ran : Running R J) (told : List ReportOf) : Type 0 where
   pub base : ran.service ≡ at
   pub opened : g.is_faithful ran.provider
+  pub journal_open : h.is_faithful (journal_in ran.connector)
   pub is : Is g h ran (run empty events)
   pub told_so : map report_of told ≡ reports (message_size at) empty events
   pub safe : (early late : List Event) → early ++ late ≡ events → Safe (run empty early)

@@ -6,7 +6,7 @@ use Rattle.provider_core.specs.declared.registry.Registry.{Ghosts as Registries}
 use Rattle.journal_core.specs.declared.journals.Journal.{Ghosts as Journals}
 use Rattle.world_model.specs.Settled.{Exchanges, IsSettled, Rests, Turns, Wants, exchange}
 use Rattle.world_model.specs.World.{World, Event, Changes, Sends, Delivers, Cuts, Restarts_provider, Restarts_connector, names, run}
-use Rattle.world_sim.specs.Running.{Fails, Is, IsSound, Runs, names_in}
+use Rattle.world_sim.specs.Running.{Fails, Is, IsSound, Runs, journal_in, names_in}
 use Rattle.world_sim.specs.declared.reports.Report.{Report}
 use Rattle.world_sim.specs.declared.reports.WorldFault.{WorldFault}
 use Rattle.world_sim.specs.declared.settling.Count.{Count}
@@ -52,14 +52,14 @@ pub record Settles {R J : Type 0} (g : Registries R) (h : Journals J) (old new :
   pub settling : IsSound g h new → (w : World) → Is g h old w → IsSettling w count.exchanges (run w done.events)
 
 -- Stops: some Send and Deliver events were done, and the next one failed with this fault. The world that they led
--- to still runs, and may settle
+-- to still runs, if both stores are open, and may settle
 pub record Stops {R J : Type 0} (g : Registries R) (h : Journals J) (old new : Running R J) (fault : WorldFault) : Type 0 where
   pub between : Running R J
   pub done : SendsAndDelivers g h old between
   pub next : Event
   pub is_next : IsSendOrDeliver next
   pub fails : Fails g h between new next fault
-  pub again : IsSound g h new → g.is_faithful new.provider → (w : World) → Is g h old w → Is g h new (run w done.events) × MaySettle (run w done.events)
+  pub again : IsSound g h new → g.is_faithful new.provider → h.is_faithful (journal_in new.connector) → (w : World) → Is g h old w → Is g h new (run w done.events) × MaySettle (run w done.events)
 
 -- ---- its steps
 

@@ -1,8 +1,8 @@
 -- Opens the connector's side again.
-use Rattle.std.specs.Prelude.{◌≡◌, ◌≤◌, ℕ}
-use Rattle.scim_key.specs.Stores.{HasRisen}
+use Rattle.std.specs.Prelude.{◌≡◌, ◌⊎◌, ◌≤◌, ℕ, Result, Ok, Err}
+use Rattle.scim_key.specs.Stores.{HasRisen, OnlyReads, Reopens}
 use Rattle.journal_core.specs.declared.journals.Journal.{Ghosts as Journals}
-use Rattle.connector_core.specs.State.{IsKept, IsOpened}
+use Rattle.connector_core.specs.State.{IsOpened}
 use Rattle.world_sim.specs.declared.reports.WorldFault.{WorldFault}
 use Rattle.world_sim.specs.declared.reports.WorldFault.TheVariants.{Memory, Store}
 use Rattle.world_sim.specs.declared.sides.Side.{Side}
@@ -13,15 +13,24 @@ abbrev pub CountsWorldFault : (old new : ℕ) → WorldFault → Type 0
 CountsWorldFault old new Store = (old ≤ new) × HasRisen old new
 CountsWorldFault old new Memory = new ≡ old
 
--- the journal keeps the book of its connector
-abbrev pub IsKeptIn : {J : Type 0} → Journals J → Side J → Type 0
-IsKeptIn h (Open connector) = h.is_faithful connector.journal → IsKept (h.entries connector.journal) connector.book
-IsKeptIn h (Shut journal) = Unit {0}
+-- a connector that was just opened has the entries of its journal
+abbrev pub IsOpenedIn : {J : Type 0} → Journals J → Side J → Type 0
+IsOpenedIn h (Open connector) = h.is_faithful connector.journal → IsOpened (h.entries connector.journal) connector.book
+IsOpenedIn h (Shut journal) = Unit {0}
 
--- a connector that was opened has the entries of this journal
-abbrev pub IsOpenedIn : {J : Type 0} → Journals J → (journal : J) → Side J → Type 0
-IsOpenedIn h journal (Open connector) = h.is_faithful connector.journal → IsOpened (h.entries journal) connector.book
-IsOpenedIn h journal (Shut now) = Unit {0}
+-- The journal was opened again, and then its entries were read; or it couldn't be opened
+pub record Reads {J : Type 0} (h : Journals J) (old new : J) (result : Result (Unit {0}) WorldFault) : Type 0 where
+  pub between : J
+  pub opened : Reopens {T = Unit {0}} {F = WorldFault} h.entries h.is_faithful h.is_honest h.may_hold h.faults h.writes CountsWorldFault old between (Ok tt)
+  pub read : OnlyReads h.entries h.is_faithful h.is_honest h.may_hold h.faults h.writes CountsWorldFault between new result
+
+pub record IsRefused {J : Type 0} (h : Journals J) (old new : J) (result : Result (Unit {0}) WorldFault) : Type 0 where
+  pub fault : WorldFault
+  pub failed : result ≡ Err fault
+  pub opened : Reopens h.entries h.is_faithful h.is_honest h.may_hold h.faults h.writes CountsWorldFault old new result
+
+abbrev pub OpensThenReads : {J : Type 0} → Journals J → (old new : J) → Result (Unit {0}) WorldFault → Type 0
+OpensThenReads h old new result = Reads h old new result ⊎ IsRefused h old new result
 
 -- the same for a fault that comes with both stores
 abbrev pub CountsStart : {R J : Type 0} → (old new : ℕ) → WorldFault × R × J → Type 0

@@ -2,6 +2,7 @@
 ghost use Rattle.std.specs.Prelude.{◌≡◌};
 
 use connector_core::{ChangeFault, LearnFault, Learnt, OpenFault};
+use journal_core::JournalFault;
 use provider_core::ProviderFault;
 use scim_key::Key;
 use source_book::Verdict;
@@ -108,6 +109,19 @@ impl From<ProviderFault> for WorldFault {
         match fault {
             ProviderFault::Store => WorldFault::Store,
             ProviderFault::Memory => WorldFault::Memory,
+        }
+    }
+}
+
+impl From<JournalFault> for WorldFault {
+    ghost use Rattle.world_sim.specs.Events.{journal_fault};
+
+    ghost from_gives = { λ from fault. fault ≡ journal_fault from };
+
+    fn from(fault: JournalFault) -> WorldFault {
+        match fault {
+            JournalFault::Store => WorldFault::Store,
+            JournalFault::Memory => WorldFault::Memory,
         }
     }
 }

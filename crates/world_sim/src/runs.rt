@@ -6,7 +6,7 @@ ghost use Rattle.world_sim.specs.Running.{EndsRun, RunsFromEmpty};
 use crate::events::Event;
 use crate::reports::{Report, WorldFault};
 use crate::worlds::World;
-use journal_core::Journal;
+use journal_core::ReopenJournal;
 use provider_core::Reopen;
 use scim_key::Base;
 use std::alloc::Global;
@@ -16,7 +16,7 @@ use std::alloc::Global;
 /// restarted, the provider holds at most one resource per name, its source revision never goes back, it is
 /// that revision's image, and every revision that the connector counts as confirmed is held or surpassed.
 /// If an event fails, both stores are dropped.
-pub fn run<R: Reopen + Drop, J: Journal + Drop>(
+pub fn run<R: Reopen + Drop, J: ReopenJournal + Drop>(
     alloc: Global,
     registry: R,
     journal: J,

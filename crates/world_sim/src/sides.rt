@@ -1,12 +1,12 @@
 //! The connector's side of a world.
 ghost use Rattle.std.specs.Prelude.{◌≡◌, is_ok};
-ghost use Rattle.world_sim.specs.Sides.{CountsWorldFault, IsKeptIn, IsOpenedIn};
+ghost use Rattle.world_sim.specs.Sides.{CountsWorldFault, IsOpenedIn, OpensThenReads};
 ghost use Rattle.world_sim.specs.Running.{is_open, journal_in};
-ghost use Rattle.journal_core.specs.Stores.{OnlyReads};
+ghost use Rattle.journal_core.specs.Stores.{OnlyReads, Reopens};
 
 use crate::reports::WorldFault;
 use connector_core::Connector;
-use journal_core::Journal;
+use journal_core::{Journal, ReopenJournal};
 use std::alloc::Global;
 
 /// The connector, or only its journal if the connector couldn't be opened again.
@@ -18,7 +18,7 @@ pub enum Side<J: Journal> {
 
 /// Opens the connector over a journal, if it can.
 fn opened<J: Journal + Drop>(alloc: Global, journal: J) -> (Side<J>, Result<(), WorldFault>)
-    ensures opened { IsOpenedIn J.Journal journal result.0 }
+    ensures opened { IsOpenedIn J.Journal result.0 }
     ensures open { is_open result.0 ≡ is_ok result.1 }
     ensures reads { OnlyReads J.entries J.is_faithful J.is_honest J.may_hold J.faults J.writes CountsWorldFault journal (journal_in result.0) result.1 }
 {
@@ -28,19 +28,29 @@ fn opened<J: Journal + Drop>(alloc: Global, journal: J) -> (Side<J>, Result<(), 
     }
 }
 
-/// Opens the side again on its journal.
-pub(crate) fn reopened<J: Journal + Drop>(
+/// The journal of a side. What was seen is forgotten.
+fn journal_of<J: Journal + Drop>(side: Side<J>) -> J
+    ensures { result ≡ journal_in side }
+{
+    match side {
+        Side::Open(connector) => connector.close(),
+        Side::Shut(journal) => journal,
+    }
+}
+
+/// Opens the journal again, then the connector over it. If either fails, the side is the journal alone.
+pub(crate) fn reopened<J: ReopenJournal + Drop>(
     side: Side<J>,
     alloc: Global,
 ) -> (Side<J>, Result<(), WorldFault>)
-    ensures kept { IsKeptIn J.Journal side }
-    ensures opened { IsOpenedIn J.Journal (journal_in side) result.0 }
+    ensures opened { IsOpenedIn J.Journal result.0 }
     ensures open { is_open result.0 ≡ is_ok result.1 }
-    ensures reads { OnlyReads J.entries J.is_faithful J.is_honest J.may_hold J.faults J.writes CountsWorldFault (journal_in side) (journal_in result.0) result.1 }
+    ensures steps { OpensThenReads J.Journal (journal_in side) (journal_in result.0) result.1 }
+    ensures reopens { Reopens J.entries J.is_faithful J.is_honest J.may_hold J.faults J.writes CountsWorldFault (journal_in side) (journal_in result.0) result.1 }
 {
-    let journal = match side {
-        Side::Open(connector) => connector.close(),
-        Side::Shut(journal) => journal,
-    };
-    opened(alloc, journal)
+    let mut journal = journal_of(side);
+    match journal.reopen() {
+        Ok(()) => opened(alloc, journal),
+        Err(fault) => (Side::Shut(journal), Err(WorldFault::from(fault))),
+    }
 }

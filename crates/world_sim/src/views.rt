@@ -1,10 +1,10 @@
 //! What a world shows of its messages and records.
-ghost use Rattle.std.specs.Prelude.{◌≡◌, IfErr, IfOk, None, Some};
+ghost use Rattle.std.specs.Prelude.{◌≡◌, IfErr, IfOk, OnOk, None, Some, true};
 ghost use Rattle.std.specs.Option.{option_copied};
 ghost use Rattle.provider_core.specs.Rows.{row_named};
 ghost use Rattle.provider_core.specs.Stores.{OnlyReads};
 ghost use Rattle.world_sim.specs.Messages.{text_at, texts_of};
-ghost use Rattle.world_sim.specs.Running.{names_in};
+ghost use Rattle.world_sim.specs.Running.{is_open, names_in};
 ghost use Rattle.world_sim.specs.Sides.{CountsWorldFault};
 ghost use Rattle.world_sim.specs.Views.{IsBlind, IsNoName, Looks, Shows, viewed};
 
@@ -154,6 +154,7 @@ impl<R: Registry + Drop, J: Journal + Drop> World<R, J> {
     /// The names of the connector's records: users by key, then groups by key.
     pub fn names(&self) -> Result<Vec<RecordName>, WorldFault>
         ensures names { IfOk result (λ names. names.items ≡ names_in J.Journal self.now.connector) }
+        ensures open { OnOk result (is_open self.now.connector ≡ true) }
         ensures cause { IfErr result (IsNoName self.now.connector) }
     {
         match &self.connector {

@@ -1,9 +1,10 @@
 //! The world that runs.
 ghost use Rattle.std.specs.Prelude.{◌≡◌, ℕ, IfErr, IfOk, OnErr, OnOk, Err, false, true, is_ok};
 ghost use Rattle.std.specs.FinMap.{keys};
-ghost use Rattle.connector_core.specs.Changing.{accepted_map, judging};
+ghost use Rattle.connector_core.specs.Changing.{accepted_map, book_after, judging};
 ghost use Rattle.connector_core.specs.Learning as spec;
 ghost use Rattle.connector_core.specs.Maps.{book_of};
+ghost use Rattle.connector_core.specs.State.{Leaves, LeavesBook};
 ghost use Rattle.journal_core.specs.Stores.{OnlyReads};
 ghost use Rattle.provider_core.specs.Outcomes.{outcome};
 ghost use Rattle.scim_client.specs.Answers.{AnswersSo};
@@ -15,7 +16,7 @@ ghost use Rattle.world_model.specs.Reports.{Judged, Taught, learnt_of, next_numb
 ghost use Rattle.world_model.specs.World.{Answered, Asked, Changes, Cuts, Delivers, Restarts_connector, Restarts_provider, Sends, with_message};
 ghost use Rattle.world_sim.specs.Events.{event_of, report_of};
 ghost use Rattle.world_sim.specs.Fitting.{IsFormed};
-ghost use Rattle.world_sim.specs.Running.{Arrives, Fails, Happens, IsOpenedBy, IsShutOff, Keeps, KeepsConnector, Makes, Mirrors, Starts, Stays, journal_after, opens_after, opens_of};
+ghost use Rattle.world_sim.specs.Running.{Arrives, Fails, FailsToArrive, Happens, IsOpenedBy, IsShutOff, Keeps, KeepsConnector, Makes, Mirrors, Starts, Stays, journal_after, journal_in, opens_after, opens_of};
 ghost use Rattle.world_sim.specs.Sides.{CountsStart, CountsWorldFault};
 ghost use Rattle.world_sim.specs.declared.reports.Report.TheVariants.{CutShort};
 ghost use Rattle.world_sim.specs.declared.reports.WorldFault.TheVariants.{Memory, Store};
@@ -27,7 +28,7 @@ use crate::reports::{Report, WorldFault};
 use crate::sides::{Side, reopened};
 use connector_core::{Ask, AskFault, ChangeFault, Connector, LearnFault};
 use core::mem::replace_with;
-use journal_core::Journal;
+use journal_core::{Journal, ReopenJournal};
 use provider_core::{Pending, Provider, Registry, Reopen};
 use scim_client::ScimService;
 use scim_http::response_of;
@@ -69,7 +70,10 @@ fn learn<J: Journal>(
     ensures book { OnOk result (book_of connector.new.book ≡ spec.after_learning (book_of connector.old.book) (spec.learn (book_of connector.old.book) request.now answer.now)) }
     ensures names { keys connector.new.book ≡ keys connector.old.book }
     ensures same { OnErr result (connector.new.book ≡ connector.old.book) }
-    ensures was { J.is_faithful connector.new.journal → J.is_faithful connector.old.journal }
+    ensures still { J.is_faithful connector.new.journal → LeavesBook J.Journal connector.old → OnErr result (LeavesBook J.Journal connector.new) }
+    ensures honest { J.is_honest connector.new.journal → J.is_honest connector.old.journal }
+    ensures open { J.is_honest connector.new.journal → J.is_faithful connector.old.journal → OnOk result (J.is_faithful connector.new.journal) }
+    ensures leaves { J.is_honest connector.new.journal → LeavesBook J.Journal connector.old → Leaves J.Journal connector.old connector.new (spec.after_learning (book_of connector.old.book) (spec.learn (book_of connector.old.book) request.now answer.now)) (keys connector.old.book) result }
     ensures counted { IfErr result (CountsWorldFault (J.faults connector.old.journal) (J.faults connector.new.journal)) }
 {
     match connector.learn(request, answer) {
@@ -90,14 +94,21 @@ fn judge<J: Journal>(connector: &mut Connector<J>, row: Row) -> Result<Report, W
     ensures report { IfOk result (λ told. report_of told ≡ Judged (judging (book_of connector.old.book) (keys connector.old.book) row)) }
     ensures book { OnOk result (connector.new.book ≡ accepted_map connector.old.book row (judging (book_of connector.old.book) (keys connector.old.book) row)) }
     ensures same { OnErr result (connector.new.book ≡ connector.old.book) }
-    ensures was { J.is_faithful connector.new.journal → J.is_faithful connector.old.journal }
+    ensures still { J.is_faithful connector.new.journal → LeavesBook J.Journal connector.old → OnErr result (LeavesBook J.Journal connector.new) }
+    ensures honest { J.is_honest connector.new.journal → J.is_honest connector.old.journal }
+    ensures open { J.is_honest connector.new.journal → J.is_faithful connector.old.journal → OnOk result (J.is_faithful connector.new.journal) }
+    ensures leaves { J.is_honest connector.new.journal → LeavesBook J.Journal connector.old → Leaves J.Journal connector.old connector.new (book_after (book_of connector.old.book) row (judging (book_of connector.old.book) (keys connector.old.book) row)) (keys (accepted_map connector.old.book row (judging (book_of connector.old.book) (keys connector.old.book) row))) result }
     ensures counted { IfErr result (CountsWorldFault (J.faults connector.old.journal) (J.faults connector.new.journal)) }
 {
     match connector.change(row) {
         Ok(verdict) => Ok(Report::Judged(Ok(verdict))),
         Err(ChangeFault::Store) => Err(WorldFault::Store),
         Err(ChangeFault::Memory) => Err(WorldFault::Memory),
-        Err(fault) => Ok(Report::Judged(Err(fault))),
+        Err(ChangeFault::Differs) => Ok(Report::Judged(Err(ChangeFault::Differs))),
+        Err(ChangeFault::NoSuchMember(member)) => {
+            Ok(Report::Judged(Err(ChangeFault::NoSuchMember(member))))
+        }
+        Err(ChangeFault::TooMany) => Ok(Report::Judged(Err(ChangeFault::TooMany))),
     }
 }
 
@@ -114,7 +125,11 @@ fn hear<J: Journal>(
         → OnOk result (book_of connector.new.book ≡ spec.after_learning (book_of connector.old.book) (spec.learn (book_of connector.old.book) request.now answer)) }
     ensures names { keys connector.new.book ≡ keys connector.old.book }
     ensures same { OnErr result (connector.new.book ≡ connector.old.book) }
-    ensures was { J.is_faithful connector.new.journal → J.is_faithful connector.old.journal }
+    ensures still { J.is_faithful connector.new.journal → LeavesBook J.Journal connector.old → OnErr result (LeavesBook J.Journal connector.new) }
+    ensures honest { J.is_honest connector.new.journal → J.is_honest connector.old.journal }
+    ensures open { J.is_honest connector.new.journal → J.is_faithful connector.old.journal → OnOk result (J.is_faithful connector.new.journal) }
+    ensures leaves { (answer : Answer) → AnswersSo bytes.now request.now answer
+        → J.is_honest connector.new.journal → LeavesBook J.Journal connector.old → Leaves J.Journal connector.old connector.new (spec.after_learning (book_of connector.old.book) (spec.learn (book_of connector.old.book) request.now answer)) (keys connector.old.book) result }
     ensures counted { IfErr result (CountsWorldFault (J.faults connector.old.journal) (J.faults connector.new.journal)) }
 {
     match read_answered(alloc, request, bytes) {
@@ -274,7 +289,7 @@ impl<R: Registry + Drop, J: Journal + Drop> World<R, J> {
     /// change.
     fn answer(&mut self, request: Request) -> Result<Report, WorldFault>
         ensures done { IfOk result (Arrives R.Registry J.Journal self.old self.new (Asked request)) }
-        ensures fails { IfErr result (λ fault. (number : ℕ) → Fails R.Registry J.Journal self.old self.new (Delivers number) fault) }
+        ensures fails { IfErr result (FailsToArrive R.Registry J.Journal self.old self.new (Asked request)) }
         ensures keeps { KeepsConnector self.old self.new }
         ensures opens { opens_of self.new ≡ opens_of self.old }
     {
@@ -306,19 +321,6 @@ impl<R: Registry + Drop, J: Journal + Drop> World<R, J> {
             _ => Ok(Report::NoMessage),
         }
     }
-
-    /// Opens the connector again on its journal.
-    fn restart_connector(&mut self) -> Result<Report, WorldFault>
-        ensures done { IfOk result (Happens R.Registry J.Journal self.old self.new Restarts_connector) }
-        ensures fails { IfErr result (Fails R.Registry J.Journal self.old self.new Restarts_connector) }
-        ensures keeps { self.new.provider ≡ self.old.provider }
-        ensures opens { opens_of self.new ≡ opens_after Restarts_connector (is_ok result) (opens_of self.old) }
-    {
-        match replace_with(&mut self.connector, self.alloc, reopened) {
-            Ok(()) => Ok(Report::Restarted),
-            Err(fault) => Err(fault),
-        }
-    }
 }
 
 impl<R: Reopen + Drop, J: Journal + Drop> World<R, J> {
@@ -335,7 +337,25 @@ impl<R: Reopen + Drop, J: Journal + Drop> World<R, J> {
         self.is_provider_open = true;
         Ok(Report::Restarted)
     }
+}
 
+impl<R: Registry + Drop, J: ReopenJournal + Drop> World<R, J> {
+    /// Opens the connector again on its journal.
+    fn restart_connector(&mut self) -> Result<Report, WorldFault>
+        ensures done { IfOk result (Happens R.Registry J.Journal self.old self.new Restarts_connector) }
+        ensures fails { IfErr result (Fails R.Registry J.Journal self.old self.new Restarts_connector) }
+        ensures keeps { self.new.provider ≡ self.old.provider }
+        ensures opened { OnOk result (J.is_honest (journal_in self.new.connector) → J.is_faithful (journal_in self.new.connector)) }
+        ensures opens { opens_of self.new ≡ opens_after Restarts_connector (is_ok result) (opens_of self.old) }
+    {
+        match replace_with(&mut self.connector, self.alloc, reopened) {
+            Ok(()) => Ok(Report::Restarted),
+            Err(fault) => Err(fault),
+        }
+    }
+}
+
+impl<R: Reopen + Drop, J: ReopenJournal + Drop> World<R, J> {
     /// Makes one event. After a fault, the connector knows and has seen what it had, unless a restart
     /// failed: events that need that side return `WorldFault::Store` until a restart of it succeeds.
     pub fn step(&mut self, event: &Event) -> Result<Report, WorldFault>
@@ -343,7 +363,7 @@ impl<R: Reopen + Drop, J: Journal + Drop> World<R, J> {
         ensures fails { IfErr result (Fails R.Registry J.Journal self.old self.new (event_of event.now)) }
         ensures keeps { OnErr result (Keeps self.old self.new (event_of event.now)) }
         ensures shut { IsShutOff self.old (event_of event.now) → result ≡ Err Store }
-        ensures opened { OnOk result (IsOpenedBy R.Registry self.new.provider (event_of event.now)) }
+        ensures opened { OnOk result (IsOpenedBy R.Registry J.Journal self.new (event_of event.now)) }
         ensures opens { opens_of self.new ≡ opens_after (event_of event.now) (is_ok result) (opens_of self.old) }
     {
         match event {

@@ -1,7 +1,7 @@
 //! Stores in memory with one opening that fails.
 ghost use Rattle.std.specs.Prelude.{◌≡◌, refl};
 
-use journal_core::{Entry, Journal, JournalFault, MemoryJournal};
+use journal_core::{Entry, Journal, JournalFault, MemoryJournal, ReopenJournal};
 use provider_core::{MemoryRegistry, Registry, RegistryFault, Reopen};
 use scim_key::{RecordName, ResourceId, Revision};
 use scim_resource::Stored;
@@ -96,7 +96,7 @@ impl Reopen for FailingRegistry {
     }
 }
 
-/// A journal whose second opening fails.
+/// A journal that at first can't be opened again, and then can't be read.
 #[derive(Drop)]
 pub struct FailingJournal {
     entries: MemoryJournal,
@@ -128,8 +128,8 @@ impl Journal for FailingJournal {
     ghost writes = { λ j. j.entries.writes };
 
     fn load(&mut self) -> Result<Vec<Entry>, JournalFault> {
-        if self.is_loaded && self.faults == 0 {
-            self.faults = 1;
+        if self.is_loaded && self.faults == 1 {
+            self.faults = 2;
             return Err(JournalFault::Store);
         }
         self.is_loaded = true;
@@ -170,4 +170,14 @@ impl Journal for FailingJournal {
     ghost settled = { λ _ _ _ holds. holds };
 
     ghost stays = { λ _ _. refl };
+}
+
+impl ReopenJournal for FailingJournal {
+    fn reopen(&mut self) -> Result<(), JournalFault> {
+        if self.faults > 0 {
+            return Ok(());
+        }
+        self.faults = 1;
+        Err(JournalFault::Store)
+    }
 }

@@ -301,10 +301,11 @@ fn refusals_are_told_by_their_codes(rt: HostRuntime) {
 
 // ---- a side that can't be opened again
 
-/// The connector can't be opened again at first.
+/// The connector can't be opened again at first: its journal isn't opened, and then it isn't read.
 const CONNECTOR: &[Told] = &[
     ("restart connector", "Z2"),
     ("send user bob", "Z2"),
+    ("restart connector", "Z2"),
     ("user bob,2,,,,,active", "Z2"),
     ("deliver 4", "Z2"),
     ("deliver 3", "answer 5 409"),

@@ -24,4 +24,4 @@ loop-name-preserved g c =
 
 pub returns-clause-settles : goal.returns-clause-settles
 returns-clause-settles g c =
-    all_settled g.R.Registry g.J.Journal c.args.world.now c.loop-name.world _ c.loop-name.name-index c.loop-name.exchanges (search rules) (search rules) c.loop-name.invariant
+    all_settled g.R.Registry g.J.Journal c.args.world.now c.loop-name.world _ c.loop-name.name-index c.loop-name.exchanges (search rules) (search rules) (search rules) c.loop-name.invariant

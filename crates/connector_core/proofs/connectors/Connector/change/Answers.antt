@@ -1,8 +1,11 @@
 use Rattle.std.proofs.Common.{◌≡◌, Ok, Err, ap, subst, sym, inl, inr}
 use Rattle.std.specs.FinMap.{keys}
+use Rattle.journal_core.specs.Entries.{with_row}
 use Rattle.source_book.specs.declared.accepting.Verdict.TheVariants as verdicts
 use Rattle.connector_core.specs.Changing.{IsNoVerdict, accepted_entries, accepted_map, judging}
 use Rattle.connector_core.specs.Maps.{BookMap, book_of}
+use Rattle.connector_core.specs.State.{IsKept, State}
+use Rattle.connector_core.proofs.Leaving.{of-row, open-done, written}
 use Rattle.connector_core.proofs.Writing.{unchanged}
 use Rattle.connector_core.proofs.connectors.Connector.change.Goals as goal
 
@@ -39,3 +42,17 @@ returns-in-Err-clause-verdict g c =
       | inl e ↦ inl (subst IsNoVerdict (sym e) tt)
       | inr e ↦ inr (subst J (ap (λ s. s.book) c.self.view_is) e)
     ]
+
+pub returns-in-Ok-New-clause-leaves : goal.returns-in-Ok-New-clause-leaves
+returns-in-Ok-New-clause-leaves g c = λ honest was.
+    let h = g.J.Journal in
+    let book = c.args.self.now.book in
+    let entries = h.entries c.args.self.now.journal in
+    let N : BookMap → Type 0 = λ b. judging (book_of b) (keys b) c.args.row ≡ Ok verdicts.New in
+    let new = subst N (ap (λ s. s.book) c.self.view_is) (rw c.in-Ok-New.field-0-is at c.in-Ok-New.ensures.gives) in
+    let K : State g.row.J.Denot → Type 0 = λ s. h.is_faithful s.journal → IsKept (h.entries s.journal) s.book in
+    let kept = subst K c.self.view_is c.self.invariant.0 in
+    let accepted = c.accept_row.ensures in
+    written h c.args.self.now c.accept_row.new.self (with_row entries c.args.row) _ _ c.accept_row.result
+    (open-done h c.accept_row.new.self c.accept_row.result (g.met.J.Journal.settled c.accept_row.new.self.journal) accepted.kept (accepted.open honest))
+    (λ faithful. of-row entries book c.args.row new (kept faithful)) (accepted.journal.stop honest) was

@@ -1,9 +1,12 @@
-use Rattle.std.proofs.Common.{◌∙◌, [], Ok, Err, Result, Vec, Global, refl, subst, sym}
+use Rattle.std.proofs.Common.{◌∙◌, [], Ok, Err, Result, Vec, Global, refl, subst, sym, inl, inr}
+use Rattle.std.specs.FinMap.{keys}
 use Rattle.source_book.specs.declared.accepting.Verdict.{Verdict}
 use Rattle.journal_core.specs.Entries.{EntryMap, with_rows}
-use Rattle.connector_core.specs.Changing.{entries_all}
-use Rattle.connector_core.specs.State.{State}
+use Rattle.connector_core.specs.Changing.{entries_all, taking_all}
+use Rattle.connector_core.specs.Maps.{BookMap, book_of}
+use Rattle.connector_core.specs.State.{AreOf, LeavesBook, LeavesOneOf, State}
 use Rattle.connector_core.specs.declared.changing.ChangeFault.{ChangeFault}
+use Rattle.connector_core.proofs.Leaving.{are-of, of-none, open-leaves}
 use Rattle.connector_core.proofs.Offered.{can-put-fresh, keeps-fresh, located-fresh, nothing, puts-fresh}
 use Rattle.connector_core.proofs.Writing.{Changes, put-done, put-failed, unchanged}
 use Rattle.connector_core.proofs.connectors.Connector.change_all.Goals as goal
@@ -76,3 +79,38 @@ returns-in-Err-clause-journal g c =
     {T = T} c.self.inside.journal new (with_rows held c.as_slice-put.result.now) (Err fault) in
     subst P c.self.view_is (subst Q same (subst R (sym c.from.ensures)
     (put-failed g.J.Journal.entries g.J.Journal.is_faithful g.J.Journal.is_honest g.J.Journal.may_hold g.J.Journal.faults g.J.Journal.writes c.self.inside.journal new _ c.in-Err.fault c.in-Err.ensures.puts)))
+
+pub returns-then-is_empty-clause-leaves : goal.returns-then-is_empty-clause-leaves
+returns-then-is_empty-clause-leaves g c = λ honest was.
+    let none = sym (nothing c.as_slice-put.result.now (sym c.is_empty.ensures ∙ c.if-is_empty.true)) ∙ c.as_slice-put.ensures.value in
+    let are = c.in_ok-said.ensures.ok in
+    let W : State g.row.J.Denot → Type 0 = λ s. LeavesBook g.J.Journal s in
+    let before = subst W (sym c.self.view_is) was in
+    record { done = λ found holds. of-none found c.self.inside.book c.offer.new.book c.args.rows.items are.taken (sym (none ∙ are.fresh)) (before found holds); failed = tt }
+
+pub returns-in-Ok-clause-leaves : goal.returns-in-Ok-clause-leaves
+returns-in-Ok-clause-leaves g c = λ honest was.
+    record {
+      done = open-leaves g.J.Journal (record { journal = c.put_rows.new.self; book = c.offer.new.book }) (g.met.J.Journal.settled c.put_rows.new.self) (returns-in-Ok-clause-kept g c) (c.in-Ok.ensures.open honest);
+      failed = tt;
+    }
+
+pub returns-in-Err-clause-leaves : goal.returns-in-Err-clause-leaves
+returns-in-Err-clause-leaves g c = λ honest was.
+    let h = g.J.Journal in
+    let held = h.entries c.self.inside.journal in
+    let book = c.self.inside.book in
+    let put = c.as_slice-put.result.now in
+    let are = c.in_ok-said.ensures.ok in
+    let W : State g.row.J.Denot → Type 0 = λ s. LeavesBook h s in
+    let before = subst W (sym c.self.view_is) was in
+    let P : State g.row.J.Denot → Type 0 = λ s. LeavesOneOf h c.put_rows.new.self (book_of s.book) (book_of (taking_all s.book c.args.rows.items)) (keys s.book) (keys (taking_all s.book c.args.rows.items)) in
+    let left : LeavesOneOf h c.put_rows.new.self (book_of book) (book_of (taking_all book c.args.rows.items)) (keys book) (keys (taking_all book c.args.rows.items)) = λ found holds.
+    elim (c.in-Err.ensures.puts.stop honest found holds) [
+      | inl old ↦ inl (before found old)
+      | inr new ↦
+          let B : BookMap → Type 0 = λ b. AreOf found (book_of b) (keys b) in
+          let kept = keeps-fresh held book c.offer.new.book c.args.rows.items c.in_ok-said.field-0 are put found c.as_slice-put.ensures.value new.1 (c.self.invariant.0 new.0) in
+          inr (subst B are.taken (are-of found c.offer.new.book kept))
+    ] in
+    record { done = tt; failed = subst P c.self.view_is left }

@@ -5,6 +5,7 @@ use Rattle.connector_core.specs.Noting.{CountsLearn, IsNoted, IsNotNoted, MaySta
 use Rattle.connector_core.specs.State.{IsKept, State}
 use Rattle.connector_core.specs.declared.learning.LearnFault.{LearnFault}
 use Rattle.connector_core.specs.declared.learning.Learnt.{Learnt}
+use Rattle.connector_core.proofs.Leaving.{of-news, written}
 use Rattle.connector_core.proofs.Lessons.{book-after, entries-after, gives-fault, gives-learnt, names-after, quiet-after}
 use Rattle.connector_core.proofs.Writing.{writes-these}
 use Rattle.connector_core.proofs.connectors.Connector.learn.Goals as goal
@@ -55,3 +56,16 @@ returns-clause-quiet g c =
     let noted = subst N (ap (λ s. s.book) c.self.view_is) c.in_ok-name.ensures.noted in
     quiet-after c.args.self.now.book c.args.request.now c.args.answer.now c.in_ok-name.name c.in_ok-name.news noted c.take_news.new.self.book c.take_news.result
     (g.J.Journal.writes c.args.self.now.journal) (g.J.Journal.writes c.take_news.new.self.journal) c.take_news.ensures.quiet c.take_news.ensures.journal.unwritten c.take_news.ensures.ok
+
+pub returns-clause-leaves : goal.returns-clause-leaves
+returns-clause-leaves g c = λ honest was.
+    let h = g.J.Journal in
+    let book = c.args.self.now.book in
+    let entries = h.entries c.args.self.now.journal in
+    let N : BookMap → Type 0 = λ b. IsNoted b c.args.request.now c.args.answer.now c.in_ok-name.name c.in_ok-name.news in
+    let noted = subst N (ap (λ s. s.book) c.self.view_is) c.in_ok-name.ensures.noted in
+    let K : State g.row.J.Denot → Type 0 = λ s. h.is_faithful s.journal → IsKept (h.entries s.journal) s.book in
+    let kept = subst K c.self.view_is c.self.invariant.0 in
+    let taken = c.take_news.ensures in
+    written h c.args.self.now c.take_news.new.self (entries_with entries c.in_ok-name.name c.in_ok-name.news) _ _ c.take_news.result (taken.leaves honest was)
+    (λ faithful. of-news book c.args.request.now c.args.answer.now c.in_ok-name.name c.in_ok-name.news noted entries (kept faithful)) (taken.journal.stop honest) was

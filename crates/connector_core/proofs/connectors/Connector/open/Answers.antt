@@ -4,6 +4,7 @@ use Rattle.connector_core.specs.Book.{AllLocated}
 use Rattle.connector_core.specs.Maps.{BookMap, book_of}
 use Rattle.connector_core.specs.State.{IsKept, IsOpened, opened_book}
 use Rattle.connector_core.proofs.Keeping.{opens, opens-kept}
+use Rattle.connector_core.proofs.Leaving.{open-leaves}
 use Rattle.connector_core.proofs.Located.{located-opened}
 use Rattle.connector_core.proofs.connectors.Connector.open.Goals as goal
 
@@ -25,3 +26,8 @@ returns-in-Ok-read_book-clause-opened g c = λ faithful.
 
 pub returns-in-Ok-read_book-clause-kept : goal.returns-in-Ok-read_book-clause-kept
 returns-in-Ok-read_book-clause-kept g c = (invariant_of-result g c).0
+
+pub returns-in-Ok-read_book-clause-leaves : goal.returns-in-Ok-read_book-clause-leaves
+returns-in-Ok-read_book-clause-leaves g c = λ honest.
+    open-leaves g.J.Journal (record { journal = c.load.new.self; book = c.in-Ok-read_book.book }) (g.met.J.Journal.settled c.load.new.self)
+    (returns-in-Ok-read_book-clause-kept g c) (c.in-Ok.ensures.reads.opened honest)

@@ -1,11 +1,15 @@
 use Rattle.std.proofs.Common.{◌≡◌, suc, [], ◌∷◌, ◌++◌, length, refl, ap, ◌∙◌, subst, rules}
+use Rattle.std.proofs.lemmas.Result.{err_from_is_err_and}
 use Rattle.scim_message.specs.Messages.{answer_status}
 use Rattle.world_model.specs.Reports as model
 use Rattle.world_model.specs.World.{Answered}
 use Rattle.world_sim.specs.Fitting.{IsFormed}
+use Rattle.world_sim.specs.Events.{world_fault}
 use Rattle.world_sim.specs.Messages.{message_text}
 use Rattle.world_sim.specs.declared.messages.Said.TheVariants as said
 use Rattle.world_sim.specs.declared.messages.Sent.{Sent}
+use Rattle.world_sim.specs.declared.reports.WorldFault.TheVariants.{Memory}
+use Rattle.world_sim.proofs.Restarts.{fails_to_read, fails_to_write, provider_counts}
 use Rattle.world_sim.proofs.Steps.{answers}
 use Rattle.world_sim.proofs.worlds.World.answer.Goals as goal
 
@@ -27,3 +31,21 @@ returns-clause-done g c =
     (record { is = ap (Answered c.args.request) answer; text = text })
     (subst (λ b. IsFormed b (Answered c.args.request c.in_ok-pending.pending.answer)) base c.in_ok-pending.ensures.formed)
     (ap (λ n. model.Answering n c.status-status.result) many ∙ ap (model.Answering (suc (length c.args.self.now.sent.items))) status)
+
+pub returns-in_err-reserve-clause-fails : goal.returns-in_err-reserve-clause-fails
+returns-in_err-reserve-clause-fails g c =
+    let reads = c.in_ok-pending.ensures.reads in
+    let sent : c.reserve.new.self.items ≡ c.args.self.now.sent.items = search rules in
+    let p = err_from_is_err_and c.from_residual-in_err-reserve.result c.from_residual-in_err-reserve.ensures.1 in
+    rw (p.1, p.2) (fails_to_read g.R.Registry g.J.Journal c.args.self.now _ c.args.request Memory refl refl sent reads.honest reads.was reads.same reads.stop reads.counted)
+
+pub returns-in_err-answer-clause-fails : goal.returns-in_err-answer-clause-fails
+returns-in_err-answer-clause-fails g c =
+    let r = g.R.Registry in
+    let reads = c.in_ok-pending.ensures.reads in
+    let writes = c.in_err-answer.ensures.writes in
+    let sent : c.reserve.new.self.items ≡ c.args.self.now.sent.items = search rules in
+    let p = err_from_is_err_and c.from_residual-in_err-answer.result c.from_residual-in_err-answer.ensures.1 in
+    rw (p.1, p.2) (fails_to_write r g.J.Journal c.args.self.now _ c.prepared.new.provider c.in_ok-pending.pending c.args.request (world_fault c.in_err-answer.field-0.0)
+    refl refl sent reads.honest writes.honest reads.was reads.same c.in_ok-pending.ensures.ok reads.stop writes.stop writes.was writes.same (g.met.R.Registry.settled c.commit.new.self)
+    (provider_counts (r.faults c.args.self.now.provider) (r.faults c.prepared.new.provider) (r.faults c.commit.new.self) c.in_err-answer.field-0.0 reads.counted writes.counted))

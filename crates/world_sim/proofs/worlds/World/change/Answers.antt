@@ -1,4 +1,5 @@
 use Rattle.std.proofs.Common.{◌≡◌, refl, rules}
+use Rattle.world_sim.proofs.Restarts.{fails_to_change}
 use Rattle.world_sim.proofs.Steps.{changes_told}
 use Rattle.world_sim.proofs.Keeping.{book_keeps, on_err}
 use Rattle.world_sim.proofs.worlds.World.change.Goals as goal
@@ -8,7 +9,14 @@ returns-in_ok-clone-in-Open-clause-done g c =
     let copied : c.in_ok-clone-in-Open.field-0 ≡ c.args.row.now = search rules in
     let told = c.judge.ensures in
     changes_told g.R.Registry g.J.Journal c.args.self.now c.in-Open.connector c.judge.new.connector c.args.row.now c.in_ok-clone-in-Open.field-0 c.judge.result (search rules) copied c.in-Open.is
-    told.was told.book told.report
+    told.honest told.open told.leaves told.book told.report
+
+pub returns-in_ok-clone-in-Open-clause-fails : goal.returns-in_ok-clone-in-Open-clause-fails
+returns-in_ok-clone-in-Open-clause-fails g c =
+    let copied : c.in_ok-clone-in-Open.field-0 ≡ c.args.row.now = search rules in
+    let told = c.judge.ensures in
+    fails_to_change g.R.Registry g.J.Journal c.args.self.now c.in-Open.connector c.judge.new.connector c.args.row.now c.in_ok-clone-in-Open.field-0 c.judge.result copied c.in-Open.is
+    told.same told.honest told.still told.leaves told.counted
 
 pub returns-in_ok-clone-in-Open-clause-keeps : goal.returns-in_ok-clone-in-Open-clause-keeps
 returns-in_ok-clone-in-Open-clause-keeps g c = on_err c.judge.result (book_keeps c.args.self.now _ c.in-Open.connector c.judge.new.connector c.in-Open.is refl refl) c.judge.ensures.same

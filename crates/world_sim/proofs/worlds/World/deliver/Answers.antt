@@ -3,6 +3,7 @@ use Rattle.world_model.specs.World.{Answered, Asked, message_at}
 use Rattle.world_sim.specs.Messages.{messages_of, text_at, texts_of}
 use Rattle.world_sim.specs.Reading.{IsOrMemory}
 use Rattle.world_sim.specs.declared.reading.ReadingFault.TheVariants.{Unread}
+use Rattle.world_sim.proofs.Restarts.{fails_to_learn}
 use Rattle.world_sim.proofs.Steps.{delivers_unread, fails_numbered, learns_told, request_told}
 use Rattle.world_sim.proofs.Keeping.{all_err, answered_keeps, asked_keeps, book_keeps, on_err}
 use Rattle.world_sim.proofs.worlds.World.deliver.Goals as goal
@@ -15,7 +16,11 @@ returns-in-Ok-clause-done g c =
     said text c.in-Ok.ensures.only c.answer.ensures.done
 
 pub returns-in-Ok-clause-fails : goal.returns-in-Ok-clause-fails
-returns-in-Ok-clause-fails g c = fails_numbered g.R.Registry g.J.Journal c.args.self.now c.answer.new.self c.args.number c.answer.result c.answer.ensures.fails
+returns-in-Ok-clause-fails g c =
+    let said : message_at (messages_of c.args.self.now.sent.items) c.args.number ≡ Some (Asked c.in-Asked-2.field-0) = search rules in
+    let text : text_at (texts_of c.args.self.now.sent.items) c.args.number ≡ Some c.deref-in-Asked-2.result.now = search rules in
+    fails_numbered g.R.Registry g.J.Journal c.args.self.now c.answer.new.self c.args.number c.in-Asked-2.field-0 c.in-Ok.request c.deref-in-Asked-2.result.now c.answer.result
+    said text c.in-Ok.ensures.only c.answer.ensures.fails
 
 pub returns-in-Err-Unread-clause-done : goal.returns-in-Err-Unread-clause-done
 returns-in-Err-Unread-clause-done g c =
@@ -31,7 +36,15 @@ returns-in-Open-clause-done g c =
     let text : text_at (texts_of c.args.self.now.sent.items) c.args.number ≡ Some c.deref-in-Open.result.now = search rules in
     let heard = c.hear.ensures in
     learns_told g.R.Registry g.J.Journal c.args.self.now c.in-Open.connector c.hear.new.connector c.args.number c.in-Answered.request c.in-Answered.field-1 c.deref-in-Open.result.now c.hear.result
-    sent text c.in-Open.is heard.report heard.book heard.names heard.was
+    sent text c.in-Open.is heard.report heard.book heard.names heard.honest heard.open heard.leaves
+
+pub returns-in-Open-clause-fails : goal.returns-in-Open-clause-fails
+returns-in-Open-clause-fails g c =
+    let sent : message_at (messages_of c.args.self.now.sent.items) c.args.number ≡ Some (Answered c.in-Answered.request c.in-Answered.field-1) = search rules in
+    let text : text_at (texts_of c.args.self.now.sent.items) c.args.number ≡ Some c.deref-in-Open.result.now = search rules in
+    let heard = c.hear.ensures in
+    fails_to_learn g.R.Registry g.J.Journal c.args.self.now c.in-Open.connector c.hear.new.connector c.args.number c.in-Answered.request c.in-Answered.field-1 c.deref-in-Open.result.now c.hear.result
+    sent text c.in-Open.is heard.same heard.honest heard.still heard.leaves heard.counted
 
 pub returns-in-Ok-clause-keeps : goal.returns-in-Ok-clause-keeps
 returns-in-Ok-clause-keeps g c =
