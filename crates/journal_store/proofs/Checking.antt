@@ -1,5 +1,5 @@
 -- What the checks of an opening show, and what they leave.
-use Rattle.std.proofs.Common.{◌≡◌, ◌≢◌, ◌⊎◌, ℕ, pos, false, List, [], ◌∷◌, map, filter, codes, Result, Ok, Err, IsTrue, OnOk, IfErr, IsErrAnd, refl, sym, ap, ◌∙◌, subst, inl, inr, arith, IsPermutation}
+use Rattle.std.proofs.Common.{◌≡◌, ◌≢◌, ◌⊎◌, ◌≤◌, ℕ, pos, false, List, [], ◌∷◌, map, filter, codes, Result, Ok, Err, IsTrue, OnOk, IfErr, IsErrAnd, refl, sym, ap, ◌∙◌, subst, inl, inr, arith, IsPermutation}
 use Rattle.sqlite_value.specs.declared.value.Value.TheVariants.{Int}
 use Rattle.sqlite_value.specs.Order.{Row, column}
 use Rattle.sqlite_trees.specs.Tree.{Trees, rowid}
@@ -14,8 +14,8 @@ use Rattle.journal_core.specs.declared.entries.Entry.{Entry}
 use Rattle.journal_store.specs.Format.{no_schema, format_number, format_tree, entry_tree, marked_text, numbers_text}
 use Rattle.journal_store.specs.Connections.{AreNumbered, Answers, HasNumbers, IsLaid, ListsAll}
 use Rattle.journal_store.specs.Rows.{entries_in}
-use Rattle.journal_store.specs.Opening.{AreInOrder, AreLawful, AreRising, HoldsEntries, IsCause, IsDamaged, IsFormat, IsMarked, IsFor, IsJournal, IsNewer, IsNotLaid, IsSpoilt, keys_of, open_fault, IsStore, Looks, LeavesStore}
-use Rattle.journal_store.specs.Faults.{HasCause}
+use Rattle.journal_store.specs.Opening.{AreInOrder, AreLawful, AreRising, HoldsEntries, IsCause, IsDamaged, IsFormat, IsMarked, IsFor, IsJournal, IsNewer, IsNotLaid, IsOfRows, IsSpoilt, keys_of, open_fault, IsStore, Looks, LeavesStore, OpenFailsFor}
+use Rattle.journal_store.specs.Faults.{FailsFor, HasCause, HasFailed}
 use Rattle.journal_store.specs.declared.statements.TableFault.{TableFault}
 use Rattle.journal_store.specs.declared.statements.TableFault.TheVariants as table
 use Rattle.journal_store.specs.declared.opening.OpenFault.{OpenFault}
@@ -24,6 +24,7 @@ use Rattle.journal_store.proofs.Texts.{marked_shown, marked_is, marked_query}
 use Rattle.journal_store.proofs.Selecting.{passes, shows}
 use Rattle.journal_store.proofs.Finding.{answered_by, every, numbers_of_all, single}
 use Rattle.journal_store.proofs.Keeping.{laid_still, keeps_then}
+use Rattle.journal_store.proofs.Failing.{failed_since}
 use Rattle.journal_store.proofs.Leaving.{keeps_leaves}
 use Rattle.journal_store.proofs.Numbering.{numbered}
 use Rattle.journal_store.proofs.Holding.{keys_in_order, lawful_lists}
@@ -74,6 +75,45 @@ damage_of P D E h (Err given) fault is it = subst (IsFor P E) (sym is) (is_for {
 pub handed_on : {T : Type 0} (P D E : Type 0) (h : D → E) (r : Result T OpenFault) (fault : OpenFault) → IsErrAnd r (λ given. given ≡ fault) → IsFor P D fault → IfErr r (IsFor P E)
 handed_on P D E h (Ok x) fault is it = tt
 handed_on P D E h (Err given) fault is it = subst (IsFor P E) (sym is) (is_for (λ p. p) h fault it)
+
+-- ---- a store that fails
+
+pub opens_by : (P Q : Type 0) → (P → Q) → (fault : OpenFault) → OpenFailsFor P fault → OpenFailsFor Q fault
+opens_by P Q h Store it = h it
+opens_by P Q h Damaged it = tt
+opens_by P Q h Newer it = tt
+opens_by P Q h Memory it = tt
+
+pub opens_so : (P : Type 0) → P → (fault : OpenFault) → OpenFailsFor P fault
+opens_so P it Store = it
+opens_so P it Damaged = tt
+opens_so P it Newer = tt
+opens_so P it Memory = tt
+
+-- a fault of a statement fails as it failed there
+pub told_fails : (P Q : Type 0) → (P → Q) → (fault : TableFault) → FailsFor P fault → OpenFailsFor Q (open_fault fault)
+told_fails P Q h table.Store it = h it
+told_fails P Q h table.Damaged it = tt
+told_fails P Q h table.Memory it = tt
+
+-- what was read of rows is no fault of the store
+pub rows_fail : (P : Type 0) (fault : OpenFault) → IsOfRows fault → OpenFailsFor P fault
+rows_fail P Store it = absurd it
+rows_fail P Damaged it = tt
+rows_fail P Newer it = tt
+rows_fail P Memory it = tt
+
+pub opens_of : {T : Type 0} (P Q : Type 0) → (P → Q) → (r : Result T OpenFault) (fault : OpenFault) → IsErrAnd r (λ given. given ≡ fault) → OpenFailsFor P fault → IfErr r (OpenFailsFor Q)
+opens_of P Q h (Ok x) fault is it = tt
+opens_of P Q h (Err given) fault is it = subst (OpenFailsFor Q) (sym is) (opens_by P Q h fault it)
+
+pub fails_of : {T : Type 0} (P Q : Type 0) → (P → Q) → (r : Result T OpenFault) (fault : TableFault) → IsErrAnd r (λ given. given ≡ open_fault fault) → FailsFor P fault → IfErr r (OpenFailsFor Q)
+fails_of P Q h (Ok x) fault is it = tt
+fails_of P Q h (Err given) fault is it = subst (OpenFailsFor Q) (sym is) (told_fails P Q h fault it)
+
+-- what fails after a look fails from before it
+pub failed_after : (old mid new : State) → Looks old mid → HasCleanDisk mid → mid.faults ≤ new.faults → HasFailed mid new → HasFailed old new
+failed_after old mid new looks = failed_since old mid new looks.quiet
 
 -- ---- looking
 

@@ -1,6 +1,8 @@
 pub mod Texts
 pub mod Keeping
 pub mod Asking
+pub mod Failing
+pub mod Giving
 pub mod Values
 pub mod Trees
 pub mod Selecting

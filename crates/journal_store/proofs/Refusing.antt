@@ -1,17 +1,22 @@
 -- What a fault reports about the rows.
-use Rattle.std.proofs.Common.{◌≡◌, List, [], ℕ, Option, Some, None, Result, Ok, Err, IfErr, IsErrAnd, sym, subst}
+use Rattle.std.proofs.Common.{◌≡◌, List, [], ◌∷◌, map, filter, refl, arith, IsPermutation, ℕ, Option, Some, None, Result, Ok, Err, IfErr, IsErrAnd, sym, subst}
 use Rattle.std.specs.Str.{IsUtf8}
+use Rattle.std.proofs.lemmas.List.Sorted.{length_permutation}
+use Rattle.sqlite_trees.specs.Tree.{Trees}
+use Rattle.sqlite.proofs.Callers.{one_permutation}
+use Rattle.scim_key.specs.declared.records.RecordName.{RecordName}
+use Rattle.journal_core.specs.declared.entries.Entry.{Entry}
 use Rattle.sqlite_value.specs.declared.value.Value.{Value}
 use Rattle.sqlite_value.specs.declared.value.Value.TheVariants.{Null, Int, Real, Text, Blob}
 use Rattle.sqlite_value.specs.Order.{Row}
 use Rattle.sqlite.specs.State.{State}
 use Rattle.scim_key.specs.declared.records.Kind.{Kind}
-use Rattle.journal_store.specs.Connections.{AreNumbered, Answers, IsLaid, IsUnshown, ListsNone}
+use Rattle.journal_store.specs.Connections.{AreNumbered, Answers, Finds, IsDamagedAt, IsLaid, IsOnly, IsUnshown, ListsNone, Shows, has_key}
 use Rattle.journal_store.specs.Faults.{HasCause}
-use Rattle.journal_store.specs.Format.{all_text, entry_tree, numbers_text}
+use Rattle.journal_store.specs.Format.{all_text, entry_tree, find_text, numbers_text}
 use Rattle.journal_store.specs.Opening.{IsUnnumbered}
-use Rattle.journal_store.specs.Rows.{IsLawfulId, id_in}
-use Rattle.journal_store.proofs.Finding.{all_ordered, numbers_of_all, numbers_ordered, rows_of_all}
+use Rattle.journal_store.specs.Rows.{IsLawfulId, id_in, shown_row}
+use Rattle.journal_store.proofs.Finding.{all_ordered, numbers_of_all, numbers_ordered, rows_of_all, rows_of_key}
 use Rattle.journal_store.proofs.Repeating.{are_listed, are_numbers}
 use Rattle.journal_store.specs.declared.statements.TableFault.{TableFault}
 use Rattle.journal_store.specs.declared.statements.TableFault.TheVariants.{Store, Damaged, Memory}
@@ -45,10 +50,35 @@ no_id (Blob b) some none id is lawful = cc
 
 -- ---- tables
 
+-- what is found among these rows
+abbrev Shown : Kind → List Row → Option Entry → Type 0
+Shown kind table None = table ≡ []
+Shown kind table (Some e) = (r : Row) × (table ≡ r ∷ []) × Shows kind (shown_row kind r) e
+
+finds_shown : (db : Trees) (name : RecordName) (held : Option Entry) → Finds db name held → Shown name.kind (filter (has_key name.key) (db (entry_tree name.kind))) held
+finds_shown db name None finds = finds
+finds_shown db name (Some e) finds = finds
+
 pub unlisted : (s : State) (kind : Kind) (sql : List ℕ) (rows given : List Row) → sql ≡ all_text kind → given ≡ rows → IsLaid s → Answers sql [] s rows → IsUnshown kind given → ListsNone kind s.now.trees
 unlisted s kind sql rows given text same laid answers unshown list lists =
     let asked : Answers (all_text kind) [] s rows = subst (λ t. Answers t [] s rows) text answers in
     are_listed kind s.now.trees rows (rows_of_all s kind rows laid asked) list lists (all_ordered s kind rows laid asked) (subst (IsUnshown kind) same unshown)
+
+none_of : {X : Type 0} (xs : List X) → IsPermutation [] xs → xs ≡ []
+none_of [] same = refl
+none_of (x ∷ xs) same = absurd (omega (arith, length_permutation [] (x ∷ xs) same))
+
+-- the rows of a look-up show what is there
+found_only : (kind : Kind) (rows table : List Row) (held : Option Entry) → IsPermutation (map (shown_row kind) table) rows → Shown kind table held → IsOnly kind rows held
+found_only kind rows table None all none = none_of rows (subst (λ l. IsPermutation (map (shown_row kind) l) rows) none all)
+found_only kind rows table (Some e) all (r, is, shows) =
+    (shown_row kind r, one_permutation (shown_row kind r) rows (subst (λ l. IsPermutation (map (shown_row kind) l) rows) is all), shows)
+
+pub unfound : (s : State) (name : RecordName) (sql : List ℕ) (params : Row) (rows given : List Row) → sql ≡ find_text name.kind → params ≡ Text name.key ∷ [] → given ≡ rows → IsLaid s → Answers sql params s rows
+    → ((held : Option Entry) → IsOnly name.kind given held → ⊥) → IsDamagedAt s.now.trees name
+unfound s name sql params rows given text bound same laid answers none held finds =
+    let asked : Answers (find_text name.kind) (Text name.key ∷ []) s rows = subst (λ p. Answers (find_text name.kind) p s rows) bound (subst (λ t. Answers t params s rows) text answers) in
+    none held (subst (λ l. IsOnly name.kind l held) (sym same) (found_only name.kind rows (filter (has_key name.key) (s.now.trees (entry_tree name.kind))) held (rows_of_key s name.kind name.key rows laid asked) (finds_shown s.now.trees name held finds)))
 
 pub unnumbered : (s : State) (kind : Kind) (sql : List ℕ) (rows given : List Row) → sql ≡ numbers_text kind → given ≡ rows → IsLaid s → Answers sql [] s rows → IsUnnumbered given → AreNumbered (s.now.trees (entry_tree kind)) → ⊥
 unnumbered s kind sql rows given text same laid answers fails are =

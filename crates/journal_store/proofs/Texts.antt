@@ -1,5 +1,5 @@
 -- What the statements mean over the tables.
-use Rattle.std.proofs.Common.{◌≡◌, ℕ, pos, negsuc, List, [], ◌∷◌, codes, false, None, refl}
+use Rattle.std.proofs.Common.{◌≡◌, ℕ, pos, negsuc, List, [], ◌∷◌, codes, length, false, None, Result, Ok, Err, refl}
 use Rattle.sqlite_value.specs.declared.value.Value.TheVariants.{Null, Int}
 use Rattle.sqlite_value.specs.declared.keys.Order.{Order}
 use Rattle.sqlite_value.specs.declared.keys.Key.{Key}
@@ -11,11 +11,22 @@ use Rattle.sqlite_sql.specs.declared.ops.CompareOp.TheVariants.{Eq}
 use Rattle.sqlite_schema.specs.declared.command.Source.TheVariants.{Values}
 use Rattle.sqlite_schema.specs.declared.command.Command.TheVariants.{Insert, Update, Select}
 use Rattle.sqlite_tied.specs.Compute.{everything}
+use Rattle.sqlite_resolve.specs.declared.compiled.Compiled.{Compiled}
+use Rattle.sqlite_resolve.specs.declared.error.CompileError.{CompileError}
 use Rattle.sqlite.specs.Listing.{understood, reads_listing}
 use Rattle.sqlite.proofs.Callers.{IsPlain, command_of}
 use Rattle.scim_key.specs.declared.records.Kind.{Kind}
 use Rattle.scim_key.specs.declared.records.Kind.TheVariants.{User, Group}
 use Rattle.journal_store.specs.Format.{journal_schema, format_tree, entry_tree, entry_place, find_text, all_text, insert_text, update_text, marked_text, numbers_text}
+
+-- where the statement of a text ends, and how many parameters it has
+abbrev pub tail_of : Result Compiled CompileError → ℕ
+tail_of (Ok c) = c.tail
+tail_of (Err e) = 0
+
+abbrev pub count_of : Result Compiled CompileError → ℕ
+count_of (Ok c) = length c.names
+count_of (Err e) = 0
 
 abbrev pub query : ℕ → List Term → List Term → List (Term × Key) → Query
 query tree terms shown order = record {

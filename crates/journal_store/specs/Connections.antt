@@ -1,5 +1,5 @@
 -- What the statements require of a connection, and what they leave of it.
-use Rattle.std.specs.Prelude.{◌≡◌, ◌⊎◌, ◌+◌, ℕ, ℤ, Bool, true, false, List, [], ◌∷◌, ◌++◌, Option, Some, None, Ok, IsTrue, IsPermutation, filter, is_some, map}
+use Rattle.std.specs.Prelude.{◌≡◌, ◌⊎◌, ◌+◌, ◌≤◌, ℕ, ℤ, Bool, true, false, List, [], ◌∷◌, ◌++◌, Option, Some, None, Ok, IsSome, IsTrue, IsPermutation, filter, is_some, length, map}
 use Rattle.std.specs.List.{AllByRecursion, AllZip}
 use Rattle.std.specs.List.Sorted.{IsStrictlySortedBy}
 use Rattle.scim_key.specs.Records.{name_cmp}
@@ -12,7 +12,8 @@ use Rattle.sqlite_sql.specs.Term.{Term}
 use Rattle.sqlite_rules.specs.Edit.{is_taken}
 use Rattle.sqlite_rules.specs.Lists.{Has}
 use Rattle.sqlite_resolve.specs.declared.compiled.Compiled.{Compiled}
-use Rattle.sqlite.specs.Effect.{Database, Reads}
+use Rattle.sqlite.specs.Effect.{Database, Reads, RefusesToRead}
+use Rattle.sqlite.specs.declared.error.Error.{Error}
 use Rattle.sqlite.specs.Given.{IsPlain}
 use Rattle.sqlite.specs.Listing.{understood, reads_listing}
 use Rattle.sqlite.specs.State.{State}
@@ -57,6 +58,21 @@ pub record Keeps (old new : State) : Type 0 where
 abbrev pub IsQuery : List ℕ → Type 0
 IsQuery sql = (format_checks : List Term) (users groups : Order)
     → IsPlain (understood (journal_schema format_checks users groups) sql) × (reads_listing (journal_schema format_checks users groups) sql ≡ false)
+
+-- the text is one statement over the tables, and has this many parameters
+abbrev pub IsWhole : List ℕ → ℕ → Type 0
+IsWhole sql count = (format_checks : List Term) (users groups : Order)
+    → (c : Compiled) × (understood (journal_schema format_checks users groups) sql ≡ Ok c) × (length sql ≤ c.tail) × (count ≡ length c.names)
+
+-- with these values the query is refused only over a limit on steps, whatever rows the tables have
+abbrev pub IsAnswered : List ℕ → Row → Type 0
+IsAnswered sql params = (format_checks : List Term) (users groups : Order) (c : Compiled) (limit : Option ℕ) (trees : Trees) (error : Error)
+    → understood (journal_schema format_checks users groups) sql ≡ Ok c
+    → RefusesToRead limit c.command (record { schema = journal_schema format_checks users groups; trees = trees }) params error → IsSome limit
+
+-- the query is whole with these values, and they aren't refused
+abbrev pub IsGiven : List ℕ → Row → Type 0
+IsGiven sql params = IsWhole sql (length params) × IsAnswered sql params
 
 -- the rows are the result of the query
 abbrev pub Answers : List ℕ → Row → State → List Row → Type 0
@@ -103,6 +119,10 @@ abbrev pub Finds : Trees → RecordName → Option Entry → Type 0
 Finds db name None = filter (has_key name.key) (db (entry_tree name.kind)) ≡ []
 Finds db name (Some entry) =
     (r : Row) × (filter (has_key name.key) (db (entry_tree name.kind)) ≡ r ∷ []) × Shows name.kind (shown_row name.kind r) entry
+
+-- there are rows with this name, but they aren't one row that shows a valid entry
+abbrev pub IsDamagedAt : Trees → RecordName → Type 0
+IsDamagedAt db name = (held : Option Entry) → Finds db name held → ⊥
 
 -- what the rows with a name show: at most one row
 abbrev pub IsOnly : Kind → List Row → Option Entry → Type 0

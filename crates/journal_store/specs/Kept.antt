@@ -7,7 +7,7 @@ use Rattle.sqlite.specs.Held.{Held, held_code, state}
 use Rattle.sqlite.specs.State.{HasCleanDisk}
 use Rattle.journal_core.specs.Entries.{EntryMap}
 use Rattle.journal_core.specs.declared.journals.JournalFault.{JournalFault}
-use Rattle.journal_core.specs.declared.journals.JournalFault.TheVariants.{Store}
+use Rattle.journal_core.specs.declared.journals.JournalFault.TheVariants.{Store, Memory}
 use Rattle.journal_store.specs.Rows.{entries_in}
 use Rattle.journal_store.specs.Connections.{HasNumbers, IsLaid}
 
@@ -28,6 +28,11 @@ kept_code {S} store =
 -- after a reopening that failed, a call returns only a fault of the store
 abbrev pub IsRefused : {S T : Type 0} → Kept S → Result T JournalFault → Type 0
 IsRefused k result = k.is_usable ≡ false → result ≡ Err Store
+
+-- a fault that says that the store failed has this cause
+abbrev pub CallFailsFor : (failure : Type 0) → JournalFault → Type 0
+CallFailsFor failure Store = failure
+CallFailsFor failure Memory = Unit {0}
 
 module _ {S : Type 0} (g : Ghosts S) where
   -- the entries that the last commit left

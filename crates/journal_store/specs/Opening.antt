@@ -25,6 +25,7 @@ use Rattle.journal_core.specs.declared.entries.Entry.{Entry}
 use Rattle.journal_core.specs.declared.journals.JournalFault.{JournalFault}
 use Rattle.journal_core.specs.declared.journals.JournalFault.TheVariants as journal
 use Rattle.journal_store.specs.Format.{journal_schema, no_schema, format_tree, format_number, entry_columns, entry_name, entry_tree, key_places}
+use Rattle.journal_store.specs.Faults.{HasFailed}
 use Rattle.journal_store.specs.Rows.{entries_in}
 use Rattle.journal_store.specs.Connections.{FailsToRise, HasNumbers, IsLaid, Keeps, ListsAll}
 use Rattle.journal_store.specs.declared.statements.TableFault.{TableFault}
@@ -100,6 +101,11 @@ abbrev pub IsFor : (newer damaged : Type 0) → OpenFault → Type 0
 IsFor newer damaged Newer = newer
 IsFor newer damaged Damaged = damaged
 IsFor newer damaged fault = Unit {0}
+
+-- a fault that says that the store failed has this cause
+abbrev pub OpenFailsFor : (failure : Type 0) → OpenFault → Type 0
+OpenFailsFor failure Store = failure
+OpenFailsFor failure fault = Unit {0}
 
 -- the rows that were read are of another format, or damaged
 abbrev pub IsOfRows : OpenFault → Type 0
@@ -221,6 +227,11 @@ IsNewer s = (number : ℕ) × (format_number < number) × IsFormat s number
 -- why an opening refuses a store
 abbrev pub IsCause : State → OpenFault → Type 0
 IsCause s = IsFor (IsNewer s) (IsDamaged s)
+
+-- why an opening says that the store failed: a transaction was open, the tables weren't there and couldn't be made, or a
+-- statement that checks them failed
+abbrev pub OpeningFails : (old new : State) → Type 0
+OpeningFails old new = IsTrue old.in_transaction ⊎ ((old.now.schema ≡ no_schema) ⊎ HasFailed old new)
 
 -- a stop leaves no entry
 abbrev pub LeavesNone : Trees → Type 0

@@ -1,5 +1,5 @@
 //! A journal in SQLite.
-ghost use Rattle.std.specs.Prelude.{◌≡◌, Some, IfErr, IfOk, OnOk};
+ghost use Rattle.std.specs.Prelude.{◌≡◌, ◌⊎◌, Some, IfErr, IfOk, IsTrue, OnOk};
 ghost use Rattle.std.specs.Result.{is_ok};
 ghost use Rattle.std.specs.FinMap.{insert};
 ghost use Rattle.sqlite.specs.Held.{state};
@@ -8,9 +8,10 @@ ghost use Rattle.source_csv.specs.Records.{IsRow, row_name};
 ghost use Rattle.journal_core.specs.Entries.{CanPutLearnt, CanPutRow, CanPutRows, IsListOf, with_learnt, with_row, with_rows};
 ghost use Rattle.journal_core.specs.Stores.{CountsFault, HasRisen, OnlyReads, Reopens, WritesOnce};
 ghost use Rattle.journal_core.specs.declared.journals.JournalFault.TheVariants.{Store};
-ghost use Rattle.journal_store.specs.Connections.{Finds, FindsIf, ListsAll};
-ghost use Rattle.journal_store.specs.Kept.{IsFaithful, IsHonest, IsRefused, MayHold, kept_entries};
-ghost use Rattle.journal_store.specs.Opening.{IsCause, LeavesNone, LeavesStore, Stands, journal_fault, table_fault};
+ghost use Rattle.journal_store.specs.Connections.{Finds, FindsIf, IsDamagedAt, ListsAll, ListsNone};
+ghost use Rattle.journal_store.specs.Faults.{HasFailed};
+ghost use Rattle.journal_store.specs.Kept.{CallFailsFor, IsFaithful, IsHonest, IsRefused, MayHold, kept_entries};
+ghost use Rattle.journal_store.specs.Opening.{IsCause, LeavesNone, LeavesStore, OpenFailsFor, OpeningFails, Stands, journal_fault, table_fault};
 ghost use Rattle.journal_store.specs.Rows.{entry_in, row_of};
 
 use crate::batches::put_all;
@@ -81,6 +82,7 @@ impl<S: Alter> SqlJournal<S> {
         ensures found { IsFaithful S.Store self.new → IfOk result (Finds (state S.Store self.new.conn).now.trees name.now) }
         ensures reads { OnlyReads (kept_entries S.Store) (IsFaithful S.Store) (IsHonest S.Store) (MayHold S.Store) (λ k. k.faults) (λ k. k.writes) CountsFault self.old self.new result }
         ensures shut { IsRefused self.old result }
+        ensures failed { IsTrue self.old.is_usable → IsHonest S.Store self.new → IfErr result (CallFailsFor (HasFailed (state S.Store self.old.conn) (state S.Store self.new.conn) ⊎ IsDamagedAt (state S.Store self.old.conn).now.trees name.now)) }
     {
         if !self.is_usable {
             return Err(refusal(&mut self.faults));
@@ -97,6 +99,9 @@ impl<S: Alter> SqlJournal<S> {
         ensures all { IsFaithful S.Store self.new → IfOk result (λ list. ListsAll kind (state S.Store self.new.conn).now.trees list.items) }
         ensures reads { OnlyReads (kept_entries S.Store) (IsFaithful S.Store) (IsHonest S.Store) (MayHold S.Store) (λ k. k.faults) (λ k. k.writes) CountsFault self.old self.new result }
         ensures shut { IsRefused self.old result }
+        ensures quiet { Survives (state S.Store self.old.conn) (state S.Store self.new.conn) (λ _. ⊥) }
+        ensures usable { self.new.is_usable ≡ self.old.is_usable }
+        ensures failed { IsTrue self.old.is_usable → IsHonest S.Store self.new → IfErr result (CallFailsFor (HasFailed (state S.Store self.old.conn) (state S.Store self.new.conn) ⊎ (IsFaithful S.Store self.new × ListsNone kind (state S.Store self.new.conn).now.trees))) }
     {
         if !self.is_usable {
             return Err(refusal(&mut self.faults));
@@ -148,6 +153,7 @@ impl<S: Alter> Journal for SqlJournal<S> {
         ensures ok { IsFaithful S.Store self.new → IfOk result (λ list. IsListOf (kept_entries S.Store self.old) list.items) }
         ensures reads { OnlyReads (kept_entries S.Store) (IsFaithful S.Store) (IsHonest S.Store) (MayHold S.Store) (λ k. k.faults) (λ k. k.writes) CountsFault self.old self.new result }
         ensures shut { IsRefused self.old result }
+        ensures failed { IsTrue self.old.is_usable → IsHonest S.Store self.new → IfErr result (CallFailsFor (HasFailed (state S.Store self.old.conn) (state S.Store self.new.conn) ⊎ ((kind : _) × ListsNone kind (state S.Store self.old.conn).now.trees))) }
     {
         let mut all = self.list(Kind::User)?;
         let mut groups = self.list(Kind::Group)?;
@@ -254,6 +260,7 @@ impl<S: Alter> SqlJournal<S> {
         ensures counts { IfOk result (λ j. (j.faults ≡ 0) × (j.writes ≡ 0)) }
         ensures stop { IfOk result (λ j. Survives (state S.Store conn) (state S.Store j.conn) LeavesNone) }
         ensures cause { IfErr result (λ e. HasCleanDisk (state S.Store e.1) → IsCause (state S.Store conn) e.0) }
+        ensures failed { IfErr result (λ e. HasCleanDisk (state S.Store e.1) → OpenFailsFor (OpeningFails (state S.Store conn) (state S.Store e.1)) e.0) }
         ensures left { IfErr result (λ e. HasCleanDisk (state S.Store e.1) → LeavesStore (state S.Store conn) (state S.Store e.1)) }
         ensures refused { IfErr result (λ e. Survives (state S.Store conn) (state S.Store e.1) LeavesNone) }
     {

@@ -2,7 +2,7 @@
 ghost use Rattle.std.specs.Prelude.{◌≡◌, false, IfErr, IfOk, OnOk, IsTrue};
 ghost use Rattle.std.specs.List.{AllByRecursion, list_all};
 ghost use Rattle.sqlite_rules.specs.Lists.{Has};
-ghost use Rattle.journal_store.specs.Opening.{AreInOrder, AreLawful, HasMembersOf, IsFor, is_identified, keys_of};
+ghost use Rattle.journal_store.specs.Opening.{AreInOrder, AreLawful, HasMembersOf, IsFor, OpenFailsFor, is_identified, keys_of};
 
 use crate::opening::OpenFault;
 use journal_core::{Entry, GROUP_LIMIT, USER_LIMIT};
@@ -82,6 +82,7 @@ fn have_members(keys: &[Key], groups: &[Entry]) -> bool
 pub(crate) fn check_lists(alloc: Global, users: &[Entry], groups: &[Entry]) -> Result<(), OpenFault>
     ensures lawful { OnOk result (AreLawful users.now groups.now) }
     ensures cause { IfErr result (IsFor ⊥ (AreInOrder (keys_of users.now) → AreLawful users.now groups.now → ⊥)) }
+    ensures failed { IfErr result (OpenFailsFor ⊥) }
 {
     if users.len() > USER_LIMIT || groups.len() > GROUP_LIMIT {
         return Err(OpenFault::Damaged);

@@ -3,7 +3,8 @@ ghost use Rattle.std.specs.Prelude.{◌≡◌, Err, IfErr, IfOk, OnOk, OnErr, Is
 ghost use Rattle.sqlite.specs.Held.{state};
 ghost use Rattle.sqlite.specs.State.{Executes, FailsToQuery, HasCleanDisk, Survives};
 ghost use Rattle.sqlite.specs.Values.{bound};
-ghost use Rattle.journal_store.specs.Connections.{Answers, IsEditText, IsLaid, IsQuery, Keeps, MayLeave, Ran};
+ghost use Rattle.journal_store.specs.Connections.{Answers, IsEditText, IsGiven, IsLaid, IsQuery, Keeps, MayLeave, Ran};
+ghost use Rattle.journal_store.specs.Faults.{FailsFor, HasFailed, statement_fault};
 
 use scim_key::NameFault;
 use sqlite::{Alter, Connection, Error, ErrorCode, Row};
@@ -73,9 +74,11 @@ pub(crate) fn ask<S: Alter>(
     params: &[ValueRef<'_>],
 ) -> Result<Vec<Row>, Error>
     requires query { IsQuery sql.now }
+    requires given { IsGiven sql.now (bound params.now) }
     requires laid { HasCleanDisk (state S.Store conn.old) → IsTrue (state S.Store conn.old).is_open → IsLaid (state S.Store conn.old) }
     ensures rows { HasCleanDisk (state S.Store conn.new) → IfOk result (λ rows. Answers sql.now (bound params.now) (state S.Store conn.old) rows.items) }
     ensures fails { HasCleanDisk (state S.Store conn.new) → IfErr result (FailsToQuery sql.now (bound params.now) (state S.Store conn.old) (state S.Store conn.new)) }
+    ensures failed { HasCleanDisk (state S.Store conn.new) → IfErr result (λ e. FailsFor (HasFailed (state S.Store conn.old) (state S.Store conn.new)) (statement_fault e)) }
     ensures keeps { HasCleanDisk (state S.Store conn.new) → Keeps (state S.Store conn.old) (state S.Store conn.new) }
     ensures open { HasCleanDisk (state S.Store conn.new) → OnOk result (IsTrue (state S.Store conn.new).is_open) }
     ensures quiet { Survives (state S.Store conn.old) (state S.Store conn.new) (λ _. ⊥) }

@@ -1,5 +1,5 @@
 //! The statements on the tables of entries.
-ghost use Rattle.std.specs.Prelude.{◌≡◌, pos, true, false, MatchOption, IfErr, IfOk, IsTrue, OnOk, OnErr, string_bytes};
+ghost use Rattle.std.specs.Prelude.{◌≡◌, pos, true, false, MatchOption, Option, IfErr, IfOk, IsTrue, OnOk, OnErr, string_bytes};
 ghost use Rattle.sqlite.specs.Held.{state};
 ghost use Rattle.sqlite.specs.State.{HasCleanDisk, Survives};
 ghost use Rattle.sqlite.specs.Values.{bound, bound_value};
@@ -12,8 +12,8 @@ ghost use Rattle.source_csv.specs.Records.{row_name};
 ghost use Rattle.source_csv.specs.Rows.{IsGroupRow, IsUserRow};
 ghost use Rattle.source_csv.specs.declared.rows.Row.TheVariants.{User, Group};
 ghost use Rattle.journal_core.specs.Entries.{entry_with};
-ghost use Rattle.journal_store.specs.Connections.{AreShown, Finds, IsLaid, IsOnly, IsUnshown, ListsAll, ListsNone, IsThere, Keeps, Makes, MayLeave, PutsIn, Ran, IsEditText, put_text};
-ghost use Rattle.journal_store.specs.Faults.{HasCause, IsOfRow};
+ghost use Rattle.journal_store.specs.Connections.{AreShown, Finds, IsDamagedAt, IsLaid, IsOnly, IsUnshown, ListsAll, ListsNone, IsThere, Keeps, Makes, MayLeave, PutsIn, Ran, IsEditText, put_text};
+ghost use Rattle.journal_store.specs.Faults.{FailsFor, HasCause, HasFailed, IsOfRow};
 ghost use Rattle.journal_store.specs.Format.{all_text, find_text};
 ghost use Rattle.journal_store.specs.Rows.{active_number, id_value, members_text, row_by};
 
@@ -79,6 +79,7 @@ pub(crate) fn members_text(alloc: Global, keys: &[Key]) -> Result<String, AllocE
 /// The entry that the rows with a name show.
 pub(crate) fn only(alloc: Global, kind: Kind, rows: &[Row]) -> Result<Option<Entry>, TableFault>
     ensures only { IfOk result (IsOnly kind rows.now) }
+    ensures none { IfErr result (HasCause ((held : Option _) → IsOnly kind rows.now held → ⊥)) }
     ensures read { IfErr result IsOfRow }
 {
     match rows {
@@ -109,6 +110,8 @@ pub(crate) fn find_entry<S: Alter>(
 ) -> Result<Option<Entry>, TableFault>
     requires laid { HasCleanDisk (state S.Store conn.old) → IsTrue (state S.Store conn.old).is_open → IsLaid (state S.Store conn.old) }
     ensures found { HasCleanDisk (state S.Store conn.new) → IfOk result (Finds (state S.Store conn.old).now.trees name.now) }
+    ensures none { HasCleanDisk (state S.Store conn.new) → IfErr result (HasCause (IsTrue (state S.Store conn.new).is_open × IsDamagedAt (state S.Store conn.old).now.trees name.now)) }
+    ensures failed { HasCleanDisk (state S.Store conn.new) → IfErr result (FailsFor (HasFailed (state S.Store conn.old) (state S.Store conn.new))) }
     ensures keeps { HasCleanDisk (state S.Store conn.new) → Keeps (state S.Store conn.old) (state S.Store conn.new) }
     ensures open { HasCleanDisk (state S.Store conn.new) → OnOk result (IsTrue (state S.Store conn.new).is_open) }
     ensures quiet { Survives (state S.Store conn.old) (state S.Store conn.new) (λ _. ⊥) }
@@ -349,6 +352,7 @@ pub(crate) fn list_entries<S: Alter>(
     requires laid { HasCleanDisk (state S.Store conn.old) → IsTrue (state S.Store conn.old).is_open → IsLaid (state S.Store conn.old) }
     ensures all { HasCleanDisk (state S.Store conn.new) → IfOk result (λ list. ListsAll kind (state S.Store conn.old).now.trees list.items) }
     ensures none { HasCleanDisk (state S.Store conn.new) → IfErr result (HasCause (IsTrue (state S.Store conn.new).is_open × ListsNone kind (state S.Store conn.old).now.trees)) }
+    ensures failed { HasCleanDisk (state S.Store conn.new) → IfErr result (FailsFor (HasFailed (state S.Store conn.old) (state S.Store conn.new))) }
     ensures keeps { HasCleanDisk (state S.Store conn.new) → Keeps (state S.Store conn.old) (state S.Store conn.new) }
     ensures open { HasCleanDisk (state S.Store conn.new) → OnOk result (IsTrue (state S.Store conn.new).is_open) }
     ensures quiet { Survives (state S.Store conn.old) (state S.Store conn.new) (λ _. ⊥) }

@@ -1,5 +1,5 @@
 -- What a query and a write do, once they are prepared.
-use Rattle.std.proofs.Common.{◌≡◌, ℕ, false, cond, List, [], append-nil, Option, None, Result, Ok, Err, IsTrue, IfOk, IfErr, OnOk, OnErr, refl, sym, ap, ◌∙◌, subst, inl, inr, arith}
+use Rattle.std.proofs.Common.{◌≡◌, ℕ, false, cond, List, [], append-nil, Option, None, Result, Ok, Err, IsTrue, IfOk, IfErr, IsErrAnd, OnOk, OnErr, refl, sym, ap, ◌∙◌, subst, inl, inr, arith}
 use Rattle.sqlite_value.specs.Order.{Row}
 use Rattle.sqlite_trees.specs.Tree.{Trees}
 use Rattle.sqlite_resolve.specs.declared.compiled.Compiled.{Compiled}
@@ -13,7 +13,7 @@ use Rattle.sqlite.specs.Given.{IsPlain}
 use Rattle.sqlite.specs.Listing.{understood, reads_listing}
 use Rattle.sqlite.specs.declared.error.Error.{Error}
 use Rattle.sqlite.specs.Clock.{timed}
-use Rattle.sqlite.specs.State.{State, HasCleanDisk, IsUnchanged, Shown, ShowsRows, FailsToQuery, Survives, CommitsShowing, CommitsBy, Executes, ExecutesIn, Runs, Writes, is_pragma, shows_rows, text_of}
+use Rattle.sqlite.specs.State.{State, HasCleanDisk, IsNotRun, IsUnchanged, Shown, ShowsRows, FailsToQuery, Survives, CommitsShowing, CommitsBy, Executes, ExecutesIn, Runs, Writes, is_pragma, shows_rows, text_of}
 use Rattle.sqlite.proofs.StateLemmas.{survives_then}
 use Rattle.sqlite.proofs.Callers.{command_of, reads_as, never_commits}
 use Rattle.provider_store.specs.Connections.{IsLaid, Keeps, IsQuery, IsEdit, IsEditText, Answers, Ran, MayLeave, plain_mode}
@@ -27,7 +27,7 @@ laid_mid old mid same laid = laid_still old mid (unchanged_keeps old mid same) s
 
 -- ---- queries
 
-query_at : (s : State) (sql : List ℕ) → IsQuery sql → IsLaid s → IsPlain (understood s.now.schema sql) × (reads_listing s.now.schema sql ≡ false)
+pub query_at : (s : State) (sql : List ℕ) → IsQuery sql → IsLaid s → IsPlain (understood s.now.schema sql) × (reads_listing s.now.schema sql ≡ false)
 query_at s sql query laid =
     subst (λ (schema : Schema). IsPlain (understood schema sql) × (reads_listing schema sql ≡ false)) (sym laid.schema) (query laid.format_checks laid.resource_checks laid.order)
 
@@ -49,6 +49,10 @@ ask_quiet old mid new sql text params query laid same first second =
     let plain = (query_at mid sql query (laid_mid old mid stays.1 (laid first_early stays.1.0.was_open))).0 in
     never_commits sql params mid db plain (subst (λ t. CommitsShowing t params mid db) stays.0 commits))
     first second
+
+pub not_run_fails : (old new : State) (sql : List ℕ) (params : Row) (e : Error) → IsNotRun old new sql params e → FailsToQuery sql params old new e
+unfolding FailsToQuery
+not_run_fails old new sql params e it = inl it
 
 -- the rows of a query are those of its answer
 shown_unchanged : (mid new : State) (sql : List ℕ) (params : Row) (rows : List Row) → IsPlain (understood mid.now.schema sql) → Shown sql params mid new rows → IsUnchanged mid new
@@ -76,6 +80,11 @@ module _ {X : Type 0} (items : X → List Row) (old mid new : State) (sql text :
   pub ask_keeps : (r : Result X Error) → IfOk r (λ x. Shown text params mid new (items x)) → IfErr r (FailsToQuery text params mid new) → Keeps old new
   ask_keeps (Ok x) shown fails = keeps_then old mid new (unchanged_keeps old mid prepared.1) (unchanged_keeps mid new (shown_unchanged mid new sql params (items x) plain_now (subst (λ t. Shown t params mid new (items x)) prepared.0 shown)))
   ask_keeps (Err e) shown fails = keeps_then old mid new (unchanged_keeps old mid prepared.1) (query_keeps mid new text params e fails)
+
+-- an error that is handed on
+pub handed_error : {X : Type 0} (P : Error → Type 0) (r : Result X Error) (error : Error) → IsErrAnd r (λ given. given ≡ error) → P error → IfErr r P
+handed_error P (Ok x) error is it = tt
+handed_error P (Err given) error is it = subst P (sym is) it
 
 pub on_err : {X E P : Type 0} (r : Result X E) → P → OnErr r P
 on_err (Ok x) p = tt

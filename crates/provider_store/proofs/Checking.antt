@@ -24,8 +24,9 @@ use Rattle.scim_key.specs.declared.records.RecordName.{RecordName}
 use Rattle.provider_store.specs.Format.{marked_text, outside_text, no_schema}
 use Rattle.provider_store.specs.Rows.{shown_row, IsRowOf, number_at, Holds}
 use Rattle.provider_store.specs.Connections.{IsLaid, Answers, FindsName, resources}
+use Rattle.provider_store.specs.Faults.{FailsFor}
 use Rattle.provider_store.specs.Lawful.{IsLawfulAt, is_outside, IsOutside, AreWithin}
-use Rattle.provider_store.specs.Opening.{IsFormat, IsMarked, IsFor, IsAlone, HoldsFirst, IsProvider, Looks, LeavesStore, IsNewer, IsNotLaid, IsSpoilt, IsDamaged, IsCause, open_fault}
+use Rattle.provider_store.specs.Opening.{IsFormat, IsMarked, IsFor, IsAlone, HoldsFirst, IsProvider, Looks, LeavesStore, IsNewer, IsNotLaid, IsSpoilt, IsDamaged, IsCause, IsOfRows, OpenFailsFor, open_fault}
 use Rattle.provider_store.specs.declared.opening.OpenFault.{OpenFault}
 use Rattle.provider_store.specs.declared.opening.OpenFault.TheVariants.{Store, Damaged, Newer, Memory}
 use Rattle.provider_store.specs.declared.tables.Found.TheVariants.{There}
@@ -84,6 +85,40 @@ told_any p Memory = tt
 pub no_cause : (P : Type 0) (D : ℕ → Type 0) (fault : RegistryFault) → IsFor P D (open_fault fault)
 no_cause P D registry.Store = tt
 no_cause P D registry.Memory = tt
+
+-- ---- a store that fails
+
+pub opens_by : (P Q : Type 0) → (P → Q) → (fault : OpenFault) → OpenFailsFor P fault → OpenFailsFor Q fault
+opens_by P Q h Store it = h it
+opens_by P Q h (Damaged n) it = tt
+opens_by P Q h Newer it = tt
+opens_by P Q h Memory it = tt
+
+pub opens_so : (P : Type 0) → P → (fault : OpenFault) → OpenFailsFor P fault
+opens_so P it Store = it
+opens_so P it (Damaged n) = tt
+opens_so P it Newer = tt
+opens_so P it Memory = tt
+
+-- a fault of a look-up fails as it failed there
+pub told_fails : (P : Type 0) (fault : RegistryFault) → FailsFor P fault → OpenFailsFor P (open_fault fault)
+told_fails P registry.Store it = it
+told_fails P registry.Memory it = tt
+
+-- what was read of rows is no fault of the store
+pub rows_fail : (P : Type 0) (fault : OpenFault) → IsOfRows fault → OpenFailsFor P fault
+rows_fail P Store it = absurd it
+rows_fail P (Damaged n) it = tt
+rows_fail P Newer it = tt
+rows_fail P Memory it = tt
+
+pub opens_of : {T : Type 0} (P Q : Type 0) → (P → Q) → (r : Result T OpenFault) (fault : OpenFault) → IsErrAnd r (λ given. given ≡ fault) → OpenFailsFor P fault → IfErr r (OpenFailsFor Q)
+opens_of P Q h (Ok x) fault is it = tt
+opens_of P Q h (Err given) fault is it = subst (OpenFailsFor Q) (sym is) (opens_by P Q h fault it)
+
+pub fails_of : {T : Type 0} (P : Type 0) (r : Result T OpenFault) (fault : RegistryFault) → IsErrAnd r (λ given. given ≡ open_fault fault) → FailsFor P fault → IfErr r (OpenFailsFor P)
+fails_of P (Ok x) fault is it = tt
+fails_of P (Err given) fault is it = subst (OpenFailsFor P) (sym is) (told_fails P fault it)
 
 -- ---- looking
 

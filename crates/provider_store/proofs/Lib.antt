@@ -10,6 +10,8 @@ pub mod Making
 pub mod Fields
 pub mod Leaving
 pub mod Asking
+pub mod Failing
+pub mod Giving
 pub mod Finding
 pub mod Written
 pub mod Reading

@@ -1,12 +1,13 @@
 -- What the statements require of a connection, and what they leave of it.
-use Rattle.std.specs.Prelude.{◌≡◌, ◌≢◌, ℕ, pos, false, List, [], ◌∷◌, Option, None, Ok, IsTrue, filter}
+use Rattle.std.specs.Prelude.{◌≡◌, ◌≢◌, ◌≤◌, ℕ, pos, false, List, [], ◌∷◌, Option, None, Ok, IsSome, IsTrue, filter, length}
 use Rattle.sqlite_value.specs.declared.keys.Order.{Order}
 use Rattle.sqlite_value.specs.Order.{Row}
 use Rattle.sqlite_trees.specs.Tree.{has_rowid, put_row, without_rowid}
 use Rattle.sqlite_sql.specs.Term.{Term}
 use Rattle.sqlite_rules.specs.Lists.{Has}
 use Rattle.sqlite_resolve.specs.declared.compiled.Compiled.{Compiled}
-use Rattle.sqlite.specs.Effect.{Reads}
+use Rattle.sqlite.specs.Effect.{Reads, RefusesToRead}
+use Rattle.sqlite.specs.declared.error.Error.{Error}
 use Rattle.sqlite.specs.Given.{IsPlain}
 use Rattle.sqlite.specs.Listing.{understood, reads_listing}
 use Rattle.sqlite.specs.State.{State}
@@ -57,6 +58,21 @@ pub record Keeps (old new : State) : Type 0 where
 abbrev pub IsQuery : List ℕ → Type 0
 IsQuery sql = (format_checks resource_checks : List Term) (order : Order)
     → IsPlain (understood (provider_schema format_checks resource_checks order) sql) × (reads_listing (provider_schema format_checks resource_checks order) sql ≡ false)
+
+-- the text is one statement over the tables, and has this many parameters
+abbrev pub IsWhole : List ℕ → ℕ → Type 0
+IsWhole sql count = (format_checks resource_checks : List Term) (order : Order)
+    → (c : Compiled) × (understood (provider_schema format_checks resource_checks order) sql ≡ Ok c) × (length sql ≤ c.tail) × (count ≡ length c.names)
+
+-- with these values the query is refused only over a limit on steps, whatever rows the tables have
+abbrev pub IsAnswered : List ℕ → Row → Type 0
+IsAnswered sql params = (format_checks resource_checks : List Term) (order : Order) (c : Compiled) (limit : Option ℕ) (trees : Trees) (error : Error)
+    → understood (provider_schema format_checks resource_checks order) sql ≡ Ok c
+    → RefusesToRead limit c.command (record { schema = provider_schema format_checks resource_checks order; trees = trees }) params error → IsSome limit
+
+-- the query is whole with these values, and they aren't refused
+abbrev pub IsGiven : List ℕ → Row → Type 0
+IsGiven sql params = IsWhole sql (length params) × IsAnswered sql params
 
 -- the rows are the result of the query
 abbrev pub Answers : List ℕ → Row → State → List Row → Type 0

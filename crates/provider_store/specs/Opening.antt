@@ -14,6 +14,7 @@ use Rattle.scim_resource.specs.Rows.{StoredRecord}
 use Rattle.provider_core.specs.Rows.{IsNumberedFrom, AreNamedApart}
 use Rattle.provider_store.specs.Format.{provider_schema, no_schema, format_tree, resource_tree, resource_columns, name_places, format_number}
 use Rattle.provider_store.specs.Rows.{shown_row, IsRowOf, Holds}
+use Rattle.provider_store.specs.Faults.{HasFailed}
 use Rattle.provider_store.specs.Lawful.{AreAllLawful, IsUnlawfulAt}
 use Rattle.provider_store.specs.Connections.{IsLaid, Keeps, IsNamed, resources}
 use Rattle.provider_store.specs.declared.opening.OpenFault.{OpenFault}
@@ -76,6 +77,11 @@ open_fault registry.Memory = Memory
 abbrev pub registry_fault : OpenFault → RegistryFault
 registry_fault Memory = registry.Memory
 registry_fault fault = registry.Store
+
+-- a fault that says that the store failed has this cause
+abbrev pub OpenFailsFor : (failure : Type 0) → OpenFault → Type 0
+OpenFailsFor failure Store = failure
+OpenFailsFor failure fault = Unit {0}
 
 -- the rows that were read are of another format, or damaged
 abbrev pub IsOfRows : OpenFault → Type 0
@@ -159,6 +165,11 @@ IsNewer s = (number : ℕ) × (format_number < number) × IsFormat s number
 -- why an opening refuses a store
 abbrev pub IsCause : State → OpenFault → Type 0
 IsCause s = IsFor (IsNewer s) (IsDamaged s)
+
+-- why an opening says that the store failed: a transaction was open, the tables weren't there and couldn't be made, or a
+-- statement that checks them failed
+abbrev pub OpeningFails : (old new : State) → Type 0
+OpeningFails old new = IsTrue old.in_transaction ⊎ ((old.now.schema ≡ no_schema) ⊎ HasFailed old new)
 
 -- a stop leaves no row
 abbrev pub LeavesNone : Trees → Type 0

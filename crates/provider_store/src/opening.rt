@@ -7,11 +7,12 @@ ghost use Rattle.sqlite.specs.Held.{state};
 ghost use Rattle.sqlite.specs.State.{HasCleanDisk, Survives};
 ghost use Rattle.scim_resource.specs.Contents.{content_name};
 ghost use Rattle.scim_resource.specs.Rows.{StoredRecord};
+ghost use Rattle.provider_store.specs.Faults.{HasFailed};
 ghost use Rattle.provider_store.specs.Format.{format_number};
 ghost use Rattle.provider_store.specs.Connections.{IsLaid, resources};
 ghost use Rattle.provider_store.specs.Lawful.{AreLawfulTo, AreWithin, EndsAt, IsFirstWrong, IsLawfulAt, IsOutside, IsWrong, NoneNamed, has_name};
 ghost use Rattle.provider_store.specs.Rows.{number_at};
-ghost use Rattle.provider_store.specs.Opening.{HoldsFirst, IsAlone, IsBlank, IsCause, IsDamaged, IsFormat, IsFor, IsMarked, IsNewer, IsNotLaid, IsOfRows, IsSpoilt, IsStore, IsUnmarked, LeavesNone, LeavesStore, Looks, Stands};
+ghost use Rattle.provider_store.specs.Opening.{HoldsFirst, IsAlone, IsBlank, IsCause, IsDamaged, IsFormat, IsFor, IsMarked, IsNewer, IsNotLaid, IsOfRows, IsSpoilt, IsStore, IsUnmarked, LeavesNone, LeavesStore, Looks, OpenFailsFor, OpeningFails, Stands};
 
 use crate::format::{FORMAT, is_blank, is_provider};
 use crate::tables::{Found, ask, fault_of, find_named, find_numbered, number_at};
@@ -108,6 +109,7 @@ fn check_format<S: Alter>(conn: &mut Connection<S>) -> Result<(), OpenFault>
     ensures cause { HasCleanDisk (state S.Store conn.new) → IfErr result (IsFor (IsNewer (state S.Store conn.old)) (λ told. (told ≡ 0) × IsUnmarked (state S.Store conn.old))) }
     ensures told { HasCleanDisk (state S.Store conn.new) → IfErr result (IsFor (IsTrue (state S.Store conn.new).is_open) (λ _. IsTrue (state S.Store conn.new).is_open)) }
     ensures open { HasCleanDisk (state S.Store conn.new) → OnOk result (IsTrue (state S.Store conn.new).is_open) }
+    ensures failed { HasCleanDisk (state S.Store conn.new) → IfErr result (OpenFailsFor (HasFailed (state S.Store conn.old) (state S.Store conn.new))) }
     ensures looks { Looks (state S.Store conn.old) (state S.Store conn.new) }
 {
     match ask(conn, "SELECT number FROM provider_format", &[]) {
@@ -145,6 +147,7 @@ fn check_row<S: Alter>(
     ensures absent { HasCleanDisk (state S.Store conn.new) → IfOk result (λ is. is ≡ false → filter (has_rowid (pos number)) (resources (state S.Store conn.old)) ≡ []) }
     ensures cause { HasCleanDisk (state S.Store conn.new) → IfErr result (IsFor ⊥ (λ told. IsTrue (state S.Store conn.new).is_open × (told ≡ number) × IsWrong (resources (state S.Store conn.old)) number)) }
     ensures open { HasCleanDisk (state S.Store conn.new) → OnOk result (IsTrue (state S.Store conn.new).is_open) }
+    ensures failed { HasCleanDisk (state S.Store conn.new) → IfErr result (OpenFailsFor (HasFailed (state S.Store conn.old) (state S.Store conn.new))) }
     ensures looks { Looks (state S.Store conn.old) (state S.Store conn.new) }
 {
     match find_numbered(alloc, conn, number)? {
@@ -168,6 +171,7 @@ fn check_name<S: Alter>(
     ensures named { HasCleanDisk (state S.Store conn.new) → OnOk result ((r : _) × (filter (has_name (content_name row.now.content)) (resources (state S.Store conn.old)) ≡ r ∷ [])) }
     ensures cause { HasCleanDisk (state S.Store conn.new) → IfErr result (IsFor ⊥ (λ told. IsTrue (state S.Store conn.new).is_open × (told ≡ row.now.number) × NoneNamed (resources (state S.Store conn.old)) (content_name row.now.content))) }
     ensures open { HasCleanDisk (state S.Store conn.new) → OnOk result (IsTrue (state S.Store conn.new).is_open) }
+    ensures failed { HasCleanDisk (state S.Store conn.new) → IfErr result (OpenFailsFor (HasFailed (state S.Store conn.old) (state S.Store conn.new))) }
     ensures looks { Looks (state S.Store conn.old) (state S.Store conn.new) }
 {
     let name = row.content().name(alloc)?;
@@ -184,6 +188,7 @@ fn check_rows<S: Alter>(alloc: Global, conn: &mut Connection<S>) -> Result<u32, 
     ensures lawful { HasCleanDisk (state S.Store conn.new) → IfOk result (AreLawfulTo (resources (state S.Store conn.old))) }
     ensures ends { HasCleanDisk (state S.Store conn.new) → IfOk result (EndsAt (resources (state S.Store conn.old))) }
     ensures cause { HasCleanDisk (state S.Store conn.new) → IfErr result (IsFor ⊥ (λ told. IsTrue (state S.Store conn.new).is_open × IsFirstWrong (resources (state S.Store conn.old)) told)) }
+    ensures failed { HasCleanDisk (state S.Store conn.new) → IfErr result (OpenFailsFor (HasFailed (state S.Store conn.old) (state S.Store conn.new))) }
     ensures looks { Looks (state S.Store conn.old) (state S.Store conn.new) }
 {
     for count in 0..LAST_NUMBER {
@@ -201,6 +206,7 @@ fn check_rest<S: Alter>(conn: &mut Connection<S>, count: u32) -> Result<(), Open
     ensures within { HasCleanDisk (state S.Store conn.new) → OnOk result (AreWithin (resources (state S.Store conn.old)) count) }
     ensures cause { HasCleanDisk (state S.Store conn.new) → IfErr result (IsFor ⊥ (λ told. IsTrue (state S.Store conn.new).is_open × IsOutside (resources (state S.Store conn.old)) count told)) }
     ensures open { HasCleanDisk (state S.Store conn.new) → OnOk result (IsTrue (state S.Store conn.new).is_open) }
+    ensures failed { HasCleanDisk (state S.Store conn.new) → IfErr result (OpenFailsFor (HasFailed (state S.Store conn.old) (state S.Store conn.new))) }
     ensures looks { Looks (state S.Store conn.old) (state S.Store conn.new) }
 {
     match ask(
@@ -217,6 +223,7 @@ fn check_rest<S: Alter>(conn: &mut Connection<S>, count: u32) -> Result<(), Open
 fn none_in(rows: &[Row]) -> Result<(), OpenFault>
     ensures none { OnOk result (rows.now ≡ []) }
     ensures cause { IfErr result (IsFor ⊥ (λ told. (r : _) × Has rows.now r × (told ≡ number_at (column r 0)))) }
+    ensures read { IfErr result IsOfRows }
 {
     match rows {
         [] => Ok(()),
@@ -232,6 +239,7 @@ fn check_laid<S: Alter>(alloc: Global, conn: &mut Connection<S>) -> Result<u32, 
     ensures store { HasCleanDisk (state S.Store conn.new) → IfOk result (λ count. (rows : List StoredRecord) × IsStore (state S.Store conn.old) rows × (length rows ≡ count)) }
     ensures cause { HasCleanDisk (state S.Store conn.new) → IfErr result (IsFor (IsNewer (state S.Store conn.old)) (IsSpoilt (state S.Store conn.old))) }
     ensures open { HasCleanDisk (state S.Store conn.new) → OnOk result (IsTrue (state S.Store conn.new).is_open) }
+    ensures failed { HasCleanDisk (state S.Store conn.new) → IfErr result (OpenFailsFor (HasFailed (state S.Store conn.old) (state S.Store conn.new))) }
     ensures looks { Looks (state S.Store conn.old) (state S.Store conn.new) }
 {
     check_format(conn)?;
@@ -256,6 +264,7 @@ pub(crate) fn check_tables<S: Alter>(
     ensures store { HasCleanDisk (state S.Store conn.new) → IfOk result (λ count. (rows : List StoredRecord) × IsStore (state S.Store conn.old) rows × (length rows ≡ count)) }
     ensures cause { HasCleanDisk (state S.Store conn.new) → IfErr result (IsFor (IsNewer (state S.Store conn.old)) (λ told. ((told ≡ 0) × IsNotLaid (state S.Store conn.old)) ⊎ IsSpoilt (state S.Store conn.old) told)) }
     ensures open { HasCleanDisk (state S.Store conn.new) → OnOk result (IsTrue (state S.Store conn.new).is_open) }
+    ensures failed { HasCleanDisk (state S.Store conn.new) → IfErr result (OpenFailsFor (HasFailed (state S.Store conn.old) (state S.Store conn.new))) }
     ensures looks { Looks (state S.Store conn.old) (state S.Store conn.new) }
     ensures left { HasCleanDisk (state S.Store conn.new) → LeavesStore (state S.Store conn.old) (state S.Store conn.new) }
 {
@@ -274,6 +283,7 @@ pub(crate) fn open_tables<S: Alter>(
     ensures stands { HasCleanDisk (state S.Store conn.new) → IfOk result (λ count. (rows : List StoredRecord) × Stands (state S.Store conn.old) rows × IsStore (state S.Store conn.new) rows × (length rows ≡ count)) }
     ensures sound { HasCleanDisk (state S.Store conn.new) → OnOk result ((number : ℕ) → IsDamaged (state S.Store conn.old) number → ⊥) }
     ensures cause { HasCleanDisk (state S.Store conn.new) → IfErr result (IsCause (state S.Store conn.old)) }
+    ensures failed { HasCleanDisk (state S.Store conn.new) → IfErr result (OpenFailsFor (OpeningFails (state S.Store conn.old) (state S.Store conn.new))) }
     ensures open { HasCleanDisk (state S.Store conn.new) → OnOk result (IsTrue (state S.Store conn.new).is_open) }
     ensures left { HasCleanDisk (state S.Store conn.new) → OnErr result (LeavesStore (state S.Store conn.old) (state S.Store conn.new)) }
     ensures stop { Survives (state S.Store conn.old) (state S.Store conn.new) LeavesNone }

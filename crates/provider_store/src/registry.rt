@@ -1,13 +1,16 @@
 //! A registry in SQLite.
-ghost use Rattle.std.specs.Prelude.{◌≡◌, ℕ, ◌<◌, ◌≤◌, ◌+◌, ◌-◌, ◌↔◌, ◌++◌, ◌∷◌, [], length, min, None, Ok, IfErr, IfOk, OnOk, IsTrue, slice_get};
+ghost use Rattle.std.specs.Prelude.{◌≡◌, ◌⊎◌, ℕ, ◌<◌, ◌≤◌, ◌+◌, ◌-◌, ◌↔◌, ◌++◌, ◌∷◌, [], length, min, None, Ok, IfErr, IfOk, OnOk, IsTrue, slice_get};
 ghost use Rattle.std.specs.Result.{is_ok};
 ghost use Rattle.scim_resource.specs.Contents.{content_name};
 ghost use Rattle.provider_core.specs.Rows.{AreNamedApart, IsNumberedFrom, page_after, row_named, row_with_id, with_row};
 ghost use Rattle.provider_core.specs.Stores.{CountsFault, CountsFaults, HasRisen, HoldsNumber, OnlyReads, Reopens, WritesOnce};
 ghost use Rattle.provider_core.specs.declared.registry.RegistryFault.TheVariants.{Store};
 ghost use Rattle.provider_store.specs.Kept.{IsFaithful, IsHonest, IsRefused, MayHold, kept_rows};
-ghost use Rattle.provider_store.specs.Lookups.{found_of, look_up_fault};
-ghost use Rattle.provider_store.specs.Opening.{IsCause, IsDamaged, LeavesNone, LeavesStore, Stands, registry_fault};
+ghost use Rattle.provider_store.specs.Connections.{FindsName, FindsNumber, resources};
+ghost use Rattle.provider_store.specs.Faults.{FailsFor, HasFailed};
+ghost use Rattle.provider_store.specs.declared.tables.Found.TheVariants.{Damaged};
+ghost use Rattle.provider_store.specs.Lookups.{IsFaultOf, found_of};
+ghost use Rattle.provider_store.specs.Opening.{IsCause, IsDamaged, LeavesNone, LeavesStore, OpenFailsFor, OpeningFails, Stands, registry_fault};
 ghost use Rattle.sqlite.specs.Held.{state};
 ghost use Rattle.sqlite.specs.State.{HasCleanDisk, Survives};
 
@@ -77,7 +80,7 @@ fn one_of(
     found: Result<Found, RegistryFault>,
 ) -> Result<Option<Stored>, RegistryFault>
     ensures found { IfOk result (λ row. found ≡ Ok (found_of row)) }
-    ensures fault { IfErr result (λ fault. fault ≡ look_up_fault found) }
+    ensures fault { IfErr result (IsFaultOf found) }
     ensures counts { CountsFaults CountsFault faults.old faults.new result }
 {
     match found {
@@ -101,6 +104,7 @@ impl<S: Alter> SqlRegistry<S> {
         ensures stop { IfOk result (λ r. Survives (state S.Store conn) (state S.Store r.conn) LeavesNone) }
         ensures sound { IfOk result (λ r. IsHonest S.Store r → (number : ℕ) → IsDamaged (state S.Store conn) number → ⊥) }
         ensures cause { IfErr result (λ e. HasCleanDisk (state S.Store e.1) → IsCause (state S.Store conn) e.0) }
+        ensures failed { IfErr result (λ e. HasCleanDisk (state S.Store e.1) → OpenFailsFor (OpeningFails (state S.Store conn) (state S.Store e.1)) e.0) }
         ensures left { IfErr result (λ e. HasCleanDisk (state S.Store e.1) → LeavesStore (state S.Store conn) (state S.Store e.1)) }
         ensures refused { IfErr result (λ e. Survives (state S.Store conn) (state S.Store e.1) LeavesNone) }
     {
@@ -146,6 +150,7 @@ impl<S: Alter> SqlRegistry<S> {
         ensures reads { OnlyReads (kept_rows S.Store) (IsFaithful S.Store) (IsHonest S.Store) (MayHold S.Store) (λ k. k.faults) (λ k. k.writes) CountsFault self.old self.new result }
         ensures shut { IsRefused self.old result }
         ensures counted { self.new.count ≡ self.old.count }
+        ensures failed { IsTrue self.old.is_usable → IsHonest S.Store self.new → IfErr result (FailsFor (HasFailed (state S.Store self.old.conn) (state S.Store self.new.conn) ⊎ FindsNumber (resources (state S.Store self.old.conn)) number Damaged)) }
     {
         if !self.is_usable {
             return Err(refusal(&mut self.faults));
@@ -159,6 +164,7 @@ impl<S: Alter> SqlRegistry<S> {
         ensures ok { IsFaithful S.Store self.new → IfOk result (λ row. row ≡ row_named name.now (kept_rows S.Store self.old)) }
         ensures reads { OnlyReads (kept_rows S.Store) (IsFaithful S.Store) (IsHonest S.Store) (MayHold S.Store) (λ k. k.faults) (λ k. k.writes) CountsFault self.old self.new result }
         ensures shut { IsRefused self.old result }
+        ensures failed { IsTrue self.old.is_usable → IsHonest S.Store self.new → IfErr result (FailsFor (HasFailed (state S.Store self.old.conn) (state S.Store self.new.conn) ⊎ FindsName (resources (state S.Store self.old.conn)) name.now Damaged)) }
     {
         if !self.is_usable {
             return Err(refusal(&mut self.faults));
@@ -195,6 +201,7 @@ impl<S: Alter> Registry for SqlRegistry<S> {
         ensures ok { IsFaithful S.Store self.new → IfOk result (λ n. n ≡ length (kept_rows S.Store self.old)) }
         ensures reads { OnlyReads (kept_rows S.Store) (IsFaithful S.Store) (IsHonest S.Store) (MayHold S.Store) (λ k. k.faults) (λ k. k.writes) CountsFault self.old self.new result }
         ensures shut { IsRefused self.old result }
+        ensures failed { IsTrue self.old.is_usable → IsHonest S.Store self.new → IfErr result (FailsFor (HasFailed (state S.Store self.old.conn) (state S.Store self.new.conn) ⊎ FindsNumber (resources (state S.Store self.old.conn)) 1 Damaged)) }
     {
         self.row_at(1)?;
         Ok(self.count)
@@ -205,6 +212,7 @@ impl<S: Alter> Registry for SqlRegistry<S> {
         ensures apart { IsFaithful S.Store self.new → AreNamedApart (kept_rows S.Store self.old) }
         ensures reads { OnlyReads (kept_rows S.Store) (IsFaithful S.Store) (IsHonest S.Store) (MayHold S.Store) (λ k. k.faults) (λ k. k.writes) CountsFault self.old self.new result }
         ensures shut { IsRefused self.old result }
+        ensures failed { IsTrue self.old.is_usable → IsHonest S.Store self.new → IfErr result (FailsFor (HasFailed (state S.Store self.old.conn) (state S.Store self.new.conn) ⊎ FindsName (resources (state S.Store self.old.conn)) name.now Damaged)) }
     {
         self.row_of(name)
     }
@@ -213,6 +221,7 @@ impl<S: Alter> Registry for SqlRegistry<S> {
         ensures ok { IsFaithful S.Store self.new → IfOk result (λ row. row ≡ row_with_id id.now (kept_rows S.Store self.old)) }
         ensures reads { OnlyReads (kept_rows S.Store) (IsFaithful S.Store) (IsHonest S.Store) (MayHold S.Store) (λ k. k.faults) (λ k. k.writes) CountsFault self.old self.new result }
         ensures shut { IsRefused self.old result }
+        ensures failed { IsTrue self.old.is_usable → IsHonest S.Store self.new → IfErr result (FailsFor (HasFailed (state S.Store self.old.conn) (state S.Store self.new.conn) ⊎ ((number : ℕ) × FindsNumber (resources (state S.Store self.old.conn)) number Damaged))) }
     {
         match id.number() {
             Some(number) => self.row_at(number),

@@ -1,5 +1,5 @@
 //! The tables, and the statements on them.
-ghost use Rattle.std.specs.Prelude.{◌≡◌, ℕ, pos, false, List, Ok, IfNone, IfOk, IfSome, OnOk, OnErr, IsTrue};
+ghost use Rattle.std.specs.Prelude.{◌≡◌, ℕ, pos, false, List, Ok, IfErr, IfNone, IfOk, IfSome, OnOk, OnErr, IsTrue};
 ghost use Rattle.sqlite_value.specs.declared.value.Value.TheVariants.{Int, Text};
 ghost use Rattle.sqlite_value.specs.Order.{column};
 ghost use Rattle.sqlite.specs.Held.{state};
@@ -8,9 +8,9 @@ ghost use Rattle.sqlite.specs.Values.{bound};
 ghost use Rattle.scim_resource.specs.Contents.{content_kind, content_name};
 ghost use Rattle.scim_resource.specs.Reading.{content_in};
 ghost use Rattle.scim_resource.specs.Rows.{IsStored, StoredRecord};
-ghost use Rattle.provider_store.specs.Faults.{statement_fault};
+ghost use Rattle.provider_store.specs.Faults.{FailsFor, HasFailed, statement_fault};
 ghost use Rattle.provider_store.specs.Rows.{IsRowOf, kind_code};
-ghost use Rattle.provider_store.specs.Connections.{Answers, FindsName, FindsNumber, IsEditText, IsLaid, IsOnly, IsQuery, IsThere, Keeps, Leaves, Makes, MayLeave, Ran, added, content_text, renewed, resources};
+ghost use Rattle.provider_store.specs.Connections.{Answers, FindsName, FindsNumber, IsEditText, IsGiven, IsLaid, IsOnly, IsQuery, IsThere, Keeps, Leaves, Makes, MayLeave, Ran, added, content_text, renewed, resources};
 
 use provider_core::RegistryFault;
 use scim_key::{Kind, LAST_NUMBER, RecordName};
@@ -47,8 +47,10 @@ pub(crate) fn ask<S: Alter>(
     params: &[ValueRef<'_>],
 ) -> Result<Vec<Row>, Error>
     requires query { IsQuery sql.now }
+    requires given { IsGiven sql.now (bound params.now) }
     requires laid { HasCleanDisk (state S.Store conn.old) → IsTrue (state S.Store conn.old).is_open → IsLaid (state S.Store conn.old) }
     ensures rows { HasCleanDisk (state S.Store conn.new) → IfOk result (λ rows. Answers sql.now (bound params.now) (state S.Store conn.old) rows.items) }
+    ensures failed { HasCleanDisk (state S.Store conn.new) → IfErr result (λ e. FailsFor (HasFailed (state S.Store conn.old) (state S.Store conn.new)) (statement_fault e)) }
     ensures keeps { HasCleanDisk (state S.Store conn.new) → Keeps (state S.Store conn.old) (state S.Store conn.new) }
     ensures open { HasCleanDisk (state S.Store conn.new) → OnOk result (IsTrue (state S.Store conn.new).is_open) }
     ensures quiet { Survives (state S.Store conn.old) (state S.Store conn.new) (λ _. ⊥) }
@@ -201,6 +203,7 @@ pub(crate) fn find_numbered<S: Alter>(
 ) -> Result<Found, RegistryFault>
     requires laid { HasCleanDisk (state S.Store conn.old) → IsTrue (state S.Store conn.old).is_open → IsLaid (state S.Store conn.old) }
     ensures found { HasCleanDisk (state S.Store conn.new) → IfOk result (FindsNumber (resources (state S.Store conn.old)) number) }
+    ensures failed { HasCleanDisk (state S.Store conn.new) → IfErr result (FailsFor (HasFailed (state S.Store conn.old) (state S.Store conn.new))) }
     ensures keeps { HasCleanDisk (state S.Store conn.new) → Keeps (state S.Store conn.old) (state S.Store conn.new) }
     ensures open { HasCleanDisk (state S.Store conn.new) → OnOk result (IsTrue (state S.Store conn.new).is_open) }
     ensures quiet { Survives (state S.Store conn.old) (state S.Store conn.new) (λ _. ⊥) }
@@ -223,6 +226,7 @@ pub(crate) fn find_named<S: Alter>(
 ) -> Result<Found, RegistryFault>
     requires laid { HasCleanDisk (state S.Store conn.old) → IsTrue (state S.Store conn.old).is_open → IsLaid (state S.Store conn.old) }
     ensures found { HasCleanDisk (state S.Store conn.new) → IfOk result (FindsName (resources (state S.Store conn.old)) name.now) }
+    ensures failed { HasCleanDisk (state S.Store conn.new) → IfErr result (FailsFor (HasFailed (state S.Store conn.old) (state S.Store conn.new))) }
     ensures keeps { HasCleanDisk (state S.Store conn.new) → Keeps (state S.Store conn.old) (state S.Store conn.new) }
     ensures open { HasCleanDisk (state S.Store conn.new) → OnOk result (IsTrue (state S.Store conn.new).is_open) }
     ensures quiet { Survives (state S.Store conn.old) (state S.Store conn.new) (λ _. ⊥) }

@@ -1,11 +1,13 @@
-use Rattle.std.proofs.Common.{IsTrue, List, subst, sym}
+use Rattle.std.proofs.Common.{IsTrue, List, arith, subst, sym}
 use Rattle.sqlite.specs.Effect.{Database}
 use Rattle.sqlite.specs.Held.{state}
+use Rattle.sqlite.specs.State.{HasCleanDisk}
 use Rattle.scim_key.specs.declared.records.Kind.TheVariants.{User, Group}
 use Rattle.journal_core.specs.declared.entries.Entry.{Entry}
 use Rattle.journal_store.specs.Connections.{ListsAll, ListsNone}
 use Rattle.journal_store.specs.Opening.{AreInOrder, AreLawful, HoldsEntries, Looks, keys_of}
-use Rattle.journal_store.proofs.Checking.{damage_on, entries_both, lists_refused, mid_same, on_ok, told_of}
+use Rattle.journal_store.proofs.Checking.{damage_on, entries_both, failed_after, fails_of, if_err, lists_refused, mid_same, on_ok, opens_by, told_of}
+use Rattle.journal_store.specs.Faults.{HasFailed}
 use Rattle.journal_store.proofs.opening.check_entries.Goals as goal
 
 pub returns-clause-holds : goal.returns-clause-holds
@@ -63,3 +65,25 @@ returns-clause-cause g c clean =
           (subst (λ (l : List Entry). AreInOrder (keys_of l) → AreLawful l groups → ⊥) c.as_slice.ensures.value (subst (λ (l : List Entry). AreInOrder (keys_of c.as_slice.result.now) → AreLawful c.as_slice.result.now l → ⊥) c.as_slice-2.ensures.value unlawful)),
     ))
     c.check_lists.result c.check_lists.ensures.cause
+
+pub returns-in_err-users-clause-failed : goal.returns-in_err-users-clause-failed
+returns-in_err-users-clause-failed g c clean =
+    let failure = HasFailed (state g.S.Store c.args.conn.now) (state g.S.Store c.list_entries.new.conn) in
+    fails_of failure failure (λ it. it) c.from_residual.result c.in_err-users.field-0.0 c.from_residual.ensures.1 (c.in_err-users.ensures.failed clean)
+
+pub returns-in_err-groups-clause-failed : goal.returns-in_err-groups-clause-failed
+returns-in_err-groups-clause-failed g c clean =
+    let old = state g.S.Store c.args.conn.now in
+    let mid = state g.S.Store c.list_entries.new.conn in
+    let new = state g.S.Store c.list_entries-2.new.conn in
+    let first = c.in_ok-users.ensures in
+    let second = c.in_err-groups.ensures in
+    let to_mid : Looks old mid = record { keeps = first.keeps; quiet = first.quiet } in
+    let mid_clean : HasCleanDisk mid = omega (arith, clean, second.quiet.clean) in
+    fails_of (HasFailed mid new) (HasFailed old new) (failed_after old mid new to_mid mid_clean second.quiet.counts)
+    c.from_residual-in_err-groups.result c.in_err-groups.field-0.0 c.from_residual-in_err-groups.ensures.1 (second.failed clean)
+
+pub returns-clause-failed : goal.returns-clause-failed
+returns-clause-failed g c clean =
+    let failure = HasFailed (state g.S.Store c.args.conn.now) (state g.S.Store c.list_entries-2.new.conn) in
+    if_err c.check_lists.result (opens_by ⊥ failure (λ none. absurd none)) c.check_lists.ensures.failed

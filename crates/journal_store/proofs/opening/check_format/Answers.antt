@@ -1,10 +1,13 @@
-use Rattle.std.proofs.Common.{arith}
+use Rattle.std.proofs.Common.{arith, subst, sym}
 use Rattle.sqlite.specs.Held.{state}
 use Rattle.sqlite.specs.State.{HasCleanDisk}
 use Rattle.journal_store.specs.Format.{format_number}
 use Rattle.journal_store.specs.Opening.{IsNewer, IsUnmarked}
 use Rattle.journal_store.proofs.Texts.{marked_query}
-use Rattle.journal_store.proofs.Checking.{on_ok, if_err, is_for, no_damage, marked_found, found_marked}
+use Rattle.journal_store.proofs.Checking.{on_ok, if_err, is_for, no_damage, marked_found, found_marked, rows_fail, told_fails}
+use Rattle.journal_store.specs.Faults.{HasFailed, statement_fault}
+use Rattle.journal_store.specs.Opening.{OpenFailsFor}
+use Rattle.journal_store.proofs.Giving.{marked_given}
 use Rattle.journal_store.proofs.opening.check_format.Goals as goal
 
 pub ask-requires-clause-query : goal.ask-requires-clause-query
@@ -29,3 +32,14 @@ pub returns-in-Err-clause-cause : goal.returns-in-Err-clause-cause
 returns-in-Err-clause-cause g c clean =
     let old = state g.S.Store c.args.conn.now in
     no_damage (IsNewer old) (IsUnmarked old) c.from.result c.from.ensures.1
+
+pub ask-requires-clause-given : goal.ask-requires-clause-given
+ask-requires-clause-given g c = marked_given
+
+pub returns-in-Ok-clause-failed : goal.returns-in-Ok-clause-failed
+returns-in-Ok-clause-failed g c clean = if_err c.format_in.result (rows_fail (HasFailed (state g.S.Store c.args.conn.now) (state g.S.Store c.ask.new.conn))) c.format_in.ensures.read
+
+pub returns-in-Err-clause-failed : goal.returns-in-Err-clause-failed
+returns-in-Err-clause-failed g c clean =
+    let failure = HasFailed (state g.S.Store c.args.conn.now) (state g.S.Store c.ask.new.conn) in
+    subst (OpenFailsFor failure) (sym c.from.ensures.0) (told_fails failure failure (λ it. it) (statement_fault c.in-Err.error) (c.in-Err.ensures.failed clean))

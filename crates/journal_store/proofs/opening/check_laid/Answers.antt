@@ -4,7 +4,8 @@ use Rattle.sqlite.specs.Held.{state}
 use Rattle.sqlite.specs.State.{HasCleanDisk}
 use Rattle.journal_store.specs.Connections.{HasNumbers}
 use Rattle.journal_store.specs.Opening.{HoldsEntries, IsNewer, IsUnmarked, ShowsDamage}
-use Rattle.journal_store.proofs.Checking.{damage_of, damage_on, handed_on, looks_then, mid_same, store_found}
+use Rattle.journal_store.proofs.Checking.{damage_of, damage_on, failed_after, handed_on, if_err, looks_then, mid_same, opens_by, opens_of, store_found}
+use Rattle.journal_store.specs.Faults.{HasFailed}
 use Rattle.journal_store.proofs.opening.check_laid.Goals as goal
 
 pub returns-clause-store : goal.returns-clause-store
@@ -49,3 +50,29 @@ returns-clause-cause g c clean =
     damage_on (IsNewer old) (IsTrue new.is_open × (HoldsEntries numbered.now.trees → ⊥)) (ShowsDamage old)
     (λ it. inr (record { format = format.known early; rows = inr (λ holds. it.1 (subst (λ (d : Database). HoldsEntries d.trees) (sym (same it.0)) holds)) }))
     c.check_entries.result (entries.cause clean)
+
+pub returns-in_err-check_format-clause-failed : goal.returns-in_err-check_format-clause-failed
+returns-in_err-check_format-clause-failed g c clean =
+    let failure = HasFailed (state g.S.Store c.args.conn.now) (state g.S.Store c.check_format.new.conn) in
+    opens_of failure failure (λ it. it) c.from_residual.result c.in_err-check_format.field-0.0 c.from_residual.ensures.1 (c.in_err-check_format.ensures.failed clean)
+
+pub returns-in_err-check_numbers-clause-failed : goal.returns-in_err-check_numbers-clause-failed
+returns-in_err-check_numbers-clause-failed g c clean =
+    let old = state g.S.Store c.args.conn.now in
+    let marked = state g.S.Store c.check_format.new.conn in
+    let new = state g.S.Store c.check_numbers.new.conn in
+    let later = c.in_err-check_numbers.ensures.looks.quiet in
+    let early : HasCleanDisk marked = omega (arith, clean, later.clean) in
+    opens_of (HasFailed marked new) (HasFailed old new) (failed_after old marked new c.in_ok-check_format.ensures.looks early later.counts)
+    c.from_residual-in_err-check_numbers.result c.in_err-check_numbers.field-0.0 c.from_residual-in_err-check_numbers.ensures.1 (c.in_err-check_numbers.ensures.failed clean)
+
+pub returns-clause-failed : goal.returns-clause-failed
+returns-clause-failed g c clean =
+    let old = state g.S.Store c.args.conn.now in
+    let marked = state g.S.Store c.check_format.new.conn in
+    let numbered = state g.S.Store c.check_numbers.new.conn in
+    let new = state g.S.Store c.check_entries.new.conn in
+    let last = c.check_entries.ensures.looks.quiet in
+    let later : HasCleanDisk numbered = omega (arith, clean, last.clean) in
+    let to_numbered = looks_then old marked numbered c.in_ok-check_format.ensures.looks c.in_ok-check_numbers.ensures.looks in
+    if_err c.check_entries.result (opens_by (HasFailed numbered new) (HasFailed old new) (failed_after old numbered new to_numbered later last.counts)) (c.check_entries.ensures.failed clean)

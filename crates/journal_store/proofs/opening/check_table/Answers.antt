@@ -1,12 +1,15 @@
-use Rattle.std.proofs.Common.{[], IsTrue, arith, subst}
+use Rattle.std.proofs.Common.{[], IsTrue, arith, subst, sym}
 use Rattle.sqlite.specs.Held.{state}
 use Rattle.sqlite.specs.State.{HasCleanDisk}
 use Rattle.journal_store.specs.Connections.{Answers, AreNumbered}
 use Rattle.journal_store.specs.Format.{entry_tree}
 use Rattle.journal_store.specs.Opening.{IsUnnumbered}
 use Rattle.journal_store.proofs.Texts.{numbers_query}
-use Rattle.journal_store.proofs.Checking.{damage_on, no_damage, on_ok, numbers_found}
+use Rattle.journal_store.proofs.Checking.{damage_on, if_err, no_damage, on_ok, numbers_found, rows_fail, told_fails}
 use Rattle.journal_store.proofs.Refusing.{unnumbered}
+use Rattle.journal_store.specs.Faults.{HasFailed, statement_fault}
+use Rattle.journal_store.specs.Opening.{OpenFailsFor}
+use Rattle.journal_store.proofs.Giving.{numbers_given}
 use Rattle.journal_store.proofs.opening.check_table.Goals as goal
 
 pub ask-requires-clause-query : goal.ask-requires-clause-query
@@ -33,3 +36,14 @@ pub returns-in-Err-clause-cause : goal.returns-in-Err-clause-cause
 returns-in-Err-clause-cause g c clean =
     let refused = IsTrue (state g.S.Store c.ask.new.conn).is_open × (AreNumbered ((state g.S.Store c.args.conn.now).now.trees (entry_tree c.args.kind)) → ⊥) in
     no_damage ⊥ refused c.from.result c.from.ensures.1
+
+pub ask-requires-clause-given : goal.ask-requires-clause-given
+ask-requires-clause-given g c = rw c.numbers_statement.ensures (numbers_given c.args.kind)
+
+pub returns-in-Ok-clause-failed : goal.returns-in-Ok-clause-failed
+returns-in-Ok-clause-failed g c clean = if_err c.check_rising.result (rows_fail (HasFailed (state g.S.Store c.args.conn.now) (state g.S.Store c.ask.new.conn))) c.check_rising.ensures.read
+
+pub returns-in-Err-clause-failed : goal.returns-in-Err-clause-failed
+returns-in-Err-clause-failed g c clean =
+    let failure = HasFailed (state g.S.Store c.args.conn.now) (state g.S.Store c.ask.new.conn) in
+    subst (OpenFailsFor failure) (sym c.from.ensures.0) (told_fails failure failure (λ it. it) (statement_fault c.in-Err.error) (c.in-Err.ensures.failed clean))

@@ -5,6 +5,9 @@ use Rattle.journal_core.specs.Entries.{EntryMap}
 use Rattle.journal_store.specs.Opening.{IsDamaged, IsNewer, IsStore}
 use Rattle.journal_store.proofs.Checking.{on_both, no_damage, opening_cause}
 use Rattle.journal_store.proofs.Reopening.{store_on}
+use Rattle.journal_store.specs.Faults.{HasFailed}
+use Rattle.journal_store.specs.Opening.{OpeningFails}
+use Rattle.journal_store.proofs.Checking.{if_err, opens_by, opens_so}
 use Rattle.journal_store.proofs.opening.open_tables.Goals as goal
 
 pub returns-then-not-is_blank-clause-stands : goal.returns-then-not-is_blank-clause-stands
@@ -28,3 +31,14 @@ pub returns-in-Err-clause-cause : goal.returns-in-Err-clause-cause
 returns-in-Err-clause-cause g c clean =
     let old = state g.S.Store c.args.conn.now in
     no_damage (IsNewer old) (IsDamaged old) c.from.result c.from.ensures.1
+
+pub returns-then-not-is_blank-clause-failed : goal.returns-then-not-is_blank-clause-failed
+returns-then-not-is_blank-clause-failed g c clean =
+    let old = state g.S.Store c.args.conn.now in
+    let new = state g.S.Store c.check_tables.new.conn in
+    if_err c.check_tables.result (opens_by (HasFailed old new) (OpeningFails old new) (λ it. inr (inr it))) (c.check_tables.ensures.failed clean)
+
+pub returns-in-Err-clause-failed : goal.returns-in-Err-clause-failed
+returns-in-Err-clause-failed g c clean =
+    let blank : IsTrue c.is_blank.result = search (rules, tests) in
+    opens_so (OpeningFails (state g.S.Store c.args.conn.now) (state g.S.Store c.make_tables.new.conn)) (inr (inl (sym c.schema.ensures.value ∙ c.is_blank.ensures.is blank))) c.from.result

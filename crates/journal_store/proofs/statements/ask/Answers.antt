@@ -4,6 +4,7 @@ use Rattle.sqlite.specs.State.{FailsToQuery, HasCleanDisk}
 use Rattle.sqlite.specs.Values.{bound}
 use Rattle.journal_store.proofs.Keeping.{not_run_keeps}
 use Rattle.journal_store.proofs.Asking.{answers, ask_fails, ask_keeps, ask_quiet, handed_error, not_run_fails, stays_open}
+use Rattle.journal_store.proofs.Failing.{failed_by}
 use Rattle.journal_store.proofs.statements.ask.Goals as goal
 
 pub returns-in_err-statement-clause-keeps : goal.returns-in_err-statement-clause-keeps
@@ -41,3 +42,14 @@ returns-clause-fails g c clean =
     let mid_clean : HasCleanDisk (state g.S.Store c.prepare.new.self) = omega (arith, clean, c.query_all.ensures.survives.clean) in
     let first_clean : HasCleanDisk (state g.S.Store c.args.conn.now) = omega (arith, mid_clean, c.prepare.ensures.survives.clean) in
     ask_fails (λ rows. rows.items) _ (state g.S.Store c.prepare.new.self) _ c.args.sql.now _ _ c.requires.query (c.requires.laid first_clean) (c.in_ok-statement.ensures.ok mid_clean) c.query_all.result c.prepare.ensures.survives.counts c.prepare.ensures.survives.limit (c.query_all.ensures.err clean)
+
+pub returns-in_err-statement-clause-failed : goal.returns-in_err-statement-clause-failed
+returns-in_err-statement-clause-failed g c clean =
+    let first_clean : HasCleanDisk (state g.S.Store c.args.conn.now) = omega (arith, clean, c.prepare.ensures.survives.clean) in
+    failed_by c.from_residual.result (state g.S.Store c.args.conn.now) (state g.S.Store c.prepare.new.self) c.args.sql.now (bound c.args.params.now) c.requires.query c.requires.given (c.requires.laid first_clean) (returns-in_err-statement-clause-fails g c clean)
+
+pub returns-clause-failed : goal.returns-clause-failed
+returns-clause-failed g c clean =
+    let mid_clean : HasCleanDisk (state g.S.Store c.prepare.new.self) = omega (arith, clean, c.query_all.ensures.survives.clean) in
+    let first_clean : HasCleanDisk (state g.S.Store c.args.conn.now) = omega (arith, mid_clean, c.prepare.ensures.survives.clean) in
+    failed_by c.query_all.result (state g.S.Store c.args.conn.now) (state g.S.Store c.query_all.new.conn) c.args.sql.now (bound c.args.params.now) c.requires.query c.requires.given (c.requires.laid first_clean) (returns-clause-fails g c clean)

@@ -1,4 +1,4 @@
-use Rattle.std.proofs.Common.{IsTrue, arith}
+use Rattle.std.proofs.Common.{IsTrue, arith, subst, sym}
 use Rattle.sqlite.specs.Held.{state}
 use Rattle.sqlite.specs.State.{HasCleanDisk}
 use Rattle.journal_store.proofs.Texts.{all_query}
@@ -6,6 +6,9 @@ use Rattle.journal_store.specs.Connections.{IsUnshown, ListsNone}
 use Rattle.journal_store.proofs.Checking.{if_err}
 use Rattle.journal_store.proofs.Finding.{listed_by}
 use Rattle.journal_store.proofs.Refusing.{cause_by, unlisted}
+use Rattle.journal_store.specs.Faults.{FailsFor, HasFailed}
+use Rattle.journal_store.proofs.Failing.{row_fails}
+use Rattle.journal_store.proofs.Giving.{all_given}
 use Rattle.journal_store.proofs.tables.list_entries.Goals as goal
 
 pub ask-requires-clause-query : goal.ask-requires-clause-query
@@ -30,3 +33,12 @@ returns-in-Ok-clause-none g c clean =
 pub returns-in-Err-clause-none : goal.returns-in-Err-clause-none
 returns-in-Err-clause-none g c clean =
     cause_by ⊥ (IsTrue (state g.S.Store c.ask.new.conn).is_open × ListsNone c.args.kind (state g.S.Store c.args.conn.now).now.trees) (λ none. absurd none) c.from.result c.from.ensures.1
+
+pub ask-requires-clause-given : goal.ask-requires-clause-given
+ask-requires-clause-given g c = rw c.all_statement.ensures (all_given c.args.kind)
+
+pub returns-in-Ok-clause-failed : goal.returns-in-Ok-clause-failed
+returns-in-Ok-clause-failed g c clean = if_err c.read_all.result (row_fails (HasFailed (state g.S.Store c.args.conn.now) (state g.S.Store c.ask.new.conn))) c.read_all.ensures.read
+
+pub returns-in-Err-clause-failed : goal.returns-in-Err-clause-failed
+returns-in-Err-clause-failed g c clean = subst (FailsFor (HasFailed (state g.S.Store c.args.conn.now) (state g.S.Store c.ask.new.conn))) (sym c.from.ensures.0) (c.in-Err.ensures.failed clean)

@@ -1,9 +1,12 @@
-use Rattle.std.proofs.Common.{arith}
+use Rattle.std.proofs.Common.{arith, subst, sym}
 use Rattle.sqlite.specs.Held.{state}
 use Rattle.sqlite.specs.State.{HasCleanDisk}
 use Rattle.provider_store.specs.Format.{format_number}
 use Rattle.provider_store.proofs.Texts.{marked_query}
-use Rattle.provider_store.proofs.Checking.{on_ok, if_err, is_for, told_any, marked_found, found_marked}
+use Rattle.provider_store.proofs.Checking.{rows_fail, told_fails, on_ok, if_err, is_for, told_any, marked_found, found_marked}
+use Rattle.provider_store.specs.Faults.{HasFailed, statement_fault}
+use Rattle.provider_store.specs.Opening.{OpenFailsFor}
+use Rattle.provider_store.proofs.Giving.{marked_given}
 use Rattle.provider_store.proofs.opening.check_format.Goals as goal
 
 pub ask-requires-clause-query : goal.ask-requires-clause-query
@@ -27,3 +30,14 @@ returns-in-Ok-clause-cause g c clean =
 
 pub returns-in-Ok-clause-told : goal.returns-in-Ok-clause-told
 returns-in-Ok-clause-told g c clean = if_err c.format_in.result (λ fault _. told_any (c.in-Ok.ensures.open clean) fault) c.format_in.ensures.cause
+
+pub ask-requires-clause-given : goal.ask-requires-clause-given
+ask-requires-clause-given g c = marked_given
+
+pub returns-in-Ok-clause-failed : goal.returns-in-Ok-clause-failed
+returns-in-Ok-clause-failed g c clean = if_err c.format_in.result (rows_fail (HasFailed (state g.S.Store c.args.conn.now) (state g.S.Store c.ask.new.conn))) c.format_in.ensures.read
+
+pub returns-in-Err-clause-failed : goal.returns-in-Err-clause-failed
+returns-in-Err-clause-failed g c clean =
+    let failure = HasFailed (state g.S.Store c.args.conn.now) (state g.S.Store c.ask.new.conn) in
+    subst (OpenFailsFor failure) (sym c.from.ensures.0) (told_fails failure (statement_fault c.in-Err.error) (c.in-Err.ensures.failed clean))

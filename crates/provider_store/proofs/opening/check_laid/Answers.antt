@@ -7,6 +7,9 @@ use Rattle.provider_store.specs.Opening.{HoldsFirst, IsNewer, IsSpoilt, IsUnmark
 use Rattle.provider_store.specs.Lawful.{AreAllLawful, AreLawfulTo, AreWithin, EndsAt, IsFirstWrong, IsOutside}
 use Rattle.provider_store.proofs.Refusing.{provider_of, spoilt_by}
 use Rattle.provider_store.proofs.Checking.{both_of, damage_of, laid_on, was_laid, same_rows, first_all}
+use Rattle.provider_store.specs.Faults.{HasFailed}
+use Rattle.provider_store.proofs.Checking.{looks_then, opens_of}
+use Rattle.provider_store.proofs.Failing.{failed_after}
 use Rattle.provider_store.proofs.opening.check_laid.Goals as goal
 
 pub returns-clause-store : goal.returns-clause-store
@@ -81,3 +84,29 @@ returns-in_err-check_rest-clause-cause g c clean =
       beside = subst (λ table. IsOutside table c.in_ok-count.count told) (to_marked ∙ to_old) it.1;
     })))
     c.from_residual-in_err-check_rest.result c.in_err-check_rest.field-0.0 c.from_residual-in_err-check_rest.ensures.1 (err.cause clean)
+
+pub returns-in_err-check_format-clause-failed : goal.returns-in_err-check_format-clause-failed
+returns-in_err-check_format-clause-failed g c clean =
+    let failure = HasFailed (state g.S.Store c.args.conn.now) (state g.S.Store c.check_format.new.conn) in
+    opens_of failure failure (λ it. it) c.from_residual.result c.in_err-check_format.field-0.0 c.from_residual.ensures.1 (c.in_err-check_format.ensures.failed clean)
+
+pub returns-in_err-count-clause-failed : goal.returns-in_err-count-clause-failed
+returns-in_err-count-clause-failed g c clean =
+    let old = state g.S.Store c.args.conn.now in
+    let marked = state g.S.Store c.check_format.new.conn in
+    let new = state g.S.Store c.check_rows.new.conn in
+    let err = c.in_err-count.ensures in
+    let early : HasCleanDisk marked = omega (arith, clean, err.looks.quiet.clean) in
+    opens_of (HasFailed marked new) (HasFailed old new) (failed_after old marked new c.in_ok-check_format.ensures.looks.quiet early err.looks.quiet.counts)
+    c.from_residual-in_err-count.result c.in_err-count.field-0.0 c.from_residual-in_err-count.ensures.1 (err.failed clean)
+
+pub returns-in_err-check_rest-clause-failed : goal.returns-in_err-check_rest-clause-failed
+returns-in_err-check_rest-clause-failed g c clean =
+    let old = state g.S.Store c.args.conn.now in
+    let counted = state g.S.Store c.check_rows.new.conn in
+    let new = state g.S.Store c.check_rest.new.conn in
+    let err = c.in_err-check_rest.ensures in
+    let later : HasCleanDisk counted = omega (arith, clean, err.looks.quiet.clean) in
+    let to_counted = looks_then old (state g.S.Store c.check_format.new.conn) counted c.in_ok-check_format.ensures.looks c.in_ok-count.ensures.looks in
+    opens_of (HasFailed counted new) (HasFailed old new) (failed_after old counted new to_counted.quiet later err.looks.quiet.counts)
+    c.from_residual-in_err-check_rest.result c.in_err-check_rest.field-0.0 c.from_residual-in_err-check_rest.ensures.1 (err.failed clean)

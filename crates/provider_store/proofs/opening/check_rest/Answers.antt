@@ -1,9 +1,12 @@
-use Rattle.std.proofs.Common.{arith}
+use Rattle.std.proofs.Common.{arith, of_z, to_z, w64, subst, sym}
 use Rattle.sqlite.specs.Held.{state}
 use Rattle.sqlite.specs.State.{HasCleanDisk}
 use Rattle.provider_store.proofs.Texts.{outside_query}
 use Rattle.provider_store.proofs.Values.{bound_int}
-use Rattle.provider_store.proofs.Checking.{on_ok, if_err, is_for, outside_found, within_found, beside_found}
+use Rattle.provider_store.proofs.Checking.{rows_fail, told_fails, on_ok, if_err, is_for, outside_found, within_found, beside_found}
+use Rattle.provider_store.specs.Faults.{HasFailed, statement_fault}
+use Rattle.provider_store.specs.Opening.{OpenFailsFor}
+use Rattle.provider_store.proofs.Giving.{outside_given}
 use Rattle.provider_store.proofs.opening.check_rest.Goals as goal
 
 pub ask-requires-clause-query : goal.ask-requires-clause-query
@@ -36,3 +39,14 @@ returns-in-Ok-clause-cause g c clean =
       beside_found (state g.S.Store c.args.conn.now) _ c.args.count c.in-Ok.rows.items c.as_slice.result.now (bound_int c.from.result c.args.count c.from.ensures (omega (arith, c.ranges.count.fits))) c.as_slice.ensures.value laid (c.in-Ok.ensures.rows clean) d.0 told d.1 d.2,
     )) fault cause)
     c.none_in.ensures.cause
+
+pub ask-requires-clause-given : goal.ask-requires-clause-given
+ask-requires-clause-given g c = outside_given (to_z w64 (of_z w64 c.from.result))
+
+pub returns-in-Ok-clause-failed : goal.returns-in-Ok-clause-failed
+returns-in-Ok-clause-failed g c clean = if_err c.none_in.result (rows_fail (HasFailed (state g.S.Store c.args.conn.now) (state g.S.Store c.ask.new.conn))) c.none_in.ensures.read
+
+pub returns-in-Err-clause-failed : goal.returns-in-Err-clause-failed
+returns-in-Err-clause-failed g c clean =
+    let failure = HasFailed (state g.S.Store c.args.conn.now) (state g.S.Store c.ask.new.conn) in
+    subst (OpenFailsFor failure) (sym c.from-in-Err.ensures.0) (told_fails failure (statement_fault c.in-Err.error) (c.in-Err.ensures.failed clean))

@@ -9,6 +9,9 @@ use Rattle.provider_store.specs.Opening.{Looks}
 use Rattle.provider_store.proofs.Finding.{has_named}
 use Rattle.provider_store.proofs.Refusing.{numbered_there, lawful_alone, told_number, wrong_shared, wrong_damaged}
 use Rattle.provider_store.proofs.Checking.{damage_of, same_rows}
+use Rattle.provider_store.specs.Faults.{HasFailed}
+use Rattle.provider_store.proofs.Checking.{fails_of, opens_of}
+use Rattle.provider_store.proofs.Failing.{failed_after}
 use Rattle.provider_store.proofs.opening.check_row.Goals as goal
 
 pub returns-in_ok-check_name-in-There-clause-lawful : goal.returns-in_ok-check_name-in-There-clause-lawful
@@ -47,3 +50,17 @@ pub returns-in-Damaged-clause-cause : goal.returns-in-Damaged-clause-cause
 returns-in-Damaged-clause-cause g c clean =
     let found = subst (FindsNumber (resources (state g.S.Store c.args.conn.now)) c.args.number) c.in-Damaged.is (c.in_ok-row.ensures.found clean) in
     (c.in_ok-row.ensures.open clean, c.from.ensures, wrong_damaged (resources (state g.S.Store c.args.conn.now)) c.args.number found)
+
+pub returns-in_err-row-clause-failed : goal.returns-in_err-row-clause-failed
+returns-in_err-row-clause-failed g c clean =
+    fails_of (HasFailed (state g.S.Store c.args.conn.now) (state g.S.Store c.find_numbered.new.conn)) c.from_residual.result c.in_err-row.field-0.0 c.from_residual.ensures.1 (c.in_err-row.ensures.failed clean)
+
+pub returns-in_err-check_name-in-There-clause-failed : goal.returns-in_err-check_name-in-There-clause-failed
+returns-in_err-check_name-in-There-clause-failed g c clean =
+    let old = state g.S.Store c.args.conn.now in
+    let mid = state g.S.Store c.find_numbered.new.conn in
+    let new = state g.S.Store c.check_name.new.conn in
+    let later = c.in_err-check_name-in-There.ensures in
+    let mid_clean : HasCleanDisk mid = omega (arith, clean, later.looks.quiet.clean) in
+    opens_of (HasFailed mid new) (HasFailed old new) (failed_after old mid new c.in_ok-row.ensures.quiet mid_clean later.looks.quiet.counts)
+    c.from_residual-in_err-check_name-in-There.result c.in_err-check_name-in-There.field-0.0 c.from_residual-in_err-check_name-in-There.ensures.1 (later.failed clean)

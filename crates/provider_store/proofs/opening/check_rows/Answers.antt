@@ -5,6 +5,9 @@ use Rattle.provider_store.specs.Connections.{resources}
 use Rattle.provider_store.specs.Lawful.{IsLawfulAt, IsFirstWrong, IsWrong}
 use Rattle.provider_store.proofs.Refusing.{none_lawful, next_lawful, first_wrong}
 use Rattle.provider_store.proofs.Checking.{damage_of, looks_same, looks_then, same_rows, first_none, first_next}
+use Rattle.provider_store.specs.Faults.{HasFailed}
+use Rattle.provider_store.proofs.Checking.{opens_of}
+use Rattle.provider_store.proofs.Failing.{failed_after}
 use Rattle.provider_store.proofs.opening.check_rows.Goals as goal
 
 pub loop-count-init : goal.loop-count-init
@@ -44,3 +47,13 @@ returns-in_err-check_row-clause-cause g c clean =
     let table = same_rows (state g.S.Store c.args.conn.now) (state g.S.Store c.loop-count.conn) so_far.0 c.requires.laid mid_clean still in
     (it.0, first_wrong (resources (state g.S.Store c.args.conn.now)) c.loop-count.count told (so_far.2 mid_clean) it.1 (subst (λ rows. IsWrong rows (c.loop-count.count + 1)) table it.2)))
     c.from_residual.result c.in_err-check_row.field-0.0 c.from_residual.ensures.1 (err.cause clean)
+
+pub returns-in_err-check_row-clause-failed : goal.returns-in_err-check_row-clause-failed
+returns-in_err-check_row-clause-failed g c clean =
+    let old = state g.S.Store c.args.conn.now in
+    let mid = state g.S.Store c.loop-count.conn in
+    let new = state g.S.Store c.check_row.new.conn in
+    let so_far = c.loop-count.invariant.0 in
+    let err = c.in_err-check_row.ensures in
+    let mid_clean : HasCleanDisk mid = omega (arith, clean, err.looks.quiet.clean) in
+    opens_of (HasFailed mid new) (HasFailed old new) (failed_after old mid new so_far.quiet mid_clean err.looks.quiet.counts) c.from_residual.result c.in_err-check_row.field-0.0 c.from_residual.ensures.1 (err.failed clean)

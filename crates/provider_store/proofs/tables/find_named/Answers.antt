@@ -1,9 +1,11 @@
-use Rattle.std.proofs.Common.{◌∙◌, arith}
+use Rattle.std.proofs.Common.{◌∙◌, arith, of_z, to_z, w64, subst, sym}
 use Rattle.sqlite.specs.Held.{state}
 use Rattle.sqlite.specs.State.{HasCleanDisk}
 use Rattle.provider_store.proofs.Texts.{named_query}
 use Rattle.provider_store.proofs.Finding.{name_found, code_small}
 use Rattle.provider_store.proofs.Values.{bound_int}
+use Rattle.provider_store.specs.Faults.{FailsFor, HasFailed}
+use Rattle.provider_store.proofs.Giving.{named_given}
 use Rattle.provider_store.proofs.tables.find_named.Goals as goal
 
 pub ask-requires-clause-query : goal.ask-requires-clause-query
@@ -15,3 +17,9 @@ returns-in_ok-only-in-Ok-clause-found g c clean =
     let laid = c.requires.laid early ((c.in-Ok.ensures.keeps clean).was_open (c.in-Ok.ensures.open clean)) in
     name_found (state g.S.Store c.args.conn.now) c.args.name.now _ c.as_bytes.result.now c.in-Ok.rows.items c.as_slice.result.now c.in_ok-only-in-Ok.field-0 (bound_int c.code_of.result _ c.code_of.ensures (code_small c.args.name.now.kind)) (c.as_bytes.ensures.value ∙ c.as_str.ensures.value)
     c.as_slice.ensures.value laid (c.in-Ok.ensures.rows clean) c.in_ok-only-in-Ok.ensures
+
+pub ask-requires-clause-given : goal.ask-requires-clause-given
+ask-requires-clause-given g c = named_given (to_z w64 (of_z w64 c.code_of.result)) c.as_bytes.result.now
+
+pub returns-in-Err-clause-failed : goal.returns-in-Err-clause-failed
+returns-in-Err-clause-failed g c clean = subst (FailsFor (HasFailed (state g.S.Store c.args.conn.now) (state g.S.Store c.ask.new.conn))) (sym c.fault_of.ensures) (c.in-Err.ensures.failed clean)
