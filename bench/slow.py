@@ -61,6 +61,10 @@ class Server:
         lines = pathlib.Path(f"/proc/{self.run.pid}/status").read_text(encoding="utf-8").splitlines()
         return int(next(line for line in lines if line.startswith("VmRSS:")).split()[1]) / 1024
 
+    def handles(self):
+        """How many files and sockets it has open."""
+        return len(os.listdir(f"/proc/{self.run.pid}/fd"))
+
     def processor(self):
         """The seconds of a processor that it took so far."""
         fields = pathlib.Path(f"/proc/{self.run.pid}/stat").read_text(encoding="utf-8").rpartition(")")[2].split()
@@ -68,65 +72,55 @@ class Server:
 
 
 class SlowClients:
-    """Clients of three kinds, which come again when they are ended. `lives` has the seconds that each had."""
+    """Clients of three kinds. One that was ended comes again, but for those that don't read their answer: they
+    can't see that. `lives` has the seconds that each had."""
 
     def __init__(self, server):
-        self.server, self.lives, self.is_over = server, [], False
+        self.server, self.lives, self.is_over, self.unread = server, [], False, []
         self.selector = selectors.DefaultSelector()
-        for kind, count in (("silent", SILENT), ("trickling", TRICKLING), ("unread", UNREAD)):
+        for _ in range(UNREAD):
+            self.unread.append(self.ask_for_a_list())
+        for kind, count in (("silent", SILENT), ("trickling", TRICKLING)):
             for _ in range(count):
                 self.open(kind)
         self.thread = threading.Thread(target=self.live)
         self.thread.start()
 
-    def open(self, kind):
+    def ask_for_a_list(self):
+        """A connection that takes few bytes ahead, whose answer isn't read."""
         stream = socket.socket()
-        if kind == "unread":
-            stream.setsockopt(socket.SOL_SOCKET, socket.SO_RCVBUF, 1)
-            stream.setsockopt(socket.IPPROTO_TCP, socket.TCP_MAXSEG, 88)
-        begun = time.monotonic()
+        stream.setsockopt(socket.SOL_SOCKET, socket.SO_RCVBUF, 1)
+        stream.setsockopt(socket.IPPROTO_TCP, socket.TCP_MAXSEG, 88)
         stream.connect(("127.0.0.1", self.server.port))
-        if kind == "unread":
-            stream.sendall(LIST)
-        # an end of the connection is noticed; what has come of an answer isn't read
-        events = 0 if kind == "unread" else selectors.EVENT_READ
-        self.selector.register(stream, events or selectors.EVENT_WRITE, [kind, begun, 0])
+        stream.sendall(LIST)
+        return stream
+
+    def open(self, kind):
+        begun = time.monotonic()
+        self.selector.register(self.server.connect(), selectors.EVENT_READ, [kind, begun, 0])
 
     def live(self):
         while not self.is_over:
-            now = time.monotonic()
             for key, _ in self.selector.select(0.2):
-                if key.data[0] != "unread":
-                    self.ended(key)
+                kind, begun, _ = key.data
+                self.lives.append((kind, time.monotonic() - begun))
+                self.selector.unregister(key.fileobj)
+                key.fileobj.close()
+                self.open(kind)
             for key in list(self.selector.get_map().values()):
                 kind, begun, sent = key.data
-                if kind == "trickling" and now - begun > sent + 1:
+                if kind == "trickling" and time.monotonic() - begun > sent + 1:
                     key.data[2] += 1
                     with contextlib.suppress(OSError):
                         key.fileobj.send(creation(0)[sent:sent + 1])
-                if kind == "unread" and self.is_closed(key.fileobj):
-                    self.ended(key)
-            time.sleep(0.05)
+
+    def stop(self):
+        """Has all leave but those that don't read."""
+        self.is_over = True
+        self.thread.join()
         for key in list(self.selector.get_map().values()):
             self.selector.unregister(key.fileobj)
             key.fileobj.close()
-
-    @staticmethod
-    def is_closed(stream):
-        """Whether the other side reset a connection that isn't read."""
-        info = stream.getsockopt(socket.IPPROTO_TCP, socket.TCP_INFO, 1)
-        return info[0] in (7, 8)
-
-    def ended(self, key):
-        kind, begun, _ = key.data
-        self.lives.append((kind, time.monotonic() - begun))
-        self.selector.unregister(key.fileobj)
-        key.fileobj.close()
-        self.open(kind)
-
-    def stop(self):
-        self.is_over = True
-        self.thread.join()
 
 
 class Bench:
@@ -150,6 +144,7 @@ class Bench:
 
     def measure(self):
         self.honest(1)
+        handles = self.server.handles()
         before, alone = self.server.memory(), self.honest(5)
         slow = SlowClients(self.server)
         time.sleep(2)
@@ -166,29 +161,41 @@ class Bench:
         idle = (self.server.processor() - begun) / 5
         self.told(idle < 0.02, f"beside slow clients alone it takes {100 * idle:.1f} % of a processor")
         slow.stop()
-        for kind in ("silent", "trickling", "unread"):
+        for kind in ("silent", "trickling"):
             lives = [life for it, life in slow.lives if it == kind]
             if self.seconds > LIMIT:
                 wanted = lives and LIMIT - 1 < min(lives) and max(lives) < LIMIT + LATE
                 told = f"{min(lives):.1f} to {max(lives):.1f} s" if lives else "none"
                 self.told(bool(wanted), f"{kind} clients that were ended: {len(lives)}, after {told}")
+        if self.seconds > LIMIT:
+            time.sleep(3)
+            left = self.server.handles() - handles
+            self.told(left <= 0, f"clients that don't read: {UNREAD - max(left, 0)} of {UNREAD} were ended")
 
     def at_once(self):
-        """Connects many clients before any is answered, and wants an answer for each."""
-        with contextlib.ExitStack() as stack:
-            streams = [socket.socket() for _ in range(AT_ONCE)]
-            for stream in streams:
-                stack.enter_context(stream)
-                stream.setblocking(False)
-                with contextlib.suppress(BlockingIOError):
-                    stream.connect(("127.0.0.1", self.server.port))
-            begun, answered = time.monotonic(), 0
-            for stream in streams:
-                stream.settimeout(60)
+        """Connects many clients at once, each of which asks as soon as it is connected, and wants an answer for each."""
+        begun, answers, selector = time.monotonic(), {}, selectors.DefaultSelector()
+        for number in range(AT_ONCE):
+            stream = socket.socket()
+            stream.setblocking(False)
+            with contextlib.suppress(BlockingIOError):
+                stream.connect(("127.0.0.1", self.server.port))
+            selector.register(stream, selectors.EVENT_WRITE, number)
+        while selector.get_map() and time.monotonic() - begun < 60:
+            for key, events in selector.select(1):
+                if events & selectors.EVENT_WRITE:
+                    key.fileobj.send(FIND)
+                    answers[key.data] = b""
+                    selector.modify(key.fileobj, selectors.EVENT_READ, key.data)
+                    continue
                 with contextlib.suppress(OSError):
-                    stream.sendall(FIND)
-                    answered += b"".join(iter(lambda: stream.recv(65536), b"")).startswith(b"HTTP/1.1 200")
-            self.told(answered == AT_ONCE, f"of {AT_ONCE} at once, {answered} are answered, in {time.monotonic() - begun:.1f} s")
+                    if more := key.fileobj.recv(65536):
+                        answers[key.data] += more
+                        continue
+                selector.unregister(key.fileobj)
+                key.fileobj.close()
+        good = sum(answer.startswith(b"HTTP/1.1 200 OK") for answer in answers.values())
+        self.told(good == AT_ONCE, f"of {AT_ONCE} at once, {good} are answered, in {time.monotonic() - begun:.1f} s")
 
 
 def main():

@@ -83,7 +83,8 @@ impl<'a, S: Read + Write + OpenStream + Drop, C: Clock> Endings<'a, S, C> {
         if self.endings.len() >= MOST_ENDINGS {
             self.close_one(now);
         }
-        if self.endings.push(ending).is_err() {
+        let is_sent = ending.is_sent();
+        if self.endings.push(ending).is_err() && !is_sent {
             self.lost = self.lost.saturating_add(1);
         }
     }

@@ -32,6 +32,8 @@ pub(crate) struct Held<S: Drop> {
 #[derive(Clone, Copy)]
 enum Arrival {
     Bytes,
+    /// As many bytes as one read takes: more may have come.
+    Full,
     Nothing,
     /// No more comes: the stream has ended or failed, there is no room, or out of memory.
     End,
@@ -66,7 +68,7 @@ impl<S: Read + Drop> Held<S> {
             return true;
         }
         match self.receive() {
-            Arrival::Bytes => {
+            Arrival::Bytes | Arrival::Full => {
                 self.pace = Pace::new(now);
                 is_ready(alloc, &self.received)
             }
@@ -88,7 +90,8 @@ impl<S: Read + Drop> Held<S> {
         let mut arrival = Arrival::Nothing;
         for _ in 0..MOST_READS {
             match self.read_once() {
-                Arrival::Bytes => arrival = Arrival::Bytes,
+                Arrival::Full => arrival = Arrival::Full,
+                Arrival::Bytes => return Arrival::Bytes,
                 Arrival::Nothing => return arrival,
                 Arrival::End => return Arrival::End,
             }
@@ -115,7 +118,11 @@ impl<S: Read + Drop> Held<S> {
             Ok(count) => {
                 let kept = self.received.extend_from_slice(&buffer[..count]);
                 prove!(kept.is_ok());
-                Arrival::Bytes
+                if count < READ_LIMIT {
+                    Arrival::Bytes
+                } else {
+                    Arrival::Full
+                }
             }
             Err(error) => match error.kind() {
                 ErrorKind::WouldBlock | ErrorKind::Interrupted => Arrival::Nothing,

@@ -19,8 +19,9 @@ use std::{io, thread};
 /// How often it is looked for something to do before the first pause.
 const LOOKS_AT_ONCE: u32 = 50;
 
-/// A pause, in milliseconds.
-const PAUSE: u64 = 1;
+/// The first pause and the longest one, in microseconds. Each is longer than the one before by the first.
+const FIRST_PAUSE: u64 = 20;
+const LONGEST_PAUSE: u64 = 1_000;
 
 /// The connections of a listening socket. Each has this time in all, from when it is accepted. A connection
 /// is given out when its request is whole, is refused by its form, has ended or failed, or is out of time.
@@ -190,11 +191,13 @@ where
     }
 }
 
-/// Lets others run, and after some looks without anything to do sleeps for a while.
+/// Lets others run. After some looks without anything to do, it sleeps: first for a moment, then longer.
 fn pause(clock: &impl Clock, idle: u32) {
-    if idle < LOOKS_AT_ONCE {
-        thread::yield_now();
-    } else {
-        thread::sleep(clock, Duration::from_millis(PAUSE));
+    match u64::from(idle.saturating_sub(LOOKS_AT_ONCE)) {
+        0 => thread::yield_now(),
+        pauses => {
+            let length = pauses.saturating_mul(FIRST_PAUSE).min(LONGEST_PAUSE);
+            thread::sleep(clock, Duration::from_micros(length));
+        }
     }
 }
