@@ -138,6 +138,20 @@ class FullDiskTest(Case):
             with open("/dev/full", "wb") as full:
                 self.tells(words, "file fault\n standard output: No space left on device\n", stdout=full)
 
+    def test_databases(self):
+        """No write finds room, from the first one on, or from a later one on."""
+        shim = self.folder / "shim.so"
+        subprocess.run(["cc", "-shared", "-fPIC", "-O1", "-o", shim, SHIM, "-ldl"], check=True)
+        for number in (1, 12):
+            for option, name, fault in (("--store", "rows.db", "store fault Y1"), ("--journal", "journal.db", "journal fault J1")):
+                self.write("counts", "\0" * 24)
+                given = dict(os.environ, LD_PRELOAD=str(shim), FAULT_COUNTS=str(self.folder / "counts"),
+                             FAULT_WRITE=str(number), FAULT_HOW="28+")
+                words = [PROGRAM, "loop", *SOURCES, option, f"{number}-{name}"]
+                ended = subprocess.run(words, cwd=self.folder, env=given, capture_output=True, text=True, timeout=60)
+                told = f"{fault}\n {number}-{name}: database or disk is full\n"
+                self.assertEqual((ended.returncode, ended.stderr), (3, told), words)
+
     def test_lines_of_push(self):
         address = self.keep([PROGRAM, "serve", "--listen", "127.0.0.1:0", "--requests", "9"])
         with open("/dev/full", "wb") as full:
@@ -150,8 +164,8 @@ class FullDiskTest(Case):
 
     def test_stores(self):
         for words, told in (
-            (["loop", *SOURCES, "--store", "rows.db"], "store fault Y1\n rows.db: database or disk is full\n"),
-            (["loop", *SOURCES, "--journal", "journal.db"], "journal fault J1\n journal.db: database or disk is full\n"),
+            (["loop", *SOURCES, "--store", "rows.db"], "store fault Y1\n rows.db: disk I/O error\n"),
+            (["loop", *SOURCES, "--journal", "journal.db"], "journal fault J1\n journal.db: disk I/O error\n"),
         ):
             ended = subprocess.run(self.limited(words, 8), cwd=self.folder, capture_output=True, text=True, timeout=60)
             self.assertEqual((ended.returncode, ended.stderr), (3, told), words)

@@ -1,5 +1,5 @@
 //! A database file of the host.
-use crate::reason::Reason;
+use crate::reason::{Reason, failure_of};
 use sqlite::{Connection, Error, File, FileStore, Unknown};
 use std::fs::OpenOptions;
 use std::io::ErrorKind;
@@ -21,19 +21,18 @@ impl<'a> DatabaseFile<'a> {
         }
     }
 
-    /// Why the file can't be used now, after a call failed and the file was closed. It opens the file once
-    /// more and executes `statement`, which must leave the contents as they are. `None` if all of that
-    /// succeeds.
-    pub fn reason(&self, statement: &str) -> Option<Reason> {
+    /// Opens the file once more, after a call failed and the file was closed; or says why that fails, if the
+    /// system or the library says it.
+    pub fn open_again(&self) -> Result<Connection<FileStore<File>>, Option<Reason>> {
         if let Some(reason) = self.refused_by_system() {
-            return Some(reason);
+            return Err(Some(reason));
         }
         if let Err(error) = sqlite_std_file::open(self.rt, self.path, Unknown) {
-            return Some(Reason::Unopened(error));
+            return Err(Some(Reason::Unopened(error)));
         }
         match self.open() {
-            Ok(conn) => refused_by_store(conn, statement),
-            Err(error) => failure_of(error),
+            Ok(conn) => Ok(conn),
+            Err(error) => Err(failure_of(error)),
         }
     }
 
@@ -50,21 +49,5 @@ impl<'a> DatabaseFile<'a> {
                 _ => Some(Reason::System(error)),
             },
         }
-    }
-}
-
-/// Why the database doesn't execute a statement.
-fn refused_by_store(mut conn: Connection<FileStore<File>>, statement: &str) -> Option<Reason> {
-    match conn.execute(statement, &[]) {
-        Ok(_) => None,
-        Err(error) => failure_of(error),
-    }
-}
-
-/// The failure that an error names. A statement that doesn't suit the tables is none.
-fn failure_of(error: Error) -> Option<Reason> {
-    match error {
-        Error::SqliteFailure(code) => Some(Reason::Failed(code)),
-        _ => None,
     }
 }

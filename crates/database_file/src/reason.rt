@@ -1,11 +1,12 @@
 //! Why a database file can't be used.
-use sqlite::ErrorCode;
+use sqlite::{Connection, Error, ErrorCode, File, FileStore};
+use sqlite_disk::Tally;
 use sqlite_std_file::OpenError;
 use std::io;
-use thiserror::Error;
+use thiserror::Error as Fault;
 
 /// Why a database file can't be used. Its text is what the system or the library says.
-#[derive(Clone, Copy, Debug, Error)]
+#[derive(Clone, Copy, Debug, Fault)]
 pub enum Reason {
     /// The file can't be opened for writing.
     #[error("{0}")]
@@ -16,4 +17,39 @@ pub enum Reason {
     /// The database can't be read or written.
     #[error("{0}")]
     Failed(ErrorCode),
+}
+
+/// Why a database doesn't execute a statement, if it fails.
+pub fn failure_in(mut conn: Connection<FileStore<File>>, statement: &str) -> Option<Reason> {
+    match conn.execute(statement, &[]) {
+        Ok(_) => None,
+        Err(error) => failure_of(error),
+    }
+}
+
+/// How the disk has failed since the file was opened.
+pub fn failure_since(conn: Connection<FileStore<File>>) -> Reason {
+    match conn.close_files() {
+        Ok(files) => failure_by(files.tally()),
+        Err((_error, store)) => failure_by(store.tally()),
+    }
+}
+
+/// The failure that an error names. A statement that doesn't suit the tables is none.
+pub(crate) fn failure_of(error: Error) -> Option<Reason> {
+    match error {
+        Error::SqliteFailure(code) => Some(Reason::Failed(code)),
+        _ => None,
+    }
+}
+
+/// How a disk failed, by its counts of calls that found no room, and of damaged reads.
+fn failure_by(tally: Tally) -> Reason {
+    Reason::Failed(if tally.refused > 0 {
+        ErrorCode::DiskFull
+    } else if tally.caught > 0 {
+        ErrorCode::DatabaseCorrupt
+    } else {
+        ErrorCode::SystemIoFailure
+    })
 }

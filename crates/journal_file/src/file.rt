@@ -3,7 +3,7 @@ ghost use Rattle.std.specs.Prelude.{IfOk};
 ghost use Rattle.journal_file.specs.Opened.{IsOpened};
 
 use crate::storage::{Storage, StoredEntries};
-use database_file::{DatabaseFile, Reason};
+use database_file::{DatabaseFile, Reason, failure_in, failure_since};
 use journal_core::Journal;
 use journal_store::{OpenFault, SqlJournal};
 use sqlite::{Alter, Connection, Error, File, FileStore};
@@ -28,7 +28,10 @@ impl<'a> Storage for JournalFile<'a> {
     }
 
     fn reason(&self) -> Option<Reason> {
-        self.file.reason(SAME)
+        match self.file.open_again() {
+            Ok(conn) => refusal(self.file.rt.alloc(), conn),
+            Err(reason) => reason,
+        }
     }
 
     fn name(&self) -> &str {
@@ -59,5 +62,14 @@ fn entries_over<S: Alter + Drop>(
     match SqlJournal::open(alloc, conn) {
         Ok(entries) => Ok(entries),
         Err((fault, _conn)) => Err(fault),
+    }
+}
+
+/// Why the entries of a file that was opened again can't be used: it opens them, and writes what is there.
+fn refusal(alloc: Global, conn: Connection<FileStore<File>>) -> Option<Reason> {
+    match SqlJournal::open(alloc, conn) {
+        Ok(entries) => failure_in(SqlJournal::close(entries), SAME),
+        Err((OpenFault::Store, conn)) => Some(failure_since(conn)),
+        Err((_fault, _conn)) => None,
     }
 }

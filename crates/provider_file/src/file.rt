@@ -3,7 +3,7 @@ ghost use Rattle.std.specs.Prelude.{IfOk};
 ghost use Rattle.provider_file.specs.Opened.{IsOpened};
 
 use crate::storage::{Storage, StoredRows};
-use database_file::{DatabaseFile, Reason};
+use database_file::{DatabaseFile, Reason, failure_in, failure_since};
 use provider_core::Registry;
 use provider_store::{OpenFault, SqlRegistry};
 use sqlite::{Alter, Connection, Error, File, FileStore};
@@ -31,7 +31,10 @@ impl<'a> Storage for StoreFile<'a> {
     }
 
     fn reason(&self) -> Option<Reason> {
-        self.file.reason(SAME)
+        match self.file.open_again() {
+            Ok(conn) => refusal(self.file.rt.alloc(), conn),
+            Err(reason) => reason,
+        }
     }
 
     fn name(&self) -> &str {
@@ -66,5 +69,14 @@ fn rows_over<S: Alter + Drop>(
     match SqlRegistry::open(alloc, conn) {
         Ok(rows) => Ok(rows),
         Err((fault, _conn)) => Err(fault),
+    }
+}
+
+/// Why the rows of a file that was opened again can't be used: it opens them, and writes what is there.
+fn refusal(alloc: Global, conn: Connection<FileStore<File>>) -> Option<Reason> {
+    match SqlRegistry::open(alloc, conn) {
+        Ok(rows) => failure_in(SqlRegistry::close(rows), SAME),
+        Err((OpenFault::Store, conn)) => Some(failure_since(conn)),
+        Err((_fault, _conn)) => None,
     }
 }

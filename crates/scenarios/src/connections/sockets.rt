@@ -56,22 +56,22 @@ struct Peer<'a> {
     taken: &'a Cell<u64>,
 }
 
-fn nothing_yet<T>() -> io::Result<T> {
-    Err(io::Error::from(ErrorKind::WouldBlock))
+fn nothing_yet() -> io::Error {
+    io::Error::from(ErrorKind::WouldBlock)
 }
 
 impl<'a> Read for Peer<'a> {
     fn read(&mut self, buffer: &mut [u8]) -> io::Result<usize> {
         let Some(piece) = self.script.pieces.get(self.given) else {
             return if self.script.stays {
-                nothing_yet()
+                Err(nothing_yet())
             } else {
                 Ok(0)
             };
         };
         self.given = self.given.saturating_add(1);
         if piece.is_empty() {
-            return nothing_yet();
+            return Err(nothing_yet());
         }
         let mut rest = *piece;
         rest.read(buffer)
@@ -83,7 +83,7 @@ impl<'a> Write for Peer<'a> {
         self.is_full = !self.is_full;
         let count = bytes.len().min(self.script.takes);
         if self.is_full || count == 0 {
-            return nothing_yet();
+            return Err(nothing_yet());
         }
         for byte in &bytes[..count] {
             let digit = u64::from(byte.wrapping_sub(b'0'));
@@ -122,7 +122,7 @@ impl<'a> OpenListener for Peers<'a> {
     fn accept(&self) -> io::Result<(Peer<'a>, SocketAddr)> {
         let place = self.accepted.get();
         let Some(script) = self.scripts.get(place) else {
-            return nothing_yet();
+            return Err(nothing_yet());
         };
         self.accepted.set(place.saturating_add(1));
         let peer = Peer {
