@@ -82,10 +82,13 @@ class SlowClientTest(ProgramTest):
                 self.assert_prompt(provider, FIND_BOB, b"200")
 
     def test_the_most_silent_client_makes_room(self):
-        with self.serving(2, connection_faults=1) as provider, contextlib.ExitStack() as silent:
+        with self.serving(3, connection_faults=2) as provider, contextlib.ExitStack() as silent:
             streams = [silent.enter_context(provider.connect()) for _ in range(MOST_HELD)]
             time.sleep(10 * SILENCE)
             silent.enter_context(provider.connect())
             streams[0].settimeout(PROMPTLY)
             self.assertEqual(streams[0].recv(1), b"")
+            # one leaves, so that the next needs nobody's place, even if its request comes a while after it
+            streams[1].close()
+            time.sleep(10 * SILENCE)
             self.assert_prompt(provider, CREATE_BOB, b"201")
