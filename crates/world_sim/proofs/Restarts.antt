@@ -256,7 +256,7 @@ module _ {R J : Type 0} (g : Registries R) (h : Journals J) (old : Running R J) 
       → (h.is_honest after.journal → h.is_honest before.journal)
       → (h.is_faithful after.journal → LeavesBook h before → OnErr result (LeavesBook h after))
       → (h.is_honest after.journal → LeavesBook h before
-          → Leaves h before after (book_after (book_of before.book) copy (judging (book_of before.book) (keys before.book) copy)) (keys (accepted_map before.book copy (judging (book_of before.book) (keys before.book) copy))) result)
+      → Leaves h before after (book_after (book_of before.book) copy (judging (book_of before.book) (keys before.book) copy)) (keys (accepted_map before.book copy (judging (book_of before.book) (keys before.book) copy))) result)
       → IfErr result (CountsWorldFault (h.faults before.journal) (h.faults after.journal))
       → IfErr result (Fails g h old (record old { connector = Open after }) (Changes row))
   fails_to_change before after row copy (Ok told) is e same was stays leaves counted = tt
@@ -273,7 +273,7 @@ module _ {R J : Type 0} (g : Registries R) (h : Journals J) (old : Running R J) 
       → (h.is_honest after.journal → h.is_honest before.journal)
       → (h.is_faithful after.journal → LeavesBook h before → OnErr result (LeavesBook h after))
       → ((a : Answer) → AnswersSo bytes request a → h.is_honest after.journal → LeavesBook h before
-          → Leaves h before after (after_learning (book_of before.book) (learn (book_of before.book) request a)) (keys before.book) result)
+      → Leaves h before after (after_learning (book_of before.book) (learn (book_of before.book) request a)) (keys before.book) result)
       → IfErr result (CountsWorldFault (h.faults before.journal) (h.faults after.journal))
       → IfErr result (Fails g h old (record old { connector = Open after }) (Delivers number))
   fails_to_learn before after number request answer bytes (Ok told) sent text e same was stays leaves counted = tt

@@ -156,7 +156,7 @@ module _ {R J : Type 0} (g : Registries R) (h : Journals J) (old : Running R J) 
       → (h.is_honest after.journal → h.is_honest before.journal)
       → (h.is_honest after.journal → h.is_faithful before.journal → OnOk result (h.is_faithful after.journal))
       → (h.is_honest after.journal → LeavesBook h before
-          → Leaves h before after (book_after (book_of before.book) copy (judging (book_of before.book) (keys before.book) copy)) (keys (accepted_map before.book copy (judging (book_of before.book) (keys before.book) copy))) result)
+      → Leaves h before after (book_after (book_of before.book) copy (judging (book_of before.book) (keys before.book) copy)) (keys (accepted_map before.book copy (judging (book_of before.book) (keys before.book) copy))) result)
       → OnOk result (after.book ≡ accepted_map before.book copy (judging (book_of before.book) (keys before.book) copy))
       → IfOk result (λ told. report_of told ≡ model.Judged (judging (book_of before.book) (keys before.book) copy))
       → IfOk result (λ told. Happens g h old (record old { connector = Open after }) (Changes row) told)
@@ -343,7 +343,7 @@ module _ {R J : Type 0} (g : Registries R) (h : Journals J) (old : Running R J) 
       → (h.is_honest after.journal → h.is_honest before.journal)
       → (h.is_honest after.journal → h.is_faithful before.journal → OnOk result (h.is_faithful after.journal))
       → ((a : Answer) → AnswersSo bytes request a → h.is_honest after.journal → LeavesBook h before
-          → Leaves h before after (after_learning (book_of before.book) (learn (book_of before.book) request a)) (keys before.book) result)
+      → Leaves h before after (after_learning (book_of before.book) (learn (book_of before.book) request a)) (keys before.book) result)
       → IfOk result (Happens g h old (record old { connector = Open after }) (Delivers number))
   learns_told before after number request answer bytes (Ok told) sent text e said made named was stays leaves =
       learns before after number request answer bytes told sent text e said made named was stays (λ a read honest left. (leaves a read honest left).done)

@@ -35,7 +35,7 @@ pub returns-in-Ok-clause-leaves : goal.returns-in-Ok-clause-leaves
 returns-in-Ok-clause-leaves g c = λ answer reads.
     let before = c.args.connector.now in
     subst (λ (a : Answer). g.J.Journal.is_honest c.learn.new.connector.journal → LeavesBook g.J.Journal before
-        → Leaves g.J.Journal before c.learn.new.connector (spec.after_learning (book_of before.book) (spec.learn (book_of before.book) c.args.request.now a)) (keys before.book) c.learn.result)
+    → Leaves g.J.Journal before c.learn.new.connector (spec.after_learning (book_of before.book) (spec.learn (book_of before.book) c.args.request.now a)) (keys before.book) c.learn.result)
     (one_read answer c.in-Ok.answer (c.in-Ok.ensures.only answer reads)) c.learn.ensures.leaves
 
 pub returns-in-Err-Unread-clause-leaves : goal.returns-in-Err-Unread-clause-leaves
