@@ -340,7 +340,7 @@ impl<R: Reopen + Drop, J: Journal + Drop> World<R, J> {
 }
 
 impl<R: Registry + Drop, J: ReopenJournal + Drop> World<R, J> {
-    /// Opens the connector's journal again, and the connector over it.
+    /// Opens the connector again on its journal.
     fn restart_connector(&mut self) -> Result<Report, WorldFault>
         ensures done { IfOk result (Happens R.Registry J.Journal self.old self.new Restarts_connector) }
         ensures fails { IfErr result (Fails R.Registry J.Journal self.old self.new Restarts_connector) }
@@ -356,9 +356,8 @@ impl<R: Registry + Drop, J: ReopenJournal + Drop> World<R, J> {
 }
 
 impl<R: Reopen + Drop, J: ReopenJournal + Drop> World<R, J> {
-    /// Makes one event. A restart opens the store of its side again. After a fault, the connector knows and
-    /// has seen what it had, unless a restart failed: events that need that side return `WorldFault::Store`
-    /// until a restart of it succeeds.
+    /// Makes one event. After a fault, the connector knows and has seen what it had, unless a restart
+    /// failed: events that need that side return `WorldFault::Store` until a restart of it succeeds.
     pub fn step(&mut self, event: &Event) -> Result<Report, WorldFault>
         ensures done { IfOk result (Happens R.Registry J.Journal self.old self.new (event_of event.now)) }
         ensures fails { IfErr result (Fails R.Registry J.Journal self.old self.new (event_of event.now)) }
