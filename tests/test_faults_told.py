@@ -142,14 +142,14 @@ class FullDiskTest(Case):
         """No write finds room, from the first one on, or from a later one on."""
         shim = self.folder / "shim.so"
         subprocess.run(["cc", "-shared", "-fPIC", "-O1", "-o", shim, SHIM, "-ldl"], check=True)
-        for number in (1, 12):
+        for number in (1, 12, 30):
             for option, name, fault in (("--store", "rows.db", "store fault Y1"), ("--journal", "journal.db", "journal fault J1")):
                 self.write("counts", "\0" * 24)
                 given = dict(os.environ, LD_PRELOAD=str(shim), FAULT_COUNTS=str(self.folder / "counts"),
                              FAULT_WRITE=str(number), FAULT_HOW="28+")
                 words = [PROGRAM, "loop", *SOURCES, option, f"{number}-{name}"]
                 ended = subprocess.run(words, cwd=self.folder, env=given, capture_output=True, text=True, timeout=60)
-                told = f"{fault}\n {number}-{name}: database or disk is full\n"
+                told = f"{fault}\n {number}-{name}: No space left on device\n"
                 self.assertEqual((ended.returncode, ended.stderr), (3, told), words)
 
     def test_lines_of_push(self):
