@@ -191,13 +191,22 @@ def rejection_by(said, file, name, first, last):
         if at == file and first <= int(line) <= last:
             return f"{name} · {clause(goal)}"
     home, _, own = name.rpartition("::")
-    place = "/".join([file.removeprefix("src/").removesuffix(".rt"), *[home.replace(" as ", "")] * bool(home)])
+    module = file.removeprefix("src/").removesuffix(".rt")
     for proof, goal, why in OPEN_IN_PROOF.findall(said):
         above, _, last_part = proof.rpartition("/")
-        is_own = above.startswith(place) if home else above == place or place in ("lib", "main") and not above
-        if is_own and last_part == own and not OF_NAMES.search(why):
+        if is_proof_in(above, module, home) and last_part == own and not OF_NAMES.search(why):
             return f"{name} · {clause(goal)}"
     return None
+
+
+def is_proof_in(folder, module, home):
+    """Whether a folder of proofs is that of a module, or of a type in it, or of a type's trait. What the type
+    is generic over can stand between the two names."""
+    if not home:
+        return folder == module or module in ("lib", "main") and not folder
+    above, _, last = folder.rpartition("/")
+    of, _, trait = home.partition(" as ")
+    return above == module and last.startswith(of) and last.endswith(trait)
 
 
 def rejection_of_crate(mutant, said):
