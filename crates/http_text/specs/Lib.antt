@@ -14,3 +14,4 @@ pub mod Steps
 pub mod Streams
 pub mod Texts
 pub mod Wholes
+pub mod Codes
