@@ -1,6 +1,6 @@
 //! Why a database file can't be used.
-use sqlite::{Connection, Error, ErrorCode, File, FileStore};
-use sqlite_disk::Tally;
+use sqlite::{Connection, Error, ErrorCode, FileStore};
+use sqlite_disk::{Disk, Tally};
 use sqlite_std_file::OpenError;
 use std::io;
 use thiserror::Error as Fault;
@@ -20,7 +20,10 @@ pub enum Reason {
 }
 
 /// Why a database doesn't execute a statement, if it fails.
-pub fn failure_in(mut conn: Connection<FileStore<File>>, statement: &str) -> Option<Reason> {
+pub fn failure_in<D: Disk + Drop>(
+    mut conn: Connection<FileStore<D>>,
+    statement: &str,
+) -> Option<Reason> {
     match conn.execute(statement, &[]) {
         Ok(_) => None,
         Err(error) => failure_of(error),
@@ -28,7 +31,7 @@ pub fn failure_in(mut conn: Connection<FileStore<File>>, statement: &str) -> Opt
 }
 
 /// How the disk has failed since the file was opened.
-pub fn failure_since(conn: Connection<FileStore<File>>) -> Reason {
+pub fn failure_since<D: Disk + Drop>(conn: Connection<FileStore<D>>) -> Reason {
     match conn.close_files() {
         Ok(files) => failure_by(files.tally()),
         Err((_error, store)) => failure_by(store.tally()),
