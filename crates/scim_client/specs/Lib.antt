@@ -3,3 +3,4 @@ pub mod Spelling
 pub mod Answers
 pub mod Exchanges
 pub mod AnswerLaws
+pub mod Codes

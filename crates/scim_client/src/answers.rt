@@ -9,24 +9,38 @@ ghost use Rattle.scim_client.specs.Answers.{AnswersSo, RefusesSo, IsOrMemory};
 use http_text::{Incoming, response_in};
 use scim_message::{Answer, BodyFault, Request, read_body};
 use std::alloc::Global;
-use thiserror::Error;
+use std::{error, fmt};
 
 /// Why bytes aren't an answer. Its text is its code.
-#[derive(Clone, Copy, Debug, PartialEq, Eq, Error)]
+#[derive(Clone, Copy, Debug, PartialEq, Eq)]
 pub enum AnswerFault {
     /// The bytes aren't exactly one whole response: only a part, more than one, without a readable length,
     /// with a transfer coding, or beyond a limit.
-    #[error("K1")]
     NotOneResponse,
     /// The body isn't JSON in UTF-8. This is checked before the status.
-    #[error("K2")]
     NotJson,
     /// The body isn't an answer to the request, or the status doesn't fit the request.
-    #[error("K3")]
     WrongShape,
-    #[error("K4")]
     OutOfMemory,
 }
+
+impl fmt::Display for AnswerFault {
+    ghost use Rattle.std.specs.Prelude.{Some};
+    ghost use Rattle.scim_client.specs.Codes.{answer_fault_text};
+
+    ghost output = { λ fault. Some (answer_fault_text fault) };
+
+    fn fmt<W: fmt::Write>(&self, f: &mut fmt::Formatter<W>) -> fmt::Result {
+        f.write_str(match self {
+            AnswerFault::NotOneResponse => "K1",
+            AnswerFault::NotJson => "K2",
+            AnswerFault::WrongShape => "K3",
+            AnswerFault::OutOfMemory => "K4",
+        })
+    }
+}
+
+impl error::Error for AnswerFault {}
 
 /// Reads the answer to a request that is exactly these bytes.
 pub fn read_answer(alloc: Global, request: &Request, bytes: &[u8]) -> Result<Answer, AnswerFault>

@@ -12,31 +12,45 @@ use http_text::{Input, Output, ReadFault, SendFault, read_response, send};
 use scim_message::{Answer, Request};
 use std::alloc::Global;
 use std::io::{Read, Write};
-use thiserror::Error;
+use std::{error, fmt};
 
 /// Why no answer came. Its text is its code.
-#[derive(Clone, Copy, Debug, PartialEq, Eq, Error)]
+#[derive(Clone, Copy, Debug, PartialEq, Eq)]
 pub enum ExchangeFault {
     /// The request wasn't sent whole (H12, H14), and nothing was read.
-    #[error("{0}")]
     Unsent(SendFault),
     /// The bytes ended before the response did.
-    #[error("H10")]
     EndedEarly,
     /// A read failed.
-    #[error("H11")]
     ReadFailed,
     /// Out of memory while the response was read.
-    #[error("H13")]
     OutOfMemory,
     /// The response wasn't complete after 100,000 reads.
-    #[error("H14")]
     TurnsExhausted,
     /// The response isn't an answer (K1 to K3), or memory ran out before the request was sent or after the
     /// response was read (K4).
-    #[error("{0}")]
     NoAnswer(AnswerFault),
 }
+
+impl fmt::Display for ExchangeFault {
+    ghost use Rattle.std.specs.Prelude.{Some};
+    ghost use Rattle.scim_client.specs.Codes.{exchange_fault_text};
+
+    ghost output = { λ fault. Some (exchange_fault_text fault) };
+
+    fn fmt<W: fmt::Write>(&self, f: &mut fmt::Formatter<W>) -> fmt::Result {
+        match self {
+            ExchangeFault::Unsent(fault) => write!(f, "{fault}"),
+            ExchangeFault::EndedEarly => f.write_str("H10"),
+            ExchangeFault::ReadFailed => f.write_str("H11"),
+            ExchangeFault::OutOfMemory => f.write_str("H13"),
+            ExchangeFault::TurnsExhausted => f.write_str("H14"),
+            ExchangeFault::NoAnswer(fault) => write!(f, "{fault}"),
+        }
+    }
+}
+
+impl error::Error for ExchangeFault {}
 
 impl ScimService {
     /// Sends a request and reads one response to it; bytes after the response stay in the reader. The fault
