@@ -17,7 +17,8 @@ use Rattle.scim_resource.specs.Schemas.{core_group, source_extension}
 use Rattle.scim_resource.specs.Texts.{IsText}
 use Rattle.scim_resource.specs.Writing.{source_data, schemas_data, member_data, group_members_data, group_parts, group_data}
 use Rattle.scim_resource.proofs.MemberLists.{Fresh, Fresh-none, Fresh-push}
-use Rattle.scim_resource.proofs.UserTrips.{text_present, text_read, source_present, source_read, source_repeats, source_plain, schemas_plain, text_plain, source_depth, schemas_depth, text_depth}
+use Rattle.scim_resource.proofs.TextTrips.{text_present, text_read, text_plain, text_depth}
+use Rattle.scim_resource.proofs.UserTrips.{source_present, source_read, source_repeats, source_plain, schemas_plain, source_depth, schemas_depth}
 
 -- ---- the names of a group's parts
 

@@ -8,5 +8,7 @@ pub mod MemberLists
 pub mod RoundTrips
 pub mod ShownTrips
 pub mod Tags
+pub mod TextLists
+pub mod TextTrips
 pub mod UserTrips
 pub mod Written

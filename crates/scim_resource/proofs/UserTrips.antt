@@ -8,26 +8,30 @@ use Rattle.serde_json.specs.Data.{Data, boolean, string, array, Members, depth, 
 use Rattle.serde_json.specs.View.{items_of}
 use Rattle.scim_key.specs.Outcome.{◌>>=◌}
 use Rattle.scim_json.specs.Attributes.{named, has_name, attribute, present, repeats, value_repeats, items_repeat, list_repeats}
-use Rattle.scim_json.specs.Values.{some_text, flag_or, members_in}
+use Rattle.scim_json.specs.Values.{some_text, flag_or}
 use Rattle.scim_json.specs.Plain.{IsPlain, ItemsArePlain}
-use Rattle.scim_json.specs.Writing.{members_from}
+use Rattle.scim_json.specs.Writing.{Part, members_from}
 use Rattle.scim_json.proofs.Parts.{are_rising, are_apart, part_named, named-members_from, repeats-members_from, IsPlainIf, ArePlainIf, MembersArePlain-members_from, depth_if, AreWithin, members_depth-members_from}
 use Rattle.scim_resource.specs.Emails.{IsEmail, AreEmails, IsEmailList, are_few}
-use Rattle.scim_resource.specs.Reading.{lists_schema, all_texts, user_name_in, text_in, part_of, email_of, email_in, emails_of, emails_in, few_emails, revision_in, user_fields, user_repeats, read_user, unless_repeated}
+use Rattle.scim_resource.specs.Reading.{lists_schema, all_texts, user_name_in, value_in, value_of, texts_in, user_texts_in, email_of, email_in, emails_of, emails_in, few_emails, revision_in, user_fields, user_repeats, read_user, unless_repeated}
 use Rattle.scim_resource.specs.Schemas.{core_user, source_extension}
-use Rattle.scim_resource.specs.Texts.{IsText, IsTextIf, is_short_text}
+use Rattle.scim_resource.specs.UserTexts.{UserTexts, AreUserTexts, holder_of, name_of, text_at}
 use Rattle.scim_resource.specs.Users.{UserRecord, IsUser, IsSourceRevision}
 use Rattle.scim_resource.specs.declared.emails.Email.{Email}
-use Rattle.scim_resource.specs.Writing.{name_parts, name_data, primary_data, email_parts, email_data, emails_data, source_data, schemas_data, user_parts, user_data}
+use Rattle.scim_resource.specs.declared.user_texts.Holder.{Holder}
+use Rattle.scim_resource.specs.declared.user_texts.Holder.TheVariants as holder
+use Rattle.scim_resource.specs.declared.user_texts.TheConstants.{NAME_TEXTS, TOP_TEXTS, USER_TEXTS}
+use Rattle.scim_resource.specs.Writing.{text_parts, name_data, primary_data, email_parts, email_data, emails_data, source_data, schemas_data, user_front, user_back, user_parts, user_data}
+use Rattle.scim_resource.proofs.TextTrips.{map_same, each_text, text_present, text_read, texts_present, texts_read, some_members, object_present, object_read, part_found, object_repeats, object_plain, object_depth, text_plain, texts_plain, ArePlainIf-append, text_depth, texts_within, AreWithin-append}
 
 -- ---- the names of a user's parts
 
 rising : (id meta : Option Data) (u : UserRecord) → are_rising (user_parts id meta u) ≡ true
-unfolding source_extension
+unfolding source_extension user_front user_back
 rising id meta u = refl
 
 apart : (id meta : Option Data) (u : UserRecord) → are_apart (user_parts id meta u) ≡ true
-unfolding source_extension
+unfolding source_extension user_front user_back
 apart id meta u = refl
 
 -- ---- the parts of a user that are found
@@ -39,27 +43,52 @@ found : (name : List ℕ) (id meta : Option Data) (u : UserRecord) → attribute
 found name id meta u = ap present (named-members_from name (user_parts id meta u) (apart id meta u))
 
 schemas_part : (id meta : Option Data) (u : UserRecord) → part_named (codes "schemas") (user_parts id meta u) ≡ Some (array (schemas_data core_user u.revision))
+unfolding user_front user_back
 schemas_part id meta u = refl
 
 user_name_part : (id meta : Option Data) (u : UserRecord) → part_named (codes "userName") (user_parts id meta u) ≡ Some (string u.user_name)
-unfolding source_extension
+unfolding source_extension user_front user_back
 user_name_part id meta u = refl
 
-external_id_part : (id meta : Option Data) (u : UserRecord) → part_named (codes "externalId") (user_parts id meta u) ≡ option_map string u.external_id
-external_id_part id meta u = refl
-
-name_part : (id meta : Option Data) (u : UserRecord) → part_named (codes "name") (user_parts id meta u) ≡ name_data u.given_name u.family_name
+name_part : (id meta : Option Data) (u : UserRecord) → part_named (codes "name") (user_parts id meta u) ≡ name_data u.texts
+unfolding user_front user_back
 name_part id meta u = refl
 
 emails_part : (id meta : Option Data) (u : UserRecord) → part_named (codes "emails") (user_parts id meta u) ≡ emails_data u.emails
+unfolding user_front
 emails_part id meta u = refl
 
 active_part : (id meta : Option Data) (u : UserRecord) → part_named (codes "active") (user_parts id meta u) ≡ Some (boolean u.active)
+unfolding user_front
 active_part id meta u = refl
 
 source_part : (id meta : Option Data) (u : UserRecord) → part_named source_extension (user_parts id meta u) ≡ source_data u.revision
-unfolding source_extension
+unfolding source_extension user_front user_back
 source_part id meta u = refl
+
+-- the parts of the object that has a text
+abbrev held_parts : Holder → Option Data → Option Data → UserRecord → List Part
+held_parts holder.User id meta u = user_parts id meta u
+held_parts holder.Name id meta u = text_parts u.texts NAME_TEXTS
+
+-- the members of a user's name, if it has a part
+abbrev name_members : UserTexts → Option Members
+name_members texts = some_members (members_from (text_parts texts NAME_TEXTS))
+
+value_found : (h : Holder) (key : List ℕ) (id meta : Option Data) (u : UserRecord) → value_in h (members id meta u) (name_members u.texts) key ≡ present (part_named key (held_parts h id meta u))
+value_found holder.User key id meta u = found key id meta u
+value_found holder.Name key id meta u = part_found key (text_parts u.texts NAME_TEXTS) refl
+
+-- each text of the table is a part of its object
+texts_held : (id meta : Option Data) (u : UserRecord)
+    → map (λ which. present (part_named (name_of which) (held_parts (holder_of which) id meta u))) USER_TEXTS ≡ map present (map (option_map string) (map (λ which. text_at which u.texts) USER_TEXTS))
+unfolding user_front user_back source_extension
+texts_held id meta u = refl
+
+texts_found : (id meta : Option Data) (u : UserRecord) → AreUserTexts u.texts → map (value_of (members id meta u) (name_members u.texts)) USER_TEXTS ≡ map (option_map string) u.texts
+texts_found id meta u h =
+    map_same _ _ USER_TEXTS (λ which. value_found (holder_of which) (name_of which) id meta u) ∙ texts_held id meta u
+    ∙ ap (λ texts. map present (map (option_map string) texts)) (each_text u.texts h) ∙ texts_present u.texts h.each
 
 -- ---- what they are read as
 
@@ -70,20 +99,6 @@ not_empty (x ∷ xs) h = ne_eqb (suc (length xs)) 0 (λ e. omega arith)
 
 name_present : (name : List ℕ) → IsUserName name → present (Some (string name)) ≡ Some (string name)
 name_present name h = rw (not_empty name h)
-
-some_bytes : (text : List ℕ) → IsText text → (length text == 0) ≡ false
-unfolding is_short_text
-some_bytes [] h = cc
-some_bytes (x ∷ xs) h = ne_eqb (suc (length xs)) 0 (λ e. omega arith)
-
-pub text_present : (o : Option (List ℕ)) → IsTextIf o → present (option_map string o) ≡ option_map string o
-text_present None h = refl
-text_present (Some text) h = rw (some_bytes text h)
-
-name_data_present : (given family : Option (List ℕ)) → present (name_data given family) ≡ name_data given family
-name_data_present None None = refl
-name_data_present None (Some f) = refl
-name_data_present (Some g) f = refl
 
 emails_present : (es : List Email) → present (emails_data es) ≡ emails_data es
 emails_present [] = refl
@@ -101,35 +116,10 @@ schemas_listed (Some r) = refl
 name_read : (name : List ℕ) → IsUserName name → user_name_in (Some (string name)) ≡ Ok name
 name_read name h = rw h
 
-pub text_read : (o : Option (List ℕ)) → IsTextIf o → text_in (option_map string o) ≡ Ok o
-text_read None h = refl
-text_read (Some text) h = rw h
-
 pub source_read : (r : Option RevisionValue) → IsSourceRevision r → revision_in (source_data r) ≡ Ok r
 unfolding named
 source_read None h = refl
 source_read (Some r) h = rw (are_read_back.from_number r h)
-
--- the members of a name, if it has a part
-abbrev name_members : Option (List ℕ) → Option (List ℕ) → Option Members
-name_members None None = None
-name_members None (Some f) = Some (members_from (name_parts None (Some f)))
-name_members (Some g) f = Some (members_from (name_parts (Some g) f))
-
-name_members_read : (given family : Option (List ℕ)) → members_in (name_data given family) ≡ Ok (name_members given family)
-name_members_read None None = refl
-name_members_read None (Some f) = refl
-name_members_read (Some g) f = refl
-
-given_found : (given family : Option (List ℕ)) → IsTextIf given → part_of (codes "givenName") (name_members given family) ≡ option_map string given
-given_found None None h = refl
-given_found None (Some f) h = ap present (named-members_from (codes "givenName") (name_parts None (Some f)) refl)
-given_found (Some g) f h = ap present (named-members_from (codes "givenName") (name_parts (Some g) f) refl) ∙ text_present (Some g) h
-
-family_found : (given family : Option (List ℕ)) → IsTextIf family → part_of (codes "familyName") (name_members given family) ≡ option_map string family
-family_found None None h = refl
-family_found None (Some f) h = ap present (named-members_from (codes "familyName") (name_parts None (Some f)) refl) ∙ text_present (Some f) h
-family_found (Some g) f h = ap present (named-members_from (codes "familyName") (name_parts (Some g) f) refl) ∙ text_present f h
 
 primary_present : (p : Bool) → present (primary_data p) ≡ primary_data p
 primary_present true = refl
@@ -171,26 +161,28 @@ emails_read (e ∷ es) h = ap (λ o. o >>= few_emails) (emails_of_read (e ∷ es
 pub record Shows (ms : Members) (u : UserRecord) : Type 0 where
   pub schemas : attribute (codes "schemas") ms ≡ Some (array (schemas_data core_user u.revision))
   pub user_name : attribute (codes "userName") ms ≡ Some (string u.user_name)
-  pub external_id : attribute (codes "externalId") ms ≡ option_map string u.external_id
-  pub name : attribute (codes "name") ms ≡ name_data u.given_name u.family_name
+  pub name : attribute (codes "name") ms ≡ name_data u.texts
+  pub texts : map (value_of ms (name_members u.texts)) USER_TEXTS ≡ map (option_map string) u.texts
   pub emails : attribute (codes "emails") ms ≡ emails_data u.emails
   pub active : attribute (codes "active") ms ≡ Some (boolean u.active)
   pub source : attribute source_extension ms ≡ source_data u.revision
 
+texts_shown : (ms : Members) (u : UserRecord) → IsUser u → Shows ms u → user_texts_in ms (name_members u.texts) ≡ Ok u.texts
+unfolding user_texts_in
+texts_shown ms u h s = ap texts_in s.texts ∙ texts_read u.texts h.texts.each
+
 fields_read : (ms : Members) (u : UserRecord) → IsUser u → Shows ms u → user_fields ms ≡ Ok u
 unfolding user_fields
 fields_read ms u h s =
-    rw (s.schemas, schemas_listed u.revision, s.user_name, name_read u.user_name h.user_name, s.external_id, text_read u.external_id h.external_id, s.name, name_members_read u.given_name u.family_name, given_found u.given_name u.family_name h.given_name, text_read u.given_name h.given_name, family_found u.given_name u.family_name h.family_name, text_read u.family_name h.family_name, s.emails, emails_read u.emails h.emails, s.active, s.source, source_read u.revision h.revision)
+    rw (s.schemas, schemas_listed u.revision, s.user_name, name_read u.user_name h.user_name, s.name, object_read (members_from (text_parts u.texts NAME_TEXTS)), texts_shown ms u h s, s.emails, emails_read u.emails h.emails, s.active, s.source, source_read u.revision h.revision)
 
 pub source_repeats : (r : Option RevisionValue) → value_repeats (source_data r) ≡ false
 unfolding repeats has_name
 source_repeats None = refl
 source_repeats (Some r) = refl
 
-name_repeats : (given family : Option (List ℕ)) → value_repeats (name_data given family) ≡ false
-name_repeats None None = refl
-name_repeats None (Some f) = repeats-members_from (name_parts None (Some f)) refl
-name_repeats (Some g) f = repeats-members_from (name_parts (Some g) f) refl
+name_repeats : (texts : UserTexts) → value_repeats (name_data texts) ≡ false
+name_repeats texts = object_repeats _ (repeats-members_from (text_parts texts NAME_TEXTS) refl)
 
 email_repeats : (e : Email) → value_repeats (Some (email_data e)) ≡ false
 unfolding email_data
@@ -208,7 +200,7 @@ emails_repeat (e ∷ es) = items_repeat_none (e ∷ es)
 repeats_none : (ms : Members) (u : UserRecord) → repeats ms ≡ false → Shows ms u → user_repeats ms ≡ false
 unfolding user_repeats
 repeats_none ms u clear s =
-    rw (clear, s.source, source_repeats u.revision, s.name, name_repeats u.given_name u.family_name, s.emails, emails_repeat u.emails)
+    rw (clear, s.source, source_repeats u.revision, s.name, name_repeats u.texts, s.emails, emails_repeat u.emails)
 
 pub user_data_read : (id meta : Option Data) (u : UserRecord) → IsUser u → read_user (user_data id meta u) ≡ Ok u
 unfolding user_data
@@ -217,8 +209,8 @@ user_data_read id meta u h =
     let shows : Shows ms u = record {
       schemas = found (codes "schemas") id meta u ∙ ap present (schemas_part id meta u);
       user_name = found (codes "userName") id meta u ∙ ap present (user_name_part id meta u) ∙ name_present u.user_name h.user_name;
-      external_id = found (codes "externalId") id meta u ∙ ap present (external_id_part id meta u) ∙ text_present u.external_id h.external_id;
-      name = found (codes "name") id meta u ∙ ap present (name_part id meta u) ∙ name_data_present u.given_name u.family_name;
+      name = found (codes "name") id meta u ∙ ap present (name_part id meta u) ∙ object_present (members_from (text_parts u.texts NAME_TEXTS));
+      texts = texts_found id meta u h.texts;
       emails = found (codes "emails") id meta u ∙ ap present (emails_part id meta u) ∙ emails_present u.emails;
       active = found (codes "active") id meta u ∙ ap present (active_part id meta u);
       source = found source_extension id meta u ∙ ap present (source_part id meta u) ∙ source_present u.revision;
@@ -236,14 +228,8 @@ pub schemas_plain : (core : List ℕ) (r : Option RevisionValue) → IsPlain (ar
 schemas_plain core None = (tt, tt)
 schemas_plain core (Some r) = (tt, (tt, tt))
 
-pub text_plain : (o : Option (List ℕ)) → IsPlainIf (option_map string o)
-text_plain None = tt
-text_plain (Some text) = tt
-
-name_plain : (given family : Option (List ℕ)) → IsPlainIf (name_data given family)
-name_plain None None = tt
-name_plain None (Some f) = MembersArePlain-members_from (name_parts None (Some f)) refl (tt, (tt, tt))
-name_plain (Some g) f = MembersArePlain-members_from (name_parts (Some g) f) refl (text_plain f, (tt, tt))
+name_plain : (texts : UserTexts) → IsPlainIf (name_data texts)
+name_plain texts = object_plain _ (MembersArePlain-members_from (text_parts texts NAME_TEXTS) refl (texts_plain texts NAME_TEXTS))
 
 primary_plain : (p : Bool) → IsPlainIf (primary_data p)
 primary_plain true = tt
@@ -262,8 +248,10 @@ emails_plain [] = tt
 emails_plain (e ∷ es) = email_items_plain (e ∷ es)
 
 parts_plain : (id meta : Option Data) (u : UserRecord) → IsUser u → IsPlainIf id → IsPlainIf meta → ArePlainIf (user_parts id meta u)
+unfolding user_front user_back
 parts_plain id meta u h i m =
-    (tt, (emails_plain u.emails, (text_plain u.external_id, (i, (m, (name_plain u.given_name u.family_name, (schemas_plain core_user u.revision, (source_plain u.revision h.revision, (tt, tt)))))))))
+    let back : ArePlainIf (user_back u) = (name_plain u.texts, (schemas_plain core_user u.revision, (source_plain u.revision h.revision, (tt, tt)))) in
+    (tt, (emails_plain u.emails, ArePlainIf-append (text_parts u.texts TOP_TEXTS) ((codes "id", id) ∷ (codes "meta", meta) ∷ user_back u) (texts_plain u.texts TOP_TEXTS) (i, (m, back))))
 
 pub user_data_plain : (id meta : Option Data) (u : UserRecord) → IsUser u → IsPlainIf id → IsPlainIf meta → IsPlain (user_data id meta u)
 unfolding user_data
@@ -277,14 +265,8 @@ pub schemas_depth : (core : List ℕ) (r : Option RevisionValue) → depth (arra
 schemas_depth core None = omega arith
 schemas_depth core (Some r) = omega arith
 
-pub text_depth : (o : Option (List ℕ)) → depth_if (option_map string o) ≤ 0
-text_depth None = omega arith
-text_depth (Some text) = omega arith
-
-name_depth : (given family : Option (List ℕ)) → depth_if (name_data given family) ≤ 1
-name_depth None None = omega arith
-name_depth None (Some f) = omega (arith, members_depth-members_from 0 (name_parts None (Some f)) (omega arith, (omega arith, tt)))
-name_depth (Some g) f = omega (arith, members_depth-members_from 0 (name_parts (Some g) f) (text_depth f, (omega arith, tt)))
+name_depth : (texts : UserTexts) → depth_if (name_data texts) ≤ 1
+name_depth texts = object_depth 0 _ (members_depth-members_from 0 (text_parts texts NAME_TEXTS) (texts_within 0 texts NAME_TEXTS))
 
 primary_depth : (p : Bool) → depth_if (primary_data p) ≤ 0
 primary_depth true = omega arith
@@ -302,14 +284,18 @@ emails_depth : (es : List Email) → depth_if (emails_data es) ≤ 2
 emails_depth [] = omega arith
 emails_depth (e ∷ es) = omega (arith, email_items_depth (e ∷ es))
 
+parts_within : (id meta : Option Data) (u : UserRecord) → depth_if id ≤ 2 → depth_if meta ≤ 2 → AreWithin 2 (user_parts id meta u)
+unfolding user_front user_back
+parts_within id meta u i m =
+    let back : AreWithin 2 (user_back u) = (omega (arith, name_depth u.texts), (schemas_depth core_user u.revision, (source_depth u.revision, (omega arith, tt)))) in
+    (omega arith, (emails_depth u.emails, AreWithin-append 2 (text_parts u.texts TOP_TEXTS) ((codes "id", id) ∷ (codes "meta", meta) ∷ user_back u) (texts_within 2 u.texts TOP_TEXTS) (i, (m, back))))
+
 pub user_data_depth : (id meta : Option Data) (u : UserRecord) → depth_if id ≤ 2 → depth_if meta ≤ 2 → depth (user_data id meta u) ≤ 3
 unfolding user_data
-user_data_depth id meta u i m =
-    let within : AreWithin 2 (user_parts id meta u) =
-    (omega arith, (emails_depth u.emails, (omega (arith, text_depth u.external_id), (i, (m, (omega (arith, name_depth u.given_name u.family_name), (schemas_depth core_user u.revision, (source_depth u.revision, (omega arith, tt))))))))) in
-    omega (arith, members_depth-members_from 2 (user_parts id meta u) within)
+user_data_depth id meta u i m = omega (arith, members_depth-members_from 2 (user_parts id meta u) (parts_within id meta u i m))
 
 -- ---- an id and `meta`
 
 pub user_shows : (id meta : Option Data) (u : UserRecord) → (attribute (codes "id") (members id meta u) ≡ present id) × (attribute (codes "meta") (members id meta u) ≡ present meta)
+unfolding user_front
 user_shows id meta u = (found (codes "id") id meta u, found (codes "meta") id meta u)

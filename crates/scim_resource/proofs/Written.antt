@@ -1,19 +1,21 @@
 -- The tokens of what is written, part by part.
-use Rattle.std.proofs.Common.{◌≡◌, ℕ, List, [], ◌∷◌, ◌++◌, Option, None, Some, Result, OnOk, option_map, codes, map, length, is_none, ◌&&◌, ◌==◌, false, refl, ap, ◌∙◌, append_assoc, append-nil}
+use Rattle.std.proofs.Common.{◌≡◌, ℕ, List, [], ◌∷◌, ◌++◌, Option, None, Some, Result, OnOk, option_map, codes, map, length, is_some, take, take_all, flat_map, ◌≤◌, ◌||◌, ◌==◌, Bool, true, false, refl, sym, ap, ◌∙◌, append-nil}
 use Rattle.json.specs.Token.{Token, begin_object, end_object}
 use Rattle.json.specs.Written.{Written}
 use Rattle.json.specs.Written as token
-use Rattle.serde_json.specs.Data.{Data, array, string, object}
+use Rattle.serde_json.specs.Data.{Data, array, string, object, Members, no_members}
 use Rattle.serde_json.specs.View.{items_of}
-use Rattle.scim_json.specs.Writing.{members_from, data_tokens, part_tokens, parts_tokens, Adds, Writes, WritesPart, WritesParts}
-use Rattle.scim_json.proofs.Written.{object_tokens, parts_tokens-append, then, object_closed}
+use Rattle.scim_json.specs.Writing.{member_if, members_from, part_tokens, parts_tokens, Adds, Writes, WritesPart, WritesParts}
+use Rattle.scim_json.proofs.Written.{parts_tokens-append, then, object_closed}
 use Rattle.scim_resource.specs.Contents.{content_kind}
 use Rattle.scim_resource.specs.Groups.{GroupRecord}
 use Rattle.scim_resource.specs.Locations.{type_name}
 use Rattle.scim_resource.specs.Rows.{ShownRecord}
+use Rattle.scim_resource.specs.UserTexts.{UserTexts, has_some, name_of, text_at}
 use Rattle.scim_resource.specs.Users.{UserRecord}
 use Rattle.scim_resource.specs.declared.emails.Email.{Email}
-use Rattle.scim_resource.specs.Writing.{group_parts, group_data, group_front, group_back, group_members_data, member_data, user_parts, user_data, user_front, user_back, name_parts, name_data, email_parts, email_data, primary_data, emails_data, meta_parts, meta_data, shown_location}
+use Rattle.scim_resource.specs.declared.user_texts.UserText.{UserText}
+use Rattle.scim_resource.specs.Writing.{group_parts, group_data, group_front, group_back, group_members_data, member_data, user_parts, user_data, user_front, user_back, text_parts, object_if, email_parts, email_data, primary_data, emails_data, meta_parts, meta_data, shown_location}
 
 pub user_closed : {E : Type 0} (r : Result (Unit {0}) E) (u : UserRecord) (a b c d e : Written) → Adds (begin_object ∷ []) a b → WritesParts (user_front u) b c → WritesParts (user_back u) c d
     → token.Writes r d e end_object → OnOk r (Writes (user_data None None u) a e)
@@ -82,17 +84,52 @@ email_closed r m a b c d e f first primary kind value last =
     let v = part_tokens (codes "value") (Some (string m.value)) in
     object_closed r (email_parts m) (p ++ (t ++ v)) a b e f (three p t v) first (then p (t ++ v) b c e primary (then t v c d e kind value)) last
 
-two : (a b c : List Token) → (a ++ (b ++ [])) ++ c ≡ a ++ (b ++ c)
-two a b c = simp (append_assoc, append-nil)
+-- the texts of a user, one by one
+abbrev pub text_tokens : UserTexts → UserText → List Token
+text_tokens texts which = part_tokens (name_of which) (option_map string (text_at which texts))
 
-pub name_tokens : (given family : Option (List ℕ)) → data_tokens (object (members_from (name_parts given family)))
-    ≡ begin_object ∷ (part_tokens (codes "familyName") (option_map string family) ++ (part_tokens (codes "givenName") (option_map string given) ++ end_object ∷ []))
-name_tokens given family = object_tokens (name_parts given family) ∙ ap (λ ts. begin_object ∷ ts) (two (part_tokens (codes "familyName") (option_map string family)) (part_tokens (codes "givenName") (option_map string given)) (end_object ∷ []))
+pub texts_tokens : (texts : UserTexts) (ws : List UserText) → flat_map (text_tokens texts) ws ≡ parts_tokens (text_parts texts ws)
+texts_tokens texts [] = refl
+texts_tokens texts (w ∷ ws) = ap (λ ts. text_tokens texts w ++ ts) (texts_tokens texts ws)
 
-pub name_some : (given family : Option (List ℕ)) → (is_none given && is_none family) ≡ false → name_data given family ≡ Some (object (members_from (name_parts given family)))
-name_some None None h = cc
-name_some None (Some f) h = refl
-name_some (Some g) family h = refl
+-- all texts are written when the loop has come to its end
+pub texts_written : (texts : UserTexts) (ws : List UserText) (i : ℕ) (a b : Written) → length ws ≤ i → Adds (flat_map (text_tokens texts) (take i ws)) a b → WritesParts (text_parts texts ws) a b
+texts_written texts ws i a b past each =
+    (each.0, each.1 ∙ ap (λ vs. a.tokens ++ flat_map (text_tokens texts) vs) (take_all i ws past) ∙ ap (λ ts. a.tokens ++ ts) (texts_tokens texts ws))
+
+none_written : (o : Option (List ℕ)) (name : List ℕ) (ms : Members) → is_some o ≡ false → member_if name (option_map string o) ms ≡ ms
+none_written None name ms h = refl
+none_written (Some text) name ms h = cc
+
+no_text : (a b : Bool) → (a || b) ≡ false → (a ≡ false) × (b ≡ false)
+no_text true b h = cc
+no_text false b h = (refl, h)
+
+no_members_of : (texts : UserTexts) (ws : List UserText) → has_some texts ws ≡ false → members_from (text_parts texts ws) ≡ no_members
+no_members_of texts [] h = refl
+no_members_of texts (w ∷ ws) h =
+    let none = no_text (is_some (text_at w texts)) (has_some texts ws) h in
+    none_written (text_at w texts) (name_of w) (members_from (text_parts texts ws)) none.0 ∙ no_members_of texts ws none.1
+
+-- an object of texts is there if the user has one of them
+texts_none : (texts : UserTexts) (ws : List UserText) → has_some texts ws ≡ false → object_if (members_from (text_parts texts ws)) ≡ None
+texts_none texts ws h = ap object_if (no_members_of texts ws h)
+
+object_some : (o : Option (List ℕ)) (name : List ℕ) (ms : Members) (more : Bool) → (is_some o || more) ≡ true → (more ≡ true → object_if ms ≡ Some (object ms))
+    → object_if (member_if name (option_map string o) ms) ≡ Some (object (member_if name (option_map string o) ms))
+object_some None name ms more h rest = rest h
+object_some (Some text) name ms more h rest = refl
+
+texts_some : (texts : UserTexts) (ws : List UserText) → has_some texts ws ≡ true → object_if (members_from (text_parts texts ws)) ≡ Some (object (members_from (text_parts texts ws)))
+texts_some texts [] h = cc
+texts_some texts (w ∷ ws) h = object_some (text_at w texts) (name_of w) (members_from (text_parts texts ws)) (has_some texts ws) h (λ more. texts_some texts ws more)
+
+pub held_none : (name : List ℕ) (texts : UserTexts) (ws : List UserText) (a : Written) → has_some texts ws ≡ false → WritesPart name (object_if (members_from (text_parts texts ws))) a a
+held_none name texts ws a h = rw (texts_none texts ws h) (refl, sym (append-nil a.tokens))
+
+pub held_some : {E : Type 0} (r : Result (Unit {0}) E) (name : List ℕ) (texts : UserTexts) (ws : List UserText) (a b : Written) → has_some texts ws ≡ true
+    → OnOk r (WritesPart name (Some (object (members_from (text_parts texts ws)))) a b) → OnOk r (WritesPart name (object_if (members_from (text_parts texts ws))) a b)
+held_some r name texts ws a b h written = rw (texts_some texts ws h) written
 
 pub emails_some : (es : List Email) → (length es == 0) ≡ false → emails_data es ≡ Some (array (items_of (map email_data es)))
 emails_some [] h = cc

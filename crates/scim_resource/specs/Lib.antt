@@ -11,5 +11,6 @@ pub mod Rows
 pub mod Schemas
 pub mod Showing
 pub mod Texts
+pub mod UserTexts
 pub mod Users
 pub mod Writing

@@ -1,5 +1,5 @@
 -- Reading a resource from JSON.
-use Rattle.std.specs.Prelude.{ℕ, Bool, true, false, List, [], ◌∷◌, ◌++◌, Option, None, Some, Result, Ok, Err, ◌&&◌, ◌||◌, if◌then◌else◌, is_none, codes}
+use Rattle.std.specs.Prelude.{ℕ, Bool, true, false, List, [], ◌∷◌, ◌++◌, Option, None, Some, Result, Ok, Err, ◌&&◌, ◌||◌, if◌then◌else◌, is_none, codes, map}
 use Rattle.scim_key.specs.Names.{user_name_fault, group_name_fault}
 use Rattle.scim_key.specs.Outcome.{◌>>=◌}
 use Rattle.scim_key.specs.Revisions.{RevisionValue, revision_of_number}
@@ -14,12 +14,17 @@ use Rattle.scim_resource.specs.Emails.{are_few}
 use Rattle.scim_resource.specs.Groups.{GroupRecord, is_among, are_few_members}
 use Rattle.scim_resource.specs.Schemas.{core_user, core_group, source_extension}
 use Rattle.scim_resource.specs.Texts.{is_short_text}
+use Rattle.scim_resource.specs.UserTexts.{UserTexts, holder_of, name_of}
 use Rattle.scim_resource.specs.Users.{UserRecord}
 use Rattle.scim_resource.specs.declared.contents.Content.{Content}
 use Rattle.scim_resource.specs.declared.contents.Content.TheVariants.{User, Group}
 use Rattle.scim_resource.specs.declared.emails.Email.{Email}
 use Rattle.scim_resource.specs.declared.faults.ReadFault.{ReadFault}
 use Rattle.scim_resource.specs.declared.faults.ReadFault.TheVariants.{InvalidSyntax, InvalidValue}
+use Rattle.scim_resource.specs.declared.user_texts.Holder.{Holder}
+use Rattle.scim_resource.specs.declared.user_texts.Holder.TheVariants as holder
+use Rattle.scim_resource.specs.declared.user_texts.TheConstants.{USER_TEXTS}
+use Rattle.scim_resource.specs.declared.user_texts.UserText.{UserText}
 
 -- a fault of a value is `InvalidValue`
 abbrev pub checked : {X : Type 0} → Result X ValueFault → Result X ReadFault
@@ -93,6 +98,24 @@ text_in (Some (object ms)) = Err InvalidValue
 abbrev pub part_of : List ℕ → Option Members → Option Data
 part_of name None = None
 part_of name (Some ms) = attribute name ms
+
+-- ---- the texts of a user
+
+-- the member of this name in the object that has the text
+abbrev pub value_in : Holder → Members → Option Members → List ℕ → Option Data
+value_in holder.User ms name key = attribute key ms
+value_in holder.Name ms name key = part_of key name
+
+-- the value of a text, given the user's members and those of its name
+abbrev pub value_of : Members → Option Members → UserText → Option Data
+value_of ms name which = value_in (holder_of which) ms name (name_of which)
+
+unfoldable pub texts_in : List (Option Data) → Result UserTexts ReadFault
+texts_in [] = Ok []
+texts_in (d ∷ ds) = text_in d >>= (λ text. texts_in ds >>= (λ texts. Ok (text ∷ texts)))
+
+unfoldable pub user_texts_in : Members → Option Members → Result UserTexts ReadFault
+user_texts_in ms name = texts_in (map (value_of ms name) USER_TEXTS)
 
 -- ---- emails
 
@@ -181,14 +204,12 @@ unfoldable pub user_fields : Members → Result UserRecord ReadFault
 user_fields ms =
     if_listed (lists_schema core_user (attribute (codes "schemas") ms))
     (user_name_in (attribute (codes "userName") ms) >>= (λ user_name.
-    text_in (attribute (codes "externalId") ms) >>= (λ external_id.
     checked (members_in (attribute (codes "name") ms)) >>= (λ name.
-    text_in (part_of (codes "givenName") name) >>= (λ given_name.
-    text_in (part_of (codes "familyName") name) >>= (λ family_name.
+    user_texts_in ms name >>= (λ texts.
     emails_in (attribute (codes "emails") ms) >>= (λ emails.
     checked (flag_or true (attribute (codes "active") ms)) >>= (λ active.
     revision_in (attribute source_extension ms) >>= (λ revision.
-    Ok (record { user_name = user_name; external_id = external_id; given_name = given_name; family_name = family_name; emails = emails; active = active; revision = revision }))))))))))
+    Ok (record { user_name = user_name; texts = texts; emails = emails; active = active; revision = revision }))))))))
 
 unfoldable pub group_fields : Members → Result GroupRecord ReadFault
 group_fields ms =

@@ -1,7 +1,7 @@
 -- Writing a resource as JSON.
-use Rattle.std.specs.Prelude.{ℕ, Bool, true, false, List, [], ◌∷◌, Option, None, Some, option_map, map, take, drop, codes}
+use Rattle.std.specs.Prelude.{ℕ, Bool, true, false, List, [], ◌∷◌, ◌++◌, Option, None, Some, option_map, map, take, drop, codes}
 use Rattle.scim_key.specs.Revisions.{RevisionValue, revision_number}
-use Rattle.serde_json.specs.Data.{unsigned, Data, boolean, number, string, array, object, Items, no_items, item, no_members, member}
+use Rattle.serde_json.specs.Data.{unsigned, Data, boolean, number, string, array, object, Items, no_items, item, Members, no_members, member}
 use Rattle.serde_json.specs.View.{items_of}
 use Rattle.scim_json.specs.Writing.{Part, members_from}
 use Rattle.scim_resource.specs.Contents.{content_kind}
@@ -9,10 +9,13 @@ use Rattle.scim_resource.specs.Groups.{GroupRecord}
 use Rattle.scim_resource.specs.Locations.{location_text, type_name}
 use Rattle.scim_resource.specs.Rows.{ShownRecord}
 use Rattle.scim_resource.specs.Schemas.{core_user, core_group, source_extension}
+use Rattle.scim_resource.specs.UserTexts.{UserTexts, name_of, text_at}
 use Rattle.scim_resource.specs.Users.{UserRecord}
 use Rattle.scim_resource.specs.declared.contents.Content.{Content}
 use Rattle.scim_resource.specs.declared.contents.Content.TheVariants.{User, Group}
 use Rattle.scim_resource.specs.declared.emails.Email.{Email}
+use Rattle.scim_resource.specs.declared.user_texts.TheConstants.{NAME_TEXTS, TOP_TEXTS}
+use Rattle.scim_resource.specs.declared.user_texts.UserText.{UserText}
 
 -- the source extension, if there is a revision
 abbrev pub source_data : Option RevisionValue → Option Data
@@ -24,15 +27,21 @@ abbrev pub schemas_data : List ℕ → Option RevisionValue → Items
 schemas_data core None = item (string core) no_items
 schemas_data core (Some r) = item (string core) (item (string source_extension) no_items)
 
--- the parts of a name
-abbrev pub name_parts : Option (List ℕ) → Option (List ℕ) → List Part
-name_parts given family = (codes "familyName", option_map string family) ∷ (codes "givenName", option_map string given) ∷ []
+-- an object, if it has a member
+abbrev pub object_if : Members → Option Data
+object_if no_members = None
+object_if (member name d ms) = Some (object (member name d ms))
+
+-- texts of a user as members
+abbrev pub text_part : UserTexts → UserText → Part
+text_part texts which = (name_of which, option_map string (text_at which texts))
+
+abbrev pub text_parts : UserTexts → List UserText → List Part
+text_parts texts ws = map (text_part texts) ws
 
 -- a name, if it has a part
-abbrev pub name_data : Option (List ℕ) → Option (List ℕ) → Option Data
-name_data None None = None
-name_data None (Some family) = Some (object (members_from (name_parts None (Some family))))
-name_data (Some given) family = Some (object (members_from (name_parts (Some given) family)))
+abbrev pub name_data : UserTexts → Option Data
+name_data texts = object_if (members_from (text_parts texts NAME_TEXTS))
 
 -- `primary`, only if it is true
 abbrev pub primary_data : Bool → Option Data
@@ -51,19 +60,24 @@ abbrev pub emails_data : List Email → Option Data
 emails_data [] = None
 emails_data (e ∷ es) = Some (array (items_of (map email_data (e ∷ es))))
 
--- a user's attributes in byte order, with an id and `meta`
-abbrev pub user_parts : Option Data → Option Data → UserRecord → List Part
-user_parts id meta u =
+-- a user's attributes in byte order: those before `id`, and those after `meta`
+unfoldable pub user_front : UserRecord → List Part
+user_front u =
     (codes "active", Some (boolean u.active))
     ∷ (codes "emails", emails_data u.emails)
-    ∷ (codes "externalId", option_map string u.external_id)
-    ∷ (codes "id", id)
-    ∷ (codes "meta", meta)
-    ∷ (codes "name", name_data u.given_name u.family_name)
+    ∷ text_parts u.texts TOP_TEXTS
+
+unfoldable pub user_back : UserRecord → List Part
+user_back u =
+    (codes "name", name_data u.texts)
     ∷ (codes "schemas", Some (array (schemas_data core_user u.revision)))
     ∷ (source_extension, source_data u.revision)
     ∷ (codes "userName", Some (string u.user_name))
     ∷ []
+
+-- a user's attributes in byte order, with an id and `meta`
+abbrev pub user_parts : Option Data → Option Data → UserRecord → List Part
+user_parts id meta u = user_front u ++ (codes "id", id) ∷ (codes "meta", meta) ∷ user_back u
 
 unfoldable pub user_data : Option Data → Option Data → UserRecord → Data
 user_data id meta u = object (members_from (user_parts id meta u))
@@ -94,13 +108,6 @@ group_data id meta g = object (members_from (group_parts id meta g))
 abbrev pub resource_data : Option Data → Option Data → Content → Data
 resource_data id meta (User u) = user_data id meta u
 resource_data id meta (Group g) = group_data id meta g
-
--- a user's attributes before `id`, and those after `meta`
-unfoldable pub user_front : UserRecord → List Part
-user_front u = take 3 (user_parts None None u)
-
-unfoldable pub user_back : UserRecord → List Part
-user_back u = drop 5 (user_parts None None u)
 
 -- a group's attributes before `id`, and those after `meta`
 unfoldable pub group_front : GroupRecord → List Part

@@ -14,6 +14,7 @@ mod rows;
 mod schemas;
 mod showing;
 mod texts;
+mod user_texts;
 mod users;
 mod writing;
 
@@ -28,4 +29,5 @@ pub use laws::{
 pub use locations::location;
 pub use rows::{LAST_VERSION, Shown, Stored, TAG_LIMIT};
 pub use texts::{TEXT_LIMIT, Text};
+pub use user_texts::{TEXT_COUNT, USER_TEXTS, UserText};
 pub use users::User;

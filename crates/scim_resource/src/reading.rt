@@ -1,10 +1,11 @@
 //! Reading a resource from JSON (RFC 7643 section 2).
-ghost use Rattle.std.specs.Prelude.{◌≡◌, IfOk, IfSome, option_map};
+ghost use Rattle.std.specs.Prelude.{◌≡◌, IfOk, IfSome, map, option_map};
 ghost use Rattle.scim_key.specs.Names.{IsUserName};
 ghost use Rattle.scim_key.specs.Outcome.{Gives, GivesBy};
 ghost use Rattle.serde_json.specs.View.{view, items_view, members_view};
 ghost use Rattle.scim_resource.specs.Emails.{AreEmails, IsEmail, IsEmailList};
 ghost use Rattle.scim_resource.specs.Texts.{IsTextIf};
+ghost use Rattle.scim_resource.specs.UserTexts.{AreUserTexts};
 ghost use Rattle.scim_resource.specs.Users.{IsSourceRevision};
 ghost use Rattle.scim_resource.specs.Reading as spec;
 
@@ -14,6 +15,7 @@ use crate::faults::ReadFault;
 use crate::group_reading::read_group;
 use crate::schemas::{core_user, source_extension};
 use crate::texts::{Text, is_short_text};
+use crate::user_texts::{Holder, TEXT_COUNT, USER_TEXTS, UserText};
 use crate::users::User;
 use scim_json::{
     attribute, flag_or, items_in, json_of, list_repeats, lists_text, members_in, repeats,
@@ -78,17 +80,20 @@ fn user_fields(alloc: Global, members: &Map<String, Value>) -> Result<User, Read
         return Err(ReadFault::InvalidValue);
     }
     let user_name = user_name_in(alloc, attribute(members, "userName"))?;
-    let external_id = text_in(alloc, attribute(members, "externalId"))?;
     let name = members_in(attribute(members, "name"))?;
-    let given_name = text_in(alloc, part_of(name, "givenName"))?;
-    let family_name = text_in(alloc, part_of(name, "familyName"))?;
+    let texts = texts_in(
+        alloc,
+        &Holders {
+            user: members,
+            name,
+        },
+    )?;
     let emails = emails_in(alloc, attribute(members, "emails"))?;
     let active = flag_or(attribute(members, "active"), true)?;
     let revision = revision_in(attribute(members, source_extension()))?;
     Ok(
         User::new(alloc, user_name, active, revision)
-            .with_external_id(external_id)
-            .with_name(given_name, family_name)
+            .with_texts(texts)
             .with_emails(emails),
     )
 }
@@ -102,6 +107,42 @@ fn part_of<'v>(members: Option<&'v Map<String, Value>>, name: &str) -> Option<&'
         Some(members) => attribute(members, name),
         None => None,
     }
+}
+
+/// The objects of a user's JSON that have its texts as members.
+#[derive(Clone, Copy)]
+struct Holders<'v> {
+    user: &'v Map<String, Value>,
+    name: Option<&'v Map<String, Value>>,
+}
+
+impl<'v> Holders<'v> {
+    fn value_of(&self, which: UserText) -> Option<&'v Value>
+        ensures { option_map (λ v. view v.now) result ≡ spec.value_of (members_view self.now.user.now.entries)
+            (option_map (λ m. members_view m.now.entries) self.now.name) which }
+    {
+        let (holder, key) = which.member();
+        match holder {
+            Holder::User => attribute(self.user, key),
+            Holder::Name => part_of(self.name, key),
+        }
+    }
+
+    fn values(&self) -> [Option<&'v Value>; TEXT_COUNT]
+        ensures { map (option_map (λ v. view v.now)) result ≡ map (spec.value_of (members_view self.now.user.now.entries)
+            (option_map (λ m. members_view m.now.entries) self.now.name)) USER_TEXTS }
+    {
+        USER_TEXTS.map(|which| self.value_of(which))
+    }
+}
+
+/// The texts of a user.
+fn texts_in(alloc: Global, holders: &Holders) -> Result<[Option<Text>; TEXT_COUNT], ReadFault>
+    ensures given { Gives ReadFault.Memory result (spec.user_texts_in (members_view holders.now.user.now.entries)
+        (option_map (λ m. members_view m.now.entries) holders.now.name)) }
+    ensures lawful { IfOk result AreUserTexts }
+{
+    holders.values().try_map(|value| text_in(alloc, value))
 }
 
 /// A text of 1 to 256 bytes.

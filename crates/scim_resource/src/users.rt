@@ -3,11 +3,12 @@ ghost use Rattle.std.specs.Prelude.{◌≡◌, ℕ, List, [], Option, Some, None
 ghost use Rattle.std.specs.Option.{option_copied};
 ghost use Rattle.scim_key.specs.Names.{IsUserName};
 ghost use Rattle.scim_resource.specs.Emails.{IsEmailList};
-ghost use Rattle.scim_resource.specs.Texts.{IsText, IsTextIf};
+ghost use Rattle.scim_resource.specs.UserTexts.{AreUserTexts, no_texts, text_at};
 ghost use Rattle.scim_resource.specs.Users.{UserRecord, IsSourceRevision, IsUser};
 
 use crate::emails::{Email, Emails};
-use crate::texts::{Text, copy_of};
+use crate::texts::Text;
+use crate::user_texts::{TEXT_COUNT, USER_TEXTS, UserText};
 use scim_key::{Revision, UserName};
 use std::alloc::{AllocError, Global};
 use std::marker::Model;
@@ -16,9 +17,7 @@ use std::marker::Model;
 #[derive(Debug)]
 pub struct User {
     user_name: UserName,
-    external_id: Option<Text>,
-    given_name: Option<Text>,
-    family_name: Option<Text>,
+    texts: [Option<Text>; TEXT_COUNT],
     emails: Emails,
     active: bool,
     revision: Option<Revision>,
@@ -29,9 +28,9 @@ impl Model for User {
 
     ghost Value = { UserRecord };
 
-    ghost view = { λ u. record { user_name = u.user_name; external_id = u.external_id; given_name = u.given_name; family_name = u.family_name; emails = u.emails; active = u.active; revision = u.revision } };
+    ghost view = { λ u. record { user_name = u.user_name; texts = u.texts; emails = u.emails; active = u.active; revision = u.revision } };
 
-    ghost invariant = { λ u. IsUser (record { user_name = u.user_name; external_id = u.external_id; given_name = u.given_name; family_name = u.family_name; emails = u.emails; active = u.active; revision = u.revision }) };
+    ghost invariant = { λ u. IsUser (record { user_name = u.user_name; texts = u.texts; emails = u.emails; active = u.active; revision = u.revision }) };
 }
 
 /// Dropping a user is one call, and not a step for each field: each step would lengthen every proof that
@@ -40,9 +39,7 @@ impl Drop for User {
     fn drop(self) {
         let User {
             user_name: _,
-            external_id: _,
-            given_name: _,
-            family_name: _,
+            texts: _,
             emails: _,
             active: _,
             revision: _,
@@ -55,36 +52,23 @@ impl User {
     pub fn new(alloc: Global, user_name: UserName, active: bool, revision: Option<Revision>) -> User
         requires named { IsUserName user_name }
         requires given { IsSourceRevision revision }
-        ensures { result ≡ record { user_name = user_name; external_id = None; given_name = None; family_name = None; emails = []; active = active; revision = revision } }
+        ensures { result ≡ record { user_name = user_name; texts = no_texts; emails = []; active = active; revision = revision } }
     {
         User {
             user_name,
-            external_id: None,
-            given_name: None,
-            family_name: None,
+            texts: USER_TEXTS.map(|_| None),
             emails: Emails::new(alloc),
             active,
             revision,
         }
     }
 
-    /// The user with this id at the source, or with none.
-    pub fn with_external_id(mut self, external_id: Option<Text>) -> User
-        requires { IsTextIf external_id }
-        ensures { result ≡ record self { external_id = external_id } }
+    /// The user with these texts, in the order of `USER_TEXTS`.
+    pub fn with_texts(mut self, texts: [Option<Text>; TEXT_COUNT]) -> User
+        requires { AreUserTexts texts }
+        ensures { result ≡ record self { texts = texts } }
     {
-        self.external_id = external_id;
-        self
-    }
-
-    /// The user with these parts of a name.
-    pub fn with_name(mut self, given_name: Option<Text>, family_name: Option<Text>) -> User
-        requires given { IsTextIf given_name }
-        requires family { IsTextIf family_name }
-        ensures { result ≡ record self { given_name = given_name; family_name = family_name } }
-    {
-        self.given_name = given_name;
-        self.family_name = family_name;
+        self.texts = texts;
         self
     }
 
@@ -104,23 +88,11 @@ impl User {
         &self.user_name
     }
 
-    /// The user's id at the source.
-    pub fn external_id(&self) -> Option<&Text>
-        ensures { option_copied result ≡ self.now.external_id }
+    /// This text of the user, if there is one.
+    pub fn text(&self, which: UserText) -> Option<&Text>
+        ensures { option_copied result ≡ text_at which self.now.texts }
     {
-        self.external_id.as_ref()
-    }
-
-    pub fn given_name(&self) -> Option<&Text>
-        ensures { option_copied result ≡ self.now.given_name }
-    {
-        self.given_name.as_ref()
-    }
-
-    pub fn family_name(&self) -> Option<&Text>
-        ensures { option_copied result ≡ self.now.family_name }
-    {
-        self.family_name.as_ref()
+        self.texts[which.place()].as_ref()
     }
 
     pub fn emails(&self) -> &[Email]
@@ -151,9 +123,7 @@ impl Clone for User {
     fn clone(&self) -> Result<User, AllocError> {
         Ok(User {
             user_name: self.user_name.clone()?,
-            external_id: copy_of(&self.external_id)?,
-            given_name: copy_of(&self.given_name)?,
-            family_name: copy_of(&self.family_name)?,
+            texts: self.texts.clone()?,
             emails: self.emails.clone()?,
             active: self.active,
             revision: self.revision,

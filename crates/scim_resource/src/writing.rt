@@ -9,6 +9,7 @@ ghost use Rattle.scim_json.specs.Writing.{members_from, Writes, WritesPart, Writ
 ghost use Rattle.scim_resource.specs.Contents.{IsContent};
 ghost use Rattle.scim_resource.specs.Rows.{IsShown};
 ghost use Rattle.scim_resource.specs.Schemas.{source_extension as urn};
+ghost use Rattle.scim_resource.specs.UserTexts.{has_some};
 ghost use Rattle.scim_resource.specs.Users.{IsUser};
 ghost use Rattle.scim_resource.specs.Writing as spec;
 
@@ -19,6 +20,7 @@ use crate::locations::{location, type_name};
 use crate::rows::Shown;
 use crate::schemas::{core_user, source_extension};
 use crate::texts::Text;
+use crate::user_texts::{NAME_TEXTS, TOP_TEXTS, UserText};
 use crate::users::User;
 use json::Writer;
 use scim_json::{TEXT_ROOM, write_text, write_whole};
@@ -146,7 +148,7 @@ fn write_user_front(out: &mut Writer, user: &User) -> Result<(), AllocError>
     out.key("active")?;
     out.boolean(user.is_active())?;
     write_emails(out, user.emails())?;
-    write_text_of(out, "externalId", user.external_id())
+    write_texts(out, user, &TOP_TEXTS)
 }
 
 #[tactic(auto, unfolding(crate::specs::Writing::user_back))]
@@ -154,7 +156,7 @@ fn write_user_back(out: &mut Writer, user: &User) -> Result<(), AllocError>
     ensures written { OnOk result (WritesParts (spec.user_back user.now) out.old out.new) }
     ensures lawful { OnOk result (IsUser user.now) }
 {
-    write_name(out, user.given_name(), user.family_name())?;
+    write_held(out, "name", user, &NAME_TEXTS)?;
     write_schemas(out, core_user(), user.revision())?;
     write_source(out, user.revision())?;
     write_text(out, "userName", user.user_name().as_str())
@@ -175,35 +177,46 @@ pub(crate) fn write_text_of(
     }
 }
 
-/// Writes a name, if it has a part.
-#[tactic(auto, using(crate::proofs::Written::name_some))]
-fn write_name(
-    out: &mut Writer,
-    given_name: Option<&Text>,
-    family_name: Option<&Text>,
-) -> Result<(), AllocError>
-    ensures { OnOk result (WritesPart (codes "name")
-        (spec.name_data (option_copied given_name.entry) (option_copied family_name.entry)) out.old out.new) }
+/// Writes these texts of a user, as far as it has them.
+fn write_texts(out: &mut Writer, user: &User, texts: &[UserText]) -> Result<(), AllocError>
+    ensures { OnOk result
+        (WritesParts (spec.text_parts user.now.texts texts.now) out.old out.new) }
 {
-    if given_name.is_none() && family_name.is_none() {
-        return Ok(());
+    for which in texts {
+        write_text_of(out, which.member().1, user.text(*which))?;
     }
-    out.key("name")?;
-    write_name_parts(out, given_name, family_name)
+    Ok(())
 }
 
-#[tactic(auto, using(crate::proofs::Written::name_tokens))]
-fn write_name_parts(
+fn has_some(user: &User, texts: &[UserText]) -> bool
+    ensures { result ≡ has_some user.now.texts texts.now }
+{
+    texts.iter().any(|which| user.text(*which).is_some())
+}
+
+/// Writes an object of these texts of a user, if it has one of them.
+fn write_held(
     out: &mut Writer,
-    given_name: Option<&Text>,
-    family_name: Option<&Text>,
+    name: &str,
+    user: &User,
+    texts: &[UserText],
 ) -> Result<(), AllocError>
-    ensures { OnOk result (Writes (object (members_from
-        (spec.name_parts (option_copied given_name.entry) (option_copied family_name.entry)))) out.old out.new) }
+    ensures { OnOk result (WritesPart name.now
+        (spec.object_if (members_from (spec.text_parts user.now.texts texts.now))) out.old out.new) }
+{
+    if !has_some(user, texts) {
+        return Ok(());
+    }
+    out.key(name)?;
+    write_text_object(out, user, texts)
+}
+
+fn write_text_object(out: &mut Writer, user: &User, texts: &[UserText]) -> Result<(), AllocError>
+    ensures { OnOk result
+        (Writes (object (members_from (spec.text_parts user.now.texts texts.now))) out.old out.new) }
 {
     out.begin_object()?;
-    write_text_of(out, "familyName", family_name)?;
-    write_text_of(out, "givenName", given_name)?;
+    write_texts(out, user, texts)?;
     out.end_object()
 }
 
