@@ -1,6 +1,6 @@
 -- What a stop leaves of the book, after each call that changes it.
-use Rattle.std.proofs.Common.{◌≡◌, ◌≢◌, ◌⊎◌, Bool, true, false, cond, List, [], ◌∷◌, ◌++◌, Option, Some, None, Result, Ok, Err, OnErr, OnOk, refl, ap, sym, subst, ◌∙◌, inl, inr}
-use Rattle.std.specs.FinMap.{get, insert, keys, get-insert}
+use Rattle.std.proofs.Common.{◌≡◌, Bool, true, false, cond, List, [], ◌∷◌, ◌++◌, Option, Some, Result, Ok, Err, OnOk, refl, ap, sym, subst, ◌∙◌, inl, inr}
+use Rattle.std.specs.FinMap.{get, keys, get-insert}
 use Rattle.std.specs.Option.{option_map}
 use Rattle.std.specs.Ordering.{is_eq}
 use Rattle.scim_key.specs.RecordOrder.{names_total, tied}
@@ -8,17 +8,15 @@ use Rattle.scim_key.specs.Records.{name_cmp}
 use Rattle.scim_key.specs.declared.records.RecordName.{RecordName}
 use Rattle.scim_message.specs.declared.messages.Answer.{Answer}
 use Rattle.scim_message.specs.declared.messages.Request.{Request}
-use Rattle.source_csv.specs.Records.{row_name}
 use Rattle.source_csv.specs.declared.rows.Row.{Row}
 use Rattle.source_book.specs.declared.accepting.Verdict.{Verdict}
 use Rattle.source_book.specs.declared.accepting.Verdict.TheVariants as verdicts
 use Rattle.journal_core.specs.Entries.{EntryMap, with_row}
 use Rattle.journal_core.specs.Stores.{LeavesOr}
-use Rattle.journal_core.specs.declared.entries.Entry.{Entry}
 use Rattle.journal_core.specs.declared.journals.Journal.{Ghosts as Journals}
 use Rattle.journal_core.proofs.Trees.{name_from_test}
-use Rattle.connector_core.specs.Book.{Book, seeing, wanting}
-use Rattle.connector_core.specs.Changing.{accepted_map, book_after, if_new, judged, judging, new_rows, taking, taking_all}
+use Rattle.connector_core.specs.Book.{Book, seeing}
+use Rattle.connector_core.specs.Changing.{accepted_map, book_after, if_new, judged, judging, new_rows, taking_all}
 use Rattle.connector_core.specs.Learning.{after_learning, learn}
 use Rattle.connector_core.specs.Maps.{BookMap, book_of, changed}
 use Rattle.connector_core.specs.Noting.{IsNewsOf, IsNoted, after_news, entries_with}
