@@ -32,10 +32,9 @@ use Rattle.source_book.specs.History.{History, rows_of}
 use Rattle.connector_core.specs.Learning.{Finding, Shows, Taken, Stale, finding, subject}
 use Rattle.world_model.specs.Safe.{IsAt, Has}
 use Rattle.world_model.specs.Untroubled.{most_entries}
-use Rattle.world_model.proofs.Keeping.{Kept}
 use Rattle.world_model.proofs.Ranking.{AllLawful, row_lawful, versions_few}
 use Rattle.world_model.proofs.Searched.{Says, search_is, search_subject, search_said, shown_name}
-use Rattle.world_model.proofs.Telling.{Overwrites, AskedTruly}
+use Rattle.world_model.specs.Invariant.{Kept, Overwrites, AskedTruly}
 
 -- an answer that says something of a record with accepted rows
 pub record Answers (history : History) (request : Request) (answer : Answer) : Type 0 where

@@ -27,7 +27,8 @@ use Rattle.world_model.specs.Safe.{IsAt, Has}
 use Rattle.world_model.specs.Untroubled.{IsLawful}
 use Rattle.world_model.proofs.Accepting.{new_by_source}
 use Rattle.world_model.proofs.Finding.{kept_has}
-use Rattle.world_model.proofs.Invariant.{Inv, event_inv, empty_inv}
+use Rattle.world_model.specs.Invariant.{Invariant}
+use Rattle.world_model.proofs.Invariant.{event_inv, empty_inv}
 use Rattle.world_model.proofs.Judging.{judged_by_source}
 use Rattle.world_model.proofs.Lists.{has_last}
 use Rattle.world_model.proofs.Quiet.{Quiet, always_quiet}
@@ -38,7 +39,7 @@ pub record Calm (w : World) : Type 0 where
 
 -- ---- members
 
-changes_members : (w : World) (row : Row) (v : Result Verdict ChangeFault) → Inv w → judged w row ≡ v → MembersAreUsers w.history → MembersAreUsers (changes w row v).history
+changes_members : (w : World) (row : Row) (v : Result Verdict ChangeFault) → Invariant w → judged w row ≡ v → MembersAreUsers w.history → MembersAreUsers (changes w row v).history
 changes_members w row (Ok verdicts.New) inv is members = (goes_on w.history row (new_by_source w.history row (sym (judged_by_source w row inv.follows) ∙ is))).members members
 changes_members w row (Ok verdicts.Known) inv is members = members
 changes_members w row (Ok verdicts.Older) inv is members = members
@@ -55,7 +56,7 @@ delivers_members w None members = members
 delivers_members w (Some (Asked request)) members = members
 delivers_members w (Some (Answered request answer)) members = members
 
-event_members : (w : World) (event : Event) → Inv w → MembersAreUsers w.history → MembersAreUsers (happens w event).history
+event_members : (w : World) (event : Event) → Invariant w → MembersAreUsers w.history → MembersAreUsers (happens w event).history
 event_members w (Changes row) inv members = changes_members w row (judged w row) inv refl members
 event_members w (Sends name) inv members = sends_members w (asking w.book name) members
 event_members w (Delivers number) inv members = delivers_members w (message_at w.messages number) members
@@ -63,7 +64,7 @@ event_members w (Cuts number length) inv members = members
 event_members w Restarts_provider inv members = members
 event_members w Restarts_connector inv members = members
 
-run_members : (w : World) (events : List Event) → Inv w → MembersAreUsers w.history → MembersAreUsers (run w events).history
+run_members : (w : World) (events : List Event) → Invariant w → MembersAreUsers w.history → MembersAreUsers (run w events).history
 run_members w [] inv members = members
 run_members w (event ∷ events) inv members = run_members (happens w event) events (event_inv w event inv) (event_members w event inv members)
 

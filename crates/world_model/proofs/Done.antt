@@ -16,7 +16,7 @@ use Rattle.world_model.specs.World.{World}
 use Rattle.world_model.proofs.Asked.{IsDone, if_done}
 use Rattle.world_model.proofs.Keeping.{none_above_held}
 use Rattle.world_model.proofs.Lists.{last_has}
-use Rattle.world_model.proofs.Noting.{HasVersion}
+use Rattle.world_model.specs.Invariant.{HasVersion}
 use Rattle.world_model.proofs.Phases.{is_last, its_law}
 use Rattle.world_model.proofs.Quiet.{Quiet}
 use Rattle.world_model.proofs.Ranking.{lawful_revision}

@@ -15,7 +15,8 @@ use Rattle.world_model.specs.Safe.{IsAt, Has, rows, HasReached, IsImage, IsLater
 use Rattle.world_model.proofs.Onwards.{always_onward}
 use Rattle.world_model.proofs.Keeping.{held_revision, none_above_held}
 use Rattle.world_model.proofs.Safety.{version_reached}
-use Rattle.world_model.proofs.Invariant.{Inv, always_inv}
+use Rattle.world_model.proofs.Invariant.{always_inv}
+use Rattle.world_model.specs.Invariant.{Invariant}
 
 -- ---- rows and entries
 
@@ -45,7 +46,7 @@ row_here m k (d ∷ es) (suc i) e number at = row_here (suc m) k es i e (omega (
 
 -- ---- at one moment
 
-module _ (w : World) (inv : Inv w) where
+module _ (w : World) (inv : Invariant w) where
   held_named : (i : ℕ) (e : Entry) → IsAt w.entries i e → content_name e.held ≡ e.name
   held_named i e at = inv.kept.whole.named i (length e.earlier) e e.held at (held_at e)
 
@@ -87,7 +88,7 @@ module _ (w : World) (inv : Inv w) where
 
 -- ---- and later
 
-never_back : (w v : World) (inv_w : Inv w) (inv_v : Inv v) → AllGoOn w.entries v.entries → (s : StoredRecord) → Has (rows w) s → (t : StoredRecord) × Has (rows v) t × IsLater s t
+never_back : (w v : World) (inv_w : Invariant w) (inv_v : Invariant v) → AllGoOn w.entries v.entries → (s : StoredRecord) → Has (rows w) s → (t : StoredRecord) × Has (rows v) t × IsLater s t
 never_back w v inv_w inv_v all s has =
     let r = row_of_entry w inv_w s has in
     let e = r.entry in

@@ -1,5 +1,5 @@
 -- What is true after every event.
-use Rattle.std.proofs.Common.{◌≡◌, ℕ, zero, suc, List, [], ◌∷◌, Option, Some, None, Result, Ok, Err, refl, ap, sym, ◌∙◌}
+use Rattle.std.proofs.Common.{◌≡◌, ℕ, zero, suc, List, [], ◌∷◌, Option, Some, None, Result, Ok, Err, refl, ap, sym, ◌∙◌, subst}
 use Rattle.std.specs.Option.{option_map}
 use Rattle.scim_key.specs.Revisions.{◌≺◌}
 use Rattle.scim_key.specs.declared.records.RecordName.{RecordName}
@@ -7,13 +7,12 @@ use Rattle.scim_message.specs.declared.messages.Request.{Request}
 use Rattle.scim_message.specs.declared.messages.Answer.{Answer}
 use Rattle.provider_core.specs.Stories.{step}
 use Rattle.provider_core.proofs.StoryLaws.{stories_only_grow}
-use Rattle.provider_core.proofs.TableLaws.{go_on_staying, tables_stay_whole, answers_show_facts}
+use Rattle.provider_core.proofs.TableLaws.{at_more, go_on_staying, tables_stay_whole, answers_show_facts}
 use Rattle.source_csv.specs.Records.{row_name, row_revision}
 use Rattle.source_csv.specs.declared.rows.Row.{Row}
 use Rattle.source_book.proofs.Acceptance.{new_is_newer}
 use Rattle.source_book.proofs.Rising.{goes_on}
 use Rattle.source_book.specs.Accepting.{accepting}
-use Rattle.source_book.specs.History.{AllRise}
 use Rattle.source_book.specs.declared.accepting.Verdict.{Verdict}
 use Rattle.source_book.specs.declared.accepting.Verdict.TheVariants as verdicts
 use Rattle.connector_core.specs.Asking.{asking}
@@ -23,27 +22,22 @@ use Rattle.connector_core.specs.declared.changing.ChangeFault.{ChangeFault}
 use Rattle.connector_core.specs.declared.knowledge.Known.{Known}
 use Rattle.world_model.specs.World.{World, Message, Asked, Answered, Event, Changes, Sends, Delivers, Cuts, Restarts_provider, Restarts_connector, changes, sends, arrives, delivers, message_at, happens, empty, judged, run}
 use Rattle.world_model.specs.Safe.{IsAt}
-use Rattle.world_model.proofs.Judging.{Follows, event_follows, judged_by_source}
+use Rattle.world_model.specs.Invariant.{Follows, Kept, AskedTruly, ShowsTruly, Invariant, EventsKeepIt, AlwaysKept, FactsStay}
+use Rattle.world_model.proofs.Onwards.{run_on}
+use Rattle.world_model.proofs.Judging.{event_follows, judged_by_source}
 use Rattle.world_model.proofs.Accepting.{rows_stay, new_by_source}
 use Rattle.world_model.proofs.Growing.{Grows, image_grows}
-use Rattle.world_model.proofs.Keeping.{Kept, step_grows, step_keeps}
-use Rattle.world_model.proofs.Noting.{AllNoted, all_noted_grow, row_noted, reopened_noted, learning_noted}
+use Rattle.world_model.proofs.Keeping.{step_grows, step_keeps}
+use Rattle.world_model.proofs.Noting.{all_noted_grow, row_noted, reopened_noted, learning_noted}
 use Rattle.world_model.proofs.Sending.{what_is_asked}
-use Rattle.world_model.proofs.Telling.{AskedTruly, ShowsTruly, AllTold, all_told_grow, told_push}
-
-pub record Inv (w : World) : Type 0 where
-  pub rising : AllRise w.history
-  pub follows : Follows w.book w.history
-  pub kept : Kept w.history w.entries
-  pub noted : AllNoted w.entries w.book
-  pub told : AllTold w.history w.entries w.messages
+use Rattle.world_model.proofs.Telling.{all_told_grow, told_push}
 
 -- ---- a row is offered
 
 abbrev with_new : World → Row → World
 with_new w row = changes w row (Ok verdicts.New)
 
-module _ (w : World) (row : Row) (inv : Inv w) (new : accepting w.history row ≡ Ok verdicts.New) (follows : Follows (with_new w row).book (with_new w row).history) where
+module _ (w : World) (row : Row) (inv : Invariant w) (new : accepting w.history row ≡ Ok verdicts.New) (follows : Follows (with_new w row).book (with_new w row).history) where
   new_grows : Grows w.history w.entries (with_new w row).history w.entries
   new_grows = record { rows = λ name r has. rows_stay w.history row name r has; entries = go_on_staying w.entries; whole = inv.kept.whole }
 
@@ -58,7 +52,7 @@ module _ (w : World) (row : Row) (inv : Inv w) (new : accepting w.history row �
   above : (known : Known) → w.book (row_name row) ≡ Some known → row_revision known.wanted ≺ row_revision row
   above known in_book = new_is_newer w.history row new known.wanted (sym (inv.follows (row_name row)) ∙ ap (option_map (λ k. k.wanted)) in_book)
 
-  new_inv : Inv (with_new w row)
+  new_inv : Invariant (with_new w row)
   new_inv = record {
     rising = (goes_on w.history row new).rises inv.rising;
     follows = follows;
@@ -67,7 +61,7 @@ module _ (w : World) (row : Row) (inv : Inv w) (new : accepting w.history row �
     told = all_told_grow w.history w.entries (with_new w row).history w.entries new_grows w.messages inv.told;
   }
 
-changes_inv : (w : World) (row : Row) (v : Result Verdict ChangeFault) → Inv w → judged w row ≡ v → Follows (changes w row v).book (changes w row v).history → Inv (changes w row v)
+changes_inv : (w : World) (row : Row) (v : Result Verdict ChangeFault) → Invariant w → judged w row ≡ v → Follows (changes w row v).book (changes w row v).history → Invariant (changes w row v)
 changes_inv w row (Ok verdicts.New) inv is follows = new_inv w row inv (new_by_source w.history row (sym (judged_by_source w row inv.follows) ∙ is)) follows
 changes_inv w row (Ok verdicts.Known) inv is follows = inv
 changes_inv w row (Ok verdicts.Older) inv is follows = inv
@@ -75,7 +69,7 @@ changes_inv w row (Err fault) inv is follows = inv
 
 -- ---- a message is sent, and arrives
 
-sends_inv : (w : World) (name : RecordName) (o : Option Ask) → Inv w → asking w.book name ≡ o → Inv (sends w o)
+sends_inv : (w : World) (name : RecordName) (o : Option Ask) → Invariant w → asking w.book name ≡ o → Invariant (sends w o)
 sends_inv w name None inv is = inv
 sends_inv w name (Some Nothing) inv is = inv
 sends_inv w name (Some (Waits member)) inv is = inv
@@ -87,7 +81,7 @@ sends_inv w name (Some (Send request)) inv is = record {
   told = told_push w.history w.entries w.messages (Asked request) inv.told (what_is_asked w.history w.entries w.book inv.follows inv.noted name request is);
 }
 
-request_inv : (w : World) (request : Request) → Inv w → AskedTruly w.history w.entries request → Inv (arrives w (Asked request))
+request_inv : (w : World) (request : Request) → Invariant w → AskedTruly w.history w.entries request → Invariant (arrives w (Asked request))
 request_inv w request inv asked =
     let after = step w.entries request in
     let grows = step_grows w.history w.entries request inv.kept.whole in
@@ -100,8 +94,8 @@ request_inv w request inv asked =
           (all_told_grow w.history w.entries w.history after.entries grows w.messages inv.told) (answers_show_facts w.entries request);
     }
 
-reply_inv : (w : World) (request : Request) (answer : Answer) → Inv w → ShowsTruly w.entries answer → Follows (arrives w (Answered request answer)).book w.history
-    → Inv (arrives w (Answered request answer))
+reply_inv : (w : World) (request : Request) (answer : Answer) → Invariant w → ShowsTruly w.entries answer → Follows (arrives w (Answered request answer)).book w.history
+    → Invariant (arrives w (Answered request answer))
 reply_inv w request answer inv shows follows = record {
   rising = inv.rising;
   follows = follows;
@@ -114,7 +108,7 @@ pub message_there : (messages : List Message) (number : ℕ) (message : Message)
 message_there messages zero message is = absurd (cc)
 message_there messages (suc place) message is = (place, is)
 
-delivers_inv : (w : World) (number : ℕ) (o : Option Message) → Inv w → message_at w.messages number ≡ o → Follows (delivers w o).book (delivers w o).history → Inv (delivers w o)
+delivers_inv : (w : World) (number : ℕ) (o : Option Message) → Invariant w → message_at w.messages number ≡ o → Follows (delivers w o).book (delivers w o).history → Invariant (delivers w o)
 delivers_inv w number None inv is follows = inv
 delivers_inv w number (Some (Asked request)) inv is follows =
     let (i, at) = message_there w.messages number (Asked request) is in request_inv w request inv (inv.told i (Asked request) at)
@@ -123,7 +117,7 @@ delivers_inv w number (Some (Answered request answer)) inv is follows =
 
 -- ---- every event
 
-pub event_inv : (w : World) (event : Event) → Inv w → Inv (happens w event)
+pub event_inv : (w : World) (event : Event) → Invariant w → Invariant (happens w event)
 event_inv w (Changes row) inv = changes_inv w row (judged w row) inv refl (event_follows w (Changes row) inv.follows)
 event_inv w (Sends name) inv = sends_inv w name (asking w.book name) inv refl
 event_inv w (Delivers number) inv = delivers_inv w number (message_at w.messages number) inv refl (event_follows w (Delivers number) inv.follows)
@@ -137,7 +131,7 @@ event_inv w Restarts_connector inv = record {
   told = inv.told;
 }
 
-pub empty_inv : Inv empty
+pub empty_inv : Invariant empty
 empty_inv = record {
   rising = λ name. tt;
   follows = λ name. refl;
@@ -151,9 +145,23 @@ empty_inv = record {
   told = λ i message at. absurd (cc);
 }
 
-run_inv : (w : World) (events : List Event) → Inv w → Inv (run w events)
+pub run_inv : (w : World) (events : List Event) → Invariant w → Invariant (run w events)
 run_inv w [] inv = inv
 run_inv w (event ∷ events) inv = run_inv (happens w event) events (event_inv w event inv)
 
-pub always_inv : (events : List Event) → Inv (run empty events)
+pub always_inv : (events : List Event) → Invariant (run empty events)
 always_inv events = run_inv empty events empty_inv
+
+-- ---- the laws
+
+pub events_keep_it : EventsKeepIt
+events_keep_it = event_inv
+
+pub always_kept : AlwaysKept
+always_kept = always_inv
+
+pub facts_stay : FactsStay
+facts_stay w events message inv has =
+    let on = (run_on w events).messages in
+    let there : IsAt (run w events).messages has.0 message = subst (λ (all : List Message). IsAt all has.0 message) (sym on.1) (at_more w.messages on.0 has.0 message has.1) in
+    record { sent = (has.0, there); told = (run_inv w events inv).told has.0 message there }

@@ -26,11 +26,9 @@ use Rattle.connector_core.specs.Changing.{verdict, unknown_member, is_full, hist
 use Rattle.world_model.proofs.Learned.{Learns, Learns.sees, Learns.misses, Learns.is_taken, Learns.is_stale, learnt_by}
 use Rattle.world_model.specs.World.{World, Message, Asked, Answered, Event, Changes, Sends, Delivers, Cuts, Restarts_provider, Restarts_connector, sends, delivers, message_at, happens, empty, names, judged, run}
 use Rattle.world_model.specs.Safe.{JudgesBySource}
+use Rattle.world_model.specs.Invariant.{Follows}
 
 -- ---- the wanted row is the last of its record
-
-abbrev pub Follows : Book → History → Type 0
-Follows book history = (name : RecordName) → wanted_row book name ≡ last_row history name
 
 abbrev wants : Option Known → Option Row
 wants known = option_map (λ k. k.wanted) known

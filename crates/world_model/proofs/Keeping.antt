@@ -21,15 +21,9 @@ use Rattle.source_csv.specs.Records.{row_revision}
 use Rattle.source_book.specs.History.{History}
 use Rattle.connector_core.specs.Learning.{content_revision}
 use Rattle.world_model.specs.Safe.{IsAt, IsImage, StoryRises}
+use Rattle.world_model.specs.Invariant.{Kept, Overwrites, AskedTruly}
 use Rattle.world_model.proofs.Growing.{Grows, image_grows}
 use Rattle.world_model.proofs.Order.{at_most_before}
-use Rattle.world_model.proofs.Telling.{Overwrites, AskedTruly}
-
-pub record Kept (history : History) (es : List Entry) : Type 0 where
-  pub whole : IsWholeTable es
-  pub rises : (i : ℕ) (e : Entry) → IsAt es i e → StoryRises (story e)
-  pub imaged : (i j : ℕ) (e : Entry) (c : Content) → IsAt es i e → IsAt (story e) j c → IsImage history es e.name c
-  pub short : (i : ℕ) (e : Entry) → IsAt es i e → length (story e) ≤ last_version
 
 -- the revision of what an entry holds
 pub held_revision : (history : History) (es : List Entry) → Kept history es → (i : ℕ) (e : Entry) → IsAt es i e

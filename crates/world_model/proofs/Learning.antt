@@ -26,10 +26,9 @@ use Rattle.world_model.specs.World.{World}
 use Rattle.world_model.specs.Safe.{IsAt, Has}
 use Rattle.world_model.proofs.Lists.{has_last}
 use Rattle.world_model.proofs.Growing.{id_at}
-use Rattle.world_model.proofs.Invariant.{Inv}
 use Rattle.world_model.proofs.Learned.{at_tag, at_within, at_revision, at_id, at_name, taught, told, told_of, shows_first}
 use Rattle.world_model.proofs.Answering.{Answers}
-use Rattle.world_model.proofs.Telling.{ShowsTruly}
+use Rattle.world_model.specs.Invariant.{Invariant, ShowsTruly}
 
 -- ---- steps that all come to an end
 
@@ -87,7 +86,7 @@ wanted_last : (o : Option Known) (last : Row) → option_map (λ k. k.wanted) o 
 wanted_last None last is = absurd (cc)
 wanted_last (Some known) last is = (known, refl, cc)
 
-module _ (w : World) (inv : Inv w) (name : RecordName) (known : Known) (in_book : w.book name ≡ Some known) (last : last_or None (rows_of w.history name) ≡ Some known.wanted) where
+module _ (w : World) (inv : Invariant w) (name : RecordName) (known : Known) (in_book : w.book name ≡ Some known) (last : last_or None (rows_of w.history name) ≡ Some known.wanted) where
   -- a fact about the record fits what is known about it
   fact_fits : (s : ShownRecord) → IsFact w.entries s → content_name s.content ≡ name → IsOk (fit name known s)
   fact_fits s fact named =
@@ -105,7 +104,7 @@ module _ (w : World) (inv : Inv w) (name : RecordName) (known : Known) (in_book 
   lesson_ok Taken shown = refl
   lesson_ok (Stale if_match) shown = refl
 
-pub learns : (w : World) (request : Request) (answer : Answer) → Inv w → ShowsTruly w.entries answer → Answers w.history request answer → IsOk (learn w.book request answer)
+pub learns : (w : World) (request : Request) (answer : Answer) → Invariant w → ShowsTruly w.entries answer → Answers w.history request answer → IsOk (learn w.book request answer)
 learns w request answer inv shows a =
     let (last, is_last) = has_last (rows_of w.history a.name) a.row a.accepted in
     let (known, in_book, wanted) = wanted_last (w.book a.name) last (inv.follows a.name ∙ is_last) in

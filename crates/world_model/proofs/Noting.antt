@@ -21,33 +21,10 @@ use Rattle.connector_core.specs.declared.knowledge.Known.{Known}
 use Rattle.connector_core.specs.declared.knowledge.Seen.TheVariants.{At}
 use Rattle.connector_core.specs.declared.learning.LearnFault.{LearnFault}
 use Rattle.world_model.specs.Safe.{id_in, IsVersion}
+use Rattle.world_model.specs.Invariant.{HasVersion, InSight, Noted, AllNoted, ShowsTruly}
 use Rattle.world_model.proofs.Order.{later_within}
 use Rattle.world_model.proofs.Growing.{id_at, ids_grow, version_grows}
-use Rattle.world_model.proofs.Telling.{ShowsTruly}
 use Rattle.world_model.proofs.Learned.{Fits, Learns, Learns.sees, Learns.misses, Learns.is_taken, Learns.is_stale, learnt_by, shows_first}
-
--- the known id has a version of this revision
-pub record HasVersion (es : List Entry) (name : RecordName) (known_id : Option (List ℕ)) (revision : RevisionValue) : Type 0 where
-  pub id : List ℕ
-  pub known : known_id ≡ Some id
-  pub tag : List ℕ
-  pub version : IsVersion es name id tag revision
-
--- a tag in sight is that of a version, whose revision counts as confirmed
-pub record InSight (es : List Entry) (name : RecordName) (known : Known) (tag : List ℕ) (revision : RevisionValue) : Type 0 where
-  pub id : List ℕ
-  pub has_id : known.id ≡ Some id
-  pub version : IsVersion es name id tag revision
-  pub counted : revision ≼ known.confirmed
-
-pub record Noted (es : List Entry) (name : RecordName) (known : Known) : Type 0 where
-  pub id : (id : List ℕ) → known.id ≡ Some id → id_in es name ≡ Some id
-  pub confirmed : known.confirmed ≢ no_revision → HasVersion es name known.id known.confirmed
-  pub within : known.confirmed ≼ row_revision known.wanted
-  pub seen : (tag : List ℕ) (revision : RevisionValue) → known.seen ≡ At tag revision → InSight es name known tag revision
-
-abbrev pub AllNoted : List Entry → Book → Type 0
-AllNoted es book = (name : RecordName) (known : Known) → book name ≡ Some known → Noted es name known
 
 -- ---- if the table goes on
 

@@ -1,5 +1,5 @@
 -- The exchanges for each record in turn, until nothing is to be sent of it, are determined.
-use Rattle.std.proofs.Common.{◌≡◌, ℕ, zero, suc, ◌+◌, List, [], ◌∷◌, Some, refl, ap, sym, ◌∙◌, subst, arith}
+use Rattle.std.proofs.Common.{◌≡◌, ℕ, zero, suc, List, [], ◌∷◌, Some, refl, ap, sym, ◌∙◌, subst, arith}
 use Rattle.scim_key.specs.declared.records.RecordName.{RecordName}
 use Rattle.connector_core.specs.declared.asking.Ask.TheVariants.{Nothing, Send}
 use Rattle.world_model.specs.Settled.{exchange, Wants, Rests, Exchanges, Turns, OneWay, LeadsOn}

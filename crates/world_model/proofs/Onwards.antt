@@ -169,7 +169,7 @@ event_on w Restarts_connector = record {
   confirmed = λ name. reopened_raises (w.book name);
 }
 
-run_on : (w : World) (events : List Event) → Onward w (run w events)
+pub run_on : (w : World) (events : List Event) → Onward w (run w events)
 run_on w [] = here_still w
 run_on w (event ∷ events) = and_on w (happens w event) (run (happens w event) events) (event_on w event) (run_on (happens w event) events)
 

@@ -34,7 +34,7 @@ use Rattle.world_model.proofs.Exchanging.{answer_to}
 use Rattle.world_model.proofs.Finding.{Lacks, Finds, Finds.finds, Finds.lacks, search_finds, search_keeps, Creates, Creates.creates, Creates.meets, create_answers, Replaces, Replaces.renews, Replaces.misses, replace_answers}
 use Rattle.world_model.proofs.Leading.{Leads, leads_to, sees}
 use Rattle.world_model.proofs.Lists.{last_has}
-use Rattle.world_model.proofs.Noting.{Noted}
+use Rattle.world_model.specs.Invariant.{Noted}
 use Rattle.world_model.proofs.Quiet.{Quiet, few_entries}
 use Rattle.world_model.proofs.Ranking.{row_lawful, versions_few}
 use Rattle.world_model.proofs.Searched.{search_subject}

@@ -29,7 +29,6 @@ use Rattle.world_model.proofs.Sending.{row_of_record}
 use Rattle.world_model.proofs.Counting.{Counted, none_counted, push_counted, no_more, few_names}
 use Rattle.world_model.proofs.Ranking.{AllLawful, row_there, row_lawful, versions_few}
 use Rattle.world_model.proofs.Sizes.{image_size}
-use Rattle.world_model.proofs.Telling.{AskedTruly}
 use Rattle.serde_json.specs.Written.{compact_text}
 use Rattle.std.specs.Option.{option_map}
 use Rattle.scim_key.specs.Identifiers.{id_text}
@@ -40,13 +39,14 @@ use Rattle.scim_message.specs.declared.messages.Request.TheVariants.{Create, Ret
 use Rattle.provider_core.specs.Tables.{entry_named}
 use Rattle.world_model.proofs.Answering.{Answers, request_answers, no_limit}
 use Rattle.world_model.proofs.Learning.{learns}
-use Rattle.world_model.proofs.Invariant.{Inv, event_inv, empty_inv, message_there}
+use Rattle.world_model.specs.Invariant.{Invariant, AskedTruly}
+use Rattle.world_model.proofs.Invariant.{event_inv, empty_inv, message_there}
 
 abbrev AllAnswered : History → List Message → Type 0
 AllAnswered history messages = (i : ℕ) (request : Request) (answer : Answer) → IsAt messages i (Answered request answer) → Answers history request answer
 
 pub record Quiet (w : World) : Type 0 where
-  pub inv : Inv w
+  pub inv : Invariant w
   pub lawful : AllLawful w.history
   pub counted : Counted w.history
   pub answered : AllAnswered w.history w.messages
@@ -133,7 +133,7 @@ answers_stay history row messages answered i request answer at =
     let a = answered i request answer at in
     record { name = a.name; about = a.about; row = a.row; accepted = rows_stay history row a.name a.row a.accepted; said = a.said; says = a.says }
 
-changes_quiet : (w : World) (row : Row) (v : Result Verdict ChangeFault) → IsRow row → Quiet w → judged w row ≡ v → Inv (changes w row v) → Quiet (changes w row v)
+changes_quiet : (w : World) (row : Row) (v : Result Verdict ChangeFault) → IsRow row → Quiet w → judged w row ≡ v → Invariant (changes w row v) → Quiet (changes w row v)
 changes_quiet w row (Ok verdicts.New) law q is inv = record {
   inv = inv;
   lawful = lawful_push w.history row law q.lawful;
@@ -165,14 +165,14 @@ answered_push history messages request answer answered new_answers i r a at = el
   | inr new ↦ both_same history request r answer a new.1 new_answers
 ]
 
-sends_quiet : (w : World) (o : Option Ask) → Quiet w → Inv (sends w o) → Quiet (sends w o)
+sends_quiet : (w : World) (o : Option Ask) → Quiet w → Invariant (sends w o) → Quiet (sends w o)
 sends_quiet w None q inv = q
 sends_quiet w (Some Nothing) q inv = q
 sends_quiet w (Some (Waits member)) q inv = q
 sends_quiet w (Some (Send request)) q inv =
     record { inv = inv; lawful = q.lawful; counted = q.counted; answered = asked_push w.history w.messages request q.answered }
 
-delivers_quiet : (w : World) (number : ℕ) (o : Option Message) → Quiet w → message_at w.messages number ≡ o → Inv (delivers w o) → Quiet (delivers w o)
+delivers_quiet : (w : World) (number : ℕ) (o : Option Message) → Quiet w → message_at w.messages number ≡ o → Invariant (delivers w o) → Quiet (delivers w o)
 delivers_quiet w number None q is inv = q
 delivers_quiet w number (Some (Asked request)) q is inv =
     let (i, at) = message_there w.messages number (Asked request) is in

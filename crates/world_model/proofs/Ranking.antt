@@ -14,7 +14,7 @@ use Rattle.source_book.specs.History.{History, same_name, rows_of}
 use Rattle.source_csv.specs.Records.{row_name}
 use Rattle.connector_core.specs.Learning.{content_revision}
 use Rattle.world_model.specs.Safe.{IsAt, Has, StoryRises}
-use Rattle.world_model.proofs.Keeping.{Kept}
+use Rattle.world_model.specs.Invariant.{Kept}
 use Rattle.world_model.proofs.Lists.{at_within, filter_has}
 use Rattle.scim_key.specs.declared.records.RecordName.{RecordName}
 

@@ -20,8 +20,8 @@ use Rattle.world_model.specs.World.{World, empty, run}
 use Rattle.world_model.specs.Safe.{Has, id_in, IsEntryOf, HasReached, IsImage, is_leaver, is_inactive, HasLeftSince, IsVersion, SeenTruly, IsReached, KnownTruly, Safe, AlwaysSafe}
 use Rattle.world_model.proofs.Imaging.{image_with, of_image}
 use Rattle.world_model.proofs.Keeping.{held_revision, none_above_held}
-use Rattle.world_model.proofs.Noting.{HasVersion, InSight, Noted}
-use Rattle.world_model.proofs.Invariant.{Inv, always_inv}
+use Rattle.world_model.specs.Invariant.{Invariant, HasVersion, InSight, Noted}
+use Rattle.world_model.proofs.Invariant.{always_inv}
 
 -- ---- what is known about a record
 
@@ -36,7 +36,7 @@ seen_truly es name known (Some id) (At tag r) is sight =
     let same : s.id ≡ id = cc in
     subst (λ (i : List ℕ). IsVersion es name i tag r) same s.version
 
-module _ (w : World) (inv : Inv w) where
+module _ (w : World) (inv : Invariant w) where
   -- the entry that has a version of a revision holds that revision or a later one
   pub version_reached : (name : RecordName) (id tag : List ℕ) (r : RevisionValue) (v : IsVersion w.entries name id tag r) → HasReached r v.entry.held
   version_reached name id tag r v =
@@ -73,7 +73,7 @@ leaver_image ids (Group row) left = absurd (cc)
 abbrev IsNone : RevisionValue → Type 0
 IsNone r = r ≡ no_revision
 
-module _ (w : World) (inv : Inv w) (name : RecordName) (known : Known) (in_book : w.book name ≡ Some known) (e : Entry) (of_record : IsEntryOf w.entries name e) where
+module _ (w : World) (inv : Invariant w) (name : RecordName) (known : Known) (in_book : w.book name ≡ Some known) (e : Entry) (of_record : IsEntryOf w.entries name e) where
   -- the row that the held content is the image of
   held_image : IsImage w.history w.entries e.name e.held
   held_image = inv.kept.imaged of_record.0.0 (length e.earlier) e e.held of_record.0.1 (held_at e)
@@ -103,7 +103,7 @@ module _ (w : World) (inv : Inv w) (name : RecordName) (known : Known) (in_book 
 
 -- ---- safe
 
-safe_now : (w : World) → Inv w → Safe w
+safe_now : (w : World) → Invariant w → Safe w
 safe_now w inv = record {
   rows_rise = inv.rising;
   one_each = inv.kept.whole.distinct;

@@ -27,12 +27,10 @@ use Rattle.connector_core.specs.declared.knowledge.Known.{Known}
 use Rattle.connector_core.specs.declared.knowledge.Seen.{Seen}
 use Rattle.connector_core.specs.declared.knowledge.Seen.TheVariants.{Unknown, Absent, At}
 use Rattle.world_model.specs.Safe.{Has, id_in, IsImage, IsVersion}
-use Rattle.world_model.proofs.Judging.{Follows}
 use Rattle.world_model.proofs.Lists.{at_passes, last_has}
 use Rattle.world_model.proofs.Order.{at_most_before}
 use Rattle.world_model.proofs.Imaging.{image_name, image_revision, image_more}
-use Rattle.world_model.proofs.Noting.{InSight, AllNoted}
-use Rattle.world_model.proofs.Telling.{AskedTruly}
+use Rattle.world_model.specs.Invariant.{Follows, InSight, AllNoted, AskedTruly}
 
 -- the rows of a record are of that record
 pub row_of_record : (history : History) (name : RecordName) (row : Row) → Has (rows_of history name) row → row_name row ≡ name

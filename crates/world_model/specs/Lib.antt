@@ -1,5 +1,6 @@
 pub mod World
 pub mod Safe
+pub mod Invariant
 pub mod Reports
 pub mod Untroubled
 pub mod Settled

@@ -1,4 +1,5 @@
 //! Laws of all runs, with nothing to run.
+ghost use Rattle.world_model.specs.Invariant.{AlwaysKept, EventsKeepIt, FactsStay};
 ghost use Rattle.world_model.specs.Safe.{AlwaysOnward, AlwaysSafe, HeadlineHolds, JudgesBySource};
 ghost use Rattle.world_model.specs.Settled.{LeadsOn, OneWay, Settles};
 ghost use Rattle.world_model.specs.Untroubled.{NeverRefused};
@@ -19,6 +20,15 @@ pub fn always_onward()
 /// inactive.
 pub fn always_safe()
     ensures { AlwaysSafe }
+{}
+
+/// The invariant, which is why the promise holds: what is true of source, connector, provider and all
+/// messages. Every event keeps it, so it is true after every run. What a message said truly when it was sent
+/// is true for ever: no later event makes it false, and the message stays there to arrive.
+pub fn invariant_is_kept()
+    ensures kept { EventsKeepIt }
+    ensures always { AlwaysKept }
+    ensures facts_stay { FactsStay }
 {}
 
 /// The headline, at each moment of a run and at each later one: the provider holds at most one resource per

@@ -4,5 +4,6 @@
 mod laws;
 
 pub use laws::{
-    always_onward, always_safe, headline_holds, judges_by_source, never_refused, settles,
+    always_onward, always_safe, headline_holds, invariant_is_kept, judges_by_source, never_refused,
+    settles,
 };

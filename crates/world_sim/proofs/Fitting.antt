@@ -55,7 +55,7 @@ use Rattle.world_model.proofs.Quiet.{Quiet, image_short, always_quiet}
 use Rattle.world_model.proofs.Ranking.{row_lawful, versions_few}
 use Rattle.world_model.proofs.Searched.{search_subject, kind_of}
 use Rattle.world_model.proofs.Sizes.{quoted_most, user_name_short, group_name_short}
-use Rattle.world_model.proofs.Telling.{AskedTruly, ShowsTruly, Sought}
+use Rattle.world_model.specs.Invariant.{AskedTruly, ShowsTruly, Sought}
 use Rattle.scim_client.specs.AnswerLaws.{KeepsAnswerLimits}
 use Rattle.scim_client.specs.Answers.{AnswersSo, etag_of}
 use Rattle.scim_client.specs.Spelling.{IsWritable, KeepsLimits, IsIdText}
@@ -185,7 +185,7 @@ without_filter kind wanted start count _ (refused request error is) = refused (S
 
 -- ---- ids
 
-id_lawful : (n : ℕ) → IsId (id_text n)
+pub id_lawful : (n : ℕ) → IsId (id_text n)
 unfolding id_fault
 id_lawful n = grind (arith, nat_tests, id_length n)
 

@@ -3,6 +3,7 @@ pub mod Events
 pub mod Sides
 pub mod Reading
 pub mod Fitting
+pub mod Answering
 pub mod Running
 pub mod Settling
 pub mod Schedules

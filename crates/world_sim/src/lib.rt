@@ -15,7 +15,7 @@ mod views;
 mod worlds;
 
 pub use events::Event;
-pub use laws::messages_are_read;
+pub use laws::{answers_fit, messages_are_read};
 pub use random::random_schedule;
 pub use reports::{Report, WorldFault};
 pub use runs::run;

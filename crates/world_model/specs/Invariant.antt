@@ -1,0 +1,128 @@
+-- What every event keeps, and so what is true after every run: the reason why the promise holds. What was true of a
+-- message when it was sent stays true.
+use Rattle.std.specs.Prelude.{◌≡◌, ◌≢◌, ℕ, ◌≤◌, List, [], ◌∷◌, length, Option, Some}
+use Rattle.scim_key.specs.Revisions.{RevisionValue, no_revision, ◌≺◌, ◌≼◌}
+use Rattle.scim_key.specs.declared.records.RecordName.{RecordName}
+use Rattle.scim_version.specs.declared.conditions.Condition.{Condition}
+use Rattle.scim_version.specs.declared.conditions.Condition.TheVariants.{Tags}
+use Rattle.scim_resource.specs.Contents.{content_name}
+use Rattle.scim_resource.specs.Rows.{ShownRecord, last_version}
+use Rattle.scim_resource.specs.declared.contents.Content.{Content}
+use Rattle.scim_message.specs.declared.messages.Request.{Request}
+use Rattle.scim_message.specs.declared.messages.Request.TheVariants.{Create, Retrieve, Search, Replace}
+use Rattle.scim_message.specs.declared.messages.Answer.{Answer}
+use Rattle.provider_core.specs.Stories.{Entry, story}
+use Rattle.provider_core.specs.Tables.{IsWholeTable, IsFact, shown_in}
+use Rattle.source_csv.specs.Records.{row_name, row_revision}
+use Rattle.source_csv.specs.declared.rows.Row.{Row}
+use Rattle.source_book.specs.History.{History, rows_of, last_row, AllRise}
+use Rattle.connector_core.specs.Asking.{search_for}
+use Rattle.connector_core.specs.Book.{Book, wanted_row}
+use Rattle.connector_core.specs.Learning.{content_revision}
+use Rattle.connector_core.specs.declared.knowledge.Known.{Known}
+use Rattle.connector_core.specs.declared.knowledge.Seen.TheVariants.{At}
+use Rattle.world_model.specs.World.{World, Message, Asked, Answered, Event, happens, empty, run}
+use Rattle.world_model.specs.Safe.{Has, IsAt, IsImage, IsVersion, StoryRises, id_in}
+
+-- ---- the provider
+
+-- no two entries are of the same record; revisions rise along each story, and each content is the image of its row
+pub record Kept (history : History) (es : List Entry) : Type 0 where
+  pub whole : IsWholeTable es
+  pub rises : (i : ℕ) (e : Entry) → IsAt es i e → StoryRises (story e)
+  pub imaged : (i j : ℕ) (e : Entry) (c : Content) → IsAt es i e → IsAt (story e) j c → IsImage history es e.name c
+  pub short : (i : ℕ) (e : Entry) → IsAt es i e → length (story e) ≤ last_version
+
+-- ---- the connector
+
+-- the wanted row of a record is its last row
+abbrev pub Follows : Book → History → Type 0
+Follows book history = (name : RecordName) → wanted_row book name ≡ last_row history name
+
+-- the known id has a version of this revision
+pub record HasVersion (es : List Entry) (name : RecordName) (known_id : Option (List ℕ)) (revision : RevisionValue) : Type 0 where
+  pub id : List ℕ
+  pub known : known_id ≡ Some id
+  pub tag : List ℕ
+  pub version : IsVersion es name id tag revision
+
+-- a tag in sight is that of a version, whose revision counts as confirmed
+pub record InSight (es : List Entry) (name : RecordName) (known : Known) (tag : List ℕ) (revision : RevisionValue) : Type 0 where
+  pub id : List ℕ
+  pub has_id : known.id ≡ Some id
+  pub version : IsVersion es name id tag revision
+  pub counted : revision ≼ known.confirmed
+
+-- what the connector knows about a record is true
+pub record Noted (es : List Entry) (name : RecordName) (known : Known) : Type 0 where
+  pub id : (id : List ℕ) → known.id ≡ Some id → id_in es name ≡ Some id
+  pub confirmed : known.confirmed ≢ no_revision → HasVersion es name known.id known.confirmed
+  pub within : known.confirmed ≼ row_revision known.wanted
+  pub seen : (tag : List ℕ) (revision : RevisionValue) → known.seen ≡ At tag revision → InSight es name known tag revision
+
+abbrev pub AllNoted : List Entry → Book → Type 0
+AllNoted es book = (name : RecordName) (known : Known) → book name ≡ Some known → Noted es name known
+
+-- ---- the messages
+
+-- a Replace carries an image, and the tag of a version of its record whose revision is lower
+pub record Overwrites (history : History) (es : List Entry) (id : List ℕ) (content : Content) (if_match : Condition) : Type 0 where
+  pub image : IsImage history es (content_name content) content
+  pub tag : List ℕ
+  pub alone : if_match ≡ Tags (tag ∷ [])
+  pub older : RevisionValue
+  pub newer : RevisionValue
+  pub version : IsVersion es (content_name content) id tag older
+  pub revision : content_revision content ≡ Some newer
+  pub rises : older ≺ newer
+
+-- a Search is for an accepted row
+pub record Sought (history : History) (request : Request) : Type 0 where
+  pub row : Row
+  pub accepted : Has (rows_of history (row_name row)) row
+  pub is : request ≡ search_for row
+
+-- a Create carries an image, and nothing else is asked
+abbrev pub AskedTruly : History → List Entry → Request → Type 0
+AskedTruly history es (Create content) = IsImage history es (content_name content) content
+AskedTruly history es (Retrieve kind id if_match if_none_match) = ⊥
+AskedTruly history es (Search kind wanted start count) = Sought history (Search kind wanted start count)
+AskedTruly history es (Replace id content if_match if_none_match) = Overwrites history es id content if_match
+
+-- an answer shows only versions that were there
+abbrev pub ShowsTruly : List Entry → Answer → Type 0
+ShowsTruly es answer = (i : ℕ) (s : ShownRecord) → IsAt (shown_in answer) i s → IsFact es s
+
+abbrev pub ToldTruly : History → List Entry → Message → Type 0
+ToldTruly history es (Asked request) = AskedTruly history es request
+ToldTruly history es (Answered request answer) = ShowsTruly es answer
+
+-- every message that was ever sent is true
+abbrev pub AllTold : History → List Entry → List Message → Type 0
+AllTold history es messages = (i : ℕ) (message : Message) → IsAt messages i message → ToldTruly history es message
+
+-- ---- the invariant and its laws
+
+-- Invariant: what is true of source, connector, provider and messages
+pub record Invariant (w : World) : Type 0 where
+  pub rising : AllRise w.history
+  pub follows : Follows w.book w.history
+  pub kept : Kept w.history w.entries
+  pub noted : AllNoted w.entries w.book
+  pub told : AllTold w.history w.entries w.messages
+
+-- Every event keeps it
+abbrev pub EventsKeepIt : Type 0
+EventsKeepIt = (w : World) (event : Event) → Invariant w → Invariant (happens w event)
+
+-- it is true after every run
+abbrev pub AlwaysKept : Type 0
+AlwaysKept = (events : List Event) → Invariant (run empty events)
+
+-- a message that was sent is still there after any events, and what it says is still true
+pub record IsStillTrue (w : World) (message : Message) : Type 0 where
+  pub sent : Has w.messages message
+  pub told : ToldTruly w.history w.entries message
+
+abbrev pub FactsStay : Type 0
+FactsStay = (w : World) (events : List Event) (message : Message) → Invariant w → Has w.messages message → IsStillTrue (run w events) message
