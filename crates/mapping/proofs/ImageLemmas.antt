@@ -13,7 +13,9 @@ use Rattle.scim_resource.specs.declared.emails.Email.{Email}
 use Rattle.scim_resource.specs.declared.texts.TheConstants.{TEXT_LIMIT}
 use Rattle.scim_resource.proofs.RoundTrips.{content_read, content_spelled}
 use Rattle.source_csv.specs.Records.{row_name, user}
-use Rattle.source_csv.specs.Rows.{GroupFields, IsGroupRow, UserFields, IsUserRow}
+use Rattle.source_csv.specs.Rows.{GroupFields, IsGroupRow, UserFields, IsUserRow, text_of}
+use Rattle.source_csv.specs.declared.texts.UserText.TheVariants as texts
+use Rattle.source_csv.proofs.RowLemmas.{short_text}
 use Rattle.source_csv.specs.declared.groups.TheConstants.{MEMBER_LIMIT}
 use Rattle.source_csv.specs.declared.rows.Row.{Row}
 use Rattle.source_csv.specs.declared.rows.Row.TheVariants.{User, Group}
@@ -69,10 +71,10 @@ emails_are_lawful (b ∷ mail) short = record {
 user_lawful : (row : UserFields) → IsUserRow row → IsContent (user_image row)
 user_lawful row lawful = record {
   user_name = lawful.login;
-  external_id = present_is_text row.number lawful.number;
-  given_name = present_is_text row.given lawful.given;
-  family_name = present_is_text row.family lawful.family;
-  emails = emails_are_lawful row.mail lawful.mail;
+  external_id = present_is_text (text_of row texts.Number) (short_text row lawful texts.Number);
+  given_name = present_is_text (text_of row texts.Given) (short_text row lawful texts.Given);
+  family_name = present_is_text (text_of row texts.Family) (short_text row lawful texts.Family);
+  emails = emails_are_lawful (text_of row texts.Mail) (short_text row lawful texts.Mail);
   revision = lawful.revision;
 }
 

@@ -7,7 +7,8 @@ use Rattle.scim_key.specs.declared.records.RecordName.{RecordName}
 use Rattle.scim_resource.specs.declared.contents.Content.{Content}
 use Rattle.scim_resource.specs.declared.contents.Content.TheVariants as contents
 use Rattle.scim_resource.specs.declared.emails.Email.{Email}
-use Rattle.source_csv.specs.Rows.{GroupFields, UserFields}
+use Rattle.source_csv.specs.Rows.{GroupFields, UserFields, text_of}
+use Rattle.source_csv.specs.declared.texts.UserText.TheVariants as texts
 use Rattle.source_csv.specs.declared.rows.Row.{Row}
 use Rattle.source_csv.specs.declared.rows.Row.TheVariants.{User, Group}
 use Rattle.group_sync.specs.Ready.{ready}
@@ -33,10 +34,10 @@ emails_of (b ∷ mail) = work_email (b ∷ mail) ∷ []
 abbrev pub user_image : UserFields → Content
 user_image row = contents.User (record {
   user_name = row.login;
-  external_id = present row.number;
-  given_name = present row.given;
-  family_name = present row.family;
-  emails = emails_of row.mail;
+  external_id = present (text_of row texts.Number);
+  given_name = present (text_of row texts.Given);
+  family_name = present (text_of row texts.Family);
+  emails = emails_of (text_of row texts.Mail);
   active = row.active;
   revision = Some row.revision;
 })

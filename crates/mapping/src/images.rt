@@ -4,7 +4,7 @@ ghost use Rattle.scim_resource.specs.declared.texts.TheConstants.{TEXT_LIMIT};
 ghost use Rattle.mapping.specs.Images.{emails_of, present, user_image};
 
 use scim_resource::{Content, Email, Emails, Text, User};
-use source_csv::UserRow;
+use source_csv::{UserRow, UserText};
 use std::alloc::{AllocError, Global};
 
 /// The content for a user's row. An empty field is an absent attribute.
@@ -12,10 +12,10 @@ pub fn user_content(alloc: Global, row: &UserRow) -> Result<Content, AllocError>
     ensures { IfOk result (λ content. content ≡ user_image row.now) }
 {
     let login = row.login().clone()?;
-    let number = text(alloc, row.number())?;
-    let given = text(alloc, row.given())?;
-    let family = text(alloc, row.family())?;
-    let emails = emails(alloc, row.mail())?;
+    let number = text(alloc, row.text(UserText::Number))?;
+    let given = text(alloc, row.text(UserText::Given))?;
+    let family = text(alloc, row.text(UserText::Family))?;
+    let emails = emails(alloc, row.text(UserText::Mail))?;
     let user = User::new(alloc, login, row.is_active(), Some(row.revision()));
     Ok(Content::User(
         user.with_external_id(number)

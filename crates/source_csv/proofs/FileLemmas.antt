@@ -1,7 +1,8 @@
 -- The records of a file: its header, and the rest one by one.
-use Rattle.std.proofs.Common.{◌≡◌, ℕ, suc, ◌+◌, List, [], ◌∷◌, ◌++◌, Bool, true, false, Some, None, Result, Ok, Bor, length, refl, ap, sym, subst, inl, append_assoc, length-append, ◌∙◌, ◌&&◌, arith}
-use Rattle.std.proofs.lemmas.Bool.{and_parts, false_from_ne_true}
-use Rattle.std.specs.List.{enumerate_from, list_all}
+use Rattle.std.proofs.Common.{◌≡◌, ℕ, suc, ◌+◌, List, [], ◌∷◌, ◌++◌, Bool, true, false, Some, None, Result, Ok, Bor, length, map, refl, ap, sym, subst, inl, inr, append_assoc, length-append, ◌∙◌, ◌&&◌, arith}
+use Rattle.std.proofs.lemmas.Bool.{and_parts, cases_Bool, false_from_ne_true}
+use Rattle.std.specs.List.{enumerate_from, find, list_all}
+use Rattle.std.specs.Option.{option_map}
 use Rattle.std.specs.Str.{bytes_eq}
 use Rattle.csv.specs.Machine.{Read, next_record}
 use Rattle.csv.specs.Reading.{AreRecords, FlexibleStep, Reached, RowStep, default_config}
@@ -11,10 +12,11 @@ use Rattle.csv.proofs.ReadFacts.{rows-end, rows-more}
 use Rattle.csv.specs.declared.parser.State.{State}
 use Rattle.source_csv.specs.declared.rows.Row.{Row as SourceRow}
 use Rattle.source_csv.specs.declared.faults.RowFault.{RowFault}
-use Rattle.source_csv.specs.Fields.{Record, field}
+use Rattle.source_csv.specs.Fields.{Record, field, named}
+use Rattle.source_csv.proofs.FieldLemmas.{length_named}
 use Rattle.scim_key.specs.declared.records.Kind.{Kind}
 use Rattle.source_csv.specs.Reader.{IsAt}
-use Rattle.source_csv.specs.Files.{at_place, header_of, named, read_row, rows_from, rows_of, same_record}
+use Rattle.source_csv.specs.Files.{at_place, columns_of, read_row, rows_from, rows_of, same_record}
 
 same_length : (one two : Record) → same_record one two ≡ true → length one ≡ length two
 same_length [] [] e = refl
@@ -41,10 +43,6 @@ match_from front (f ∷ rest) (c ∷ columns) same =
 pub columns_match : (fields : Record) (columns : List (Bor (List ℕ))) → length fields ≡ length columns
     → list_all (λ p. bytes_eq (field fields p.0) p.1.now) (enumerate_from 0 columns) ≡ same_record fields (named columns)
 columns_match fields columns same = match_from [] fields columns same
-
-length_named : (columns : List (Bor (List ℕ))) → length (named columns) ≡ length columns
-length_named [] = refl
-length_named (c ∷ columns) = ap suc (length_named columns)
 
 pub columns_other : (fields : Record) (columns : List (Bor (List ℕ))) → (length fields ≡ length columns → ⊥) → false ≡ same_record fields (named columns)
 columns_other fields columns other = sym (false_from_ne_true _ (λ e. other (same_length fields (named columns) e ∙ length_named columns)))
@@ -94,13 +92,21 @@ pub steps_out : (s : State) (xs : List ℕ) (a b : ByteRecordsIntoIter (Bor (Lis
 steps_out s xs a b at step = rw at.stands at (rows-end (λ (bytes : Bor (List ℕ)). Some bytes.now) a.rdr b.rdr [] default_config xs at.config at.source step)
 
 -- one more row after those that were read
-pub push_row : (of : Kind) (items : List (Result SourceRow RowFault)) (row : Result SourceRow RowFault) (fields : Record) (left more : List Record)
-    → row ≡ at_place (length items + 1) (read_row of fields) → left ≡ fields ∷ more
-    → items ++ rows_from of (length items + 1) left ≡ (items ++ row ∷ []) ++ rows_from of (length (items ++ row ∷ []) + 1) more
-push_row of items row fields left more at first = rw (first, at, append_assoc, length-append)
+pub push_row : (of : Kind) (columns : Record) (items : List (Result SourceRow RowFault)) (row : Result SourceRow RowFault) (fields : Record) (left more : List Record)
+    → row ≡ at_place (length items + 1) (read_row of columns fields) → left ≡ fields ∷ more
+    → items ++ rows_from of columns (length items + 1) left ≡ (items ++ row ∷ []) ++ rows_from of columns (length (items ++ row ∷ []) + 1) more
+push_row of columns items row fields left more at first = rw (first, at, append_assoc, length-append)
 
 -- no row yet, after the header
-pub no_rows : (of : Kind) (items : List (Result SourceRow RowFault)) (records rest : List Record) (header : Record)
-    → items ≡ [] → records ≡ header ∷ rest → same_record header (header_of of) ≡ true
-    → rows_of of records ≡ Ok (items ++ rows_from of (length items + 1) rest)
-no_rows of items records rest header none first lawful = rw (none, first, lawful) refl
+pub no_rows : (of : Kind) (columns : Record) (items : List (Result SourceRow RowFault)) (records rest : List Record) (header : Record)
+    → items ≡ [] → records ≡ header ∷ rest → columns_of of header ≡ Some columns
+    → rows_of of records ≡ Ok (items ++ rows_from of columns (length items + 1) rest)
+no_rows of columns items records rest header none first lawful = rw (none, first, lawful) refl
+
+-- the header of a record among headers, by their names
+pub find-named : (test : Record → Bool) (headers : List (Bor (List (Bor (List ℕ))))) → find test (map (λ c. named c.now) headers) ≡ option_map (λ c. named c.now) (find (λ c. test (named c.now)) headers)
+find-named test [] = refl
+find-named test (h ∷ headers) = elim (cases_Bool (test (named h.now))) [
+  | inl found ↦ rw found refl
+  | inr other ↦ rw other (find-named test headers)
+]

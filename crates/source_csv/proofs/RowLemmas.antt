@@ -1,6 +1,6 @@
 -- Rows are the same exactly if all their fields are.
-use Rattle.std.proofs.Common.{◌≡◌, ℕ, List, Bool, true, false, refl, ap, sym, ◌&&◌}
-use Rattle.std.proofs.lemmas.Bool.{and_parts}
+use Rattle.std.proofs.Common.{◌≡◌, ◌≤◌, ℕ, zero, suc, List, [], ◌∷◌, Bool, true, false, get_or, length, refl, ap, sym, ◌&&◌, arith}
+use Rattle.std.proofs.lemmas.Bool.{and_parts, leb-true}
 use Rattle.std.proofs.lemmas.Slice.Eq.{bytes_eq-Decides, slice_eq-Decides}
 use Rattle.std.specs.Bool.{beq}
 use Rattle.std.specs.Cmp.Lexicographic.{pointwise}
@@ -8,7 +8,11 @@ use Rattle.std.specs.Str.{bytes_eq}
 use Rattle.scim_key.specs.Revisions.{RevisionValue, same_revision}
 use Rattle.scim_key.proofs.RevisionLaws.{is_order}
 use Rattle.source_csv.specs.Records.{same_row}
-use Rattle.source_csv.specs.Rows.{GroupFields, UserFields, same_group, same_user, same_values}
+use Rattle.source_csv.specs.Rows.{GroupFields, IsUserRow, UserFields, same_group, same_user, text_of}
+use Rattle.source_csv.specs.Texts.{is_short, place_of}
+use Rattle.std.specs.List.{list_all}
+use Rattle.source_csv.specs.declared.texts.TheConstants.{VALUE_LIMIT}
+use Rattle.source_csv.specs.declared.texts.UserText.{UserText}
 use Rattle.source_csv.specs.declared.rows.Row.{Row}
 use Rattle.source_csv.specs.declared.rows.Row.TheVariants.{User, Group}
 
@@ -28,33 +32,25 @@ bytes_itself bs = (bytes_eq-Decides bs bs).1 refl
 keys_itself : (keys : List (List ℕ)) → pointwise bytes_eq keys keys ≡ true
 keys_itself keys = (slice_eq-Decides bytes_eq-Decides keys keys _ refl).1 refl
 
-abbrev user_fields : (login : List ℕ) (revision : RevisionValue) (number given family mail : List ℕ) (active : Bool) → UserFields
-user_fields login revision number given family mail active =
-    record { login = login; revision = revision; number = number; given = given; family = family; mail = mail; active = active }
+abbrev user_fields : (login : List ℕ) (revision : RevisionValue) (texts : List (List ℕ)) (active : Bool) → UserFields
+user_fields login revision texts active = record { login = login; revision = revision; texts = texts; active = active }
 
-same_user_fields : (l l' n n' g g' f f' m m' : List ℕ) (r r' : RevisionValue) (x x' : Bool) → l ≡ l' → r ≡ r' → x ≡ x' → n ≡ n' → g ≡ g' → f ≡ f' → m ≡ m'
-    → user_fields l r n g f m x ≡ user_fields l' r' n' g' f' m' x'
-same_user_fields l l' n n' g g' f f' m m' r r' x x' el er ex en eg ef em = rw (el, er, ex, en, eg, ef, em)
+same_user_fields : (l l' : List ℕ) (r r' : RevisionValue) (t t' : List (List ℕ)) (x x' : Bool) → l ≡ l' → r ≡ r' → t ≡ t' → x ≡ x' → user_fields l r t x ≡ user_fields l' r' t' x'
+same_user_fields l l' r r' t t' x x' el er et ex = rw (el, er, et, ex)
 
-user_from_test : (a b : UserFields) → same_user a b ≡ true → a ≡ b
+pub user_from_test : (a b : UserFields) → same_user a b ≡ true → a ≡ b
 user_from_test a b e =
-    let all = and_parts (bytes_eq a.login b.login && same_revision a.revision b.revision && beq a.active b.active) (same_values a b) e in
+    let all = and_parts (bytes_eq a.login b.login && same_revision a.revision b.revision && beq a.active b.active) (pointwise bytes_eq a.texts b.texts) e in
     let front = and_parts (bytes_eq a.login b.login && same_revision a.revision b.revision) (beq a.active b.active) all.0 in
     let first = and_parts (bytes_eq a.login b.login) (same_revision a.revision b.revision) front.0 in
-    let values = and_parts (bytes_eq a.number b.number && bytes_eq a.given b.given && bytes_eq a.family b.family) (bytes_eq a.mail b.mail) all.1 in
-    let names = and_parts (bytes_eq a.number b.number && bytes_eq a.given b.given) (bytes_eq a.family b.family) values.0 in
-    let number = and_parts (bytes_eq a.number b.number) (bytes_eq a.given b.given) names.0 in
-    same_user_fields _ _ _ _ _ _ _ _ _ _ _ _ _ _
+    same_user_fields _ _ _ _ _ _ _ _
     ((bytes_eq-Decides a.login b.login).0 first.0)
     ((is_order.same a.revision b.revision).0 first.1)
+    ((slice_eq-Decides bytes_eq-Decides a.texts b.texts _ refl).0 all.1)
     (same_flag a.active b.active front.1)
-    ((bytes_eq-Decides a.number b.number).0 number.0)
-    ((bytes_eq-Decides a.given b.given).0 number.1)
-    ((bytes_eq-Decides a.family b.family).0 names.1)
-    ((bytes_eq-Decides a.mail b.mail).0 values.1)
 
-user_itself : (a : UserFields) → same_user a a ≡ true
-user_itself a = rw (bytes_itself a.login, (is_order.same a.revision a.revision).1 refl, flag_itself a.active, bytes_itself a.number, bytes_itself a.given, bytes_itself a.family, bytes_itself a.mail)
+pub user_itself : (a : UserFields) → same_user a a ≡ true
+user_itself a = rw (bytes_itself a.login, (is_order.same a.revision a.revision).1 refl, flag_itself a.active, keys_itself a.texts)
 
 abbrev group_fields : (name : List ℕ) (revision : RevisionValue) (members : List (List ℕ)) → GroupFields
 group_fields name revision members = record { name = name; revision = revision; members = members }
@@ -83,3 +79,12 @@ row_from_test (Group a) (Group b) e = ap Group (group_from_test a b e)
 pub row_itself : (a : Row) → same_row a a ≡ true
 row_itself (User a) = user_itself a
 row_itself (Group a) = group_itself a
+
+-- a text of a row is short
+short_at : (texts : List (List ℕ)) (i : ℕ) → list_all is_short texts ≡ true → length (get_or texts i []) ≤ VALUE_LIMIT
+short_at [] i all = omega arith
+short_at (t ∷ texts) zero all = leb-true (length t) VALUE_LIMIT (and_parts (is_short t) (list_all is_short texts) all).0
+short_at (t ∷ texts) (suc i) all = short_at texts i (and_parts (is_short t) (list_all is_short texts) all).1
+
+pub short_text : (row : UserFields) → IsUserRow row → (text : UserText) → length (text_of row text) ≤ VALUE_LIMIT
+short_text row lawful text = short_at row.texts (place_of text) lawful.short

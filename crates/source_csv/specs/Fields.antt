@@ -1,6 +1,7 @@
 -- What the fields of a record say, and what a record is as a row: the first fault decides.
-use Rattle.std.specs.Prelude.{◌≡◌, ℕ, Bool, true, false, List, [], ◌∷◌, Result, Ok, Err, if◌then◌else◌, ◌||◌, ◌==◌, nat_le, nat_lt, length, map, codes, is_none, unwrap_or}
-use Rattle.std.specs.List.{list_all, list_any, slice_split}
+use Rattle.std.specs.Prelude.{◌≡◌, ℕ, Bool, true, false, List, [], ◌∷◌, Result, Ok, Err, if◌then◌else◌, ◌||◌, ◌==◌, nat_lt, length, map, codes, is_none, unwrap_or}
+use denote.Ref.{Bor}
+use Rattle.std.specs.List.{list_all, list_any, position, slice_split}
 use Rattle.std.specs.Option.{ok_or}
 use Rattle.std.specs.Str.{bytes_eq, is_utf8}
 use Rattle.csv.specs.Records.{field_at}
@@ -9,8 +10,9 @@ use Rattle.scim_key.specs.Outcome.{◌>>=◌}
 use Rattle.scim_key.specs.Revisions as revisions
 use Rattle.scim_key.specs.Revisions.{RevisionValue}
 use Rattle.source_csv.specs.Rows.{GroupFields, UserFields, precedes}
+use Rattle.source_csv.specs.Texts.{is_short}
 use Rattle.source_csv.specs.declared.groups.TheConstants.{MEMBER_LIMIT}
-use Rattle.source_csv.specs.declared.users.TheConstants.{VALUE_LIMIT}
+use Rattle.source_csv.specs.declared.texts.TheConstants.{USER_TEXTS}
 use Rattle.source_csv.specs.declared.faults.RowCode.{RowCode}
 use Rattle.source_csv.specs.declared.faults.RowCode.TheVariants as code
 use Rattle.source_csv.specs.declared.faults.Refusal.{Refusal}
@@ -32,32 +34,46 @@ read_login text = if is_none (user_name_fault text) then Ok text else Err code.N
 unfoldable pub read_revision : List ℕ → Result RevisionValue RowCode
 read_revision text = ok_or (revisions.read_revision text) code.Revision
 
--- S6: a number, a given name, a family name or a mail has at most `VALUE_LIMIT` bytes
-unfoldable pub read_value : List ℕ → Result (List ℕ) RowCode
-read_value text = if nat_le (length text) VALUE_LIMIT then Ok text else Err code.Value
+-- S6: each text of a user has at most `VALUE_LIMIT` bytes
+unfoldable pub read_values : List (List ℕ) → Result (List (List ℕ)) RowCode
+read_values texts = if list_all is_short texts then Ok texts else Err code.Value
 
 -- S6: a status is `active` or `left`
 unfoldable pub read_status : List ℕ → Result Bool RowCode
 read_status text = if bytes_eq text (codes "active") then Ok true else if bytes_eq text (codes "left") then Ok false else Err code.Value
 
--- a record's fields by name, as a row
-unfoldable pub read_user_fields : (login revision number given family mail status : List ℕ) → Result UserFields RowCode
-read_user_fields login revision number given family mail status = do
-  name ← read_login login
-  count ← read_revision revision
-  external ← read_value number
-  first ← read_value given
-  last ← read_value family
-  address ← read_value mail
-  active ← read_status status
-  Ok (record { login = name; revision = count; number = external; given = first; family = last; mail = address; active = active })
+-- the field at a place; empty if there is none
+abbrev pub field : Record → ℕ → List ℕ
+field fields place = unwrap_or (field_at fields place) []
 
--- A record of a users file as a row. S2: the number of fields is wrong.
-unfoldable pub read_user : Record → Result UserFields RowCode
-read_user (login ∷ revision ∷ number ∷ given ∷ family ∷ mail ∷ status ∷ []) = do
-  texts ← read_texts (login ∷ revision ∷ number ∷ given ∷ family ∷ mail ∷ status ∷ [])
-  read_user_fields login revision number given family mail status
-read_user fields = Err code.FieldCount
+-- the record whose fields are these names of columns
+abbrev pub named : List (Bor (List ℕ)) → Record
+named columns = map (λ column. column.now) columns
+
+-- the field in the column of this name; empty if there is no such column
+abbrev pub column : Record → Record → List ℕ → List ℕ
+column columns fields name = field fields (unwrap_or (position (λ c. bytes_eq c name) columns) (length columns))
+
+-- the columns of the texts of a user
+abbrev pub text_columns : Record
+text_columns = map (λ column. column.now) USER_TEXTS
+
+-- a text of a user in its column is too long
+unfoldable pub SomeIsLong : (List ℕ → List ℕ) → Type 0
+SomeIsLong column_named = list_all is_short (map column_named text_columns) ≡ false
+
+-- the fields of a record, given the field in the column of each name, as a row
+unfoldable pub read_user_fields : (List ℕ → List ℕ) → Result UserFields RowCode
+read_user_fields column_named = do
+  login ← read_login (column_named (codes "login"))
+  revision ← read_revision (column_named (codes "revision"))
+  texts ← read_values (map column_named text_columns)
+  active ← read_status (column_named (codes "status"))
+  Ok (record { login = login; revision = revision; texts = texts; active = active })
+
+-- A record of a users file with these columns, as a row. S2: the number of fields is wrong.
+unfoldable pub read_user : Record → Record → Result UserFields RowCode
+read_user columns fields = if length fields == length columns then (read_texts fields >>= λ texts. read_user_fields (column columns texts)) else Err code.FieldCount
 
 -- S4: the name of a group
 unfoldable pub read_group_name : List ℕ → Result (List ℕ) RowCode
@@ -119,10 +135,6 @@ read_group (name ∷ revision ∷ members ∷ []) = do
   read_group_fields name revision members
 read_group fields = Err code.FieldCount
 
--- the field at a place; empty if there is none
-abbrev pub field : Record → ℕ → List ℕ
-field fields place = unwrap_or (field_at fields place) []
-
 -- the result is exactly what is read, or out of memory
 abbrev pub Reads : {X : Type 0} → Result X Refusal → Result X RowCode → Type 0
 Reads (Ok x) answer = answer ≡ Ok x
@@ -134,3 +146,8 @@ abbrev pub ReadsBy : {X Y : Type 0} → (X → Y) → Result X Refusal → Resul
 ReadsBy view (Ok x) answer = answer ≡ Ok (view x)
 ReadsBy view (Err (Refused c)) answer = answer ≡ Err c
 ReadsBy view (Err Memory) answer = Unit {0}
+
+-- a refusal with this code, for this reason, or out of memory
+abbrev pub RefusedFor : RowCode → Type 0 → Refusal → Type 0
+RefusedFor code Reason (Refused c) = (c ≡ code) × Reason
+RefusedFor code Reason Memory = Unit {0}

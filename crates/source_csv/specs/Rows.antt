@@ -1,41 +1,38 @@
 -- The rows of the source, as contracts see them, and their limits.
-use Rattle.std.specs.Prelude.{◌≡◌, ℕ, Bool, true, List, [], ◌∷◌, length, ◌≤◌, ◌&&◌}
+use Rattle.std.specs.Prelude.{◌≡◌, ℕ, Bool, true, List, [], ◌∷◌, get_or, length, ◌≤◌, ◌&&◌}
 use Rattle.std.specs.Bool.{beq}
 use Rattle.std.specs.Cmp.Lexicographic.{pointwise, slice_cmp}
 use Rattle.std.specs.Ordering.{nat_cmp, is_lt}
-use Rattle.std.specs.List.{AllByRecursion}
+use Rattle.std.specs.List.{AllByRecursion, list_all}
 use Rattle.std.specs.Str.{bytes_eq}
 use Rattle.scim_key.specs.Names.{IsGroupName, IsKey, IsUserName}
 use Rattle.scim_key.specs.Revisions.{RevisionValue, IsRevision, same_revision}
 use Rattle.source_csv.specs.declared.groups.TheConstants.{MEMBER_LIMIT}
-use Rattle.source_csv.specs.declared.users.TheConstants.{VALUE_LIMIT}
+use Rattle.source_csv.specs.Texts.{is_short, place_of}
+use Rattle.source_csv.specs.declared.texts.TheConstants.{TEXT_COUNT}
+use Rattle.source_csv.specs.declared.texts.UserText.{UserText}
 
--- a row of a user. An empty number, given name, family name or mail means none
+-- a row of a user, with its texts in the order of `UserText`. An empty text means none
 pub record UserFields : Type 0 where
   pub login : List ℕ
   pub revision : RevisionValue
-  pub number : List ℕ
-  pub given : List ℕ
-  pub family : List ℕ
-  pub mail : List ℕ
+  pub texts : List (List ℕ)
   pub active : Bool
 
 -- what holds for every row of a user
 pub record IsUserRow (row : UserFields) : Type 0 where
   pub login : IsUserName row.login
   pub revision : IsRevision row.revision
-  pub number : length row.number ≤ VALUE_LIMIT
-  pub given : length row.given ≤ VALUE_LIMIT
-  pub family : length row.family ≤ VALUE_LIMIT
-  pub mail : length row.mail ≤ VALUE_LIMIT
+  pub count : length row.texts ≡ TEXT_COUNT
+  pub short : list_all is_short row.texts ≡ true
 
--- whether the numbers, names and mails of two rows are equal, byte for byte
-abbrev pub same_values : UserFields → UserFields → Bool
-same_values a b = bytes_eq a.number b.number && bytes_eq a.given b.given && bytes_eq a.family b.family && bytes_eq a.mail b.mail
+-- a text of a user
+abbrev pub text_of : UserFields → UserText → List ℕ
+text_of row text = get_or row.texts (place_of text) []
 
 -- whether all fields of two rows of users are equal, byte for byte: a login in another spelling is another field
 abbrev pub same_user : UserFields → UserFields → Bool
-same_user a b = bytes_eq a.login b.login && same_revision a.revision b.revision && beq a.active b.active && same_values a b
+same_user a b = bytes_eq a.login b.login && same_revision a.revision b.revision && beq a.active b.active && pointwise bytes_eq a.texts b.texts
 
 -- whether a key comes before another in byte order
 unfoldable pub precedes : List ℕ → List ℕ → Bool

@@ -1,12 +1,16 @@
 //! The fields of a record.
-ghost use Rattle.std.specs.Prelude.{◌≡◌, ◌≤◌, Ok, Err, IfOk, MatchResult, string_bytes, string_len};
+ghost use Rattle.std.specs.Prelude.{◌≡◌, ◌<◌, [], get_or, Ok, Err, IfErr, IfOk, MatchResult, true, false, map};
+ghost use Rattle.std.specs.List.{list_all, position};
+ghost use Rattle.std.specs.Str.{bytes_eq};
 ghost use Rattle.csv.specs.Records.{fields_of};
 ghost use Rattle.scim_key.specs.Names.{IsGroupName, IsUserName};
 ghost use Rattle.scim_key.specs.Revisions.{IsRevision};
-ghost use Rattle.source_csv.specs.Fields.{Reads, ReadsBy, field, read_group_name, read_login, read_revision, read_status, read_texts, read_value};
+ghost use Rattle.source_csv.specs.Fields.{Reads, RefusedFor, SomeIsLong, column, field, named, read_group_name, read_login, read_revision, read_status, read_texts, text_columns};
+ghost use Rattle.source_csv.specs.Texts.{is_short};
+ghost use Rattle.source_csv.specs.declared.faults.RowCode.TheVariants as code;
 
 use crate::faults::{Refusal, RowCode};
-use crate::users::VALUE_LIMIT;
+use crate::texts::{TEXT_COUNT, Text, USER_TEXTS, VALUE_LIMIT};
 use csv::{ByteRecord, StringRecord};
 use scim_key::{GroupName, NameFault, Revision, UserName};
 use std::alloc::Global;
@@ -65,15 +69,47 @@ pub(crate) fn revision_of(text: &str) -> Result<Revision, RowCode>
 }
 
 /// A text of at most `VALUE_LIMIT` bytes.
-#[tactic(auto, unfolding(crate::specs::Fields::read_value))]
-pub(crate) fn value_of(alloc: Global, text: &str) -> Result<String, Refusal>
-    ensures exact { ReadsBy string_bytes result (read_value text.now) }
-    ensures lawful { IfOk result (λ value. string_len value ≤ VALUE_LIMIT) }
+fn value_of(alloc: Global, text: &str) -> Result<Text, Refusal>
+    ensures ok { IfOk result (λ value. (value ≡ text.now) × (is_short value ≡ true)) }
+    ensures err { IfErr result (RefusedFor code.Value (is_short text.now ≡ false)) }
 {
     if text.len() > VALUE_LIMIT {
         return Err(Refusal::Refused(RowCode::Value));
     }
-    Ok(String::from_str(alloc, text)?)
+    Ok(Text::new(String::from_str(alloc, text)?))
+}
+
+/// The place of the column of this name.
+fn place_of(columns: &[&str], name: &str) -> Option<usize>
+    ensures { result ≡ position (λ c. bytes_eq c.now name.now) columns.now }
+{
+    columns.iter().position(|column| *column == name)
+}
+
+/// The field in the column of this name; empty if there is no such column.
+pub(crate) fn column<'a>(columns: &[&str], texts: &'a StringRecord, name: &str) -> &'a str
+    ensures { result.now ≡ column (named columns.now) (fields_of texts.now) name.now }
+{
+    field(texts, place_of(columns, name).unwrap_or(columns.len()))
+}
+
+/// The fields in the columns of the texts of a user.
+fn fields_in<'a>(columns: &[&str], texts: &'a StringRecord) -> [&'a str; TEXT_COUNT]
+    ensures { map (λ f. f.now) result ≡ map (column (named columns.now) (fields_of texts.now)) text_columns }
+{
+    USER_TEXTS.map(|name| column(columns, texts, name))
+}
+
+/// The texts of a user, each from its column.
+pub(crate) fn values_of(
+    alloc: Global,
+    columns: &[&str],
+    texts: &StringRecord,
+) -> Result<[Text; TEXT_COUNT], Refusal>
+    ensures ok { IfOk result (λ values. (values ≡ map (column (named columns.now) (fields_of texts.now)) text_columns) × (list_all is_short values ≡ true)) }
+    ensures err { IfErr result (RefusedFor code.Value (SomeIsLong (column (named columns.now) (fields_of texts.now)))) }
+{
+    fields_in(columns, texts).try_map(|text| value_of(alloc, text))
 }
 
 /// Whether a status is `active`; the only other one is `left`.

@@ -1,6 +1,7 @@
 //! Files of the source.
-ghost use Rattle.std.specs.Prelude.{◌≡◌, IfErr, IfOk, IsErr, List, MatchResult, Ok, true};
-ghost use Rattle.std.specs.List.{enumerate_from, list_all};
+ghost use Rattle.std.specs.Prelude.{◌≡◌, IfErr, IfOk, IsErr, List, MatchResult, Ok, map, true};
+ghost use Rattle.std.specs.List.{enumerate_from, find, list_all};
+ghost use Rattle.std.specs.Option.{option_map};
 ghost use Rattle.std.specs.Result.{ForErr};
 ghost use Rattle.std.specs.Str.{bytes_eq};
 ghost use Rattle.csv.specs.Reading.{error_kind, stops_reader, strip_bom};
@@ -8,9 +9,9 @@ ghost use Rattle.csv.specs.Records.{fields_of};
 ghost use Rattle.csv.specs.declared.parser.State.TheVariants.{StartRecord};
 ghost use Rattle.scim_key.specs.Outcome.{Gives};
 ghost use Rattle.scim_key.specs.declared.records.Kind.TheVariants as kind;
-ghost use Rattle.source_csv.specs.Fields.{Reads, Record, field};
+ghost use Rattle.source_csv.specs.Fields.{Reads, Record, field, named};
 ghost use Rattle.source_csv.specs.Reader.{IsAt};
-ghost use Rattle.source_csv.specs.Files.{AreRecordsOf, FilesHaveRecords, at_place, header_of, named, read_row, rows_of, same_record};
+ghost use Rattle.source_csv.specs.Files.{AreRecordsOf, FilesHaveRecords, at_place, columns_of, read_row, rows_of, same_record};
 
 use crate::faults::{Refusal, RowFault, SourceFault};
 use crate::groups::read_group;
@@ -26,8 +27,14 @@ pub const USER_COLUMNS: [&str; 7] = [
     "login", "revision", "number", "given", "family", "mail", "status",
 ];
 
+/// The headers that a file of users may have.
+pub const USER_HEADERS: [&[&str]; 1] = [&USER_COLUMNS];
+
 /// The columns of a file of groups.
 pub const GROUP_COLUMNS: [&str; 3] = ["name", "revision", "members"];
+
+/// The headers that a file of groups may have.
+pub const GROUP_HEADERS: [&[&str]; 1] = [&GROUP_COLUMNS];
 
 /// The records of a file, in order: each is a row or is rejected.
 #[derive(Debug, Drop)]
@@ -86,23 +93,36 @@ fn has_columns(raw: &ByteRecord, columns: &[&str]) -> bool
     raw.len() == columns.len() && has_fields(raw, columns)
 }
 
-/// Whether a record is the header of a file of this kind.
-fn is_header(kind: Kind, raw: &ByteRecord) -> bool
-    ensures { result ≡ same_record (fields_of raw.now) (header_of kind) }
+/// The columns of the header among these that the record is. `None` if it is none of them.
+fn header_among(
+    headers: &[&'static [&'static str]],
+    raw: &ByteRecord,
+) -> Option<&'static [&'static str]>
+    ensures { option_map (λ columns. named columns.now) result ≡ find (same_record (fields_of raw.now)) (map (λ columns. named columns.now) headers.now) }
+{
+    headers
+        .iter()
+        .find(|columns| has_columns(raw, columns))
+        .copied()
+}
+
+/// The columns of a file of this kind with this header. `None` if no file of this kind has it.
+fn columns_of(kind: Kind, header: &ByteRecord) -> Option<&'static [&'static str]>
+    ensures { option_map (λ columns. named columns.now) result ≡ columns_of kind (fields_of header.now) }
 {
     match kind {
-        Kind::User => has_columns(raw, &USER_COLUMNS),
-        Kind::Group => has_columns(raw, &GROUP_COLUMNS),
+        Kind::User => header_among(&USER_HEADERS, header),
+        Kind::Group => header_among(&GROUP_HEADERS, header),
     }
 }
 
-/// Reads a record of a file of this kind.
+/// Reads a record of a file of this kind with these columns.
 #[tactic(auto, unfolding(crate::specs::Files::read_row))]
-fn read_row(alloc: Global, kind: Kind, raw: ByteRecord) -> Result<Row, Refusal>
-    ensures { Reads result (read_row kind (fields_of raw)) }
+fn read_row(alloc: Global, kind: Kind, columns: &[&str], raw: ByteRecord) -> Result<Row, Refusal>
+    ensures { Reads result (read_row kind (named columns.now) (fields_of raw)) }
 {
     match kind {
-        Kind::User => Ok(Row::User(read_user(alloc, raw)?)),
+        Kind::User => Ok(Row::User(read_user(alloc, columns, raw)?)),
         Kind::Group => Ok(Row::Group(read_group(alloc, raw)?)),
     }
 }
@@ -111,12 +131,13 @@ fn read_row(alloc: Global, kind: Kind, raw: ByteRecord) -> Result<Row, Refusal>
 fn row_at(
     alloc: Global,
     kind: Kind,
+    columns: &[&str],
     place: usize,
     raw: ByteRecord,
 ) -> Result<Result<Row, RowFault>, SourceFault>
-    ensures { MatchResult result (λ row. row ≡ at_place place (read_row kind (fields_of raw))) (λ fault. fault ≡ SourceFault.Memory) }
+    ensures { MatchResult result (λ row. row ≡ at_place place (read_row kind (named columns.now) (fields_of raw))) (λ fault. fault ≡ SourceFault.Memory) }
 {
-    match read_row(alloc, kind, raw) {
+    match read_row(alloc, kind, columns, raw) {
         Ok(row) => Ok(Ok(row)),
         Err(Refusal::Refused(code)) => Ok(Err(RowFault { place, code })),
         Err(Refusal::Memory) => Err(SourceFault::Memory),
@@ -153,13 +174,14 @@ fn read_rows(alloc: Global, kind: Kind, bytes: &[u8]) -> Result<SourceRows, Sour
         Some(header) => record_of(header)?,
         None => return Err(SourceFault::Header),
     };
-    if !is_header(kind, &header) {
-        return Err(SourceFault::Header);
-    }
+    let columns = match columns_of(kind, &header) {
+        Some(columns) => columns,
+        None => return Err(SourceFault::Header),
+    };
     let mut rows = Vec::new(alloc);
     for fields in records {
         let raw = record_of(fields)?;
-        rows.push(row_at(alloc, kind, rows.len() + 1, raw)?)?;
+        rows.push(row_at(alloc, kind, columns, rows.len() + 1, raw)?)?;
     }
     Ok(SourceRows { rows })
 }

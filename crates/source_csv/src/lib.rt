@@ -6,12 +6,15 @@ mod fields;
 mod files;
 mod groups;
 mod rows;
+mod texts;
 mod users;
 
 pub use faults::{RowCode, RowFault, SourceFault};
 pub use files::{
-    GROUP_COLUMNS, SourceRows, USER_COLUMNS, files_have_records, read_groups, read_users,
+    GROUP_COLUMNS, GROUP_HEADERS, SourceRows, USER_COLUMNS, USER_HEADERS, files_have_records,
+    read_groups, read_users,
 };
 pub use groups::{GroupRow, MEMBER_LIMIT};
 pub use rows::{Row, keys_are_of_names};
-pub use users::{UserRow, VALUE_LIMIT};
+pub use texts::{TEXT_COUNT, Text, USER_TEXTS, UserText, VALUE_LIMIT};
+pub use users::UserRow;

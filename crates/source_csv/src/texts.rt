@@ -1,0 +1,109 @@
+//! The texts of a user.
+ghost use Rattle.std.specs.Prelude.{◌≡◌, ◌==◌, ◌<◌, length, string_bytes};
+ghost use lib.Pointwise.{pointwise};
+ghost use Rattle.std.proofs.Common.{rules};
+ghost use Rattle.std.specs.Cmp.Rules.{comparing};
+ghost use Rattle.std.specs.List.{list_all};
+ghost use Rattle.source_csv.specs.Texts.{column_of, is_short, place_of};
+
+use std::alloc::AllocError;
+use std::marker::Model;
+
+/// The most bytes of a text of a user.
+pub const VALUE_LIMIT: usize = 256;
+
+/// A text that the source gives for a user. An empty text means none.
+#[derive(Clone, Copy, Debug, PartialEq, Eq)]
+pub enum UserText {
+    Number,
+    Given,
+    Family,
+    Mail,
+}
+
+/// How many texts a user has.
+pub const TEXT_COUNT: usize = 4;
+
+/// The column of each text of a user, in the order of `UserText`.
+pub const USER_TEXTS: [&str; TEXT_COUNT] = ["number", "given", "family", "mail"];
+
+impl UserText {
+    /// Its place among the texts of a user.
+    pub(crate) fn place(self) -> usize
+        ensures value { result ≡ place_of self }
+        ensures within { result < TEXT_COUNT }
+    {
+        self as usize
+    }
+
+    /// The name of its column in a file of users.
+    pub fn column(self) -> &'static str
+        ensures { result.now ≡ column_of self }
+    {
+        USER_TEXTS[self.place()]
+    }
+}
+
+/// A text of a user. Contracts see its bytes.
+#[derive(Debug, Drop)]
+pub struct Text {
+    text: String,
+}
+
+impl Model for Text {
+    ghost use Rattle.std.specs.Prelude.{List, ℕ, string_bytes};
+
+    ghost Value = { List ℕ };
+
+    ghost view = { λ t. string_bytes t.text };
+}
+
+impl Text {
+    /// The text of a string.
+    pub fn new(text: String) -> Text
+        ensures { result ≡ string_bytes text }
+    {
+        Text { text }
+    }
+
+    /// The text as a string.
+    pub fn as_str(&self) -> &str
+        ensures { result.now ≡ self.now }
+    {
+        self.text.as_str()
+    }
+
+    /// Whether the text has at most `VALUE_LIMIT` bytes.
+    pub(crate) fn is_short(&self) -> bool
+        ensures { result ≡ is_short self.now }
+    {
+        self.text.len() <= VALUE_LIMIT
+    }
+}
+
+/// Whether each of these texts has at most `VALUE_LIMIT` bytes.
+pub(crate) fn are_short(texts: &[Text]) -> bool
+    ensures { result ≡ list_all is_short texts.now }
+{
+    texts.iter().all(|text| text.is_short())
+}
+
+impl Clone for Text {
+    ghost is_clone = { λ a b. b ≡ a };
+
+    fn clone(&self) -> Result<Text, AllocError> {
+        Ok(Text {
+            text: self.text.clone()?,
+        })
+    }
+}
+
+impl PartialEq for Text {
+    ghost eq = { pointwise ◌==◌ };
+
+    ghost laws = { Prim.search (comparing, rules) };
+
+    fn eq(&self, other: &Text) -> bool {
+        self.text.as_str() == other.text.as_str()
+    }
+}
