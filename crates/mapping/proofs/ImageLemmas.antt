@@ -1,6 +1,7 @@
 -- The image of a row is a content that some reading gives.
-use Rattle.std.proofs.Common.{◌≡◌, ℕ, suc, ◌≤◌, true, List, [], ◌∷◌, Option, Some, None, length, refl, ap, subst, arith}
+use Rattle.std.proofs.Common.{◌≡◌, ℕ, suc, ◌≤◌, true, List, [], ◌∷◌, Option, Some, None, length, map, refl, ap, subst, arith}
 use Rattle.std.proofs.lemmas.Bool.Decides.{nat_tests}
+use Rattle.std.specs.List.{AllByRecursion}
 use Rattle.std.specs.Option.{SomeIff}
 use Rattle.std.specs.Result.{result_ok}
 use Rattle.scim_key.specs.declared.records.RecordName.{RecordName}
@@ -9,12 +10,15 @@ use Rattle.scim_resource.specs.Groups.{AreTexts}
 use Rattle.scim_resource.specs.declared.contents.Content.{Content}
 use Rattle.scim_resource.specs.Emails.{IsEmailList, are_few}
 use Rattle.scim_resource.specs.Texts.{IsText, IsTextIf, is_short_text}
+use Rattle.scim_resource.specs.UserTexts.{AreUserTexts}
 use Rattle.scim_resource.specs.declared.emails.Email.{Email}
+use Rattle.scim_resource.specs.declared.user_texts.TheConstants.{USER_TEXTS}
+use Rattle.scim_resource.specs.declared.user_texts.UserText.{UserText}
 use Rattle.scim_resource.specs.declared.texts.TheConstants.{TEXT_LIMIT}
 use Rattle.scim_resource.proofs.RoundTrips.{content_read, content_spelled}
 use Rattle.source_csv.specs.Records.{row_name, user}
 use Rattle.source_csv.specs.Rows.{GroupFields, IsGroupRow, UserFields, IsUserRow, text_of}
-use Rattle.source_csv.specs.declared.texts.UserText.TheVariants as texts
+use Rattle.source_csv.specs.declared.texts.UserText.TheVariants as field
 use Rattle.source_csv.proofs.RowLemmas.{short_text}
 use Rattle.source_csv.specs.declared.groups.TheConstants.{MEMBER_LIMIT}
 use Rattle.source_csv.specs.declared.rows.Row.{Row}
@@ -24,7 +28,7 @@ use Rattle.group_sync.specs.Ready.{ready}
 use Rattle.group_sync.specs.declared.ids.Ready.{Ready}
 use Rattle.group_sync.specs.declared.ids.Ready.TheVariants.{Ids, Waits}
 use Rattle.group_sync.proofs.ReadyLemmas.{means}
-use Rattle.mapping.specs.Images.{present, emails_of, group_image, image, image_by, user_image}
+use Rattle.mapping.specs.Images.{present, emails_of, group_image, image, image_by, image_texts, source_of, user_image}
 use Rattle.mapping.specs.Laws.{AreIds, ImagesReadBack, ImagesStay, ReadsBack}
 use Rattle.mapping.proofs.MemberLemmas.{once_lawful, text_of_id}
 
@@ -68,13 +72,18 @@ emails_are_lawful (b ∷ mail) short = record {
   few = few_of_one _ refl;
 }
 
+texts_lawful : (row : UserFields) (ws : List UserText) → IsUserRow row → AllByRecursion IsTextIf (map (λ which. present (text_of row (source_of which))) ws)
+texts_lawful row [] lawful = tt
+texts_lawful row (w ∷ ws) lawful = (present_is_text (text_of row (source_of w)) (short_text row lawful (source_of w)), texts_lawful row ws lawful)
+
+pub image_texts_lawful : (row : UserFields) → IsUserRow row → AreUserTexts (image_texts row)
+image_texts_lawful row lawful = record { count = refl; each = texts_lawful row USER_TEXTS lawful }
+
 user_lawful : (row : UserFields) → IsUserRow row → IsContent (user_image row)
 user_lawful row lawful = record {
   user_name = lawful.login;
-  external_id = present_is_text (text_of row texts.Number) (short_text row lawful texts.Number);
-  given_name = present_is_text (text_of row texts.Given) (short_text row lawful texts.Given);
-  family_name = present_is_text (text_of row texts.Family) (short_text row lawful texts.Family);
-  emails = emails_are_lawful (text_of row texts.Mail) (short_text row lawful texts.Mail);
+  texts = image_texts_lawful row lawful;
+  emails = emails_are_lawful (text_of row field.Mail) (short_text row lawful field.Mail);
   revision = lawful.revision;
 }
 

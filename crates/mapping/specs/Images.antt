@@ -1,14 +1,19 @@
 -- The image of a row: the content that the provider should hold.
-use Rattle.std.specs.Prelude.{ℕ, true, not, List, [], ◌∷◌, Option, Some, None, Result, Ok, Err, codes}
+use Rattle.std.specs.Prelude.{ℕ, true, not, List, [], ◌∷◌, Option, Some, None, Result, Ok, Err, codes, map}
 use Rattle.std.specs.List.{filter}
 use Rattle.std.specs.Result.{result_ok}
 use Rattle.std.specs.Str.{bytes_eq}
 use Rattle.scim_key.specs.declared.records.RecordName.{RecordName}
+use Rattle.scim_resource.specs.UserTexts.{UserTexts}
 use Rattle.scim_resource.specs.declared.contents.Content.{Content}
 use Rattle.scim_resource.specs.declared.contents.Content.TheVariants as contents
 use Rattle.scim_resource.specs.declared.emails.Email.{Email}
+use Rattle.scim_resource.specs.declared.user_texts.TheConstants.{USER_TEXTS}
+use Rattle.scim_resource.specs.declared.user_texts.UserText.{UserText}
+use Rattle.scim_resource.specs.declared.user_texts.UserText.TheVariants as texts
 use Rattle.source_csv.specs.Rows.{GroupFields, UserFields, text_of}
-use Rattle.source_csv.specs.declared.texts.UserText.TheVariants as texts
+use Rattle.source_csv.specs.declared.texts.UserText as fields
+use Rattle.source_csv.specs.declared.texts.UserText.TheVariants as field
 use Rattle.source_csv.specs.declared.rows.Row.{Row}
 use Rattle.source_csv.specs.declared.rows.Row.TheVariants.{User, Group}
 use Rattle.group_sync.specs.Ready.{ready}
@@ -30,14 +35,22 @@ abbrev pub emails_of : List ℕ → List Email
 emails_of [] = []
 emails_of (b ∷ mail) = work_email (b ∷ mail) ∷ []
 
+-- the text of a row that gives a text of a user
+abbrev pub source_of : UserText → fields.UserText
+source_of texts.ExternalId = field.Number
+source_of texts.FamilyName = field.Family
+source_of texts.GivenName = field.Given
+
+-- the texts of a user
+abbrev pub image_texts : UserFields → UserTexts
+image_texts row = map (λ which. present (text_of row (source_of which))) USER_TEXTS
+
 -- The image of a row of a user
 abbrev pub user_image : UserFields → Content
 user_image row = contents.User (record {
   user_name = row.login;
-  external_id = present (text_of row texts.Number);
-  given_name = present (text_of row texts.Given);
-  family_name = present (text_of row texts.Family);
-  emails = emails_of (text_of row texts.Mail);
+  texts = image_texts row;
+  emails = emails_of (text_of row field.Mail);
   active = row.active;
   revision = Some row.revision;
 })

@@ -1,10 +1,14 @@
 //! Images of rows.
-ghost use Rattle.std.specs.Prelude.{◌≡◌, ◌≤◌, Some, IfOk, length, codes};
+ghost use Rattle.std.specs.Prelude.{◌≡◌, ◌≤◌, Some, IfOk, length, map, codes};
+ghost use Rattle.std.specs.List.{All};
+ghost use Rattle.source_csv.specs.Rows.{text_of};
 ghost use Rattle.scim_resource.specs.declared.texts.TheConstants.{TEXT_LIMIT};
-ghost use Rattle.mapping.specs.Images.{emails_of, present, user_image};
+ghost use Rattle.mapping.specs.Images.{emails_of, image_texts, present, source_of, user_image};
 
-use scim_resource::{Content, Email, Emails, Text, User};
-use source_csv::{UserRow, UserText};
+use scim_resource::{
+    Content, Email, Emails, TEXT_COUNT, TEXT_LIMIT, Text, USER_TEXTS, User, UserText,
+};
+use source_csv::{UserRow, UserText as Field};
 use std::alloc::{AllocError, Global};
 
 /// The content for a user's row. An empty field is an absent attribute.
@@ -12,16 +16,46 @@ pub fn user_content(alloc: Global, row: &UserRow) -> Result<Content, AllocError>
     ensures { IfOk result (λ content. content ≡ user_image row.now) }
 {
     let login = row.login().clone()?;
-    let number = text(alloc, row.text(UserText::Number))?;
-    let given = text(alloc, row.text(UserText::Given))?;
-    let family = text(alloc, row.text(UserText::Family))?;
-    let emails = emails(alloc, row.text(UserText::Mail))?;
+    let texts = texts(alloc, row)?;
+    let emails = emails(alloc, row.text(Field::Mail))?;
     let user = User::new(alloc, login, row.is_active(), Some(row.revision()));
-    Ok(Content::User(
-        user.with_external_id(number)
-            .with_name(given, family)
-            .with_emails(emails),
-    ))
+    Ok(Content::User(user.with_texts(texts).with_emails(emails)))
+}
+
+/// The field of a row that gives a text of a user.
+fn source_of(which: UserText) -> Field
+    ensures { result ≡ source_of which }
+{
+    match which {
+        UserText::ExternalId => Field::Number,
+        UserText::FamilyName => Field::Family,
+        UserText::GivenName => Field::Given,
+    }
+}
+
+/// The fields that give the texts of a user.
+fn fields(row: &UserRow) -> [&str; TEXT_COUNT]
+    ensures value { map (λ f. f.now) result ≡ map (λ which. text_of row.now (source_of which)) USER_TEXTS }
+    ensures short { All (λ f. length f.now ≤ TEXT_LIMIT) result }
+{
+    USER_TEXTS.map(|which| row.text(source_of(which)))
+}
+
+/// The texts of a user. An empty field is an absent text.
+fn texts(alloc: Global, row: &UserRow) -> Result<[Option<Text>; TEXT_COUNT], AllocError>
+    ensures { IfOk result (λ texts. texts ≡ image_texts row.now) }
+{
+    fields(row).try_map(|field| text_if(alloc, field))
+}
+
+/// A field as the text of an attribute. No field of a row is too long, so none is lost.
+fn text_if(alloc: Global, field: &str) -> Result<Option<Text>, AllocError>
+    ensures { IfOk result (λ text. length field.now ≤ TEXT_LIMIT → text ≡ present field.now) }
+{
+    if field.len() > TEXT_LIMIT {
+        return Ok(None);
+    }
+    text(alloc, field)
 }
 
 /// A field as the text of an attribute; absent if it is empty.

@@ -4,11 +4,13 @@ use Rattle.std.specs.List.{list_any, filter_map}
 use Rattle.std.specs.Option.{option_to_list}
 use Rattle.scim_key.specs.Identifiers.{id_text}
 use Rattle.scim_version.specs.Tags.{version_tag}
+use Rattle.scim_resource.specs.UserTexts.{text_at}
 use Rattle.scim_resource.specs.Users.{UserRecord}
 use Rattle.scim_resource.specs.Groups.{GroupRecord}
 use Rattle.scim_resource.specs.Rows.{StoredRecord}
 use Rattle.scim_resource.specs.declared.contents.Content.{Content}
 use Rattle.scim_resource.specs.declared.contents.Content.TheVariants.{User, Group}
+use Rattle.scim_resource.specs.declared.user_texts.UserText.TheVariants as users
 use Rattle.scim_filter.specs.Comparing.{folded, compares}
 use Rattle.scim_filter.specs.Expressions.{Expression, Only, Both, Either, Negated}
 use Rattle.scim_filter.specs.declared.terms.TextAttribute.{TextAttribute}
@@ -28,13 +30,13 @@ use Rattle.scim_filter.specs.declared.terms.Test.TheVariants as tests
 abbrev pub user_texts : TextAttribute → UserRecord → List (List ℕ)
 user_texts UserName u = u.user_name ∷ []
 user_texts DisplayName u = []
-user_texts GivenName u = option_to_list u.given_name
-user_texts FamilyName u = option_to_list u.family_name
+user_texts GivenName u = option_to_list (text_at users.GivenName u.texts)
+user_texts FamilyName u = option_to_list (text_at users.FamilyName u.texts)
 user_texts EmailValue u = map (λ e. e.value) u.emails
 user_texts EmailType u = filter_map (λ e. e.type_text) u.emails
 user_texts Member u = []
 user_texts Id u = []
-user_texts ExternalId u = option_to_list u.external_id
+user_texts ExternalId u = option_to_list (text_at users.ExternalId u.texts)
 user_texts Version u = []
 
 abbrev pub group_texts : TextAttribute → GroupRecord → List (List ℕ)

@@ -15,7 +15,7 @@ use crate::terms::{Attribute, FlagAttribute, FlagOperator, Test, TextAttribute, 
 use arrayvec::ArrayString;
 use itoa::Buffer;
 use scim_key::{NUMBERED_ID_LENGTH, ResourceId};
-use scim_resource::{Content, Email, Group, Stored, Text, User};
+use scim_resource::{Content, Email, Group, Stored, Text, User, UserText};
 
 /// A text that is compared with all values of an attribute.
 #[derive(Clone, Copy)]
@@ -110,11 +110,11 @@ fn asks_user(question: &Question, attribute: TextAttribute, user: &User) -> bool
 {
     match attribute {
         TextAttribute::UserName => question.of_one(user.user_name().as_str()),
-        TextAttribute::GivenName => question.of_option(user.given_name()),
-        TextAttribute::FamilyName => question.of_option(user.family_name()),
+        TextAttribute::GivenName => question.of_option(user.text(UserText::GivenName)),
+        TextAttribute::FamilyName => question.of_option(user.text(UserText::FamilyName)),
         TextAttribute::EmailValue => question.of_emails(user.emails()),
         TextAttribute::EmailType => question.of_email_types(user.emails()),
-        TextAttribute::ExternalId => question.of_option(user.external_id()),
+        TextAttribute::ExternalId => question.of_option(user.text(UserText::ExternalId)),
         _ => question.of_none(),
     }
 }
