@@ -1,5 +1,5 @@
 -- Calls of the connector as reports: what a stop leaves after them.
-use Rattle.std.proofs.Common.{◌≡◌, List, Result, Ok, Err, OnOk, ap, sym, subst}
+use Rattle.std.proofs.Common.{◌≡◌, List, Ok, sym, subst}
 use Rattle.std.specs.FinMap.{keys}
 use Rattle.scim_key.specs.declared.records.RecordName.{RecordName}
 use Rattle.journal_core.specs.Entries.{EntryMap}

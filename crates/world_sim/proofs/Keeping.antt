@@ -1,9 +1,8 @@
 -- What an event that failed keeps.
 use Rattle.std.proofs.Common.{◌≡◌, Option, Some, None, Result, Ok, Err, OnErr, refl, sym, ap, ◌∙◌, subst}
 use Rattle.connector_core.specs.State.{State}
-use Rattle.world_model.specs.World.{Message, Asked, Answered, Event, Changes, Sends, Delivers, Cuts, Restarts_provider, Restarts_connector, message_at}
-use Rattle.world_sim.specs.Messages.{messages_of}
-use Rattle.world_sim.specs.Running.{Keeps, KeepsConnector, KeepsSides, KeepsTo, Stays, known_in}
+use Rattle.world_model.specs.World.{Message, Asked, Answered}
+use Rattle.world_sim.specs.Running.{KeepsConnector, KeepsSides, KeepsTo, Stays, known_in}
 use Rattle.world_sim.specs.declared.sides.Side.TheVariants.{Open}
 use Rattle.world_sim.specs.declared.worlds.World.{World as Running}
 

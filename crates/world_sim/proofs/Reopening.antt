@@ -1,6 +1,5 @@
 -- A journal that is opened again, and then read.
-use Rattle.std.proofs.Common.{◌≡◌, ◌∙◌, ℕ, Result, Ok, Err, OnOk, MatchResult, sym, subst}
-use Rattle.journal_core.specs.Entries.{EntryMap}
+use Rattle.std.proofs.Common.{◌∙◌, ℕ, Result, Ok, Err, OnOk, sym, subst}
 use Rattle.journal_core.specs.Stores.{CountsFault, CountsFaults, OnlyReads, Reopens}
 use Rattle.journal_core.specs.declared.journals.Journal.{Ghosts as Journals}
 use Rattle.journal_core.specs.declared.journals.JournalFault.{JournalFault}

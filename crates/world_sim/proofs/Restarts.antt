@@ -1,6 +1,6 @@
 -- What a restart makes of a world that runs, and what a fault leaves of it.
-use Rattle.std.proofs.Common.{◌≡◌, ◌⊎◌, ℕ, Bool, true, false, inl, inr, List, Option, Some, None, Result, Ok, Err, IfErr, OnErr, map, refl, ap, sym, subst, ◌∙◌}
-use Rattle.std.specs.FinMap.{get, keys}
+use Rattle.std.proofs.Common.{◌≡◌, ℕ, Bool, true, false, inl, inr, List, Option, Some, None, Result, Ok, Err, IfErr, OnErr, map, refl, ap, sym, subst, ◌∙◌}
+use Rattle.std.specs.FinMap.{keys}
 use Rattle.std.specs.Option.{option_map}
 use Rattle.scim_client.specs.Answers.{AnswersSo}
 use Rattle.scim_key.specs.declared.records.RecordName.{RecordName}
@@ -23,12 +23,12 @@ use Rattle.connector_core.specs.Learning.{after_learning, learn}
 use Rattle.connector_core.specs.Maps.{book_of}
 use Rattle.connector_core.specs.State.{AreOf, IsOpened, Leaves, LeavesBook, LeavesOneOf, State, entry_of, opened}
 use Rattle.connector_core.specs.declared.knowledge.Known.{Known}
-use Rattle.world_model.specs.World.{World, Event, Message, Asked, Answered, Changes, Delivers, Restarts_provider, Restarts_connector, arrives, delivers, happens, message_at, names as world_names}
+use Rattle.world_model.specs.World.{World, Event, Asked, Answered, Changes, Delivers, Restarts_provider, Restarts_connector, arrives, delivers, happens, message_at, names as world_names}
 use Rattle.world_model.specs.Reports as model
 use Rattle.world_model.specs.Safe.{rows as world_rows}
 use Rattle.world_sim.specs.Events.{report_of, world_fault}
 use Rattle.world_sim.specs.Messages.{messages_of, text_at, texts_of, message_text}
-use Rattle.world_sim.specs.Running.{IsSound, Is, Happens, Fails, FailsToArrive, HasBook, HoldsOneOf, IsExcused, IsKnown, IsOpenTo, IsShutOff, Stays, is_open, journal_in, if_restart}
+use Rattle.world_sim.specs.Running.{Is, Happens, Fails, FailsToArrive, HasBook, HoldsOneOf, IsExcused, IsKnown, IsOpenTo, IsShutOff, Stays, is_open, journal_in, if_restart}
 use Rattle.world_sim.specs.Sides.{CountsWorldFault, IsOpenedIn}
 use Rattle.world_sim.specs.declared.reports.Report.{Report}
 use Rattle.world_sim.specs.declared.reports.WorldFault.{WorldFault}

@@ -14,7 +14,7 @@ use Rattle.connector_core.specs.declared.asking.Ask.{Ask}
 use Rattle.connector_core.specs.declared.asking.Ask.TheVariants.{Nothing, Waits, Send}
 use Rattle.scim_message.specs.declared.messages.Request.{Request}
 use Rattle.world_model.specs.Reports as model
-use Rattle.world_model.specs.Settled.{Exchanges, Rests, Turns, Wants, exchange}
+use Rattle.world_model.specs.Settled.{Exchanges, Turns, Wants, exchange}
 use Rattle.world_model.specs.World.{World, Message, Asked, Answered, Event, Changes, Sends, Delivers, Cuts, Restarts_provider, Restarts_connector, empty, happens, message_at, names, run, sends}
 use Rattle.world_model.proofs.Calm.{always_calm}
 use Rattle.world_model.proofs.Counting.{few_names}

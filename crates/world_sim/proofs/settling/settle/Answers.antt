@@ -1,4 +1,4 @@
-use Rattle.std.proofs.Common.{◌≡◌, ◌<◌, length, arith, rules}
+use Rattle.std.proofs.Common.{rules}
 use Rattle.std.proofs.lemmas.Result.{err_from_is_err_and}
 use Rattle.world_sim.proofs.SettlingLemmas.{all_settled, none_settled, one_settled, stops_after, stops_unnamed}
 use Rattle.world_sim.proofs.settling.settle.Goals as goal
