@@ -17,27 +17,27 @@ use Rattle.world_sim.specs.declared.views.View.{View}
 abbrev pub numbered : (word : List ℕ) → ℕ → List ℕ
 numbered word number = word ++ (codes " " ++ decimal number)
 
-abbrev pub report_text : Report → Option (List ℕ)
-report_text (reports.Judged (Ok verdicts.New)) = Some (codes "new")
-report_text (reports.Judged (Ok verdicts.Known)) = Some (codes "known")
-report_text (reports.Judged (Ok verdicts.Older)) = Some (codes "older")
-report_text (reports.Judged (Err fault)) = Some (change_fault_text fault)
-report_text reports.UnknownRecord = Some (codes "C7")
-report_text reports.Idle = Some (codes "nothing")
-report_text (reports.Waiting member) = Some (codes "waits " ++ member)
-report_text (reports.Finding number) = Some (numbered (codes "find") number)
-report_text (reports.Creating number) = Some (numbered (codes "create") number)
-report_text (reports.Replacing number) = Some (numbered (codes "replace") number)
-report_text (reports.Answering number status) = Some (numbered (codes "answer") number ++ (codes " " ++ decimal status))
-report_text (reports.Taught (Ok (lessons.Confirmed revision))) = Some (codes "confirmed " ++ revision_text revision)
-report_text (reports.Taught (Ok lessons.Seen)) = Some (codes "seen")
-report_text (reports.Taught (Ok lessons.Absent)) = Some (codes "absent")
-report_text (reports.Taught (Ok lessons.Forgotten)) = Some (codes "forgotten")
-report_text (reports.Taught (Ok lessons.Nothing)) = Some (codes "nothing")
-report_text (reports.Taught (Err fault)) = Some (learn_fault_text fault)
-report_text reports.NoMessage = Some (codes "none")
-report_text reports.CutShort = Some (codes "cut")
-report_text reports.Restarted = Some (codes "restarted")
+abbrev pub report_text : Report → List ℕ
+report_text (reports.Judged (Ok verdicts.New)) = codes "new"
+report_text (reports.Judged (Ok verdicts.Known)) = codes "known"
+report_text (reports.Judged (Ok verdicts.Older)) = codes "older"
+report_text (reports.Judged (Err fault)) = change_fault_text fault
+report_text reports.UnknownRecord = codes "C7"
+report_text reports.Idle = codes "nothing"
+report_text (reports.Waiting member) = codes "waits " ++ member
+report_text (reports.Finding number) = numbered (codes "find") number
+report_text (reports.Creating number) = numbered (codes "create") number
+report_text (reports.Replacing number) = numbered (codes "replace") number
+report_text (reports.Answering number status) = numbered (codes "answer") number ++ (codes " " ++ decimal status)
+report_text (reports.Taught (Ok (lessons.Confirmed revision))) = codes "confirmed " ++ revision_text revision
+report_text (reports.Taught (Ok lessons.Seen)) = codes "seen"
+report_text (reports.Taught (Ok lessons.Absent)) = codes "absent"
+report_text (reports.Taught (Ok lessons.Forgotten)) = codes "forgotten"
+report_text (reports.Taught (Ok lessons.Nothing)) = codes "nothing"
+report_text (reports.Taught (Err fault)) = learn_fault_text fault
+report_text reports.NoMessage = codes "none"
+report_text reports.CutShort = codes "cut"
+report_text reports.Restarted = codes "restarted"
 
 abbrev pub flag_text : Bool → List ℕ
 flag_text true = codes "true"

@@ -39,9 +39,10 @@ pub enum Report {
 }
 
 impl fmt::Display for Report {
+    ghost use Rattle.std.specs.Prelude.{Some};
     ghost use Rattle.world_sim.specs.Lines.{report_text};
 
-    ghost output = { report_text };
+    ghost output = { λ report. Some (report_text report) };
 
     /// The report in a word or two, with its numbers: `new`, `find 3`, `answer 4 201`, `confirmed 2`.
     fn fmt<W: fmt::Write>(&self, f: &mut fmt::Formatter<W>) -> fmt::Result {
