@@ -23,19 +23,20 @@ use Rattle.source_csv.specs.declared.rows.Row as source
 use Rattle.journal_core.specs.Entries.{CanPutRow, CanPutRows, EntryMap, entry_with, with_row, with_rows}
 use Rattle.journal_core.specs.declared.entries.Entry.{Entry}
 use Rattle.journal_store.specs.Rows.{entries_in, entry_in, row_of}
+use Rattle.sql_tables.specs.Statements.{Answers, IsEditText, IsQuery, Keeps, Ran, LeavesStore}
+use Rattle.sql_tables.proofs.Asking.{edit_at, query_at, shown_unchanged, writes_by}
+use Rattle.sql_tables.proofs.Keeping.{not_run_ends, query_ends}
+use Rattle.sql_tables.proofs.Leaving.{ends_leaves, leaves_then, unchanged_leaves}
+use Rattle.journal_store.specs.Format.{journal_schema}
 use Rattle.journal_store.specs.Batches.{IsUnderWay, MakesRows, PutsRow, PutsRows, settled}
-use Rattle.journal_store.specs.Connections.{Answers, Finds, HasNumbers, IsEditText, IsLaid, IsQuery, IsThere, Keeps, Makes, PutsIn, Ran}
+use Rattle.journal_store.specs.Connections.{Finds, HasNumbers, IsLaid, IsThere, Makes, PutsIn}
 use Rattle.journal_store.specs.Kept.{Kept, IsFaithful, kept_entries}
-use Rattle.journal_store.specs.Opening.{LeavesStore}
-use Rattle.journal_store.proofs.Asking.{edit_at, query_at, shown_unchanged, writes_by}
 use Rattle.journal_store.proofs.Changing.{spelled, wanted}
-use Rattle.journal_store.proofs.Keeping.{not_run_ends, query_ends}
-use Rattle.journal_store.proofs.Leaving.{ends_leaves, leaves_then, unchanged_leaves}
 use Rattle.journal_store.proofs.Putting.{entry_put, found_entry, numbers_still, there_of}
 
 -- ---- statements
 
-pub ran_inside : (old new : State) (sql : List ℕ) (params : Row) (count : ℕ) → IsEditText sql → IsLaid (settled old) → ExecutesInside 0 sql params old new (Ok count) → Ran sql params (settled old) (settled new)
+pub ran_inside : (old new : State) (sql : List ℕ) (params : Row) (count : ℕ) → IsEditText journal_schema sql → IsLaid (settled old) → ExecutesInside 0 sql params old new (Ok count) → Ran sql params (settled old) (settled new)
 ran_inside old new sql params count edit laid h =
     let it = writes_by old new sql params count (λ c is. edit_at (settled old) sql c edit laid is) h.0 in
     record {
@@ -58,12 +59,12 @@ pub shown_open : (old new : State) (sql : List ℕ) (params : Row) (rows : List 
 unfolding Shown
 shown_open old new sql params rows h = shows_open old new sql h.0 (timed params h.0.formats h.1.now) rows h.0.returning h.2
 
-pub answers_inside : (old new : State) (sql : List ℕ) (params : Row) (rows : List Row) → IsQuery sql → IsLaid (settled old) → Shown sql params old new rows → Answers sql params (settled old) rows
+pub answers_inside : (old new : State) (sql : List ℕ) (params : Row) (rows : List Row) → IsQuery journal_schema sql → IsLaid (settled old) → Shown sql params old new rows → Answers sql params (settled old) rows
 answers_inside old new sql params rows query laid shown c is =
     let at = query_at (settled old) sql query laid in
     reads_as sql params old new old.now.schema refl c.command (ap command_of is) at.0 at.1 rows shown
 
-pub unchanged_inside : (old new : State) (sql : List ℕ) (params : Row) (rows : List Row) → IsQuery sql → IsLaid (settled old) → Shown sql params old new rows → IsUnchanged old new
+pub unchanged_inside : (old new : State) (sql : List ℕ) (params : Row) (rows : List Row) → IsQuery journal_schema sql → IsLaid (settled old) → Shown sql params old new rows → IsUnchanged old new
 unchanged_inside old new sql params rows query laid shown = shown_unchanged old new sql params rows (query_at (settled old) sql query laid).0 shown
 
 pub failed_inside : (old new : State) (sql : List ℕ) (params : Row) (e : Error) → FailsToQuery sql params old new e ⊎ IsTooLate sql params old new e → LeavesStore old new
@@ -165,9 +166,7 @@ under_way_still old now under_way quiet same = record {
       let early : HasCleanDisk old = omega (arith, clean, quiet.clean) in
       let it = under_way.laid early (same clean).0.was_open in
       record {
-        format_checks = it.format_checks;
-        users = it.users;
-        groups = it.groups;
+        form = it.form;
         schema = ap (λ (d : Database). d.schema) (same clean).0.now_is ∙ it.schema;
         committed = refl;
         autocommit = refl;
@@ -228,7 +227,7 @@ module _ {S : Type 0} (g : Ghosts S) (old : Held S) where
     inside = λ _. refl;
     laid = λ clean still.
         let it = laid clean still in
-        record { format_checks = it.format_checks; users = it.users; groups = it.groups; schema = it.schema; committed = refl; autocommit = refl };
+        record { form = it.form; schema = it.schema; committed = refl; autocommit = refl };
   }
 
   module _ (rows : List source.Row) (last end : State) (left : HasCleanDisk last → LeavesStore (state g begun) last) (quiet : Survives (state g begun) last (λ _. ⊥)) where
@@ -236,10 +235,10 @@ module _ {S : Type 0} (g : Ghosts S) (old : Held S) where
     pub undone_keeps : HasCleanDisk last → IsRolledBack last end → Keeps before end
     undone_keeps clean back = record {
       was_open = λ still. (left clean).was_open (back.was_open still);
-      same = λ still laid.
+      same = λ still settled _.
           let undone = back.undone still in
           let kept = (left clean).committed (back.was_open still) in
-          (undone.0 ∙ kept ∙ laid.committed, undone.1 ∙ sym undone.0, back.autocommit);
+          (undone.0 ∙ kept ∙ settled, undone.1 ∙ sym undone.0, back.autocommit);
     }
 
     module _ (opens : HasCleanDisk last → IsTrue last.is_open) (puts : HasCleanDisk last → PutsRows rows before.now.trees last.now.trees) (under_way : IsUnderWay last) where
@@ -258,9 +257,7 @@ module _ {S : Type 0} (g : Ghosts S) (old : Held S) where
             was_open = (left clean).was_open shows.was_open;
             is_open = shows.is_open;
             laid = record {
-              format_checks = it.format_checks;
-              users = it.users;
-              groups = it.groups;
+              form = it.form;
               schema = ap (λ (d : Database). d.schema) shows.now_is ∙ it.schema;
               committed = shows.committed_is ∙ sym shows.now_is;
               autocommit = shows.mode;

@@ -1,47 +1,33 @@
 -- What the checks of an opening show, and what they leave.
-use Rattle.std.proofs.Common.{◌≡◌, ◌≢◌, ◌⊎◌, ◌≤◌, ℕ, pos, false, List, [], ◌∷◌, map, filter, codes, Result, Ok, Err, IsTrue, OnOk, IfErr, IsErrAnd, refl, sym, ap, ◌∙◌, subst, inl, inr, arith, IsPermutation}
-use Rattle.sqlite_value.specs.declared.value.Value.TheVariants.{Int}
-use Rattle.sqlite_value.specs.Order.{Row, column}
-use Rattle.sqlite_trees.specs.Tree.{Trees, rowid}
+use Rattle.std.proofs.Common.{◌≡◌, ◌≢◌, ◌⊎◌, ◌≤◌, false, List, [], ◌∷◌, map, Result, Ok, Err, IsTrue, OnOk, IfErr, IsErrAnd, refl, sym, ◌∙◌, subst, inl, inr, IsPermutation}
+use Rattle.sqlite_value.specs.Order.{Row}
+use Rattle.sqlite_trees.specs.Tree.{rowid}
 use Rattle.sqlite.specs.Effect.{Database}
-use Rattle.sqlite.specs.State.{State, HasCleanDisk, Survives}
-use Rattle.sqlite.proofs.Callers.{one_permutation}
-use Rattle.sqlite.proofs.StateLemmas.{survives_then}
+use Rattle.sqlite.specs.State.{State, HasCleanDisk}
 use Rattle.scim_key.specs.declared.records.Kind.{Kind}
 use Rattle.scim_key.specs.declared.records.Kind.TheVariants.{User, Group}
 use Rattle.journal_core.specs.Entries.{EntryMap}
 use Rattle.journal_core.specs.declared.entries.Entry.{Entry}
-use Rattle.journal_store.specs.Format.{no_schema, format_number, format_tree, entry_tree, marked_text, numbers_text}
-use Rattle.journal_store.specs.Connections.{AreNumbered, Answers, HasNumbers, IsLaid, ListsAll}
+use Rattle.journal_store.specs.Format.{format_number, entry_tree, numbers_text}
+use Rattle.sql_tables.specs.Layouts.{no_schema, IsFormat}
+use Rattle.sql_tables.specs.Statements.{Answers, Looks}
+use Rattle.sql_tables.specs.Faults.{HasFailed}
+use Rattle.sql_tables.proofs.Failing.{failed_since}
+use Rattle.journal_store.specs.Connections.{AreNumbered, HasNumbers, IsLaid, ListsAll}
 use Rattle.journal_store.specs.Rows.{entries_in}
-use Rattle.journal_store.specs.Opening.{AreInOrder, AreLawful, AreRising, HoldsEntries, IsCause, IsDamaged, IsFormat, IsMarked, IsFor, IsJournal, IsNewer, IsNotLaid, IsOfRows, IsSpoilt, keys_of, open_fault, IsStore, Looks, LeavesStore, OpenFailsFor}
-use Rattle.journal_store.specs.Faults.{FailsFor, HasCause, HasFailed}
+use Rattle.journal_store.specs.Opening.{AreInOrder, AreLawful, AreRising, HoldsEntries, IsCause, IsDamaged, IsFor, IsNewer, IsNotLaid, IsOfRows, IsSpoilt, keys_of, open_fault, IsStore, OpenFailsFor}
+use Rattle.journal_store.specs.Faults.{FailsFor, HasCause}
 use Rattle.journal_store.specs.declared.statements.TableFault.{TableFault}
 use Rattle.journal_store.specs.declared.statements.TableFault.TheVariants as table
 use Rattle.journal_store.specs.declared.opening.OpenFault.{OpenFault}
 use Rattle.journal_store.specs.declared.opening.OpenFault.TheVariants.{Store, Damaged, Newer, Memory}
-use Rattle.journal_store.proofs.Texts.{marked_shown, marked_is, marked_query}
-use Rattle.journal_store.proofs.Selecting.{passes, shows}
-use Rattle.journal_store.proofs.Finding.{answered_by, every, numbers_of_all, single}
-use Rattle.journal_store.proofs.Keeping.{laid_still, keeps_then}
-use Rattle.journal_store.proofs.Failing.{failed_since}
-use Rattle.journal_store.proofs.Leaving.{keeps_leaves}
+use Rattle.journal_store.proofs.Finding.{numbers_of_all}
+use Rattle.sql_tables.proofs.Looking.{laid_on, same_now, was_clean, was_laid}
+use Rattle.sql_tables.proofs.Results.{if_err, on_both, on_ok}
 use Rattle.journal_store.proofs.Numbering.{numbered}
 use Rattle.journal_store.proofs.Holding.{keys_in_order, lawful_lists}
 
 -- ---- results
-
-pub on_ok : {T F P Q : Type 0} (r : Result T F) → (P → Q) → OnOk r P → OnOk r Q
-on_ok (Ok x) f p = f p
-on_ok (Err e) f p = tt
-
-pub on_both : {T F P Q R : Type 0} (r : Result T F) → (P → Q → R) → OnOk r P → OnOk r Q → OnOk r R
-on_both (Ok x) f p q = f p q
-on_both (Err e) f p q = tt
-
-pub if_err : {T F : Type 0} {P Q : F → Type 0} (r : Result T F) → ((e : F) → P e → Q e) → IfErr r P → IfErr r Q
-if_err (Ok x) f p = tt
-if_err (Err e) f p = f e p
 
 pub is_for : {P Q D E : Type 0} (f : P → Q) (h : D → E) (fault : OpenFault) → IsFor P D fault → IsFor Q E fault
 is_for f h Store it = tt
@@ -115,75 +101,6 @@ fails_of P Q h (Err given) fault is it = subst (OpenFailsFor Q) (sym is) (told_f
 pub failed_after : (old mid new : State) → Looks old mid → HasCleanDisk mid → mid.faults ≤ new.faults → HasFailed mid new → HasFailed old new
 failed_after old mid new looks = failed_since old mid new looks.quiet
 
--- ---- looking
-
-pub survives_same : (s : State) (P : Trees → Type 0) → Survives s s P
-survives_same s P = record { clean = omega arith; shield = λ h. h; counts = omega arith; limit = refl; closes = λ clean still. inl still; crash = λ clean db may. inl may }
-
-pub looks_same : (s : State) → Looks s s
-looks_same s = record { keeps = λ _. record { was_open = λ still. still; same = λ still laid. (refl, laid.committed, laid.autocommit) }; quiet = survives_same s (λ _. ⊥) }
-
-pub looks_then : (a b c : State) → Looks a b → Looks b c → Looks a c
-looks_then a b c first second = record {
-  keeps = λ clean. keeps_then a b c (first.keeps (omega (arith, clean, second.quiet.clean))) (second.keeps clean);
-  quiet = survives_then a b c _ _ (λ _. ⊥) (λ _ db none. none) (λ _ db none. none) first.quiet second.quiet;
-}
-
-abbrev pub LaidIfOpen : State → Type 0
-LaidIfOpen s = HasCleanDisk s → IsTrue s.is_open → IsLaid s
-
-module _ (old new : State) (looks : Looks old new) (laid : LaidIfOpen old) where
-  pub was_clean : HasCleanDisk new → HasCleanDisk old
-  was_clean clean = omega (arith, clean, looks.quiet.clean)
-
-  pub was_laid : HasCleanDisk new → IsTrue new.is_open → IsLaid old
-  was_laid clean still = laid (was_clean clean) ((looks.keeps clean).was_open still)
-
-  pub laid_on : LaidIfOpen new
-  laid_on clean still = laid_still old new (looks.keeps clean) still (was_laid clean still)
-
-  pub same_now : HasCleanDisk new → IsTrue new.is_open → new.now ≡ old.now
-  same_now clean still = ((looks.keeps clean).same still (was_laid clean still)).0
-
-  pub looks_leaves : HasCleanDisk new → LeavesStore old new
-  looks_leaves clean = keeps_leaves old new (looks.keeps clean) (laid (was_clean clean))
-
--- ---- the tables
-
-pub laid_from : (s : State) → s.in_transaction ≡ false → (IsTrue s.is_open → s.now ≡ s.committed) → IsJournal s.now.schema → IsTrue s.is_open → IsLaid s
-laid_from s autocommit settled journal still = record {
-  format_checks = journal.format_checks;
-  users = journal.users;
-  groups = journal.groups;
-  schema = journal.is;
-  committed = sym (settled still);
-  autocommit = autocommit;
-}
-
--- ---- the format
-
-pub marked_found : (s : State) (rows given : List Row) (number : ℕ) → given ≡ rows → IsLaid s → Answers marked_text [] s rows → IsMarked given number → IsFormat s number
-marked_found s rows given number same laid answers marked =
-    let all = answered_by s marked_text format_tree (λ _. refl) [] marked_shown [] (codes "number" ∷ []) [] rows marked_is marked_query laid answers in
-    let one = single (shows marked_shown []) (filter (passes [] []) (s.now.trees format_tree)) marked.0 (subst (IsPermutation (map (shows marked_shown []) (filter (passes [] []) (s.now.trees format_tree)))) (sym same ∙ marked.1) all) in
-    let table : s.now.trees format_tree ≡ one.0 ∷ [] = sym (every (s.now.trees format_tree) []) ∙ one.1 in
-    let number_is : column one.0 2 ≡ Int (pos number) = sym (ap (λ row. column row 0) one.2) ∙ marked.2 in
-    ap (map (λ (r : Row). column r 2)) table ∙ ap (λ v. v ∷ []) number_is
-
-one_mapped : {A B : Type 0} (f : A → B) (xs : List A) (y : B) → map f xs ≡ y ∷ [] → (x : A) × (xs ≡ x ∷ []) × (f x ≡ y)
-one_mapped f [] y is = absurd (cc)
-one_mapped f (x ∷ []) y is = (x, refl, cc)
-one_mapped f (x ∷ z ∷ xs) y is = absurd (cc)
-
--- and what is in the table is what its rows show
-pub found_marked : (s : State) (rows given : List Row) (number : ℕ) → given ≡ rows → IsLaid s → Answers marked_text [] s rows → IsFormat s number → IsMarked given number
-found_marked s rows given number same laid answers format =
-    let all = answered_by s marked_text format_tree (λ _. refl) [] marked_shown [] (codes "number" ∷ []) [] rows marked_is marked_query laid answers in
-    let one = one_mapped (λ (r : Row). column r 2) (s.now.trees format_tree) (Int (pos number)) format in
-    let table : filter (passes [] []) (s.now.trees format_tree) ≡ one.0 ∷ [] = every (s.now.trees format_tree) [] ∙ one.1 in
-    let shown : rows ≡ shows marked_shown [] one.0 ∷ [] = one_permutation (shows marked_shown [] one.0) rows (subst (λ l. IsPermutation (map (shows marked_shown []) l) rows) table all) in
-    (shows marked_shown [] one.0, same ∙ shown, one.2)
-
 -- ---- the numbers of the rows
 
 pub numbers_found : (s : State) (kind : Kind) (rows given : List Row) → given ≡ rows → IsLaid s → Answers (numbers_text kind) [] s rows → AreRising given → AreNumbered (s.now.trees (entry_tree kind))
@@ -193,7 +110,7 @@ numbers_found s kind rows given same laid answers rising =
 
 -- ---- one check after the other
 
-module _ (old mid new : State) (first : Looks old mid) (laid : LaidIfOpen old) (second : Looks mid new) (clean : HasCleanDisk new) where
+module _ (old mid new : State) (first : Looks old mid) (laid : HasCleanDisk old → IsTrue old.is_open → IsLaid old) (second : Looks mid new) (clean : HasCleanDisk new) where
   abbrev mid_clean : HasCleanDisk mid
   mid_clean = was_clean mid new second (laid_on old mid first laid) clean
 
@@ -215,7 +132,7 @@ module _ (old mid new : State) (first : Looks old mid) (laid : LaidIfOpen old) (
       let lists_users = all_users mid_clean in
       unlawful (keys_in_order old.now.trees users lists_users) (lawful_lists old.now.trees users groups lists_users (groups_listed groups all_groups still) holds)
 
-pub store_found : {T F : Type 0} (old marked numbered new : State) (r : Result T F) → Looks old marked → LaidIfOpen old → Looks marked numbered → Looks numbered new → HasCleanDisk new → (HasCleanDisk marked → IsFormat old format_number)
+pub store_found : {T F : Type 0} (old marked numbered new : State) (r : Result T F) → Looks old marked → (HasCleanDisk old → IsTrue old.is_open → IsLaid old) → Looks marked numbered → Looks numbered new → HasCleanDisk new → (HasCleanDisk marked → IsFormat old format_number)
     → (HasCleanDisk numbered → HasNumbers marked.now.trees) → OnOk r (HoldsEntries numbered.now.trees) → OnOk r (IsTrue new.is_open) → OnOk r ((entries : EntryMap) × IsStore old entries)
 store_found old marked numbered new r first laid second third clean format numbers = on_both r (λ holds still.
     let laid_marked = laid_on old marked first laid in

@@ -1,62 +1,15 @@
--- Why a query fails although there is memory.
-use Rattle.std.proofs.Common.{◌≡◌, ◌⊎◌, ◌≤◌, ◌^◌, ◌-◌, ◌+◌, min, ℕ, true, false, leb, List, [], length, append-nil, None, Result, Ok, Err, IfErr, IsErrAnd, IsTrue, IsSome, refl, sym, ap, ◌∙◌, subst, inl, inr, arith}
-use Rattle.std.proofs.lemmas.Bool.{cases_Bool, cases_lt, leb-true}
-use Rattle.sqlite_value.specs.Order.{Row}
-use Rattle.sqlite_value.specs.declared.keys.Key.{Key}
-use Rattle.sqlite_value.specs.declared.keys.Order.{Order}
-use Rattle.sqlite_trees.specs.Tree.{Trees}
-use Rattle.sqlite_trees.specs.declared.error.StoreError.{StoreError}
-use Rattle.sqlite_trees.specs.declared.error.StoreError.TheVariants.{OutOfMemory, Io, Corrupt, Full, Broken, Unstorable}
-use Rattle.sqlite_sql.specs.Term.{Term}
-use Rattle.sqlite_typing.specs.Types.{accepts_program}
-use Rattle.sqlite_schema.specs.declared.command.Command.TheVariants.{Select}
-use Rattle.sqlite_schema.specs.declared.schema.Schema.{Schema}
-use Rattle.sqlite_resolve.specs.declared.compiled.Compiled.{Compiled}
-use Rattle.sqlite_resolve.specs.declared.error.CompileError.{CompileError}
-use Rattle.sqlite.specs.declared.error.Error.{Error}
-use Rattle.sqlite.specs.Effect.{Database, RefusesToRead}
-use Rattle.sqlite.specs.Given.{IsPlain}
-use Rattle.sqlite.specs.Listing.{understood, IsSourceOf}
-use Rattle.sqlite.specs.State.{State, HasCause as Causes, Survives, HasCleanDisk, FailsToQuery, FailsToShow, IsNotRun, store_error}
-use Rattle.sqlite.proofs.Callers.{command_of}
-use Rattle.journal_core.specs.Stores.{HasRisen}
-use Rattle.journal_store.specs.Format.{journal_schema}
-use Rattle.journal_store.specs.Connections.{IsAnswered, IsGiven, IsLaid, IsQuery, IsWhole}
-use Rattle.journal_store.specs.Faults.{FailsFor, HasCause, HasFailed, IsOfRow, statement_fault}
-use Rattle.journal_store.specs.Kept.{CallFailsFor}
-use Rattle.journal_store.specs.Opening.{table_fault}
+-- Why a call fails although there is memory.
+use Rattle.std.proofs.Common.{◌≡◌, ◌⊎◌, Result, Ok, Err, IfErr, IsErrAnd, sym, subst, inl, inr}
+use Rattle.sql_tables.specs.Faults.{FailsFor as FailedFor}
+use Rattle.sql_tables.specs.declared.statements.StatementFault.{StatementFault}
+use Rattle.sql_tables.specs.declared.statements.StatementFault.TheVariants as statement
 use Rattle.journal_core.specs.declared.journals.JournalFault.{JournalFault}
 use Rattle.journal_core.specs.declared.journals.JournalFault.TheVariants as journal
+use Rattle.journal_store.specs.Faults.{FailsFor, HasCause, IsOfRow, table_of}
+use Rattle.journal_store.specs.Kept.{CallFailsFor}
+use Rattle.journal_store.specs.Opening.{table_fault}
 use Rattle.journal_store.specs.declared.statements.TableFault.{TableFault}
 use Rattle.journal_store.specs.declared.statements.TableFault.TheVariants as table
-use Rattle.journal_store.proofs.Asking.{query_at}
-use Rattle.journal_store.proofs.Texts.{count_of, query, tail_of}
-
--- ---- what a text is
-
-whole_by : (r : Result Compiled CompileError) (size count : ℕ) → IsPlain r → leb size (tail_of r) ≡ true → count ≡ count_of r → (c : Compiled) × (r ≡ Ok c) × (size ≤ c.tail) × (count ≡ length c.names)
-whole_by (Ok c) size count plain fits same = (c, refl, leb-true size c.tail fits, same)
-whole_by (Err e) size count plain fits same = absurd plain
-
-pub whole : (sql : List ℕ) (count : ℕ) → IsQuery sql → ((a : List Term) (o p : Order) → leb (length sql) (tail_of (understood (journal_schema a o p) sql)) ≡ true)
-    → ((a : List Term) (o p : Order) → count ≡ count_of (understood (journal_schema a o p) sql)) → IsWhole sql count
-whole sql count query_text fits same a o p = whole_by (understood (journal_schema a o p) sql) (length sql) count (query_text a o p).0 (fits a o p) (same a o p)
-
--- a query over one table has no sum that may be too great
-pub answered_as : (sql : List ℕ) (tree : ℕ) (terms shown : List Term) (order : List (Term × Key)) (heads : List (List ℕ)) (params : Row)
-    → ((a : List Term) (o p : Order) → command_of (understood (journal_schema a o p) sql) ≡ Select (record { lets = []; body = query tree terms shown order }) heads)
-    → ((a : List Term) (o p : Order) → accepts_program (journal_schema a o p) [] (query tree terms shown order) params ≡ true) → IsAnswered sql params
-answered_as sql tree terms shown order heads params means accepts a o p c limit trees error is refuses =
-    let command : c.command ≡ Select (record { lets = []; body = query tree terms shown order }) heads = ap command_of (sym is) ∙ means a o p in
-    let db : Database = record { schema = journal_schema a o p; trees = trees } in
-    elim (subst (λ k. RefusesToRead limit k db params error) command refuses) [
-      | inl untyped ↦ absurd (let clash : true ≡ false = sym (accepts a o p) ∙ untyped.1 in cc)
-      | inr (inl (is_error, inl none)) ↦ absurd none
-      | inr (inl (is_error, inr fold)) ↦ absurd fold.4
-      | inr (inr (is_error, set)) ↦ set
-    ]
-
--- ---- why a statement fails
 
 pub fails_by : (P Q : Type 0) → (P → Q) → (fault : TableFault) → FailsFor P fault → FailsFor Q fault
 fails_by P Q h table.Store it = h it
@@ -74,71 +27,10 @@ row_fails P table.Store it = absurd it
 row_fails P table.Damaged it = tt
 row_fails P table.Memory it = tt
 
-pub more : (old mid new : ℕ) → min (old + 1) (2 ^ 64 - 1) ≤ mid → mid ≤ new → HasRisen old new
-more old mid new up later = elim (cases_lt old new) [ inl risen ↦ inl risen | inr rest ↦ inr (omega (arith, up, later, rest)) ]
-
-pub risen_before : (old mid new : ℕ) → old ≤ mid → HasRisen mid new → HasRisen old new
-risen_before old mid new up (inl risen) = inl (omega (arith, up, risen))
-risen_before old mid new up (inr full) = inr full
-
-module _ (old new : State) (e : Error) where
-  blamed : (cause : StoreError) → e ≡ store_error cause → Causes old new ⊥ cause → FailsFor (HasFailed old new) (statement_fault e)
-  blamed OutOfMemory is it = subst (λ x. FailsFor (HasFailed old new) (statement_fault x)) (sym is) tt
-  blamed Io is it = fails_so (HasFailed old new) (inr (inl (more old.faults new.faults new.faults it (omega arith)))) (statement_fault e)
-  blamed Corrupt is it = fails_so (HasFailed old new) (inr (inl (more old.faults new.faults new.faults it (omega arith)))) (statement_fault e)
-  blamed Full is it = fails_so (HasFailed old new) (inr (inl (more old.faults new.faults new.faults it (omega arith)))) (statement_fault e)
-  blamed Broken is it = fails_so (HasFailed old new) (inl it) (statement_fault e)
-  blamed Unstorable is it = absurd it
-
-  module _ (sql : List ℕ) (params : Row) (query_text : IsQuery sql) (given : IsGiven sql params) (laid : IsLaid old) where
-    known : (c : Compiled) × (understood old.now.schema sql ≡ Ok c) × (length sql ≤ c.tail) × (length params ≡ length c.names)
-    known = subst (λ (schema : Schema). (c : Compiled) × (understood schema sql ≡ Ok c) × (length sql ≤ c.tail) × (length params ≡ length c.names)) (sym laid.schema) (given.0 laid.format_checks laid.users laid.groups)
-
-    same_text : (c : Compiled) → understood old.now.schema sql ≡ Ok c → c ≡ known.0
-    same_text c is = let both : Ok c ≡ Ok known.0 = sym is ∙ known.1 in cc
-
-    not_run : IsNotRun old new sql params e → FailsFor (HasFailed old new) (statement_fault e)
-    unfolding IsNotRun
-    not_run (inl (inl (fault, is, is_error), still)) = absurd (let clash : Err fault ≡ Ok known.0 = sym is ∙ known.1 in cc)
-    not_run (inl (inr (c, is, inl (short, is_error)), still)) = absurd (short (subst (λ (k : Compiled). length sql ≤ k.tail) (sym (same_text c is)) known.2))
-    not_run (inl (inr (c, is, inr (inl (other, is_error))), still)) = absurd (other (subst (λ (k : Compiled). length params ≡ length k.names) (sym (same_text c is)) known.3))
-    not_run (inl (inr (c, is, inr (inr (clock, is_error))), still)) = absurd (clock (subst IsPlain is (query_at old sql query_text laid).0).1)
-    not_run (inr failed) = blamed failed.0 failed.1 failed.2
-
-    pub query_failed : FailsToQuery sql params old new e → FailsFor (HasFailed old new) (statement_fault e)
-    unfolding FailsToQuery
-    query_failed (inl refused) = not_run refused
-    query_failed (inr h) =
-        let at = query_at old sql query_text laid in
-        let bare = subst IsPlain h.1.is at.0 in
-        let shows : FailsToShow old new sql h.0 params e None = rw (bare.0, bare.1, append-nil params) at h.2 in
-        let db : shows.0 ≡ old.now = subst (λ b. IsSourceOf b old.now shows.0) at.1 shows.1 in
-        let is : understood (journal_schema laid.format_checks laid.users laid.groups) sql ≡ Ok h.0 = subst (λ (schema : Schema). understood schema sql ≡ Ok h.0) laid.schema h.1.is in
-        let tables : old.now ≡ record { schema = journal_schema laid.format_checks laid.users laid.groups; trees = old.now.trees } = λ i. record { schema = laid.schema i; trees = old.now.trees } in
-        fails_so (HasFailed old new) (inr (inr (given.1 laid.format_checks laid.users laid.groups h.0 old.step_limit old.now.trees e is
-        (subst (λ (d : Database). RefusesToRead old.step_limit h.0.command d params e) (db ∙ tables) shows.2))))
-        (statement_fault e)
-
-pub failed_by : {X : Type 0} (r : Result X Error) (old new : State) (sql : List ℕ) (params : Row) → IsQuery sql → IsGiven sql params → (IsTrue old.is_open → IsLaid old) → IfErr r (FailsToQuery sql params old new)
-    → IfErr r (λ e. FailsFor (HasFailed old new) (statement_fault e))
-failed_by (Ok x) old new sql params query_text given laid fails = tt
-failed_by (Err e) old new sql params query_text given laid fails = elim (cases_Bool old.is_open) [
-  | inl was_open ↦ query_failed old new e sql params query_text given (laid was_open) fails
-  | inr shut ↦ fails_so (HasFailed old new) (inl shut) (statement_fault e)
-]
-
--- ---- after a call that leaves the connection's faults in view
-
-pub failed_since : (old mid new : State) {P : Trees → Type 0} → Survives old mid P → HasCleanDisk mid → mid.faults ≤ new.faults → HasFailed mid new → HasFailed old new
-failed_since old mid new before clean counts (inl shut) = elim (cases_Bool old.is_open) [
-  | inl was_open ↦ elim (before.closes clean was_open) [
-    | inl still ↦ absurd (let clash : true ≡ false = sym still ∙ shut in cc)
-    | inr risen ↦ inr (inl (more old.faults mid.faults new.faults risen counts))
-  ]
-  | inr was_shut ↦ inl was_shut
-]
-failed_since old mid new before clean counts (inr (inl risen)) = inr (inl (risen_before old.faults mid.faults new.faults before.counts risen))
-failed_since old mid new before clean counts (inr (inr set)) = inr (inr (subst IsSome before.limit set))
+-- a fault of a statement has the cause that it had there
+pub fails_as : (P : Type 0) (fault : StatementFault) → FailedFor P fault → FailsFor P (table_of fault)
+fails_as P statement.Store it = it
+fails_as P statement.Memory it = tt
 
 -- ---- the calls of a journal
 

@@ -1,67 +1,38 @@
 -- What the rows of an answer show.
-use Rattle.std.proofs.Common.{◌≡◌, ℕ, codes, List, [], ◌∷◌, map, filter, Option, Some, None, Ok, Err, Result, IfOk, refl, ap, ◌∙◌, subst, arith, IsPermutation}
-use Rattle.std.proofs.lemmas.List.Sorted.{length_permutation}
+use Rattle.std.proofs.Common.{◌≡◌, ℕ, codes, List, [], ◌∷◌, map, filter, Option, Some, None, Result, IfOk, refl, ap, ◌∙◌, subst, IsPermutation}
 use Rattle.sqlite_value.specs.declared.keys.Key.{Key}
-use Rattle.sqlite_value.specs.declared.keys.Order.{Order}
 use Rattle.sqlite_value.specs.declared.value.Value.TheVariants.{Text}
 use Rattle.sqlite_value.specs.Order.{Row, column}
 use Rattle.sqlite_trees.proofs.ListLemmas.{all_of, filter_same}
-use Rattle.sqlite_sql.specs.Program.{overlay}
 use Rattle.sqlite_sql.specs.Term.{Env, Term, col, eval, eval_all}
-use Rattle.sqlite_trees.specs.Tree.{Trees, rowid}
-use Rattle.sqlite_schema.specs.declared.command.Command.{Command}
+use Rattle.sqlite_trees.specs.Tree.{rowid}
 use Rattle.sqlite_schema.specs.declared.command.Command.TheVariants.{Select}
-use Rattle.sqlite_resolve.specs.declared.compiled.Compiled.{Compiled}
-use Rattle.sqlite_resolve.specs.declared.error.CompileError.{CompileError}
-use Rattle.sqlite.specs.Effect.{Database, Reads}
-use Rattle.sqlite.specs.Given.{IsPlain}
 use Rattle.sqlite.specs.Listing.{understood}
 use Rattle.sqlite.specs.State.{State}
-use Rattle.sqlite.proofs.Callers.{command_of, one_permutation}
+use Rattle.sqlite.proofs.Callers.{command_of}
 use Rattle.scim_key.specs.declared.records.Kind.{Kind}
 use Rattle.scim_key.specs.declared.records.Kind.TheVariants.{User, Group}
 use Rattle.scim_key.specs.declared.records.RecordName.{RecordName}
 use Rattle.journal_core.specs.declared.entries.Entry.{Entry}
-use Rattle.journal_store.specs.Format.{entry_tree, find_text, all_text, journal_schema, numbers_text}
+use Rattle.journal_store.specs.Format.{Form, entry_tree, find_text, all_text, journal_schema, numbers_text}
+use Rattle.sql_tables.specs.Statements.{Answers, IsQuery}
+use Rattle.sql_tables.proofs.Queries.{query}
+use Rattle.sql_tables.proofs.Selecting.{IsOrdered, ordered_over, passes, shows}
 use Rattle.journal_store.specs.Rows.{shown_row}
-use Rattle.journal_store.specs.Connections.{Answers, AreShown, Finds, IsLaid, IsOnly, IsQuery, ListsAll, Shows, has_key}
-use Rattle.journal_store.proofs.Texts.{query, shown_terms, names, key_is, find_is, find_query, all_is, all_query, all_order, number_shown, number_order, numbers_is, numbers_query}
-use Rattle.journal_store.proofs.Selecting.{IsOrdered, ordered_over, passes, same_tree, selected_over, shows, shows_all, key_passes}
-
-read_by : (r : Result Compiled CompileError) (db : Database) (params : Row) (rows : List Row) → IsPlain r → ((c : Compiled) → r ≡ Ok c → Reads c.command db params rows) → Reads (command_of r) db params rows
-read_by (Ok c) db params rows plain reads = reads c refl
-read_by (Err e) db params rows plain reads = absurd plain
-
-read_as : (s : State) (sql : List ℕ) (command : Command) (params : Row) (rows : List Row) → ((a : List Term) (o p : Order) → command_of (understood (journal_schema a o p) sql) ≡ command) → IsQuery sql → IsLaid s → Answers sql params s rows → Reads command s.now params rows
-read_as s sql command params rows means query_text laid answers =
-    let schema = journal_schema laid.format_checks laid.users laid.groups in
-    let plain = (query_text laid.format_checks laid.users laid.groups).0 in
-    let reads = read_by (understood schema sql) s.now params rows plain (λ c is. answers c (ap (λ x. understood x sql) laid.schema ∙ is)) in
-    subst (λ it. Reads it s.now params rows) (means laid.format_checks laid.users laid.groups) reads
-
-pub answered_by : (s : State) (sql : List ℕ) (tree : ℕ) → ((db : Trees) → overlay db [] tree ≡ db tree) → (terms shown : List Term) (order : List (Term × Key)) (heads : List (List ℕ)) (params : Row) (rows : List Row)
-    → ((a : List Term) (o p : Order) → command_of (understood (journal_schema a o p) sql) ≡ Select (record { lets = []; body = query tree terms shown order }) heads)
-    → IsQuery sql → IsLaid s → Answers sql params s rows → IsPermutation (map (shows shown params) (filter (passes terms params) (s.now.trees tree))) rows
-answered_by s sql tree own terms shown order heads params rows means query_text laid answers =
-    selected_over tree terms shown order params own s.now rows (read_as s sql (Select (record { lets = []; body = query tree terms shown order }) heads) params rows means query_text laid answers)
+use Rattle.journal_store.specs.Connections.{AreShown, Finds, IsLaid, IsOnly, ListsAll, Shows, has_key}
+use Rattle.sql_tables.proofs.Answering.{answered_by, empty, every, read_as, single}
+use Rattle.sql_tables.proofs.Results.{if_ok}
+use Rattle.journal_store.proofs.Texts.{shown_terms, names, key_is, find_is, find_query, all_is, all_query, all_order, number_shown, number_order, numbers_is, numbers_query}
+use Rattle.journal_store.proofs.Selecting.{same_tree, shows_all, key_passes}
 
 picked : (s : State) (sql : List ℕ) (kind : Kind) (terms : List Term) (order : List (Term × Key)) (params : Row) (rows : List Row)
-    → ((a : List Term) (o p : Order) → command_of (understood (journal_schema a o p) sql) ≡ Select (record { lets = []; body = query (entry_tree kind) terms (shown_terms kind) order }) (names kind))
-    → IsQuery sql → IsLaid s → Answers sql params s rows → IsPermutation (map (shows (shown_terms kind) params) (filter (passes terms params) (s.now.trees (entry_tree kind)))) rows
+    → ((f : Form) → command_of (understood (journal_schema f) sql) ≡ Select (record { lets = []; body = query (entry_tree kind) terms (shown_terms kind) order }) (names kind))
+    → IsQuery journal_schema sql → IsLaid s → Answers sql params s rows → IsPermutation (map (shows (shown_terms kind) params) (filter (passes terms params) (s.now.trees (entry_tree kind)))) rows
 picked s sql kind terms order = answered_by s sql (entry_tree kind) (same_tree kind) terms (shown_terms kind) order (names kind)
 
 map_same : {A B : Type 0} (f g : A → B) → ((x : A) → f x ≡ g x) → (xs : List A) → map f xs ≡ map g xs
 map_same f g same [] = refl
 map_same f g same (x ∷ xs) = λ i. same x i ∷ map_same f g same xs i
-
-empty : {A B : Type 0} (f : A → B) (xs : List A) → IsPermutation (map f xs) [] → xs ≡ []
-empty f [] same = refl
-empty f (x ∷ xs) same = absurd (omega (arith, length_permutation (map f (x ∷ xs)) [] same))
-
-pub single : {A B : Type 0} (f : A → B) (xs : List A) (y : B) → IsPermutation (map f xs) (y ∷ []) → (x : A) × (xs ≡ x ∷ []) × (y ≡ f x)
-single f [] y same = absurd (omega (arith, length_permutation (map f []) (y ∷ []) same))
-single f (x ∷ []) y same = (x, refl, let one : y ∷ [] ≡ f x ∷ [] = one_permutation (f x) (y ∷ []) same in cc)
-single f (x ∷ z ∷ xs) y same = absurd (omega (arith, length_permutation (map f (x ∷ z ∷ xs)) (y ∷ []) same))
 
 -- ---- one name
 
@@ -82,10 +53,6 @@ finds s name rows (Some e) laid answers only =
     (one.0, one.1, subst (λ r. Shows name.kind r e) one.2 only.2)
 
 -- ---- all rows
-
-pub every : (table : List Row) (params : Row) → filter (passes [] params) table ≡ table
-every [] params = refl
-every (r ∷ table) params = ap (λ l. r ∷ l) (every table params)
 
 pub rows_of_all : (s : State) (kind : Kind) (rows : List Row) → IsLaid s → Answers (all_text kind) [] s rows → IsPermutation (map (shown_row kind) (s.now.trees (entry_tree kind))) rows
 rows_of_all s kind rows laid answers =
@@ -115,10 +82,6 @@ numbers_of_all s kind rows laid answers =
     subst (λ l. IsPermutation (map (λ (r : Row). rowid r ∷ []) l) rows) (every (s.now.trees (entry_tree kind)) []) all
 
 -- ---- what the calls answer
-
-if_ok : {X F : Type 0} {P Q : X → Type 0} (r : Result X F) → ((x : X) → P x → Q x) → IfOk r P → IfOk r Q
-if_ok (Ok x) f p = f x p
-if_ok (Err e) f p = tt
 
 pub found_by : {F : Type 0} (s : State) (name : RecordName) (sql : List ℕ) (params : Row) (rows given : List Row) (r : Result (Option Entry) F) → sql ≡ find_text name.kind → params ≡ Text name.key ∷ [] → given ≡ rows
     → IsLaid s → Answers sql params s rows → IfOk r (IsOnly name.kind given) → IfOk r (Finds s.now.trees name)

@@ -1,10 +1,7 @@
 pub mod Texts
-pub mod Keeping
-pub mod Asking
 pub mod Failing
 pub mod Giving
 pub mod Values
-pub mod Trees
 pub mod Selecting
 pub mod Writing
 pub mod Decoding
@@ -16,7 +13,6 @@ pub mod Reading
 pub mod Loading
 pub mod Calls
 pub mod Changing
-pub mod Leaving
 pub mod Batching
 pub mod Making
 pub mod Made

@@ -1,29 +1,27 @@
 -- The tables that one transaction makes, and what its end leaves.
-use Rattle.std.proofs.Common.{◌≡◌, ℕ, ℤ, pos, false, List, [], ◌∷◌, map, Ok, IsTrue, refl, sym, ap, ◌∙◌, subst, arith, IsPermutation}
+use Rattle.std.proofs.Common.{◌≡◌, ℕ, ℤ, pos, false, [], ◌∷◌, map, Ok, IsTrue, refl, sym, ap, ◌∙◌, subst, arith, IsPermutation}
 use Rattle.std.specs.FinMap.{empty}
 use Rattle.std.specs.List.Sorted.{IsStrictlySortedBy}
 use Rattle.std.proofs.lemmas.List.Sorted.{IsPermutation-refl}
 use Rattle.sqlite_value.specs.declared.value.Value.TheVariants.{Int}
-use Rattle.sqlite_value.specs.declared.keys.Order.{Order}
 use Rattle.sqlite_value.specs.Order.{Row, column}
 use Rattle.sqlite_trees.specs.Tree.{Trees}
-use Rattle.sqlite_sql.specs.Term.{Term}
 use Rattle.sqlite.specs.Effect.{Database}
 use Rattle.sqlite.specs.State.{State, Executes, Shows}
 use Rattle.scim_key.specs.declared.records.Kind.{Kind}
 use Rattle.scim_key.specs.declared.records.Kind.TheVariants.{User, Group}
-use Rattle.journal_store.specs.Format.{journal_schema, format_table, entry_table, entry_tree, no_schema, format_number, format_text, mark_text, create_text}
+use Rattle.journal_store.specs.Format.{Form, format_name, journal_schema, entry_table, entry_tree, format_number, format_text, mark_text, create_text}
+use Rattle.sql_tables.specs.Layouts.{format_table, no_schema, IsBlank, format_schema}
+use Rattle.sql_tables.proofs.Making.{creates, marks}
 use Rattle.journal_store.specs.Connections.{AreNumbered, HasNumbers, ListsAll}
 use Rattle.journal_store.specs.Rows.{entries_in, shown_row}
-use Rattle.journal_store.specs.Opening.{HoldsEntries, IsBlank, IsStore}
-use Rattle.journal_store.proofs.Making.{format_schema, users_schema, format_made, users_made, groups_made, users_created, groups_created, creates, marks}
+use Rattle.journal_store.specs.Opening.{HoldsEntries, IsStore}
+use Rattle.journal_store.proofs.Making.{mark_is, users_schema, format_made, users_made, groups_made, users_created, groups_created}
 
 -- the tables are there: the one of the format with its number, the others empty
 pub record AreMade (db : Database) (mark : ℤ) : Type 0 where
-  pub format_checks : List Term
-  pub users : Order
-  pub groups : Order
-  pub schema : db.schema ≡ journal_schema format_checks users groups
+  pub form : Form
+  pub schema : db.schema ≡ journal_schema form
   pub no_users : db.trees 1 ≡ []
   pub no_groups : db.trees 3 ≡ []
   pub format : map (λ (r : Row). column r 2) (db.trees 0) ≡ Int mark ∷ []
@@ -32,16 +30,14 @@ pub tables_made : (b m1 m2 m3 m4 : State) (n1 n2 n3 n4 : ℕ) (mark : ℤ) → b
     → Executes (create_text User) [] m2 m3 (Ok n3) → Executes (create_text Group) [] m3 m4 (Ok n4) → AreMade m4.now mark
 tables_made b m1 m2 m3 m4 n1 n2 n3 n4 mark blank one two three four =
     let a = format_made.0 in
-    let first = creates format_text no_schema (format_table a) b m1 n1 format_made.1 refl blank one in
-    let second = marks a m1 m2 mark n2 first.0 first.1 two in
+    let first = creates format_text no_schema (format_table format_name a) b m1 n1 format_made.1 refl blank one in
+    let second = marks format_name mark_text a m1 m2 mark n2 (mark_is a) first.0 first.1 two in
     let u = users_made a in
-    let third = creates (create_text User) (format_schema a) (record (entry_table User u.0) { tree = 0 }) m2 m3 n3 u.1 refl second.0 three in
+    let third = creates (create_text User) (format_schema format_name a) (record (entry_table User u.0) { tree = 0 }) m2 m3 n3 u.1 refl second.0 three in
     let g = groups_made a u.0 in
     let fourth = creates (create_text Group) (users_schema a u.0) (record (entry_table Group g.0) { tree = 0 }) m3 m4 n4 g.1 refl (third.0 ∙ users_created a u.0) four in
     record {
-      format_checks = a;
-      users = u.0;
-      groups = g.0;
+      form = record { format_checks = a; users = u.0; groups = g.0 };
       schema = fourth.0 ∙ groups_created a u.0 g.0;
       no_users = fourth.2.1.0 ∙ third.1;
       no_groups = fourth.1;
@@ -85,9 +81,7 @@ tables_kept old m4 end blank made shows =
       blank,
       record {
         laid = record {
-          format_checks = made.format_checks;
-          users = made.users;
-          groups = made.groups;
+          form = made.form;
           schema = ap (λ (d : Database). d.schema) shows.now_is ∙ made.schema;
           committed = shows.committed_is ∙ sym shows.now_is;
           autocommit = shows.mode;

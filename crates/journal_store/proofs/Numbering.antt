@@ -18,9 +18,9 @@ use Rattle.sqlite_trees.proofs.ListLemmas.{all-append, all_weaker, filter-map, f
 use Rattle.sqlite_rules.specs.Lists.{Has}
 use Rattle.sqlite_rules.proofs.ListLemmas.{has_kept}
 use Rattle.journal_store.specs.Connections.{AreNumbered}
+use Rattle.sql_tables.proofs.Selecting.{mapped}
 use Rattle.journal_store.specs.Opening.{AreRising}
 use Rattle.journal_store.proofs.Loading.{has_map, map_has, permuted}
-use Rattle.journal_store.proofs.Selecting.{mapped}
 
 -- ---- numbers that rise
 

@@ -21,12 +21,12 @@ use Rattle.source_csv.specs.Records.{row_name}
 use Rattle.journal_core.specs.declared.entries.Entry.{Entry}
 use Rattle.journal_core.proofs.Trees.{names_same}
 use Rattle.journal_store.specs.Format.{entry_tree}
+use Rattle.sql_tables.proofs.Trees.{free, put_here, put_other, without_here}
+use Rattle.sql_tables.proofs.Values.{rowid_is}
 use Rattle.journal_store.specs.Rows.{entries_in, entry_in, row_of, shown_row}
 use Rattle.journal_store.specs.Connections.{AreNumbered, Finds, HasNumbers, IsThere, Puts, PutsIn, has_key, stored_row}
 use Rattle.journal_store.proofs.Decoding.{shown_stored}
 use Rattle.journal_store.proofs.Standing.{Stands, get_none, get_same, get_some, has_own_key, is_of, name_of_key, same_from, shows_key, tie_if}
-use Rattle.journal_store.proofs.Trees.{free, put_here, put_other, without_here}
-use Rattle.journal_store.proofs.Values.{rowid_is}
 
 -- ---- rows that are put and taken out
 

@@ -14,9 +14,10 @@ use Rattle.journal_core.specs.Stores.{CountsFault, CountsFaults, OnlyReads, Writ
 use Rattle.journal_core.specs.declared.entries.Entry.{Entry}
 use Rattle.journal_core.specs.declared.journals.JournalFault.{JournalFault}
 use Rattle.journal_store.specs.Rows.{entries_in, entry_in, row_of}
-use Rattle.journal_store.specs.Connections.{Commits, FindsIf, HasNumbers, IsLaid, IsThere, Keeps, PutsIn}
+use Rattle.sql_tables.specs.Statements.{Keeps}
+use Rattle.sql_tables.proofs.Keeping.{kept_now, laid_still}
+use Rattle.journal_store.specs.Connections.{Commits, FindsIf, HasNumbers, IsLaid, IsThere, PutsIn}
 use Rattle.journal_store.specs.Kept.{Kept, IsFaithful, IsHonest, IsSound, IsWhole, MayHold, kept_entries}
-use Rattle.journal_store.proofs.Keeping.{laid_still}
 use Rattle.journal_store.proofs.Putting.{entry_put, numbers_still, there_of}
 
 abbrev pub answered : Result (Unit {0}) JournalFault
@@ -32,11 +33,11 @@ module _ {S : Type 0} (g : Ghosts S) where
   -- a connection that is kept keeps the entries
   module _ (old new : Kept S) (usable : new.is_usable ≡ old.is_usable) (keeps : Keeps (at old) (at new)) where
     pub entries_same : IsLaid (at old) → IsTrue (at new).is_open → kept_entries g new ≡ kept_entries g old
-    entries_same laid still = let same = keeps.same still laid in ap (λ (d : Database). entries_in d.trees) (same.1 ∙ same.0 ∙ sym laid.committed)
+    entries_same laid still = let same = kept_now (at old) (at new) keeps still laid in ap (λ (d : Database). entries_in d.trees) (same.1 ∙ same.0 ∙ sym laid.committed)
 
     pub whole_still : IsWhole g old → IsTrue (at new).is_open → IsWhole g new
     whole_still whole still =
-        let same = keeps.same still whole.laid in
+        let same = kept_now (at old) (at new) keeps still whole.laid in
         record { laid = laid_still (at old) (at new) keeps still whole.laid; numbers = subst (λ (d : Database). HasNumbers d.trees) (sym same.0) whole.numbers }
 
   pub sound_still : (old new : Kept S) → new.is_usable ≡ old.is_usable → Survives (at old) (at new) (λ _. ⊥) → (HasCleanDisk (at new) → Keeps (at old) (at new)) → IsSound g old → IsSound g new

@@ -11,7 +11,8 @@ use Rattle.sqlite_value.specs.declared.value.Value.TheVariants.{Null, Int, Real,
 use Rattle.sqlite_value.specs.Order.{Row}
 use Rattle.sqlite.specs.State.{State}
 use Rattle.scim_key.specs.declared.records.Kind.{Kind}
-use Rattle.journal_store.specs.Connections.{AreNumbered, Answers, Finds, IsDamagedAt, IsLaid, IsOnly, IsUnshown, ListsNone, Shows, has_key}
+use Rattle.journal_store.specs.Connections.{AreNumbered, Finds, IsDamagedAt, IsLaid, IsOnly, IsUnshown, ListsNone, Shows, has_key}
+use Rattle.sql_tables.specs.Statements.{Answers}
 use Rattle.journal_store.specs.Faults.{HasCause}
 use Rattle.journal_store.specs.Format.{all_text, entry_tree, find_text, numbers_text}
 use Rattle.journal_store.specs.Opening.{IsUnnumbered}

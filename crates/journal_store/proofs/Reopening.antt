@@ -9,12 +9,14 @@ use Rattle.sqlite.specs.State.{State, HasCleanDisk}
 use Rattle.journal_core.specs.Entries.{EntryMap}
 use Rattle.journal_core.specs.Stores.{CountsFault, Reopens}
 use Rattle.journal_core.specs.declared.journals.JournalFault.{JournalFault}
-use Rattle.journal_store.specs.Format.{format_tree, format_number}
+use Rattle.journal_store.specs.Format.{format_number}
+use Rattle.sql_tables.specs.Layouts.{format_tree}
+use Rattle.sql_tables.specs.Statements.{Looks}
+use Rattle.sql_tables.proofs.Keeping.{kept_now, laid_still}
 use Rattle.journal_store.specs.Rows.{entries_in}
 use Rattle.journal_store.specs.Connections.{HasNumbers}
 use Rattle.journal_store.specs.Kept.{Kept, IsFaithful, IsHonest, IsWhole, MayHold, kept_entries}
-use Rattle.journal_store.specs.Opening.{HoldsEntries, IsStore, Looks}
-use Rattle.journal_store.proofs.Keeping.{laid_still}
+use Rattle.journal_store.specs.Opening.{HoldsEntries, IsStore}
 use Rattle.journal_store.proofs.Reading.{answered, failing}
 
 -- the entries that were committed are those that the tables hold
@@ -25,7 +27,7 @@ committed_entries s entries store = ap (λ (d : Database). entries_in d.trees) s
 pub store_on : (old new : State) (entries : EntryMap) → Looks old new → IsStore old entries → HasCleanDisk new → IsTrue new.is_open → IsStore new entries
 store_on old new entries looks store clean still =
     let keeps = looks.keeps clean in
-    let same = (keeps.same still store.laid).0 in
+    let same = (kept_now old new keeps still store.laid).0 in
     record {
       laid = laid_still old new keeps still store.laid;
       format = subst (λ (d : Database). map (λ (r : Row). column r 2) (d.trees format_tree) ≡ Int (pos format_number) ∷ []) (sym same) store.format;

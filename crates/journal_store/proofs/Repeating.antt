@@ -30,13 +30,13 @@ use Rattle.scim_key.specs.declared.records.RecordName.{RecordName}
 use Rattle.source_csv.specs.Records.{row_name}
 use Rattle.journal_core.specs.declared.entries.Entry.{Entry}
 use Rattle.journal_store.specs.Format.{entry_tree}
+use Rattle.sql_tables.proofs.Selecting.{IsOrdered}
 use Rattle.journal_store.specs.Rows.{shown_row}
 use Rattle.journal_store.specs.Connections.{AreNumbered, FailsToRise, IsUnshown, ListsAll, Shows, last_name}
 use Rattle.journal_store.specs.Opening.{IsUnnumbered}
 use Rattle.journal_store.proofs.Decoding.{key_from}
 use Rattle.journal_store.proofs.Loading.{Sorted, has_map, names_of, permuted, zip_left}
 use Rattle.journal_store.proofs.Numbering.{last_of}
-use Rattle.journal_store.proofs.Selecting.{IsOrdered}
 
 -- the first column has this value, as SQLite compares them
 abbrev pub begins : Value → Row → Bool

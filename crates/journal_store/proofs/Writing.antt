@@ -1,11 +1,9 @@
 -- What the two writes make of the table of a type.
-use Rattle.std.proofs.Common.{◌≡◌, ◌⊎◌, ℕ, ℤ, Bool, true, false, not, ◌&&◌, List, [], ◌∷◌, map, filter, None, Ok, Err, Result, Option, refl, ap, ◌∙◌, subst, inl, inr, IsPermutation, arith}
+use Rattle.std.proofs.Common.{◌≡◌, ℕ, ℤ, Bool, true, false, not, ◌&&◌, List, [], ◌∷◌, map, filter, None, Ok, Option, refl, ap, ◌∙◌, subst, IsPermutation, arith}
 use Rattle.sqlite_value.specs.declared.value.Value.TheVariants.{Int, Text}
-use Rattle.sqlite_value.specs.declared.keys.Order.{Order}
 use Rattle.sqlite_value.specs.Order.{Row, column}
 use Rattle.sqlite_trees.specs.Tree.{Trees, rowid, put_row, without_rowid}
 use Rattle.sqlite_trees.proofs.ListLemmas.{filter_same, all_of}
-use Rattle.sqlite_sql.specs.Term.{Term}
 use Rattle.sqlite_schema.specs.declared.schema.Schema.{Schema}
 use Rattle.sqlite_schema.specs.declared.schema.Keys.TheVariants.{Enforced}
 use Rattle.sqlite_schema.specs.declared.command.Source.TheVariants.{Values}
@@ -18,20 +16,17 @@ use Rattle.sqlite.specs.Does.{Tally, Does}
 use Rattle.sqlite.specs.Rows.{Written}
 use Rattle.sqlite.proofs.Callers.{one_step, one_permutation}
 use Rattle.scim_key.specs.declared.records.Kind.TheVariants.{User, Group}
-use Rattle.journal_store.specs.Format.{journal_schema, entry_table}
+use Rattle.journal_store.specs.Format.{Form, journal_schema, entry_table}
+use Rattle.sql_tables.specs.Statements.{plain_mode}
+use Rattle.sql_tables.proofs.Queries.{query}
+use Rattle.sql_tables.proofs.Values.{cast_int, cast_null}
+use Rattle.sql_tables.proofs.Selecting.{passes, shows}
 use Rattle.journal_store.specs.Rows.{id_value}
-use Rattle.journal_store.specs.Connections.{has_key, plain_mode}
-use Rattle.journal_store.proofs.Texts.{query, key_is, insert_terms, insert_width, update_terms}
-use Rattle.journal_store.proofs.Values.{cast_int, cast_null, cast_id}
-use Rattle.journal_store.proofs.Selecting.{passes, shows, selected, key_passes}
-
--- a part that gave a value did not stop on the way
-pub went : {B E R : Type 0} {b : B} {Stops : E → Type 0} → ((stop : E) × Stops stop × (Ok b ≡ Err stop)) ⊎ R → R
-went (inl stopped) = absurd (let e = stopped.2 in cc)
-went (inr on) = on
-
-pub same_value : {B E : Type 0} {a b : B} → ◌≡◌ {A = Result B E} (Ok a) (Ok b) → a ≡ b
-same_value e = cc
+use Rattle.journal_store.specs.Connections.{has_key}
+use Rattle.sql_tables.proofs.Editing.{same_value, went}
+use Rattle.journal_store.proofs.Texts.{key_is, insert_terms, insert_width, update_terms}
+use Rattle.journal_store.proofs.Values.{cast_id}
+use Rattle.journal_store.proofs.Selecting.{selected, key_passes}
 
 fresh_one : (b : Bool) → (not b && true) ≡ true → b ≡ false
 fresh_one true e = absurd (cc)
@@ -41,9 +36,9 @@ found_one : (key : List ℕ) (rest : Row) (table : List Row) (r : Row) → filte
 found_one key rest table r only =
     filter_same (passes (key_is ∷ []) (Text key ∷ rest)) (has_key key) table (all_of (λ x. passes (key_is ∷ []) (Text key ∷ rest) x ≡ has_key key x) (λ x. key_passes key rest x) table) ∙ only
 
-module _ (limit : Option ℕ) (a : List Term) (o p : Order) (db after : Database) (tally : Tally) (sql : List ℕ) (has : db.schema ≡ journal_schema a o p) where
+module _ (limit : Option ℕ) (f : Form) (db after : Database) (tally : Tally) (sql : List ℕ) (has : db.schema ≡ journal_schema f) where
   abbrev schema : Schema
-  schema = journal_schema a o p
+  schema = journal_schema f
 
   module _ (key login number given family mail : List ℕ) (revision active confirmed : ℤ) (id : Option (List ℕ)) where
     abbrev user_rest : Row
@@ -61,9 +56,9 @@ module _ (limit : Option ℕ) (a : List Term) (o p : Order) (db after : Database
         let written = went (went rows_given.2).2 in
         let counted = went written.2 in
         let trees : done.0.trees ≡ written.0 = ap (λ (it : Written). it.trees) (same_value counted.2) ∙ same_value counted.1 in
-        let applied = one_step schema Enforced db.trees written.0 (edit_of db.trees (entry_table User o) [] Chosen 0 rows_given.0) refl written.1 in
-        let news : (edit_of db.trees (entry_table User o) [] Chosen 0 rows_given.0).news ≡ (Int (next_rowid (db.trees 1)) ∷ user_row) ∷ [] =
-        ap (λ all. (edit_of db.trees (entry_table User o) [] Chosen 0 all).news) rows_given.1.1 ∙ rw (cast_null, cast_int revision, cast_int active, cast_int confirmed, cast_id id) refl in (
+        let applied = one_step schema Enforced db.trees written.0 (edit_of db.trees (entry_table User f.users) [] Chosen 0 rows_given.0) refl written.1 in
+        let news : (edit_of db.trees (entry_table User f.users) [] Chosen 0 rows_given.0).news ≡ (Int (next_rowid (db.trees 1)) ∷ user_row) ∷ [] =
+        ap (λ all. (edit_of db.trees (entry_table User f.users) [] Chosen 0 all).news) rows_given.1.1 ∙ rw (cast_null, cast_int revision, cast_int active, cast_int confirmed, cast_id id) refl in (
           next_rowid (db.trees 1),
           ap (λ (d : Database). d.schema) now,
           fresh_one (is_taken (db.trees 1) (Int (next_rowid (db.trees 1)) ∷ user_row)) (subst (λ (l : List Row). are_fresh (db.trees 1) l ≡ true) news applied.fresh),
@@ -84,9 +79,9 @@ module _ (limit : Option ℕ) (a : List Term) (o p : Order) (db after : Database
         one_permutation _ rows_given.0 (subst (λ l. IsPermutation l rows_given.0) (ap (map (shows (update_terms User) user_row)) (found_one key user_rest (db.trees 1) r only) ∙ rw (number_is, key_at) refl) all) in
         let written = went rows_given.2 in
         let trees : done.0.trees ≡ written.0 = ap (λ (it : Written). it.trees) (same_value written.2) in
-        let applied = one_step schema Enforced db.trees written.0 (edit_of db.trees (entry_table User o) (ids_of rows_given.0) Given 1 rows_given.0) refl written.1 in
-        let edit : edited db.trees (edit_of db.trees (entry_table User o) (ids_of rows_given.0) Given 1 rows_given.0) ≡ put_row (Int n ∷ user_row) (without_rowid n (db.trees 1)) =
-        ap (λ all. edited db.trees (edit_of db.trees (entry_table User o) (ids_of all) Given 1 all)) one ∙ rw (cast_int n, cast_int revision, cast_int active, cast_int confirmed, cast_id id) refl in (
+        let applied = one_step schema Enforced db.trees written.0 (edit_of db.trees (entry_table User f.users) (ids_of rows_given.0) Given 1 rows_given.0) refl written.1 in
+        let edit : edited db.trees (edit_of db.trees (entry_table User f.users) (ids_of rows_given.0) Given 1 rows_given.0) ≡ put_row (Int n ∷ user_row) (without_rowid n (db.trees 1)) =
+        ap (λ all. edited db.trees (edit_of db.trees (entry_table User f.users) (ids_of all) Given 1 all)) one ∙ rw (cast_int n, cast_int revision, cast_int active, cast_int confirmed, cast_id id) refl in (
           ap (λ (d : Database). d.schema) now,
           ap (λ (d : Database). d.trees 1) now ∙ ap (λ (t : Trees). t 1) trees ∙ applied.rows ∙ edit,
           ap (λ (d : Database). d.trees 3) now ∙ ap (λ (t : Trees). t 3) trees ∙ applied.tables.1.1.0 (λ (e : 3 ≡ 1). omega (arith, e)),
@@ -108,9 +103,9 @@ module _ (limit : Option ℕ) (a : List Term) (o p : Order) (db after : Database
         let written = went (went rows_given.2).2 in
         let counted = went written.2 in
         let trees : done.0.trees ≡ written.0 = ap (λ (it : Written). it.trees) (same_value counted.2) ∙ same_value counted.1 in
-        let applied = one_step schema Enforced db.trees written.0 (edit_of db.trees (entry_table Group p) [] Chosen 0 rows_given.0) refl written.1 in
-        let news : (edit_of db.trees (entry_table Group p) [] Chosen 0 rows_given.0).news ≡ (Int (next_rowid (db.trees 3)) ∷ group_row) ∷ [] =
-        ap (λ all. (edit_of db.trees (entry_table Group p) [] Chosen 0 all).news) rows_given.1.1 ∙ rw (cast_null, cast_int revision, cast_int confirmed, cast_id id) refl in (
+        let applied = one_step schema Enforced db.trees written.0 (edit_of db.trees (entry_table Group f.groups) [] Chosen 0 rows_given.0) refl written.1 in
+        let news : (edit_of db.trees (entry_table Group f.groups) [] Chosen 0 rows_given.0).news ≡ (Int (next_rowid (db.trees 3)) ∷ group_row) ∷ [] =
+        ap (λ all. (edit_of db.trees (entry_table Group f.groups) [] Chosen 0 all).news) rows_given.1.1 ∙ rw (cast_null, cast_int revision, cast_int confirmed, cast_id id) refl in (
           next_rowid (db.trees 3),
           ap (λ (d : Database). d.schema) now,
           fresh_one (is_taken (db.trees 3) (Int (next_rowid (db.trees 3)) ∷ group_row)) (subst (λ (l : List Row). are_fresh (db.trees 3) l ≡ true) news applied.fresh),
@@ -131,9 +126,9 @@ module _ (limit : Option ℕ) (a : List Term) (o p : Order) (db after : Database
         one_permutation _ rows_given.0 (subst (λ l. IsPermutation l rows_given.0) (ap (map (shows (update_terms Group) group_row)) (found_one key group_rest (db.trees 3) r only) ∙ rw (number_is, key_at) refl) all) in
         let written = went rows_given.2 in
         let trees : done.0.trees ≡ written.0 = ap (λ (it : Written). it.trees) (same_value written.2) in
-        let applied = one_step schema Enforced db.trees written.0 (edit_of db.trees (entry_table Group p) (ids_of rows_given.0) Given 1 rows_given.0) refl written.1 in
-        let edit : edited db.trees (edit_of db.trees (entry_table Group p) (ids_of rows_given.0) Given 1 rows_given.0) ≡ put_row (Int n ∷ group_row) (without_rowid n (db.trees 3)) =
-        ap (λ all. edited db.trees (edit_of db.trees (entry_table Group p) (ids_of all) Given 1 all)) one ∙ rw (cast_int n, cast_int revision, cast_int confirmed, cast_id id) refl in (
+        let applied = one_step schema Enforced db.trees written.0 (edit_of db.trees (entry_table Group f.groups) (ids_of rows_given.0) Given 1 rows_given.0) refl written.1 in
+        let edit : edited db.trees (edit_of db.trees (entry_table Group f.groups) (ids_of rows_given.0) Given 1 rows_given.0) ≡ put_row (Int n ∷ group_row) (without_rowid n (db.trees 3)) =
+        ap (λ all. edited db.trees (edit_of db.trees (entry_table Group f.groups) (ids_of all) Given 1 all)) one ∙ rw (cast_int n, cast_int revision, cast_int confirmed, cast_id id) refl in (
           ap (λ (d : Database). d.schema) now,
           ap (λ (d : Database). d.trees 3) now ∙ ap (λ (t : Trees). t 3) trees ∙ applied.rows ∙ edit,
           ap (λ (d : Database). d.trees 1) now ∙ ap (λ (t : Trees). t 1) trees ∙ applied.tables.1.0 (λ (e : 1 ≡ 3). omega (arith, e)),

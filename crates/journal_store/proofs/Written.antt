@@ -1,17 +1,12 @@
 -- What the two writes leave, as rows of entries.
 use Rattle.std.proofs.Common.{◌≡◌, ℕ, pos, Bool, true, false, List, [], ◌∷◌, None, Option, Ok, Err, Result, OnOk, IsTrue, refl, sym, ap, ◌∙◌, subst, arith}
-use Rattle.sqlite_value.specs.declared.keys.Order.{Order}
 use Rattle.sqlite_value.specs.declared.value.Value.{Value}
 use Rattle.sqlite_value.specs.declared.value.Value.TheVariants.{Int, Text}
 use Rattle.sqlite_value.specs.Order.{Row}
 use Rattle.sqlite_trees.specs.Tree.{Trees}
-use Rattle.sqlite_schema.specs.declared.schema.Schema.{Schema}
 use Rattle.sqlite_schema.specs.declared.command.Command.{Command}
 use Rattle.sqlite_schema.specs.declared.command.Command.TheVariants.{Insert, Update}
 use Rattle.sqlite_schema.specs.declared.command.Source.TheVariants.{Values}
-use Rattle.sqlite_sql.specs.Term.{Term}
-use Rattle.sqlite_resolve.specs.declared.compiled.Compiled.{Compiled}
-use Rattle.sqlite_resolve.specs.declared.error.CompileError.{CompileError}
 use Rattle.sqlite.specs.Does.{Tally, Does}
 use Rattle.sqlite.specs.Effect.{Database}
 use Rattle.sqlite.specs.Given.{IsPlain}
@@ -27,58 +22,51 @@ use Rattle.source_csv.specs.declared.rows.Row as source
 use Rattle.source_csv.specs.declared.rows.Row.TheVariants.{User, Group}
 use Rattle.source_csv.specs.declared.texts.UserText.TheVariants as text
 use Rattle.journal_core.specs.declared.entries.Entry.{Entry}
-use Rattle.journal_store.specs.Format.{journal_schema, entry_place, entry_tree}
+use Rattle.journal_store.specs.Format.{Form, journal_schema, entry_place, entry_tree}
+use Rattle.sql_tables.specs.Statements.{IsEdit, IsEditText, MayLeave, Ran, plain_mode}
+use Rattle.sql_tables.proofs.Queries.{query}
 use Rattle.journal_store.specs.Rows.{active_number, id_value, members_text, revision_value, row_by, row_of}
-use Rattle.journal_store.specs.Connections.{IsEdit, IsEditText, IsLaid, IsThere, Makes, MayLeave, PutsIn, Ran, plain_mode, put_text}
-use Rattle.journal_store.proofs.Texts.{query, key_is, insert_terms, insert_width, insert_is, insert_plain, update_terms, update_is, update_plain}
+use Rattle.journal_store.specs.Connections.{IsLaid, IsThere, Makes, PutsIn, put_text}
+use Rattle.journal_store.proofs.Texts.{key_is, insert_terms, insert_width, insert_is, insert_plain, update_terms, update_is, update_plain}
+use Rattle.sql_tables.proofs.Editing.{command_is, edits_by}
 use Rattle.journal_store.proofs.Writing.{inserts_user, inserts_group, updates_user, updates_group}
 
 -- ---- the texts
-
-edit_of_plain : (r : Result Compiled CompileError) (c : Compiled) (command : Command) → IsPlain r → command_of r ≡ command → IsEdit command → r ≡ Ok c → (c.returning ≡ None) × (c.formats ≡ []) × IsEdit c.command
-edit_of_plain (Ok d) c command plain means edit is =
-    let same : d ≡ c = cc in
-    subst (λ (x : Compiled). (x.returning ≡ None) × (x.formats ≡ []) × IsEdit x.command) same (plain.0, plain.1, subst IsEdit (sym means) edit)
-edit_of_plain (Err e) c command plain means edit is = absurd plain
 
 -- what the text of a write means
 abbrev put_command : Bool → Kind → Command
 put_command false kind = Insert (entry_place kind) (Values (insert_terms kind) (insert_width kind))
 put_command true kind = Update (entry_place kind) (record { lets = []; body = query (entry_tree kind) (key_is ∷ []) (update_terms kind) [] })
 
-put_is : (is_there : Bool) (kind : Kind) (a : List Term) (o p : Order) → command_of (understood (journal_schema a o p) (put_text is_there kind)) ≡ put_command is_there kind
-put_is false kind a o p = insert_is kind a o p
-put_is true kind a o p = update_is kind a o p
+put_is : (is_there : Bool) (kind : Kind) (f : Form) → command_of (understood (journal_schema f) (put_text is_there kind)) ≡ put_command is_there kind
+put_is false kind f = insert_is kind f
+put_is true kind f = update_is kind f
 
-put_plain : (is_there : Bool) (kind : Kind) (a : List Term) (o p : Order) → IsPlain (understood (journal_schema a o p) (put_text is_there kind))
-put_plain false kind a o p = insert_plain kind a o p
-put_plain true kind a o p = update_plain kind a o p
+put_plain : (is_there : Bool) (kind : Kind) (f : Form) → IsPlain (understood (journal_schema f) (put_text is_there kind))
+put_plain false kind f = insert_plain kind f
+put_plain true kind f = update_plain kind f
 
 is_edit : (is_there : Bool) (kind : Kind) → IsEdit (put_command is_there kind)
 is_edit false kind = tt
 is_edit true kind = tt
 
-pub put_edits : (is_there : Bool) (kind : Kind) → IsEditText (put_text is_there kind)
-put_edits is_there kind a o p c is = edit_of_plain (understood (journal_schema a o p) (put_text is_there kind)) c (put_command is_there kind) (put_plain is_there kind a o p) (put_is is_there kind a o p) (is_edit is_there kind) is
-
-command_is : (s : State) (sql : List ℕ) (c : Compiled) (command : Command) (laid : IsLaid s) → command_of (understood (journal_schema laid.format_checks laid.users laid.groups) sql) ≡ command
-    → understood s.now.schema sql ≡ Ok c → c.command ≡ command
-command_is s sql c command laid means is = ap command_of (sym is ∙ ap (λ (schema : Schema). understood schema sql) laid.schema) ∙ means
+pub put_edits : (is_there : Bool) (kind : Kind) → IsEditText journal_schema (put_text is_there kind)
+put_edits is_there kind = edits_by journal_schema (put_text is_there kind) (put_command is_there kind) (put_plain is_there kind) (put_is is_there kind) (is_edit is_there kind)
 
 -- ---- an entry is put
 
 module _ (limit : Option ℕ) (old : State) (after : Database) (tally : Tally) (sql : List ℕ) (laid : IsLaid old) where
   abbrev same_schema : Type 0
-  same_schema = after.schema ≡ journal_schema laid.format_checks laid.users laid.groups
+  same_schema = after.schema ≡ journal_schema laid.form
 
   adds : (row : source.Row) (confirmed : RevisionValue) (id : Option (List ℕ)) → IsRow row → Does limit plain_mode (row_by row confirmed id) old.now sql None (put_command false (row_name row).kind) (Ok (tally, after))
       → same_schema × PutsIn false (record { row = row; confirmed = confirmed; id = id }) old.now.trees after.trees
   adds (User u) confirmed id lawful does =
-      let made = inserts_user limit laid.format_checks laid.users laid.groups old.now after tally sql laid.schema (row_name (User u)).key u.login (text_of u text.Number) (text_of u text.Given) (text_of u text.Family) (text_of u text.Mail)
+      let made = inserts_user limit laid.form old.now after tally sql laid.schema (row_name (User u)).key u.login (text_of u text.Number) (text_of u text.Given) (text_of u text.Family) (text_of u text.Mail)
       (pos (revision_number u.revision)) (pos (active_number u.active)) (pos (revision_number confirmed)) id does in
       (made.1, record { lawful = lawful; puts = (made.0, made.2, made.3); users = λ e. absurd (cc); groups = λ _. made.4 })
   adds (Group g) confirmed id lawful does =
-      let made = inserts_group limit laid.format_checks laid.users laid.groups old.now after tally sql laid.schema (row_name (Group g)).key g.name (members_text g.members)
+      let made = inserts_group limit laid.form old.now after tally sql laid.schema (row_name (Group g)).key g.name (members_text g.members)
       (pos (revision_number g.revision)) (pos (revision_number confirmed)) id does in
       (made.1, record { lawful = lawful; puts = (made.0, made.2, made.3); users = λ _. made.4; groups = λ e. absurd (cc) })
 
@@ -86,11 +74,11 @@ module _ (limit : Option ℕ) (old : State) (after : Database) (tally : Tally) (
       → Does limit plain_mode (row_by row confirmed id) old.now sql None (put_command true (row_name row).kind) (Ok (tally, after))
       → same_schema × PutsIn true (record { row = row; confirmed = confirmed; id = id }) old.now.trees after.trees
   renews (User u) confirmed id lawful there does =
-      let made = updates_user limit laid.format_checks laid.users laid.groups old.now after tally sql laid.schema (row_name (User u)).key u.login (text_of u text.Number) (text_of u text.Given) (text_of u text.Family) (text_of u text.Mail)
+      let made = updates_user limit laid.form old.now after tally sql laid.schema (row_name (User u)).key u.login (text_of u text.Number) (text_of u text.Given) (text_of u text.Family) (text_of u text.Mail)
       (pos (revision_number u.revision)) (pos (active_number u.active)) (pos (revision_number confirmed)) id there.row there.number there.only there.numbered there.keyed does in
       (made.0, record { lawful = lawful; puts = (there.row, there.number, there.numbered, there.only, made.1); users = λ e. absurd (cc); groups = λ _. made.2 })
   renews (Group g) confirmed id lawful there does =
-      let made = updates_group limit laid.format_checks laid.users laid.groups old.now after tally sql laid.schema (row_name (Group g)).key g.name (members_text g.members)
+      let made = updates_group limit laid.form old.now after tally sql laid.schema (row_name (Group g)).key g.name (members_text g.members)
       (pos (revision_number g.revision)) (pos (revision_number confirmed)) id there.row there.number there.only there.numbered there.keyed does in
       (made.0, record { lawful = lawful; puts = (there.row, there.number, there.numbered, there.only, made.1); users = λ _. made.2; groups = λ e. absurd (cc) })
 
@@ -104,13 +92,13 @@ pub put_made : (old new : State) (is_there : Bool) (entry : Entry) → IsRow ent
     → Ran (put_text is_there (row_name entry.row).kind) (row_of entry) old new → Makes is_there entry old new
 put_made old new is_there entry lawful laid there ran =
     let type = (row_name entry.row).kind in
-    let command = command_is old (put_text is_there type) ran.compiled (put_command is_there type) laid (put_is is_there type laid.format_checks laid.users laid.groups) ran.is in
+    let command = command_is old (put_text is_there type) ran.compiled (put_command is_there type) laid (put_is is_there type laid.form) ran.is in
     let does = subst (λ k. Does ran.limit plain_mode (row_of entry) old.now ran.text None k (Ok (ran.tally, new.now))) command ran.does in
     let made = puts_it ran.limit old new.now ran.tally ran.text laid is_there entry lawful there does in
     record {
       was_open = ran.was_open;
       is_open = ran.is_open;
-      laid = record { format_checks = laid.format_checks; users = laid.users; groups = laid.groups; schema = made.0; committed = (ran.settled laid).0; autocommit = (ran.settled laid).1 };
+      laid = record { form = laid.form; schema = made.0; committed = (ran.settled laid.autocommit).0; autocommit = (ran.settled laid.autocommit).1 };
       puts = made.1;
     }
 
@@ -118,7 +106,7 @@ pub put_leaves : (old : State) (is_there : Bool) (entry : Entry) (db : Trees) �
     → MayLeave (put_text is_there (row_name entry.row).kind) (row_of entry) old db → PutsIn is_there entry old.now.trees db
 put_leaves old is_there entry db lawful laid there may =
     let type = (row_name entry.row).kind in
-    let command = command_is old (put_text is_there type) may.compiled (put_command is_there type) laid (put_is is_there type laid.format_checks laid.users laid.groups) may.is in
+    let command = command_is old (put_text is_there type) may.compiled (put_command is_there type) laid (put_is is_there type laid.form) may.is in
     let does = subst (λ k. Does may.limit plain_mode (row_of entry) old.now may.text None k (Ok (may.tally, may.after))) command may.does in
     subst (PutsIn is_there entry old.now.trees) (sym may.trees) (puts_it may.limit old may.after may.tally may.text laid is_there entry lawful there does).1
 

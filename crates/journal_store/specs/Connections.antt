@@ -1,27 +1,15 @@
 -- What the statements require of a connection, and what they leave of it.
-use Rattle.std.specs.Prelude.{◌≡◌, ◌⊎◌, ◌+◌, ◌≤◌, ℕ, ℤ, Bool, true, false, List, [], ◌∷◌, ◌++◌, Option, Some, None, Ok, IsSome, IsTrue, IsPermutation, filter, is_some, length, map}
+use Rattle.std.specs.Prelude.{◌≡◌, ◌⊎◌, ◌+◌, ℕ, ℤ, Bool, true, false, List, [], ◌∷◌, ◌++◌, Option, Some, None, IsTrue, IsPermutation, filter, is_some, map}
 use Rattle.std.specs.List.{AllByRecursion, AllZip}
 use Rattle.std.specs.List.Sorted.{IsStrictlySortedBy}
 use Rattle.scim_key.specs.Records.{name_cmp}
 use Rattle.std.specs.Ordering.{is_eq, is_lt}
-use Rattle.sqlite_value.specs.declared.keys.Order.{Order}
 use Rattle.sqlite_value.specs.declared.value.Value.TheVariants.{Int, Text}
 use Rattle.sqlite_value.specs.Order.{Row, column, value_cmp}
 use Rattle.sqlite_trees.specs.Tree.{Trees, rowid, has_rowid, put_row, without_rowid}
-use Rattle.sqlite_sql.specs.Term.{Term}
 use Rattle.sqlite_rules.specs.Edit.{is_taken}
 use Rattle.sqlite_rules.specs.Lists.{Has}
-use Rattle.sqlite_resolve.specs.declared.compiled.Compiled.{Compiled}
-use Rattle.sqlite.specs.Effect.{Database, Reads, RefusesToRead}
-use Rattle.sqlite.specs.declared.error.Error.{Error}
-use Rattle.sqlite.specs.Given.{IsPlain}
-use Rattle.sqlite.specs.Listing.{understood, reads_listing}
 use Rattle.sqlite.specs.State.{State}
-use Rattle.sqlite.specs.Does.{Tally, Does}
-use Rattle.sqlite.specs.declared.run.Mode.{Mode}
-use Rattle.sqlite_schema.specs.declared.schema.Keys.TheVariants.{Enforced}
-use Rattle.sqlite_schema.specs.declared.command.Command.{Command}
-use Rattle.sqlite_schema.specs.declared.command.Command.TheVariants.{Insert, Update}
 use Rattle.scim_key.specs.Revisions.{◌≼◌}
 use Rattle.scim_key.specs.declared.records.Kind.{Kind}
 use Rattle.scim_key.specs.declared.records.Kind.TheVariants.{User, Group}
@@ -29,54 +17,20 @@ use Rattle.scim_key.specs.declared.records.RecordName.{RecordName}
 use Rattle.source_csv.specs.Records.{IsRow, row_name, row_revision}
 use Rattle.source_csv.specs.declared.rows.Row as source
 use Rattle.journal_core.specs.declared.entries.Entry.{Entry}
+use Rattle.sql_tables.specs.Layouts.{IsLaid as IsLaidBy}
+use Rattle.sql_tables.specs.Statements.{IsEditText as IsEditOf}
 use Rattle.journal_store.specs.Format.{journal_schema, entry_tree, insert_text, update_text}
 use Rattle.journal_store.specs.Rows.{IsLawfulId, IsReadable, confirmed_in, entry_in, id_in, row_of, shown_row, source_in, texts_of}
 
 -- ---- the tables of a connection
 
 -- the tables are laid out, and no transaction is open
-pub record IsLaid (s : State) : Type 0 where
-  pub format_checks : List Term
-  pub users : Order
-  pub groups : Order
-  pub schema : s.now.schema ≡ journal_schema format_checks users groups
-  pub committed : s.committed ≡ s.now
-  pub autocommit : s.in_transaction ≡ false
+abbrev pub IsLaid : State → Type 0
+IsLaid = IsLaidBy journal_schema
 
 -- the rows of the entries of one type
 abbrev pub table_in : Kind → State → List Row
 table_in kind s = s.now.trees (entry_tree kind)
-
--- the connection is unchanged, if it is still open
-pub record Keeps (old new : State) : Type 0 where
-  pub was_open : IsTrue new.is_open → IsTrue old.is_open
-  pub same : IsTrue new.is_open → IsLaid old → (new.now ≡ old.now) × (new.committed ≡ new.now) × (new.in_transaction ≡ false)
-
--- ---- a query
-
--- the text is a query that only reads the tables
-abbrev pub IsQuery : List ℕ → Type 0
-IsQuery sql = (format_checks : List Term) (users groups : Order)
-    → IsPlain (understood (journal_schema format_checks users groups) sql) × (reads_listing (journal_schema format_checks users groups) sql ≡ false)
-
--- the text is one statement over the tables, and has this many parameters
-abbrev pub IsWhole : List ℕ → ℕ → Type 0
-IsWhole sql count = (format_checks : List Term) (users groups : Order)
-    → (c : Compiled) × (understood (journal_schema format_checks users groups) sql ≡ Ok c) × (length sql ≤ c.tail) × (count ≡ length c.names)
-
--- with these values the query is refused only over a limit on steps, whatever rows the tables have
-abbrev pub IsAnswered : List ℕ → Row → Type 0
-IsAnswered sql params = (format_checks : List Term) (users groups : Order) (c : Compiled) (limit : Option ℕ) (trees : Trees) (error : Error)
-    → understood (journal_schema format_checks users groups) sql ≡ Ok c
-    → RefusesToRead limit c.command (record { schema = journal_schema format_checks users groups; trees = trees }) params error → IsSome limit
-
--- the query is whole with these values, and they aren't refused
-abbrev pub IsGiven : List ℕ → Row → Type 0
-IsGiven sql params = IsWhole sql (length params) × IsAnswered sql params
-
--- the rows are the result of the query
-abbrev pub Answers : List ℕ → Row → State → List Row → Type 0
-Answers sql params s rows = (c : Compiled) → understood s.now.schema sql ≡ Ok c → Reads c.command s.now params rows
 
 -- ---- entries
 
@@ -177,43 +131,9 @@ pub record HasNumbers (db : Trees) : Type 0 where
 
 -- ---- a write
 
--- keys are checked at once, and none waits for a commit
-abbrev pub plain_mode : Mode
-plain_mode = record { keys = Enforced; in_doubt = false; may_wait = false }
-
-abbrev pub IsEdit : Command → Type 0
-IsEdit (Insert at from) = Unit {0}
-IsEdit (Update at q) = Unit {0}
-IsEdit command = ⊥
-
 -- the text is one INSERT or one UPDATE, without RETURNING and without the time
 abbrev pub IsEditText : List ℕ → Type 0
-IsEditText sql = (format_checks : List Term) (users groups : Order) (c : Compiled)
-    → understood (journal_schema format_checks users groups) sql ≡ Ok c → (c.returning ≡ None) × (c.formats ≡ []) × IsEdit c.command
-
--- the statement did this to the database, and committed it
-pub record Ran (sql : List ℕ) (params : Row) (old new : State) : Type 0 where
-  pub was_open : IsTrue old.is_open
-  pub is_open : IsTrue new.is_open
-  pub compiled : Compiled
-  pub is : understood old.now.schema sql ≡ Ok compiled
-  pub limit : Option ℕ
-  pub tally : Tally
-  pub text : List ℕ
-  pub does : Does limit plain_mode params old.now text None compiled.command (Ok (tally, new.now))
-  pub settled : IsLaid old → (new.committed ≡ new.now) × (new.in_transaction ≡ false)
-
--- what a stop during the statement may leave, other than what was there before
-pub record MayLeave (sql : List ℕ) (params : Row) (s : State) (db : Trees) : Type 0 where
-  pub was_open : IsTrue s.is_open
-  pub compiled : Compiled
-  pub is : understood s.now.schema sql ≡ Ok compiled
-  pub limit : Option ℕ
-  pub tally : Tally
-  pub text : List ℕ
-  pub after : Database
-  pub does : Does limit plain_mode params s.now text None compiled.command (Ok (tally, after))
-  pub trees : db ≡ after.trees
+IsEditText = IsEditOf journal_schema
 
 -- the one INSERT or UPDATE that puts an entry
 abbrev pub put_text : Bool → Kind → List ℕ

@@ -1,12 +1,10 @@
 -- What the error of a statement means.
-use Rattle.std.specs.Prelude.{◌≡◌, ◌⊎◌, false, IsSome}
-use Rattle.sqlite.specs.State.{State}
-use Rattle.sqlite.specs.declared.error.ErrorCode.TheVariants as code
 use Rattle.sqlite.specs.declared.error.Error.{Error}
-use Rattle.sqlite.specs.declared.error.Error.TheVariants.{SqliteFailure}
+use Rattle.sql_tables.specs.Faults.{statement_fault as fault_of}
+use Rattle.sql_tables.specs.declared.statements.StatementFault.{StatementFault}
+use Rattle.sql_tables.specs.declared.statements.StatementFault.TheVariants as statement
 use Rattle.scim_key.specs.declared.names.NameFault.{NameFault}
 use Rattle.scim_key.specs.declared.names.NameFault.TheVariants as name
-use Rattle.journal_core.specs.Stores.{HasRisen}
 use Rattle.journal_store.specs.declared.statements.TableFault.{TableFault}
 use Rattle.journal_store.specs.declared.statements.TableFault.TheVariants.{Store, Damaged, Memory}
 
@@ -15,10 +13,13 @@ abbrev pub HasCause : (damage : Type 0) → TableFault → Type 0
 HasCause damage Damaged = damage
 HasCause damage fault = Unit {0}
 
+abbrev pub table_of : StatementFault → TableFault
+table_of statement.Store = Store
+table_of statement.Memory = Memory
+
 -- out of memory, or the store failed
 abbrev pub statement_fault : Error → TableFault
-statement_fault (SqliteFailure code.OutOfMemory) = Memory
-statement_fault error = Store
+statement_fault error = table_of (fault_of error)
 
 -- a statement that fails reports no damage
 abbrev pub IsOfStatement : TableFault → Type 0
@@ -28,11 +29,6 @@ IsOfStatement = HasCause ⊥
 abbrev pub IsOfRow : TableFault → Type 0
 IsOfRow Store = ⊥
 IsOfRow fault = Unit {0}
-
--- why a statement fails although there is memory: the connection was shut, the disk failed or refused a call meanwhile,
--- or a limit on steps is set
-abbrev pub HasFailed : (old new : State) → Type 0
-HasFailed old new = (old.is_open ≡ false) ⊎ (HasRisen old.faults new.faults ⊎ IsSome old.step_limit)
 
 -- a fault that says that the store failed has this cause
 abbrev pub FailsFor : (failure : Type 0) → TableFault → Type 0

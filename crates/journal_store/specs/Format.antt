@@ -1,15 +1,13 @@
 -- The tables of format 1, as SQLite keeps them.
-use Rattle.std.specs.Prelude.{ℕ, true, false, List, [], ◌∷◌, Some, None, codes}
-use Rattle.sqlite_value.specs.declared.keys.Collation.TheVariants.{Binary}
-use Rattle.sqlite_value.specs.declared.value.Value.TheVariants.{Null}
+use Rattle.std.specs.Prelude.{ℕ, true, false, List, [], ◌∷◌, None, codes}
 use Rattle.sqlite_value.specs.declared.keys.Order.{Order}
 use Rattle.sqlite_sql.specs.Term.{Term}
 use Rattle.sqlite_schema.specs.declared.schema.Column.{Column}
 use Rattle.sqlite_schema.specs.declared.schema.Table.{Table}
 use Rattle.sqlite_schema.specs.declared.schema.Index.{Index}
 use Rattle.sqlite_schema.specs.declared.schema.Schema.{Schema}
-use Rattle.sqlite_schema.specs.declared.schema.Kind as column
 use Rattle.sqlite_schema.specs.declared.schema.Kind.TheVariants.{Integer, Text}
+use Rattle.sql_tables.specs.Layouts.{format_table, no_stamps, optional, required}
 use Rattle.scim_key.specs.declared.records.Kind.{Kind}
 use Rattle.scim_key.specs.declared.records.Kind.TheVariants.{User, Group}
 
@@ -17,18 +15,11 @@ use Rattle.scim_key.specs.declared.records.Kind.TheVariants.{User, Group}
 abbrev pub format_number : ℕ
 format_number = 1
 
--- ---- columns
-
-abbrev pub required : List ℕ → column.Kind → Column
-required name kind = record { name = name; kind = kind; is_strict = false; not_null = true; default = Null; collation = Binary }
-
-abbrev pub optional : List ℕ → column.Kind → Column
-optional name kind = record { name = name; kind = kind; is_strict = false; not_null = false; default = Null; collation = Binary }
-
 -- ---- tables
 
-abbrev pub format_tree : ℕ
-format_tree = 0
+-- the name of the table of the format
+abbrev pub format_name : List ℕ
+format_name = codes "journal_format"
 
 -- the tree with the entries of a type of record
 abbrev pub entry_tree : Kind → ℕ
@@ -44,22 +35,6 @@ entry_place Group = 2
 abbrev pub key_tree : Kind → ℕ
 key_tree User = 2
 key_tree Group = 4
-
-abbrev pub format_table : List Term → Table
-format_table checks = record {
-  name = codes "journal_format";
-  tree = format_tree;
-  columns = optional (codes "one") Integer ∷ required (codes "number") Integer ∷ [];
-  key = Some 0;
-  primary = 0 ∷ [];
-  uniques = [];
-  orders = [];
-  checks = checks;
-  references = [];
-  computed = [];
-  stamps = record { places = []; terms = []; formats = [] };
-  is_counted = false;
-}
 
 abbrev pub entry_name : Kind → List ℕ
 entry_name User = codes "user_entry"
@@ -90,7 +65,7 @@ entry_table kind order = record {
   checks = [];
   references = [];
   computed = [];
-  stamps = record { places = []; terms = []; formats = [] };
+  stamps = no_stamps;
   is_counted = false;
 }
 
@@ -101,16 +76,19 @@ index_name Group = codes "sqlite_autoindex_group_entry_1"
 abbrev pub key_index : Kind → Order → Index
 key_index kind order = record { name = index_name kind; tree = key_tree kind; table = entry_tree kind; columns = key_places; order = order; is_unique = true }
 
-abbrev pub journal_schema : (format_checks : List Term) → (users groups : Order) → Schema
-journal_schema format_checks users groups =
+-- what SQLite chooses of the tables: the terms of the CHECK of the format, and the orders of the indexes
+pub record Form : Type 0 where
+  pub format_checks : List Term
+  pub users : Order
+  pub groups : Order
+
+abbrev pub journal_schema : Form → Schema
+journal_schema form =
     record {
-      tables = format_table format_checks ∷ entry_table User users ∷ entry_table Group groups ∷ [];
-      indexes = key_index User users ∷ key_index Group groups ∷ [];
+      tables = format_table format_name form.format_checks ∷ entry_table User form.users ∷ entry_table Group form.groups ∷ [];
+      indexes = key_index User form.users ∷ key_index Group form.groups ∷ [];
       views = [];
     }
-
-abbrev pub no_schema : Schema
-no_schema = record { tables = []; indexes = []; views = [] }
 
 -- ---- statements
 

@@ -1,21 +1,18 @@
 -- What an opening looks for, what it finds, and what it leaves if it refuses.
-use Rattle.std.specs.Prelude.{◌≡◌, ◌≢◌, ◌⊎◌, ◌≤◌, ℕ, ◌<◌, ℤ, pos, Bool, true, false, ◌||◌, List, [], ◌∷◌, None, IsTrue, length, map}
+use Rattle.std.specs.Prelude.{◌≡◌, ◌≢◌, ◌⊎◌, ◌≤◌, ℕ, ◌<◌, ℤ, Bool, true, ◌||◌, List, [], ◌∷◌, None, IsTrue, length, map}
 use Rattle.std.specs.Prelude.{is_some}
 use Rattle.std.specs.FinMap.{empty}
 use Rattle.std.specs.List.{AllByRecursion, list_all}
 use Rattle.std.specs.List.Sorted.{IsStrictlySortedBy}
 use Rattle.std.specs.Cmp.Lexicographic.{slice_cmp}
 use Rattle.std.specs.Ordering.{int_cmp, nat_cmp}
-use Rattle.sqlite_value.specs.declared.keys.Order.{Order}
 use Rattle.sqlite_value.specs.declared.value.Value.TheVariants.{Int}
 use Rattle.sqlite_value.specs.Order.{Row, column}
 use Rattle.sqlite_trees.specs.Tree.{Trees}
-use Rattle.sqlite_sql.specs.Term.{Term}
 use Rattle.sqlite_rules.specs.Lists.{Has}
-use Rattle.sqlite_schema.specs.declared.schema.Stamps.{Stamps}
 use Rattle.sqlite_schema.specs.declared.schema.Table.{Table}
 use Rattle.sqlite_schema.specs.declared.schema.Schema.{Schema}
-use Rattle.sqlite.specs.State.{State, HasCleanDisk, Survives}
+use Rattle.sqlite.specs.State.{State}
 use Rattle.scim_key.specs.Revisions.{no_revision, same_revision}
 use Rattle.scim_key.specs.declared.records.Kind.{Kind}
 use Rattle.scim_key.specs.declared.records.Kind.TheVariants.{User, Group}
@@ -24,26 +21,17 @@ use Rattle.journal_core.specs.Entries.{EntryMap, most_records}
 use Rattle.journal_core.specs.declared.entries.Entry.{Entry}
 use Rattle.journal_core.specs.declared.journals.JournalFault.{JournalFault}
 use Rattle.journal_core.specs.declared.journals.JournalFault.TheVariants as journal
-use Rattle.journal_store.specs.Format.{journal_schema, no_schema, format_tree, format_number, entry_columns, entry_name, entry_tree, key_places}
-use Rattle.journal_store.specs.Faults.{HasFailed}
+use Rattle.journal_store.specs.Format.{journal_schema, format_number, entry_columns, entry_name, entry_tree, key_places}
+use Rattle.sql_tables.specs.Layouts.{IsBlank, IsFormat, IsOne, IsPlainTable, no_schema}
+use Rattle.sql_tables.specs.Faults.{HasFailed}
 use Rattle.journal_store.specs.Rows.{entries_in}
-use Rattle.journal_store.specs.Connections.{FailsToRise, HasNumbers, IsLaid, Keeps, ListsAll}
+use Rattle.journal_store.specs.Connections.{FailsToRise, HasNumbers, IsLaid, ListsAll}
 use Rattle.journal_store.specs.declared.statements.TableFault.{TableFault}
 use Rattle.journal_store.specs.declared.statements.TableFault.TheVariants as table
 use Rattle.journal_store.specs.declared.opening.OpenFault.{OpenFault}
 use Rattle.journal_store.specs.declared.opening.OpenFault.TheVariants.{Store, Damaged, Memory, Newer}
 
 -- ---- the tables
-
-abbrev pub no_stamps : Stamps
-no_stamps = record { places = []; terms = []; formats = [] }
-
--- nothing is declared for the table except its columns, its keys and its CHECKs
-pub record IsPlainTable (table : Table) : Type 0 where
-  pub references : table.references ≡ []
-  pub computed : table.computed ≡ []
-  pub stamps : table.stamps ≡ no_stamps
-  pub uncounted : table.is_counted ≡ false
 
 -- the table is that of the entries of a type, in any order of its index
 pub record IsEntryTable (kind : Kind) (it : Table) : Type 0 where
@@ -57,27 +45,8 @@ pub record IsEntryTable (kind : Kind) (it : Table) : Type 0 where
   pub plain : IsPlainTable it
 
 -- the schema has exactly the tables of the format
-pub record IsJournal (schema : Schema) : Type 0 where
-  pub format_checks : List Term
-  pub users : Order
-  pub groups : Order
-  pub is : schema ≡ journal_schema format_checks users groups
-
--- there are no tables, and no transaction is open
-pub record IsBlank (s : State) : Type 0 where
-  pub schema : s.now.schema ≡ no_schema
-  pub committed : s.committed ≡ s.now
-  pub autocommit : s.in_transaction ≡ false
-
--- ---- the format
-
--- the table of the format has one row, with this number
-abbrev pub IsFormat : State → ℕ → Type 0
-IsFormat s number = map (λ (r : Row). column r 2) (s.now.trees format_tree) ≡ Int (pos number) ∷ []
-
--- the result shows only this number
-abbrev pub IsMarked : List Row → ℕ → Type 0
-IsMarked rows number = (r : Row) × (rows ≡ r ∷ []) × (column r 0 ≡ Int (pos number))
+abbrev pub IsJournal : Schema → Type 0
+IsJournal = IsOne journal_schema
 
 -- ---- faults
 
@@ -173,16 +142,6 @@ pub record IsStore (s : State) (entries : EntryMap) : Type 0 where
 -- what is in a store: the entries of its tables, or none if there are no tables
 abbrev pub Stands : State → EntryMap → Type 0
 Stands s entries = IsStore s entries ⊎ (IsBlank s × (entries ≡ empty))
-
--- a call that only looks: the connection is unchanged, and nothing is committed
-pub record Looks (old new : State) : Type 0 where
-  pub keeps : HasCleanDisk new → Keeps old new
-  pub quiet : Survives old new (λ _. ⊥)
-
--- what was committed stays
-pub record LeavesStore (old new : State) : Type 0 where
-  pub was_open : IsTrue new.is_open → IsTrue old.is_open
-  pub committed : IsTrue new.is_open → new.committed ≡ old.committed
 
 -- ---- what is refused
 

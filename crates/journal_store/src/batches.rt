@@ -8,9 +8,9 @@ ghost use Rattle.source_csv.specs.Rows.{IsGroupRow, IsUserRow};
 ghost use Rattle.source_csv.specs.declared.rows.Row.TheVariants.{User, Group};
 ghost use Rattle.journal_core.specs.Entries.{CanPutRows};
 ghost use Rattle.journal_store.specs.Rows.{entries_in, row_by};
+ghost use Rattle.sql_tables.specs.Statements.{Keeps, LeavesStore, Ran};
 ghost use Rattle.journal_store.specs.Batches.{IsUnderWay, MakesRows, PutsRow, PutsRows, settled};
-ghost use Rattle.journal_store.specs.Connections.{Finds, HasNumbers, IsEditText, IsLaid, IsThere, Keeps, Makes, Ran};
-ghost use Rattle.journal_store.specs.Opening.{LeavesStore};
+ghost use Rattle.journal_store.specs.Connections.{Finds, HasNumbers, IsEditText, IsLaid, IsThere, Makes};
 
 use crate::statements::TableFault;
 use crate::tables::{

@@ -1,25 +1,25 @@
 //! The format of a store: its number, and the check of a schema at run time.
-ghost use Rattle.std.specs.Prelude.{◌≡◌, false, [], ◌∷◌, None, Some, IsTrue};
-ghost use Rattle.sqlite_value.specs.declared.value.Value.TheVariants.{Null};
-ghost use Rattle.sqlite_value.specs.declared.keys.Collation.TheVariants.{Binary};
+ghost use Rattle.std.specs.Prelude.{◌≡◌, [], ◌∷◌, IsTrue};
 ghost use Rattle.scim_key.specs.declared.records.Kind.TheVariants.{User, Group};
-ghost use Rattle.journal_store.specs.Format.{entry_columns, entry_name, entry_tree, format_table, index_name, key_index, key_places, key_tree, no_schema};
-ghost use Rattle.journal_store.specs.Opening.{IsEntryTable, IsJournal, IsPlainTable, no_stamps};
+ghost use Rattle.journal_store.specs.Format.{entry_columns, entry_name, entry_tree, index_name, key_index, key_places, key_tree};
+ghost use Rattle.journal_store.specs.Opening.{IsEntryTable, IsJournal};
 
 use scim_key::Kind as RecordKind;
+use sql_tables::{Layout, has_order, is_column, is_format, is_plain};
 use sqlite_schema::schema::{Column, Index, Kind, Schema, Table};
-use sqlite_value::keys::Collation;
-use sqlite_value::value::Value;
 
 /// The number of the format that is written; no other format is read.
 pub(crate) const FORMAT: u64 = 1;
 
-/// Whether there are no tables.
-pub(crate) fn is_blank(schema: &Schema) -> bool
-    ensures is { IsTrue result → schema.now ≡ no_schema }
-    ensures known { schema.now ≡ no_schema → IsTrue result }
-{
-    schema.tables.is_empty() && schema.indexes.is_empty() && schema.views.is_empty()
+/// The tables of the format.
+pub(crate) struct Journal;
+
+impl Layout for Journal {
+    ghost use Rattle.journal_store.specs.Format.{Form, journal_schema};
+
+    ghost form = { Form };
+
+    ghost layout = { journal_schema };
 }
 
 /// Whether the tables are those of the format. The CHECK of the format's table may have any terms, because
@@ -34,7 +34,7 @@ pub(crate) fn is_journal(schema: &Schema) -> bool
     let [user_keys, group_keys] = schema.indexes.as_slice() else {
         return false;
     };
-    is_format(format)
+    is_format(format, b"journal_format")
         && is_entries(RecordKind::User, users)
         && is_entries(RecordKind::Group, groups)
         && is_key_index(RecordKind::User, user_keys)
@@ -42,35 +42,6 @@ pub(crate) fn is_journal(schema: &Schema) -> bool
         && schema.views.is_empty()
         && has_order(users, user_keys)
         && has_order(groups, group_keys)
-}
-
-/// Whether the table's only UNIQUE has the order of the index.
-fn has_order(table: &Table, index: &Index) -> bool
-    ensures is { IsTrue result → table.now.orders ≡ index.now.order ∷ [] }
-    ensures known { table.now.orders ≡ index.now.order ∷ [] → IsTrue result }
-{
-    match table.orders.as_slice() {
-        [order] => order.digits == index.order.digits,
-        _ => false,
-    }
-}
-
-fn is_format(table: &Table) -> bool
-    ensures is { IsTrue result → table.now ≡ format_table table.now.checks }
-    ensures known { table.now ≡ format_table table.now.checks → IsTrue result }
-{
-    match table.columns.as_slice() {
-        [one, number] => table.name.as_slice() == b"journal_format".as_slice()
-            && table.tree == 0
-            && is_column(one, b"one", Kind::Integer, false)
-            && is_column(number, b"number", Kind::Integer, true)
-            && table.key == Some(0)
-            && table.primary.as_slice() == [0].as_slice()
-            && table.uniques.is_empty()
-            && table.orders.is_empty()
-            && is_plain(table),
-        _ => false,
-    }
 }
 
 fn is_entries(kind: RecordKind, table: &Table) -> bool
@@ -202,36 +173,4 @@ fn is_key_index(kind: RecordKind, index: &Index) -> bool
         && index.table == entry_tree(kind)
         && index.columns.as_slice() == [1].as_slice()
         && index.is_unique
-}
-
-/// Whether nothing is declared for the table except its columns, its keys and its CHECKs.
-fn is_plain(table: &Table) -> bool
-    ensures is { IsTrue result → IsPlainTable table.now }
-    ensures known { IsPlainTable table.now → IsTrue result }
-{
-    table.references.is_empty()
-        && table.computed.is_empty()
-        && has_no_stamps(table)
-        && !table.is_counted
-}
-
-fn has_no_stamps(table: &Table) -> bool
-    ensures is { IsTrue result → table.now.stamps ≡ no_stamps }
-    ensures known { table.now.stamps ≡ no_stamps → IsTrue result }
-{
-    table.stamps.places.is_empty()
-        && table.stamps.terms.roots.is_empty()
-        && table.stamps.formats.is_empty()
-}
-
-fn is_column(column: &Column, name: &[u8], kind: Kind, not_null: bool) -> bool
-    ensures is { IsTrue result → column.now ≡ record { name = name.now; kind = kind; is_strict = false; not_null = not_null; default = Null; collation = Binary } }
-    ensures known { column.now ≡ record { name = name.now; kind = kind; is_strict = false; not_null = not_null; default = Null; collation = Binary } → IsTrue result }
-{
-    column.name.as_slice() == name
-        && column.kind == kind
-        && !column.is_strict
-        && column.not_null == not_null
-        && matches!(column.default, Value::Null)
-        && column.collation == Collation::Binary
 }

@@ -9,9 +9,10 @@ ghost use Rattle.journal_core.specs.Entries.{CanPutLearnt, CanPutRow, CanPutRows
 ghost use Rattle.journal_core.specs.Stores.{CountsFault, HasRisen, OnlyReads, Reopens, WritesOnce};
 ghost use Rattle.journal_core.specs.declared.journals.JournalFault.TheVariants.{Store};
 ghost use Rattle.journal_store.specs.Connections.{Finds, FindsIf, IsDamagedAt, ListsAll, ListsNone};
-ghost use Rattle.journal_store.specs.Faults.{HasFailed};
+ghost use Rattle.sql_tables.specs.Faults.{HasFailed};
+ghost use Rattle.sql_tables.specs.Statements.{LeavesStore};
 ghost use Rattle.journal_store.specs.Kept.{CallFailsFor, IsFaithful, IsHonest, IsRefused, MayHold, kept_entries};
-ghost use Rattle.journal_store.specs.Opening.{IsCause, LeavesNone, LeavesStore, OpenFailsFor, OpeningFails, Stands, journal_fault, table_fault};
+ghost use Rattle.journal_store.specs.Opening.{IsCause, LeavesNone, OpenFailsFor, OpeningFails, Stands, journal_fault, table_fault};
 ghost use Rattle.journal_store.specs.Rows.{entry_in, row_of};
 
 use crate::batches::put_all;

@@ -7,16 +7,19 @@ ghost use Rattle.journal_core.specs.Entries.{EntryMap};
 ghost use Rattle.sqlite.specs.Held.{state};
 ghost use Rattle.sqlite.specs.State.{HasCleanDisk, Survives};
 ghost use Rattle.journal_store.specs.Connections.{AreNumbered, HasNumbers, IsLaid};
-ghost use Rattle.journal_store.specs.Faults.{HasFailed};
+ghost use Rattle.sql_tables.specs.Faults.{HasFailed};
+ghost use Rattle.sql_tables.specs.Layouts.{IsBlank, IsFormat};
+ghost use Rattle.sql_tables.specs.Statements.{LeavesStore, Looks};
 ghost use Rattle.journal_store.specs.Format.{entry_tree, format_number, numbers_text};
-ghost use Rattle.journal_store.specs.Opening.{AreRising, HoldsEntries, IsBlank, IsCause, IsFormat, IsFor, IsJournal, IsMarked, IsNewer, IsNotLaid, IsOfRows, IsSpoilt, IsStore, IsUnmarked, IsUnnumbered, OpenFailsFor, OpeningFails, ShowsDamage, LeavesNone, LeavesStore, Looks, Stands};
+ghost use Rattle.journal_store.specs.Opening.{AreRising, HoldsEntries, IsCause, IsFor, IsJournal, IsNewer, IsNotLaid, IsOfRows, IsSpoilt, IsStore, IsUnmarked, IsUnnumbered, OpenFailsFor, OpeningFails, ShowsDamage, LeavesNone, Stands};
 
-use crate::columns::{integer_at, number_at};
-use crate::format::{FORMAT, is_blank, is_journal};
+use crate::columns::integer_at;
+use crate::format::{FORMAT, Journal, is_journal};
 use crate::lawful::check_lists;
-use crate::statements::{TableFault, ask};
+use crate::statements::TableFault;
 use crate::tables::list_entries;
 use scim_key::Kind;
+use sql_tables::{Mark, ask, find_mark, is_blank};
 use sqlite::{Alter, Connection, Error, Row};
 use sqlite_value::value::ValueRef;
 use std::alloc::{AllocError, Global};
@@ -113,25 +116,11 @@ fn check_format<S: Alter>(conn: &mut Connection<S>) -> Result<(), OpenFault>
     ensures open { HasCleanDisk (state S.Store conn.new) → OnOk result (IsTrue (state S.Store conn.new).is_open) }
     ensures looks { Looks (state S.Store conn.old) (state S.Store conn.new) }
 {
-    match ask(conn, "SELECT number FROM journal_format", &[]) {
-        Ok(rows) => format_in(rows.as_slice()),
+    match find_mark::<S, Journal>(conn, "SELECT number FROM journal_format", FORMAT) {
+        Ok(Mark::Own) => Ok(()),
+        Ok(Mark::Newer) => Err(OpenFault::Newer),
+        Ok(Mark::Unmarked) => Err(OpenFault::Damaged),
         Err(error) => Err(OpenFault::from(error)),
-    }
-}
-
-/// Checks that the rows show the number of the format, and no other.
-fn format_in(rows: &[Row]) -> Result<(), OpenFault>
-    ensures known { OnOk result (IsMarked rows.now format_number) }
-    ensures cause { IfErr result (IsFor ((number : ℕ) × (format_number < number) × IsMarked rows.now number) ((number : ℕ) → format_number ≤ number → IsMarked rows.now number → ⊥)) }
-    ensures read { IfErr result IsOfRows }
-{
-    let [row] = rows else {
-        return Err(OpenFault::Damaged);
-    };
-    match number_at(row, 0) {
-        Ok(FORMAT) => Ok(()),
-        Ok(number) if number > FORMAT => Err(OpenFault::Newer),
-        _ => Err(OpenFault::Damaged),
     }
 }
 
@@ -183,7 +172,7 @@ fn check_table<S: Alter>(conn: &mut Connection<S>, kind: Kind) -> Result<(), Ope
     ensures open { HasCleanDisk (state S.Store conn.new) → OnOk result (IsTrue (state S.Store conn.new).is_open) }
     ensures looks { Looks (state S.Store conn.old) (state S.Store conn.new) }
 {
-    match ask(conn, numbers_statement(kind), &[]) {
+    match ask::<S, Journal>(conn, numbers_statement(kind), &[]) {
         Ok(rows) => check_rising(rows.as_slice()),
         Err(error) => Err(OpenFault::from(error)),
     }

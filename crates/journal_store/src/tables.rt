@@ -12,16 +12,20 @@ ghost use Rattle.source_csv.specs.Records.{row_name};
 ghost use Rattle.source_csv.specs.Rows.{IsGroupRow, IsUserRow};
 ghost use Rattle.source_csv.specs.declared.rows.Row.TheVariants.{User, Group};
 ghost use Rattle.journal_core.specs.Entries.{entry_with};
-ghost use Rattle.journal_store.specs.Connections.{AreShown, Finds, IsDamagedAt, IsLaid, IsOnly, IsUnshown, ListsAll, ListsNone, IsThere, Keeps, Makes, MayLeave, PutsIn, Ran, IsEditText, put_text};
-ghost use Rattle.journal_store.specs.Faults.{FailsFor, HasCause, HasFailed, IsOfRow};
+ghost use Rattle.journal_store.specs.Connections.{AreShown, Finds, IsDamagedAt, IsEditText, IsLaid, IsOnly, IsThere, IsUnshown, ListsAll, ListsNone, Makes, PutsIn, put_text};
+ghost use Rattle.sql_tables.specs.Statements.{Keeps, MayLeave, Ran};
+ghost use Rattle.sql_tables.specs.Faults.{HasFailed};
+ghost use Rattle.journal_store.specs.Faults.{FailsFor, HasCause, IsOfRow};
 ghost use Rattle.journal_store.specs.Format.{all_text, find_text};
 ghost use Rattle.journal_store.specs.Rows.{active_number, id_value, members_text, row_by};
 
 use crate::columns::read_entry;
-use crate::statements::{TableFault, ask, write};
+use crate::format::Journal;
+use crate::statements::TableFault;
 use journal_core::Entry;
 use scim_key::{Key, Kind, RecordName, ResourceId, Revision};
 use source_csv::{GroupRow, Row as SourceRow, UserRow, UserText};
+use sql_tables::{ask, write};
 use sqlite::{Alter, Connection, Row};
 use sqlite_value::value::ValueRef;
 use std::alloc::{AllocError, Global};
@@ -116,7 +120,7 @@ pub(crate) fn find_entry<S: Alter>(
     ensures open { HasCleanDisk (state S.Store conn.new) → OnOk result (IsTrue (state S.Store conn.new).is_open) }
     ensures quiet { Survives (state S.Store conn.old) (state S.Store conn.new) (λ _. ⊥) }
 {
-    match ask(
+    match ask::<S, Journal>(
         conn,
         find_statement(name.kind),
         &[text_param(name.key.as_str())],
@@ -242,7 +246,7 @@ fn write_user<S: Alter>(
 {
     let revision = user.revision();
     let key = user.login().key(alloc)?;
-    match write(conn, sql, &user_params(&key, user, revision, confirmed, id)) {
+    match write::<S, Journal>(conn, sql, &user_params(&key, user, revision, confirmed, id)) {
         Ok(()) => Ok(()),
         Err(error) => Err(TableFault::from(error)),
     }
@@ -267,7 +271,7 @@ fn write_group<S: Alter>(
     let revision = group.revision();
     let key = group.name().key(alloc)?;
     let members = members_text(alloc, group.members())?;
-    match write(
+    match write::<S, Journal>(
         conn,
         sql,
         &group_params(&key, members.as_str(), group, revision, confirmed, id),
@@ -357,7 +361,7 @@ pub(crate) fn list_entries<S: Alter>(
     ensures open { HasCleanDisk (state S.Store conn.new) → OnOk result (IsTrue (state S.Store conn.new).is_open) }
     ensures quiet { Survives (state S.Store conn.old) (state S.Store conn.new) (λ _. ⊥) }
 {
-    match ask(conn, all_statement(kind), &[]) {
+    match ask::<S, Journal>(conn, all_statement(kind), &[]) {
         Ok(rows) => read_all(alloc, kind, rows.as_slice()),
         Err(error) => Err(TableFault::from(error)),
     }

@@ -2,7 +2,7 @@ use Rattle.std.proofs.Common.{◌≡◌, IsTrue, rules, subst}
 use Rattle.sqlite.specs.Held.{state}
 use Rattle.sqlite.specs.State.{HasCleanDisk, Survives}
 use Rattle.journal_store.specs.Batches.{PutsRows}
-use Rattle.journal_store.specs.Opening.{LeavesStore}
+use Rattle.sql_tables.specs.Statements.{LeavesStore}
 use Rattle.journal_store.proofs.Batching.{begun, commit_stops}
 use Rattle.journal_store.proofs.batches.put_all.Goals as goal
 

@@ -1,7 +1,7 @@
 use Rattle.std.proofs.Common.{◌≡◌, ◌∙◌, rules, tests, codes, refl}
 use Rattle.sqlite_schema.specs.declared.schema.Kind.TheVariants.{Integer, Text}
-use Rattle.journal_store.specs.Format.{optional, required}
-use Rattle.journal_store.proofs.Fields.{six_items}
+use Rattle.sql_tables.specs.Layouts.{optional, required}
+use Rattle.sql_tables.proofs.Items.{six_items}
 use Rattle.journal_store.proofs.format.has_group_columns.Goals as goal
 
 pub returns-then-is_column-5-clause-is : goal.returns-then-is_column-5-clause-is

@@ -1,6 +1,6 @@
 use Rattle.std.proofs.Common.{◌≡◌, [], ◌∷◌, ◌∙◌, sym, ap, rules, tests}
 use Rattle.journal_store.specs.Format.{key_places}
-use Rattle.journal_store.proofs.Fields.{one_item}
+use Rattle.sql_tables.proofs.Items.{one_item}
 use Rattle.journal_store.proofs.format.has_unique.Goals as goal
 
 pub returns-in-len1-clause-is : goal.returns-in-len1-clause-is

@@ -1,8 +1,10 @@
 use Rattle.std.proofs.Common.{◌≡◌, [], ◌∷◌, ◌∙◌, sym, rules, tests}
 use Rattle.scim_key.specs.declared.records.Kind.TheVariants.{User, Group}
-use Rattle.journal_store.specs.Format.{format_table, key_index}
+use Rattle.journal_store.specs.Format.{format_name, key_index}
+use Rattle.sql_tables.specs.Layouts.{format_table}
+use Rattle.sql_tables.proofs.Items.{two_items, three_items}
 use Rattle.journal_store.specs.Opening.{IsEntryTable}
-use Rattle.journal_store.proofs.Fields.{two_items, three_items, journal_fields}
+use Rattle.journal_store.proofs.Fields.{journal_fields}
 use Rattle.journal_store.proofs.format.is_journal.Goals as goal
 
 pub returns-then-has_order-clause-is : goal.returns-then-has_order-clause-is
@@ -14,7 +16,7 @@ returns-then-has_order-clause-is c is =
     let group_keys = c.group_keys-item.result in
     let tables = three_items c.as_slice.result.now format users groups c.in-len3.len_at_least c.in-len3.len_below c.format-item.is c.users-item.is c.groups-item.is in
     let indexes = two_items c.as_slice-2.result.now user_keys group_keys c.in-len2.len_at_least c.in-len2.len_below c.user_keys-item.is c.group_keys-item.is in
-    let is_format : format ≡ format_table format.checks = search (rules, tests) in
+    let is_format : format ≡ format_table format_name format.checks = search (rules, tests) in
     let is_users : IsEntryTable User users = search (rules, tests) in
     let is_groups : IsEntryTable Group groups = search (rules, tests) in
     let is_user_keys : user_keys ≡ key_index User user_keys.order = search (rules, tests) in

@@ -5,9 +5,11 @@ use Rattle.sqlite.specs.State.{HasCleanDisk}
 use Rattle.scim_key.specs.declared.records.Kind.TheVariants.{User, Group}
 use Rattle.journal_core.specs.declared.entries.Entry.{Entry}
 use Rattle.journal_store.specs.Connections.{ListsAll, ListsNone}
-use Rattle.journal_store.specs.Opening.{AreInOrder, AreLawful, HoldsEntries, Looks, keys_of}
-use Rattle.journal_store.proofs.Checking.{damage_on, entries_both, failed_after, fails_of, if_err, lists_refused, mid_same, on_ok, opens_by, told_of}
-use Rattle.journal_store.specs.Faults.{HasFailed}
+use Rattle.sql_tables.specs.Statements.{Looks}
+use Rattle.sql_tables.proofs.Results.{if_err, on_ok}
+use Rattle.sql_tables.specs.Faults.{HasFailed}
+use Rattle.journal_store.specs.Opening.{AreInOrder, AreLawful, HoldsEntries, keys_of}
+use Rattle.journal_store.proofs.Checking.{damage_on, entries_both, failed_after, fails_of, lists_refused, mid_same, opens_by, told_of}
 use Rattle.journal_store.proofs.opening.check_entries.Goals as goal
 
 pub returns-clause-holds : goal.returns-clause-holds

@@ -1,45 +1,31 @@
-use Rattle.std.proofs.Common.{arith, subst, sym}
+use Rattle.std.proofs.Common.{subst, sym}
 use Rattle.sqlite.specs.Held.{state}
-use Rattle.sqlite.specs.State.{HasCleanDisk}
-use Rattle.journal_store.specs.Format.{format_number}
-use Rattle.journal_store.specs.Opening.{IsNewer, IsUnmarked}
-use Rattle.journal_store.proofs.Texts.{marked_query}
-use Rattle.journal_store.proofs.Checking.{on_ok, if_err, is_for, no_damage, marked_found, found_marked, rows_fail, told_fails}
-use Rattle.journal_store.specs.Faults.{HasFailed, statement_fault}
-use Rattle.journal_store.specs.Opening.{OpenFailsFor}
+use Rattle.sql_tables.specs.Faults.{HasFailed, statement_fault as fault_of}
+use Rattle.sql_tables.proofs.Marking.{shows_format}
+use Rattle.journal_store.specs.Faults.{statement_fault}
+use Rattle.journal_store.specs.Format.{journal_schema, marked_text}
+use Rattle.journal_store.specs.Opening.{IsNewer, IsUnmarked, OpenFailsFor}
+use Rattle.journal_store.proofs.Checking.{no_damage, told_fails}
+use Rattle.journal_store.proofs.Failing.{fails_as}
 use Rattle.journal_store.proofs.Giving.{marked_given}
+use Rattle.journal_store.proofs.Texts.{marked_is, marked_query}
 use Rattle.journal_store.proofs.opening.check_format.Goals as goal
 
-pub ask-requires-clause-query : goal.ask-requires-clause-query
-ask-requires-clause-query g c = marked_query
+pub find_mark-requires-clause-query : goal.find_mark-requires-clause-query
+find_mark-requires-clause-query g c = marked_query
 
-pub returns-in-Ok-clause-known : goal.returns-in-Ok-clause-known
-returns-in-Ok-clause-known g c clean =
-    let early : HasCleanDisk (state g.S.Store c.args.conn.now) = omega (arith, clean, c.in-Ok.ensures.quiet.clean) in
-    let laid = c.requires.laid early ((c.in-Ok.ensures.keeps clean).was_open (c.in-Ok.ensures.open clean)) in
-    on_ok c.format_in.result (marked_found (state g.S.Store c.args.conn.now) c.in-Ok.rows.items c.as_slice.result.now format_number c.as_slice.ensures.value laid (c.in-Ok.ensures.rows clean)) c.format_in.ensures.known
+pub find_mark-requires-clause-given : goal.find_mark-requires-clause-given
+find_mark-requires-clause-given g c = marked_given
 
-pub returns-in-Ok-clause-cause : goal.returns-in-Ok-clause-cause
-returns-in-Ok-clause-cause g c clean =
-    let early : HasCleanDisk (state g.S.Store c.args.conn.now) = omega (arith, clean, c.in-Ok.ensures.quiet.clean) in
-    let laid = c.requires.laid early ((c.in-Ok.ensures.keeps clean).was_open (c.in-Ok.ensures.open clean)) in
-    if_err c.format_in.result
-    (λ fault cause. is_for (λ h. (h.0, h.1, marked_found (state g.S.Store c.args.conn.now) c.in-Ok.rows.items c.as_slice.result.now h.0 c.as_slice.ensures.value laid (c.in-Ok.ensures.rows clean) h.2))
-    (λ none number low format. none number low (found_marked (state g.S.Store c.args.conn.now) c.in-Ok.rows.items c.as_slice.result.now number c.as_slice.ensures.value laid (c.in-Ok.ensures.rows clean) format)) fault cause)
-    c.format_in.ensures.cause
+pub find_mark-requires-clause-shows : goal.find_mark-requires-clause-shows
+find_mark-requires-clause-shows g c = shows_format journal_schema marked_text _ marked_is
 
 pub returns-in-Err-clause-cause : goal.returns-in-Err-clause-cause
 returns-in-Err-clause-cause g c clean =
     let old = state g.S.Store c.args.conn.now in
     no_damage (IsNewer old) (IsUnmarked old) c.from.result c.from.ensures.1
 
-pub ask-requires-clause-given : goal.ask-requires-clause-given
-ask-requires-clause-given g c = marked_given
-
-pub returns-in-Ok-clause-failed : goal.returns-in-Ok-clause-failed
-returns-in-Ok-clause-failed g c clean = if_err c.format_in.result (rows_fail (HasFailed (state g.S.Store c.args.conn.now) (state g.S.Store c.ask.new.conn))) c.format_in.ensures.read
-
 pub returns-in-Err-clause-failed : goal.returns-in-Err-clause-failed
 returns-in-Err-clause-failed g c clean =
-    let failure = HasFailed (state g.S.Store c.args.conn.now) (state g.S.Store c.ask.new.conn) in
-    subst (OpenFailsFor failure) (sym c.from.ensures.0) (told_fails failure failure (λ it. it) (statement_fault c.in-Err.error) (c.in-Err.ensures.failed clean))
+    let failure = HasFailed (state g.S.Store c.args.conn.now) (state g.S.Store c.find_mark.new.conn) in
+    subst (OpenFailsFor failure) (sym c.from.ensures.0) (told_fails failure failure (λ it. it) (statement_fault c.in-Err.error) (fails_as failure (fault_of c.in-Err.error) (c.in-Err.ensures.failed clean)))

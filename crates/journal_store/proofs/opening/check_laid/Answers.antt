@@ -3,9 +3,11 @@ use Rattle.sqlite.specs.Effect.{Database}
 use Rattle.sqlite.specs.Held.{state}
 use Rattle.sqlite.specs.State.{HasCleanDisk}
 use Rattle.journal_store.specs.Connections.{HasNumbers}
+use Rattle.sql_tables.proofs.Results.{if_err}
+use Rattle.sql_tables.proofs.Looking.{looks_then}
+use Rattle.sql_tables.specs.Faults.{HasFailed}
 use Rattle.journal_store.specs.Opening.{HoldsEntries, IsNewer, IsUnmarked, ShowsDamage}
-use Rattle.journal_store.proofs.Checking.{damage_of, damage_on, failed_after, handed_on, if_err, looks_then, mid_same, opens_by, opens_of, store_found}
-use Rattle.journal_store.specs.Faults.{HasFailed}
+use Rattle.journal_store.proofs.Checking.{damage_of, damage_on, failed_after, handed_on, mid_same, opens_by, opens_of, store_found}
 use Rattle.journal_store.proofs.opening.check_laid.Goals as goal
 
 pub returns-clause-store : goal.returns-clause-store

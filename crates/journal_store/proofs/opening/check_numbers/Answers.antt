@@ -4,9 +4,10 @@ use Rattle.sqlite.specs.Held.{state}
 use Rattle.sqlite.specs.State.{HasCleanDisk}
 use Rattle.scim_key.specs.declared.records.Kind.TheVariants.{User, Group}
 use Rattle.journal_store.specs.Connections.{AreNumbered, HasNumbers}
+use Rattle.sql_tables.proofs.Results.{if_err}
+use Rattle.sql_tables.specs.Faults.{HasFailed}
 use Rattle.journal_store.specs.Format.{entry_tree}
-use Rattle.journal_store.proofs.Checking.{damage_of, damage_on, failed_after, if_err, mid_same, numbers_both, opens_by, opens_of}
-use Rattle.journal_store.specs.Faults.{HasFailed}
+use Rattle.journal_store.proofs.Checking.{damage_of, damage_on, failed_after, mid_same, numbers_both, opens_by, opens_of}
 use Rattle.journal_store.proofs.opening.check_numbers.Goals as goal
 
 pub returns-clause-numbered : goal.returns-clause-numbered

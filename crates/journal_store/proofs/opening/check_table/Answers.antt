@@ -1,13 +1,18 @@
 use Rattle.std.proofs.Common.{[], IsTrue, arith, subst, sym}
 use Rattle.sqlite.specs.Held.{state}
 use Rattle.sqlite.specs.State.{HasCleanDisk}
-use Rattle.journal_store.specs.Connections.{Answers, AreNumbered}
+use Rattle.journal_store.specs.Connections.{AreNumbered}
+use Rattle.sql_tables.specs.Statements.{Answers}
+use Rattle.sql_tables.proofs.Results.{if_err, on_ok}
+use Rattle.sql_tables.specs.Faults.{HasFailed}
 use Rattle.journal_store.specs.Format.{entry_tree}
 use Rattle.journal_store.specs.Opening.{IsUnnumbered}
+use Rattle.sql_tables.specs.Faults.{statement_fault as fault_of}
+use Rattle.journal_store.proofs.Failing.{fails_as}
 use Rattle.journal_store.proofs.Texts.{numbers_query}
-use Rattle.journal_store.proofs.Checking.{damage_on, if_err, no_damage, on_ok, numbers_found, rows_fail, told_fails}
+use Rattle.journal_store.proofs.Checking.{damage_on, no_damage, numbers_found, rows_fail, told_fails}
 use Rattle.journal_store.proofs.Refusing.{unnumbered}
-use Rattle.journal_store.specs.Faults.{HasFailed, statement_fault}
+use Rattle.journal_store.specs.Faults.{statement_fault}
 use Rattle.journal_store.specs.Opening.{OpenFailsFor}
 use Rattle.journal_store.proofs.Giving.{numbers_given}
 use Rattle.journal_store.proofs.opening.check_table.Goals as goal
@@ -46,4 +51,4 @@ returns-in-Ok-clause-failed g c clean = if_err c.check_rising.result (rows_fail 
 pub returns-in-Err-clause-failed : goal.returns-in-Err-clause-failed
 returns-in-Err-clause-failed g c clean =
     let failure = HasFailed (state g.S.Store c.args.conn.now) (state g.S.Store c.ask.new.conn) in
-    subst (OpenFailsFor failure) (sym c.from.ensures.0) (told_fails failure failure (λ it. it) (statement_fault c.in-Err.error) (c.in-Err.ensures.failed clean))
+    subst (OpenFailsFor failure) (sym c.from.ensures.0) (told_fails failure failure (λ it. it) (statement_fault c.in-Err.error) (fails_as _ (fault_of c.in-Err.error) (c.in-Err.ensures.failed clean)))

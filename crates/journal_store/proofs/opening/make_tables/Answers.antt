@@ -6,9 +6,10 @@ use Rattle.sqlite.specs.State.{HasCleanDisk, Survives}
 use Rattle.sqlite.proofs.StateLemmas.{survives_then}
 use Rattle.sqlite.proofs.Callers.{survives_begin}
 use Rattle.journal_store.specs.Format.{format_number}
+use Rattle.sql_tables.specs.Layouts.{IsBlank}
+use Rattle.sql_tables.proofs.Results.{on_ok}
 use Rattle.journal_store.specs.Rows.{entries_in}
-use Rattle.journal_store.specs.Opening.{IsBlank, IsStore, LeavesNone}
-use Rattle.journal_store.proofs.Checking.{on_ok}
+use Rattle.journal_store.specs.Opening.{IsStore, LeavesNone}
 use Rattle.journal_store.proofs.Made.{AreMade, none_in, tables_made, tables_kept}
 use Rattle.journal_store.proofs.opening.make_tables.Goals as goal
 

@@ -3,11 +3,12 @@ use Rattle.std.specs.FinMap.{empty}
 use Rattle.sqlite.specs.Held.{state}
 use Rattle.journal_core.specs.Entries.{EntryMap}
 use Rattle.journal_store.specs.Opening.{IsDamaged, IsNewer, IsStore}
-use Rattle.journal_store.proofs.Checking.{on_both, no_damage, opening_cause}
+use Rattle.sql_tables.proofs.Results.{on_both, if_err}
+use Rattle.sql_tables.specs.Faults.{HasFailed}
+use Rattle.journal_store.proofs.Checking.{no_damage, opening_cause}
 use Rattle.journal_store.proofs.Reopening.{store_on}
-use Rattle.journal_store.specs.Faults.{HasFailed}
 use Rattle.journal_store.specs.Opening.{OpeningFails}
-use Rattle.journal_store.proofs.Checking.{if_err, opens_by, opens_so}
+use Rattle.journal_store.proofs.Checking.{opens_by, opens_so}
 use Rattle.journal_store.proofs.opening.open_tables.Goals as goal
 
 pub returns-then-not-is_blank-clause-stands : goal.returns-then-not-is_blank-clause-stands

@@ -4,10 +4,13 @@ use Rattle.sqlite_value.specs.declared.value.Value.TheVariants.{Text}
 use Rattle.sqlite.specs.Held.{state}
 use Rattle.sqlite.specs.State.{HasCleanDisk}
 use Rattle.sqlite.specs.Values.{bound_value}
+use Rattle.sql_tables.specs.Faults.{statement_fault as fault_of}
+use Rattle.journal_store.proofs.Failing.{fails_as}
 use Rattle.journal_store.proofs.Texts.{find_query}
+use Rattle.sql_tables.specs.Faults.{HasFailed}
+use Rattle.sql_tables.proofs.Results.{if_err}
 use Rattle.journal_store.proofs.Finding.{found_by}
-use Rattle.journal_store.specs.Faults.{FailsFor, HasFailed}
-use Rattle.journal_store.proofs.Checking.{if_err}
+use Rattle.journal_store.specs.Faults.{FailsFor}
 use Rattle.journal_store.proofs.Failing.{row_fails}
 use Rattle.journal_store.proofs.Giving.{find_given}
 use Rattle.std.proofs.Common.{IsTrue, Option}
@@ -33,7 +36,7 @@ pub returns-in-Ok-clause-failed : goal.returns-in-Ok-clause-failed
 returns-in-Ok-clause-failed g c clean = if_err c.only.result (row_fails (HasFailed (state g.S.Store c.args.conn.now) (state g.S.Store c.ask.new.conn))) c.only.ensures.read
 
 pub returns-in-Err-clause-failed : goal.returns-in-Err-clause-failed
-returns-in-Err-clause-failed g c clean = subst (FailsFor (HasFailed (state g.S.Store c.args.conn.now) (state g.S.Store c.ask.new.conn))) (sym c.from.ensures.0) (c.in-Err.ensures.failed clean)
+returns-in-Err-clause-failed g c clean = subst (FailsFor (HasFailed (state g.S.Store c.args.conn.now) (state g.S.Store c.ask.new.conn))) (sym c.from.ensures.0) (fails_as _ (fault_of c.in-Err.error) (c.in-Err.ensures.failed clean))
 
 pub returns-in-Ok-clause-none : goal.returns-in-Ok-clause-none
 returns-in-Ok-clause-none g c clean =

@@ -1,12 +1,15 @@
 use Rattle.std.proofs.Common.{IsTrue, arith, subst, sym}
 use Rattle.sqlite.specs.Held.{state}
 use Rattle.sqlite.specs.State.{HasCleanDisk}
+use Rattle.sql_tables.specs.Faults.{statement_fault as fault_of}
+use Rattle.journal_store.proofs.Failing.{fails_as}
 use Rattle.journal_store.proofs.Texts.{all_query}
+use Rattle.sql_tables.proofs.Results.{if_err}
+use Rattle.sql_tables.specs.Faults.{HasFailed}
 use Rattle.journal_store.specs.Connections.{IsUnshown, ListsNone}
-use Rattle.journal_store.proofs.Checking.{if_err}
 use Rattle.journal_store.proofs.Finding.{listed_by}
 use Rattle.journal_store.proofs.Refusing.{cause_by, unlisted}
-use Rattle.journal_store.specs.Faults.{FailsFor, HasFailed}
+use Rattle.journal_store.specs.Faults.{FailsFor}
 use Rattle.journal_store.proofs.Failing.{row_fails}
 use Rattle.journal_store.proofs.Giving.{all_given}
 use Rattle.journal_store.proofs.tables.list_entries.Goals as goal
@@ -41,4 +44,4 @@ pub returns-in-Ok-clause-failed : goal.returns-in-Ok-clause-failed
 returns-in-Ok-clause-failed g c clean = if_err c.read_all.result (row_fails (HasFailed (state g.S.Store c.args.conn.now) (state g.S.Store c.ask.new.conn))) c.read_all.ensures.read
 
 pub returns-in-Err-clause-failed : goal.returns-in-Err-clause-failed
-returns-in-Err-clause-failed g c clean = subst (FailsFor (HasFailed (state g.S.Store c.args.conn.now) (state g.S.Store c.ask.new.conn))) (sym c.from.ensures.0) (c.in-Err.ensures.failed clean)
+returns-in-Err-clause-failed g c clean = subst (FailsFor (HasFailed (state g.S.Store c.args.conn.now) (state g.S.Store c.ask.new.conn))) (sym c.from.ensures.0) (fails_as _ (fault_of c.in-Err.error) (c.in-Err.ensures.failed clean))

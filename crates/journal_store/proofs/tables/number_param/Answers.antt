@@ -1,6 +1,6 @@
 use Rattle.std.proofs.Common.{ap, arith}
 use Rattle.sqlite_value.specs.declared.value.Value.TheVariants.{Int}
-use Rattle.journal_store.proofs.Values.{bound_int}
+use Rattle.sql_tables.proofs.Values.{bound_int}
 use Rattle.journal_store.proofs.tables.number_param.Goals as goal
 
 pub returns : goal.returns

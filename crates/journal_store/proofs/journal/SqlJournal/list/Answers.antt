@@ -3,8 +3,9 @@ use Rattle.sqlite.specs.Effect.{Database}
 use Rattle.sqlite.specs.Held.{state}
 use Rattle.sqlite.specs.State.{HasCleanDisk}
 use Rattle.journal_store.specs.Connections.{ListsNone}
-use Rattle.journal_store.specs.Faults.{HasFailed}
+use Rattle.sql_tables.specs.Faults.{HasFailed}
 use Rattle.journal_store.specs.Kept.{CallFailsFor, IsFaithful, Kept}
+use Rattle.sql_tables.proofs.Keeping.{kept_now}
 use Rattle.journal_store.proofs.Failing.{call_fails}
 use Rattle.journal_store.proofs.Reading.{sound_still}
 use Rattle.journal_store.proofs.Refusing.{cause_by}
@@ -23,7 +24,7 @@ returns-in-Err-clause-failed g c usable clean =
     let early : HasCleanDisk before = omega (arith, clean, err.quiet.clean) in
     let laid = (c.self.invariant early ((err.keeps clean).was_open it.0) was_usable).laid in (
       record { clean = clean; is_open = it.0; usable = was_usable; whole = sound_still g.S.Store old new refl err.quiet err.keeps c.self.invariant clean it.0 was_usable },
-      subst (λ (d : Database). ListsNone c.args.kind d.trees) (sym ((err.keeps clean).same it.0 laid).0) it.1,
+      subst (λ (d : Database). ListsNone c.args.kind d.trees) (sym (kept_now before after (err.keeps clean) it.0 laid).0) it.1,
     ) in
     subst (λ (k : Kept g.row.S.Denot). CallFailsFor (HasFailed (state g.S.Store k.conn) after ⊎ damage) c.counted.result) c.self.view_is
     (subst (CallFailsFor (HasFailed before after ⊎ damage)) (sym (c.counted.ensures.same ∙ c.fault_of.ensures))

@@ -1,7 +1,7 @@
 use Rattle.std.proofs.Common.{◌⊎◌, ◌∙◌, IsTrue, subst, sym}
 use Rattle.sqlite.specs.Held.{state}
 use Rattle.journal_store.specs.Connections.{IsDamagedAt}
-use Rattle.journal_store.specs.Faults.{HasFailed}
+use Rattle.sql_tables.specs.Faults.{HasFailed}
 use Rattle.journal_store.specs.Kept.{CallFailsFor, Kept}
 use Rattle.journal_store.proofs.Failing.{call_fails}
 use Rattle.journal_store.proofs.Refusing.{cause_by}

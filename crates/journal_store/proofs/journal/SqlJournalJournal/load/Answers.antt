@@ -2,6 +2,8 @@ use Rattle.std.proofs.Common.{◌∙◌, Vec, Global, rules}
 use Rattle.journal_core.specs.declared.entries.Entry.{Entry}
 use Rattle.journal_core.specs.declared.journals.JournalFault.TheVariants.{Memory}
 use Rattle.journal_store.proofs.Calls.{answered_so, fails_so, reads_on}
+use Rattle.sql_tables.specs.Faults.{HasFailed}
+use Rattle.sql_tables.proofs.Failing.{failed_since}
 use Rattle.journal_store.proofs.Changing.{loaded}
 use Rattle.std.proofs.Common.{◌⊎◌, IsTrue, subst, sym, arith, inl, inr}
 use Rattle.sqlite.specs.Held.{state}
@@ -9,9 +11,8 @@ use Rattle.sqlite.specs.State.{HasCleanDisk}
 use Rattle.scim_key.specs.declared.records.Kind.{Kind}
 use Rattle.scim_key.specs.declared.records.Kind.TheVariants.{User, Group}
 use Rattle.journal_store.specs.Connections.{ListsNone}
-use Rattle.journal_store.specs.Faults.{HasFailed}
 use Rattle.journal_store.specs.Kept.{IsFaithful}
-use Rattle.journal_store.proofs.Failing.{calls_of, failed_since}
+use Rattle.journal_store.proofs.Failing.{calls_of}
 use Rattle.journal_store.proofs.journal.SqlJournalJournal.load.Goals as goal
 
 pub returns-in_err-groups-clause-reads : goal.returns-in_err-groups-clause-reads

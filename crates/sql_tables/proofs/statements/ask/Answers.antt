@@ -2,10 +2,11 @@ use Rattle.std.proofs.Common.{[], arith}
 use Rattle.sqlite.specs.Held.{state}
 use Rattle.sqlite.specs.State.{FailsToQuery, HasCleanDisk}
 use Rattle.sqlite.specs.Values.{bound}
-use Rattle.journal_store.proofs.Keeping.{not_run_keeps}
-use Rattle.journal_store.proofs.Asking.{answers, ask_fails, ask_keeps, ask_quiet, handed_error, not_run_fails, stays_open}
-use Rattle.journal_store.proofs.Failing.{failed_by}
-use Rattle.journal_store.proofs.statements.ask.Goals as goal
+use Rattle.sql_tables.proofs.Keeping.{not_run_keeps}
+use Rattle.sql_tables.proofs.Asking.{answers, ask_fails, ask_keeps, ask_quiet, not_run_fails, stays_open}
+use Rattle.sql_tables.proofs.Failing.{failed_by}
+use Rattle.sql_tables.proofs.Results.{handed_error}
+use Rattle.sql_tables.proofs.statements.ask.Goals as goal
 
 pub returns-in_err-statement-clause-keeps : goal.returns-in_err-statement-clause-keeps
 returns-in_err-statement-clause-keeps g c clean = not_run_keeps _ _ _ _ _ (c.in_err-statement.ensures.err clean [])

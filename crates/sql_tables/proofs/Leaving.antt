@@ -4,9 +4,10 @@ use Rattle.sqlite_value.specs.Order.{Row}
 use Rattle.sqlite.specs.declared.error.Error.{Error}
 use Rattle.sqlite.specs.State.{State, IsUnchanged, IsRolledBack, ExecutesInside}
 use Rattle.sqlite.specs.Steps.{FailsToCommit}
-use Rattle.journal_store.specs.Connections.{IsLaid, Keeps}
-use Rattle.journal_store.specs.Opening.{LeavesStore}
-use Rattle.journal_store.proofs.Keeping.{Ends}
+use Rattle.sqlite_schema.specs.declared.schema.Schema.{Schema}
+use Rattle.sql_tables.specs.Layouts.{IsLaid}
+use Rattle.sql_tables.specs.Statements.{Keeps, LeavesStore}
+use Rattle.sql_tables.proofs.Keeping.{Ends, kept_now}
 
 pub unchanged_leaves : (old new : State) → IsUnchanged old new → LeavesStore old new
 unchanged_leaves old new it = record { was_open = λ _. it.0.was_open; committed = λ _. it.0.committed_is }
@@ -35,11 +36,11 @@ commit_leaves old new e (inl failed) = rolled_leaves old new failed.3
 commit_leaves old new e (inr late) = unchanged_leaves old new late.2
 
 -- a call that keeps the tables
-pub keeps_leaves : (old new : State) → Keeps old new → (IsTrue old.is_open → IsLaid old) → LeavesStore old new
+pub keeps_leaves : {Form : Type 0} {layout : Form → Schema} (old new : State) → Keeps old new → (IsTrue old.is_open → IsLaid layout old) → LeavesStore old new
 keeps_leaves old new keeps laid = record {
   was_open = keeps.was_open;
   committed = λ still.
       let was = laid (keeps.was_open still) in
-      let same = keeps.same still was in
+      let same = kept_now old new keeps still was in
       same.1 ∙ same.0 ∙ sym was.committed;
 }

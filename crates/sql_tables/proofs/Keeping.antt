@@ -1,5 +1,5 @@
 -- What a call leaves of a connection: it is unchanged if the call only reads or fails.
-use Rattle.std.proofs.Common.{◌⊎◌, ℕ, false, List, Option, Some, None, Err, IsTrue, sym, ap, ◌∙◌, inl, inr}
+use Rattle.std.proofs.Common.{◌≡◌, ◌⊎◌, ℕ, false, List, Option, Some, None, Err, IsTrue, sym, ap, ◌∙◌, inl, inr}
 use Rattle.sqlite_value.specs.Order.{Row}
 use Rattle.sqlite_resolve.specs.declared.compiled.Compiled.{Compiled}
 use Rattle.sqlite_schema.specs.declared.command.Returning.{Returning}
@@ -8,27 +8,31 @@ use Rattle.sqlite.specs.Effect.{Database}
 use Rattle.sqlite.specs.Clock.{timed}
 use Rattle.sqlite.specs.State.{State, IsUnchanged, IsRolledBack, IsNotRun, FailsToShow, FailsToQuery, Executes}
 use Rattle.sqlite.proofs.InsideLemmas.{fails_whole}
-use Rattle.journal_store.specs.Connections.{IsLaid, Keeps}
+use Rattle.sqlite_schema.specs.declared.schema.Schema.{Schema}
+use Rattle.sql_tables.specs.Layouts.{IsLaid}
+use Rattle.sql_tables.specs.Statements.{Keeps}
 
 pub unchanged_keeps : (old new : State) → IsUnchanged old new → Keeps old new
 unchanged_keeps old new it = record {
   was_open = λ _. it.0.was_open;
-  same = λ _ laid. (it.0.now_is, it.0.committed_is ∙ laid.committed ∙ sym it.0.now_is, it.0.mode ∙ laid.autocommit);
+  same = λ _ settled autocommit. (it.0.now_is, it.0.committed_is ∙ settled ∙ sym it.0.now_is, it.0.mode ∙ autocommit);
 }
 
 pub rolled_keeps : (old new : State) → IsRolledBack old new → Keeps old new
 rolled_keeps old new it = record {
   was_open = it.was_open;
-  same = λ still laid. let back = it.undone still in (back.0 ∙ laid.committed, back.1 ∙ sym back.0, it.autocommit);
+  same = λ still settled _. let back = it.undone still in (back.0 ∙ settled, back.1 ∙ sym back.0, it.autocommit);
 }
 
-pub laid_still : (old new : State) → Keeps old new → IsTrue new.is_open → IsLaid old → IsLaid new
+-- tables that are laid out stay as they are
+pub kept_now : {Form : Type 0} {layout : Form → Schema} (old new : State) → Keeps old new → IsTrue new.is_open → IsLaid layout old → (new.now ≡ old.now) × (new.committed ≡ new.now) × (new.in_transaction ≡ false)
+kept_now old new keeps still laid = keeps.same still laid.committed laid.autocommit
+
+pub laid_still : {Form : Type 0} {layout : Form → Schema} (old new : State) → Keeps old new → IsTrue new.is_open → IsLaid layout old → IsLaid layout new
 laid_still old new keeps still laid =
-    let same = keeps.same still laid in
+    let same = kept_now old new keeps still laid in
     record {
-      format_checks = laid.format_checks;
-      users = laid.users;
-      groups = laid.groups;
+      form = laid.form;
       schema = ap (λ (d : Database). d.schema) same.0 ∙ laid.schema;
       committed = same.1;
       autocommit = same.2;
@@ -37,10 +41,10 @@ laid_still old new keeps still laid =
 pub keeps_then : (a b c : State) → Keeps a b → Keeps b c → Keeps a c
 keeps_then a b c first second = record {
   was_open = λ still. first.was_open (second.was_open still);
-  same = λ still laid.
+  same = λ still settled autocommit.
       let mid = second.was_open still in
-      let one = first.same mid laid in
-      let two = second.same still (laid_still a b first mid laid) in
+      let one = first.same mid settled autocommit in
+      let two = second.same still one.1 one.2 in
       (two.0 ∙ one.0, two.1, two.2);
 }
 

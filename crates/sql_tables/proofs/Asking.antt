@@ -1,5 +1,5 @@
 -- What a query and a write do, once they are prepared.
-use Rattle.std.proofs.Common.{◌≡◌, ◌≤◌, ℕ, true, false, cond, List, [], append-nil, Option, Some, None, Result, Ok, Err, IsTrue, IfOk, IfErr, IsErrAnd, OnOk, OnErr, refl, sym, ap, ◌∙◌, subst, inl, inr, arith}
+use Rattle.std.proofs.Common.{◌≡◌, ◌≤◌, ℕ, true, false, cond, List, [], append-nil, Option, Some, None, Result, Ok, Err, IsTrue, IfOk, IfErr, OnOk, refl, sym, ap, ◌∙◌, subst, inl, inr, arith}
 use Rattle.sqlite_value.specs.Order.{Row}
 use Rattle.sqlite_trees.specs.Tree.{Trees}
 use Rattle.sqlite_trees.specs.declared.error.StoreError.{StoreError}
@@ -19,29 +19,27 @@ use Rattle.sqlite.specs.State.{State, HasCleanDisk, IsUnchanged, Shown, ShowsRow
 use Rattle.sqlite.proofs.StateLemmas.{survives_then}
 use Rattle.sqlite.proofs.Callers.{command_of, reads_as, never_commits, unchanged_then}
 use Rattle.sqlite.proofs.StreamLemmas.{fails_since as store_fails_since, rolled_back_since}
-use Rattle.journal_store.specs.Connections.{IsLaid, Keeps, IsQuery, IsEdit, IsEditText, Answers, Ran, MayLeave, plain_mode}
-use Rattle.journal_store.proofs.Keeping.{unchanged_keeps, laid_still, keeps_then, query_keeps}
+use Rattle.sql_tables.specs.Layouts.{IsLaid}
+use Rattle.sql_tables.specs.Statements.{Keeps, IsQuery, IsEdit, IsEditText, Answers, Ran, MayLeave, plain_mode}
+use Rattle.sql_tables.proofs.Keeping.{unchanged_keeps, laid_still, keeps_then, query_keeps}
 
-abbrev LaidIfOpen : State → Type 0
-LaidIfOpen s = HasCleanDisk s → IsTrue s.is_open → IsLaid s
-
-pub laid_mid : (old mid : State) → IsUnchanged old mid → IsLaid old → IsLaid mid
+pub laid_mid : {Form : Type 0} {layout : Form → Schema} (old mid : State) → IsUnchanged old mid → IsLaid layout old → IsLaid layout mid
 laid_mid old mid same laid = laid_still old mid (unchanged_keeps old mid same) same.0.is_open laid
 
 -- ---- queries
 
-pub query_at : (s : State) (sql : List ℕ) → IsQuery sql → IsLaid s → IsPlain (understood s.now.schema sql) × (reads_listing s.now.schema sql ≡ false)
+pub query_at : {Form : Type 0} {layout : Form → Schema} (s : State) (sql : List ℕ) → IsQuery layout sql → IsLaid layout s → IsPlain (understood s.now.schema sql) × (reads_listing s.now.schema sql ≡ false)
 query_at s sql query laid =
-    subst (λ (schema : Schema). IsPlain (understood schema sql) × (reads_listing schema sql ≡ false)) (sym laid.schema) (query laid.format_checks laid.users laid.groups)
+    subst (λ (schema : Schema). IsPlain (understood schema sql) × (reads_listing schema sql ≡ false)) (sym laid.schema) (query laid.form)
 
-pub asked : (old mid new : State) (sql : List ℕ) (params : Row) (rows : List Row) → IsQuery sql → IsLaid old → IsUnchanged old mid → Shown sql params mid new rows → Answers sql params old rows
+pub asked : {Form : Type 0} {layout : Form → Schema} (old mid new : State) (sql : List ℕ) (params : Row) (rows : List Row) → IsQuery layout sql → IsLaid layout old → IsUnchanged old mid → Shown sql params mid new rows → Answers sql params old rows
 asked old mid new sql params rows query laid same shown c is =
     let at = query_at mid sql query (laid_mid old mid same laid) in
     let known : understood mid.now.schema sql ≡ Ok c = ap (λ (d : Database). understood d.schema sql) same.0.now_is ∙ is in
     subst (λ (d : Database). Reads c.command d params rows) same.0.now_is
     (reads_as sql params mid new mid.now.schema refl c.command (ap command_of known) at.0 at.1 rows shown)
 
-pub ask_quiet : (old mid new : State) (sql text : List ℕ) (params : Row) → IsQuery sql → (HasCleanDisk old → IsTrue old.is_open → IsLaid old) → (HasCleanDisk mid → (text ≡ sql) × IsUnchanged old mid)
+pub ask_quiet : {Form : Type 0} {layout : Form → Schema} (old mid new : State) (sql text : List ℕ) (params : Row) → IsQuery layout sql → (HasCleanDisk old → IsTrue old.is_open → IsLaid layout old) → (HasCleanDisk mid → (text ≡ sql) × IsUnchanged old mid)
     → Survives old mid (λ _. ⊥) → Survives mid new (CommitsShowing text params mid) → Survives old new (λ _. ⊥)
 ask_quiet old mid new sql text params query laid same first second =
     survives_then old mid new _ _ (λ _. ⊥) (λ _ db none. none)
@@ -90,9 +88,9 @@ fails_since old mid new sql params e same counts limit plain (inr h) =
       ),
     )
 
-module _ {X : Type 0} (items : X → List Row) (old mid new : State) (sql text : List ℕ) (params : Row) (query_text : IsQuery sql) (laid : IsTrue old.is_open → IsLaid old)
+module _ {X Form : Type 0} {layout : Form → Schema} (items : X → List Row) (old mid new : State) (sql text : List ℕ) (params : Row) (query_text : IsQuery layout sql) (laid : IsTrue old.is_open → IsLaid layout old)
     (prepared : (text ≡ sql) × IsUnchanged old mid) where
-  laid_now : IsLaid old
+  laid_now : IsLaid layout old
   laid_now = laid prepared.1.0.was_open
 
   plain_now : IsPlain (understood mid.now.schema sql)
@@ -115,23 +113,10 @@ module _ {X : Type 0} (items : X → List Row) (old mid new : State) (sql text :
   ask_keeps (Ok x) shown fails = keeps_then old mid new (unchanged_keeps old mid prepared.1) (unchanged_keeps mid new (shown_unchanged mid new sql params (items x) plain_now (subst (λ t. Shown t params mid new (items x)) prepared.0 shown)))
   ask_keeps (Err e) shown fails = keeps_then old mid new (unchanged_keeps old mid prepared.1) (query_keeps mid new text params e fails)
 
--- an error that is handed on
-pub handed_error : {X : Type 0} (P : Error → Type 0) (r : Result X Error) (error : Error) → IsErrAnd r (λ given. given ≡ error) → P error → IfErr r P
-handed_error P (Ok x) error is it = tt
-handed_error P (Err given) error is it = subst P (sym is) it
-
-pub on_err : {X E P : Type 0} (r : Result X E) → P → OnErr r P
-on_err (Ok x) p = tt
-on_err (Err e) p = p
-
-pub on_ok_of : {X E P : Type 0} (r : Result X E) → P → OnOk r P
-on_ok_of (Ok x) p = p
-on_ok_of (Err e) p = tt
-
 -- ---- writes
 
-pub edit_at : (s : State) (sql : List ℕ) (c : Compiled) → IsEditText sql → IsLaid s → understood s.now.schema sql ≡ Ok c → (c.returning ≡ None) × (c.formats ≡ []) × IsEdit c.command
-edit_at s sql c edit laid is = edit laid.format_checks laid.users laid.groups c (ap (λ schema. understood schema sql) (sym laid.schema) ∙ is)
+pub edit_at : {Form : Type 0} {layout : Form → Schema} (s : State) (sql : List ℕ) (c : Compiled) → IsEditText layout sql → IsLaid layout s → understood s.now.schema sql ≡ Ok c → (c.returning ≡ None) × (c.formats ≡ []) × IsEdit c.command
+edit_at s sql c edit laid is = edit laid.form c (ap (λ schema. understood schema sql) (sym laid.schema) ∙ is)
 
 shows_none : (command : Command) → IsEdit command → (is_query command ≡ false) × (is_pragma command ≡ false)
 shows_none (Insert at from) edit = (refl, refl)
@@ -156,7 +141,7 @@ writes_by old new sql params count edit h =
     let plain : Runs old new None c.command (text_of sql c) params count = rw (facts.0, facts.1, append-nil params) at runs in
     (c, h.1.is, writes_of old new c.command (text_of sql c) params count facts.2 plain)
 
-pub ran : (old mid new : State) (sql : List ℕ) (params : Row) (count : ℕ) → IsEditText sql → IsLaid old → IsUnchanged old mid → Executes sql params mid new (Ok count) → Ran sql params old new
+pub ran : {Form : Type 0} {layout : Form → Schema} (old mid new : State) (sql : List ℕ) (params : Row) (count : ℕ) → IsEditText layout sql → IsLaid layout old → IsUnchanged old mid → Executes sql params mid new (Ok count) → Ran sql params old new
 ran old mid new sql params count edit laid same h =
     let laid_now = laid_mid old mid same laid in
     let it = writes_by mid new sql params count (λ c is. edit_at mid sql c edit laid_now is) h in
@@ -171,7 +156,7 @@ ran old mid new sql params count edit laid same h =
       tally = w.tally;
       text = text_of sql c;
       does = subst (λ (d : Database). Does mid.step_limit plain_mode params d (text_of sql c) None c.command (Ok (w.tally, new.now))) same.0.now_is w.changed;
-      settled = λ _. (w.shown.committed_is ∙ ap (λ b. cond b mid.committed new.now) laid_now.autocommit, w.shown.mode ∙ laid_now.autocommit);
+      settled = λ autocommit. (w.shown.committed_is ∙ ap (λ b. cond b mid.committed new.now) (same.0.mode ∙ autocommit), w.shown.mode ∙ same.0.mode ∙ autocommit);
     }
 
 not_misplaced : (s : State) (command : Command) (e : Error) → IsEdit command → IsMisplaced s command e → ⊥
@@ -202,7 +187,7 @@ module _ (old mid new : State) (same : IsUnchanged old mid) (counts : old.faults
   command_since sql c params e edit (inr failed) =
       inr (failed.0, failed.1, cause_since _ _ (does_since params (text_of sql c) c.returning c.command (Err None)) failed.0 failed.2, rolled_back_since old mid new same counts failed.3, failed.4)
 
-  pub write_fails : (sql : List ℕ) (params : Row) (e : Error) → IsEditText sql → IsLaid old → Executes sql params mid new (Err e) → Executes sql params old new (Err e)
+  pub write_fails : {Form : Type 0} {layout : Form → Schema} (sql : List ℕ) (params : Row) (e : Error) → IsEditText layout sql → IsLaid layout old → Executes sql params mid new (Err e) → Executes sql params old new (Err e)
   unfolding ExecutesIn IsNotRun
   write_fails sql params e edit laid (inl (inl it)) = inl (inl (rw (← same.0.now_is) it.0, unchanged_then old mid new same it.1))
   write_fails sql params e edit laid (inl (inr it)) = inl (inr (store_fails_since old mid new same counts e it))
@@ -222,7 +207,7 @@ no_commit command edit is = subst IsEdit is edit
 no_release : (command : Command) (name : List ℕ) → IsEdit command → command ≡ Release name → ⊥
 no_release command name edit is = subst IsEdit is edit
 
-pub left_by : (old mid : State) (sql : List ℕ) (params : Row) (db : Trees) → IsEditText sql → IsLaid old → IsUnchanged old mid → CommitsBy sql params mid db → MayLeave sql params old db
+pub left_by : {Form : Type 0} {layout : Form → Schema} (old mid : State) (sql : List ℕ) (params : Row) (db : Trees) → IsEditText layout sql → IsLaid layout old → IsUnchanged old mid → CommitsBy sql params mid db → MayLeave sql params old db
 unfolding CommitsBy
 left_by old mid sql params db edit laid same h =
     let c = h.0 in
@@ -245,7 +230,7 @@ left_by old mid sql params db edit laid same h =
           }
     ]
 
-pub write_stops : (old mid new : State) (sql text : List ℕ) (params : Row) → IsEditText sql → (HasCleanDisk old → IsTrue old.is_open → IsLaid old) → (HasCleanDisk mid → (text ≡ sql) × IsUnchanged old mid)
+pub write_stops : {Form : Type 0} {layout : Form → Schema} (old mid new : State) (sql text : List ℕ) (params : Row) → IsEditText layout sql → (HasCleanDisk old → IsTrue old.is_open → IsLaid layout old) → (HasCleanDisk mid → (text ≡ sql) × IsUnchanged old mid)
     → Survives old mid (λ _. ⊥) → Survives mid new (CommitsBy text params mid) → Survives old new (MayLeave sql params old)
 write_stops old mid new sql text params edit laid same first second =
     survives_then old mid new _ _ (MayLeave sql params old) (λ _ db none. absurd none)

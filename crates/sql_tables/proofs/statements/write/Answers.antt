@@ -2,9 +2,10 @@ use Rattle.std.proofs.Common.{[], arith, subst, Ok, Err}
 use Rattle.sqlite.specs.Held.{state}
 use Rattle.sqlite.specs.Values.{bound}
 use Rattle.sqlite.specs.State.{HasCleanDisk, Executes}
-use Rattle.journal_store.proofs.Keeping.{not_run_keeps, keeps_then, unchanged_keeps, execute_keeps}
-use Rattle.journal_store.proofs.Asking.{handed_error, not_run_executes, on_err, ran, write_fails, write_stops}
-use Rattle.journal_store.proofs.statements.write.Goals as goal
+use Rattle.sql_tables.proofs.Keeping.{not_run_keeps, keeps_then, unchanged_keeps, execute_keeps}
+use Rattle.sql_tables.proofs.Asking.{not_run_executes, ran, write_fails, write_stops}
+use Rattle.sql_tables.proofs.Results.{handed_error, on_err}
+use Rattle.sql_tables.proofs.statements.write.Goals as goal
 
 pub returns-in_err-statement-clause-keeps : goal.returns-in_err-statement-clause-keeps
 returns-in_err-statement-clause-keeps g c clean = on_err c.from_residual.result (not_run_keeps _ _ _ _ _ (c.in_err-statement.ensures.err clean []))

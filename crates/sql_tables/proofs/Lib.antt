@@ -1,0 +1,16 @@
+pub mod Queries
+pub mod Trees
+pub mod Values
+pub mod Items
+pub mod Fields
+pub mod Results
+pub mod Keeping
+pub mod Leaving
+pub mod Looking
+pub mod Asking
+pub mod Failing
+pub mod Selecting
+pub mod Answering
+pub mod Editing
+pub mod Making
+pub mod Marking

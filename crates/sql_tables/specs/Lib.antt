@@ -1,0 +1,3 @@
+pub mod Layouts
+pub mod Faults
+pub mod Statements
