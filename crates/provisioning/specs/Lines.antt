@@ -1,18 +1,29 @@
 -- The lines of a run.
-use Rattle.std.specs.Prelude.{ℕ, List, ◌++◌, Option, Some, None, codes}
+use Rattle.std.specs.Prelude.{ℕ, List, ◌++◌, Some, None, codes}
 use Rattle.std.specs.Fmt.{decimal}
 use Rattle.scim_key.specs.Revisions.{revision_text}
 use Rattle.scim_key.specs.declared.records.RecordName.{RecordName}
 use Rattle.journal_core.specs.Words.{kind_word}
+use Rattle.scim_client.specs.Codes.{exchange_fault_text}
+use Rattle.provisioning.specs.declared.faults.RecordFault.{RecordFault}
+use Rattle.provisioning.specs.declared.faults.RecordFault.TheVariants as faults
 use Rattle.provisioning.specs.declared.records.Standing.{Standing}
 use Rattle.provisioning.specs.declared.records.Standing.TheVariants.{Confirmed, Waits, Unconfirmed}
 
--- How the state of a record is printed. The code of a fault isn't defined here: its derived Display has no clause.
-abbrev pub standing_text : Standing → Option (List ℕ)
-standing_text (Confirmed revision) = Some (codes "confirmed " ++ revision_text revision)
-standing_text (Waits member) = Some (codes "unconfirmed waits " ++ member)
-standing_text (Unconfirmed None) = Some (codes "unconfirmed -")
-standing_text (Unconfirmed (Some _)) = None
+-- the code of a fault
+abbrev pub record_fault_text : RecordFault → List ℕ
+record_fault_text (faults.Unanswered fault) = exchange_fault_text fault
+record_fault_text faults.Unfit = codes "C1"
+record_fault_text faults.Unversioned = codes "C2"
+record_fault_text faults.Refused = codes "C4"
+record_fault_text faults.NoSuchRecord = codes "C7"
+
+-- how the state of a record is printed
+abbrev pub standing_text : Standing → List ℕ
+standing_text (Confirmed revision) = codes "confirmed " ++ revision_text revision
+standing_text (Waits member) = codes "unconfirmed waits " ++ member
+standing_text (Unconfirmed None) = codes "unconfirmed -"
+standing_text (Unconfirmed (Some fault)) = codes "unconfirmed " ++ record_fault_text fault
 
 -- the line of a record: its state
 abbrev pub record_line : RecordName → (standing : List ℕ) → List ℕ

@@ -7,29 +7,43 @@ use connector_core::{LearnFault, OpenFault};
 use provider_core::RegistryFault;
 use scim_client::{AnswerFault, ExchangeFault};
 use std::alloc::AllocError;
-use std::io;
 use std::io::ErrorKind;
+use std::{error, fmt, io};
 use thiserror::Error;
 
 /// Why nothing was learnt from an exchange. The run goes on. Its text is its code.
-#[derive(Clone, Copy, Debug, PartialEq, Eq, Error)]
+#[derive(Clone, Copy, Debug, PartialEq, Eq)]
 pub enum RecordFault {
     /// No answer came (H10, H11, H12, H14, K1 to K3).
-    #[error("{0}")]
     Unanswered(ExchangeFault),
     /// The connector can't use the answer.
-    #[error("C1")]
     Unfit,
     /// The resource is shown without an entity tag.
-    #[error("C2")]
     Unversioned,
     /// The provider refuses, with any status.
-    #[error("C4")]
     Refused,
     /// The source gave no row of this record.
-    #[error("C7")]
     NoSuchRecord,
 }
+
+impl fmt::Display for RecordFault {
+    ghost use Rattle.std.specs.Prelude.{Some};
+    ghost use Rattle.provisioning.specs.Lines.{record_fault_text};
+
+    ghost output = { λ fault. Some (record_fault_text fault) };
+
+    fn fmt<W: fmt::Write>(&self, f: &mut fmt::Formatter<W>) -> fmt::Result {
+        match self {
+            RecordFault::Unanswered(fault) => write!(f, "{fault}"),
+            RecordFault::Unfit => f.write_str("C1"),
+            RecordFault::Unversioned => f.write_str("C2"),
+            RecordFault::Refused => f.write_str("C4"),
+            RecordFault::NoSuchRecord => f.write_str("C7"),
+        }
+    }
+}
+
+impl error::Error for RecordFault {}
 
 /// What ends a run early. Its text is printed on standard error.
 #[derive(Clone, Copy, Debug, Error)]

@@ -1,5 +1,5 @@
 //! The lines of a run.
-ghost use Rattle.std.specs.Prelude.{◌≡◌, ◌+◌, ◌-◌, ◌^◌, ◌∷◌, [], None, min, IfSome, OnOk};
+ghost use Rattle.std.specs.Prelude.{◌≡◌, ◌+◌, ◌-◌, ◌^◌, ◌∷◌, [], None, min, OnOk};
 ghost use Rattle.std.specs.Io.KnownBytes.{Appends};
 ghost use Rattle.provisioning.specs.Runs.{Tells};
 ghost use Rattle.provisioning.specs.Offering.{Hears};
@@ -43,8 +43,8 @@ impl<'a, W: Write + Drop, E: Eprint> Hear for Lines<'a, W, E> {
 impl<'a, W: Write + Drop, E: Eprint> Tell for Lines<'a, W, E> {
     fn tell(&mut self, name: &RecordName, pushed: &Pushed) -> io::Result<()>
         ensures tells { OnOk result (Tells None None ((name.now, pushed.now) ∷ [])) }
-        ensures line { OnOk result (IfSome (standing_text pushed.now.standing) (λ text.
-            Appends (W.contents self.old.out) (W.contents self.new.out) (record_line name.now text))) }
+        ensures line { OnOk result (Appends (W.contents self.old.out) (W.contents self.new.out)
+            (record_line name.now (standing_text pushed.now.standing))) }
     {
         let (kind, key) = (kind_word(name.kind), name.key.as_str());
         writeln!(self.out, "{kind} {key} {}", pushed.standing)?;
@@ -69,8 +69,8 @@ impl<W: Drop> Reports<W> {
 impl<W: Write + Drop> Hear for Reports<W> {
     fn hear(&mut self, judged: Judged) -> io::Result<()>
         ensures hears { OnOk result (Hears None None (judged ∷ [])) }
-        ensures line { OnOk result (IfSome (report_text (JudgedReport judged.verdict)) (λ text.
-            Appends (W.contents self.old.out) (W.contents self.new.out) (row_line self.new.rows text))) }
+        ensures line { OnOk result (Appends (W.contents self.old.out) (W.contents self.new.out)
+            (row_line self.new.rows (report_text (JudgedReport judged.verdict)))) }
         ensures counted { self.new.rows ≡ min (self.old.rows + 1) (2 ^ 64 - 1) }
     {
         let Judged { verdict, .. } = judged;

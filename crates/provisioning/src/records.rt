@@ -27,9 +27,10 @@ pub enum Standing {
 }
 
 impl fmt::Display for Standing {
+    ghost use Rattle.std.specs.Prelude.{Some};
     ghost use Rattle.provisioning.specs.Lines.{standing_text};
 
-    ghost output = { standing_text };
+    ghost output = { λ standing. Some (standing_text standing) };
 
     /// The state in a few words: `confirmed 2`, `unconfirmed C4`, `unconfirmed waits ann`, or `unconfirmed
     /// -` if there was no fault.
