@@ -13,7 +13,7 @@ use Rattle.json.specs.Print.{escape_letter, escape_byte, escape, quoted}
 use Rattle.serde_json.specs.Data.{unsigned, Data, boolean, number, string, array, object, Items, no_items, item, Members, no_members, member}
 use Rattle.serde_json.specs.View.{items_of}
 use Rattle.serde_json.specs.Written.{compact_text, comma_if, items_text, members_text}
-use Rattle.scim_json.specs.Writing.{member_if, members_from}
+use Rattle.scim_json.specs.Writing.{Part, member_if, members_from}
 use Rattle.scim_key.specs.Identifiers.{hex_digit, lower_hex, id_text}
 use Rattle.scim_key.specs.Names.{IsUserName, IsGroupName, user_name_fault, group_name_fault}
 use Rattle.scim_key.specs.Revisions.{RevisionValue, IsRevision, revision_number}
@@ -21,16 +21,18 @@ use Rattle.scim_key.proofs.RevisionLaws.{are_read_back}
 use Rattle.scim_key.specs.declared.records.RecordName.{RecordName}
 use Rattle.scim_resource.specs.Contents.{content_kind}
 use Rattle.scim_resource.specs.Schemas.{core_user, core_group, source_extension}
-use Rattle.scim_resource.specs.Writing.{source_data, schemas_data, name_data, name_parts, email_data, email_parts, emails_data, user_data, member_data, group_members_data, group_data, content_data}
+use Rattle.scim_resource.specs.Writing.{source_data, schemas_data, object_if, name_data, email_data, email_parts, emails_data, user_data, user_front, user_back, member_data, group_members_data, group_data, content_data}
 use Rattle.scim_resource.specs.declared.contents.Content.{Content}
 use Rattle.source_csv.specs.Records.{IsRow}
-use Rattle.source_csv.specs.Rows.{UserFields, GroupFields, IsUserRow, IsGroupRow}
+use Rattle.source_csv.proofs.RowLemmas.{short_text}
+use Rattle.source_csv.specs.Rows.{UserFields, GroupFields, IsUserRow, IsGroupRow, text_of}
+use Rattle.source_csv.specs.declared.texts.UserText.TheVariants as texts
 use Rattle.source_csv.specs.declared.rows.Row.{Row}
 use Rattle.source_csv.specs.declared.rows.Row.TheVariants.{User, Group}
 use Rattle.source_book.specs.History.{user, members_of}
 use Rattle.group_sync.specs.Laws.{HaveIds}
 use Rattle.group_sync.proofs.ReadyLemmas.{means}
-use Rattle.mapping.specs.Images.{user_image, present, emails_of, work_email, once, group_image, image}
+use Rattle.mapping.specs.Images.{image_texts, user_image, present, emails_of, work_email, once, group_image, image}
 use Rattle.world_model.specs.Untroubled.{longest_body}
 use Rattle.world_model.proofs.Imaging.{image_with, of_image}
 
@@ -252,6 +254,10 @@ schemas_most core n r short =
 schemas_part : (core : List ℕ) (n : ℕ) (r : RevisionValue) → length (quoted core) ≤ n → (d : Data) → Some (array (schemas_data core (Some r))) ≡ Some d → length (compact_text d) ≤ n + 58
 schemas_part core n r short d is = just (array (schemas_data core (Some r))) d (n + 58) (schemas_most core n r short) is
 
+-- the parts of a name
+abbrev name_parts : Option (List ℕ) → Option (List ℕ) → List Part
+name_parts given family = (codes "familyName", option_map string family) ∷ (codes "givenName", option_map string given) ∷ []
+
 name_most : (given family : Option (List ℕ)) → ((d : Data) → option_map string given ≡ Some d → length (compact_text d) ≤ 1538)
     → ((d : Data) → option_map string family ≡ Some d → length (compact_text d) ≤ 1538) → length (compact_text (object (members_from (name_parts given family)))) ≤ 3105
 name_most given family short short' =
@@ -259,10 +265,11 @@ name_most given family short short' =
     (with_part (codes "givenName") (option_map string given) no_members 11 1538 1 key_given short no_more_members))
 
 name_part : (given family : Option (List ℕ)) → ((d : Data) → option_map string given ≡ Some d → length (compact_text d) ≤ 1538)
-    → ((d : Data) → option_map string family ≡ Some d → length (compact_text d) ≤ 1538) → (d : Data) → name_data given family ≡ Some d → length (compact_text d) ≤ 3105
+    → ((d : Data) → option_map string family ≡ Some d → length (compact_text d) ≤ 1538) → (d : Data) → object_if (members_from (name_parts given family)) ≡ Some d → length (compact_text d) ≤ 3105
 name_part None None short short' d is = absurd (cc)
 name_part None (Some family) short short' d is = just (object (members_from (name_parts None (Some family)))) d 3105 (name_most None (Some family) short short') is
-name_part (Some given) family short short' d is = just (object (members_from (name_parts (Some given) family))) d 3105 (name_most (Some given) family short short') is
+name_part (Some given) None short short' d is = just (object (members_from (name_parts (Some given) None))) d 3105 (name_most (Some given) None short short') is
+name_part (Some given) (Some family) short short' d is = just (object (members_from (name_parts (Some given) (Some family)))) d 3105 (name_most (Some given) (Some family) short short') is
 
 email_most : (mail : List ℕ) → length mail ≤ 256 → length (compact_text (email_data (work_email mail))) ≤ 1579
 unfolding email_data
@@ -281,13 +288,13 @@ no_part n d is = absurd (cc)
 -- ---- a User
 
 user_size : (row : UserFields) → IsUserRow row → length (compact_text (content_data (user_image row))) < 9_000
-unfolding user_data
+unfolding user_data user_front user_back
 user_size row law =
     let whole : length (compact_text (content_data (user_image row))) ≤ 7259 = object_most _ 7258 (with_part (codes "active") (Some (boolean row.active)) _ 8 5 7243 key_active (λ d is. just (boolean row.active) d 5 (boolean_most row.active) is)
-    (with_part (codes "emails") (emails_data (emails_of row.mail)) _ 8 1582 5651 key_emails (emails_part row.mail law.mail)
-    (with_part (codes "externalId") (option_map string (present row.number)) _ 12 1538 4099 key_external_id (present_most row.number law.number)
-    (with_part (codes "name") (name_data (present row.given) (present row.family)) _ 6 3105 986 key_name
-    (name_part (present row.given) (present row.family) (present_most row.given law.given) (present_most row.family law.family))
+    (with_part (codes "emails") (emails_data (emails_of (text_of row texts.Mail))) _ 8 1582 5651 key_emails (emails_part (text_of row texts.Mail) (short_text row law texts.Mail))
+    (with_part (codes "externalId") (option_map string (present (text_of row texts.Number))) _ 12 1538 4099 key_external_id (present_most (text_of row texts.Number) (short_text row law texts.Number))
+    (with_part (codes "name") (name_data (image_texts row)) _ 6 3105 986 key_name
+    (name_part (present (text_of row texts.Given)) (present (text_of row texts.Family)) (present_most (text_of row texts.Given) (short_text row law texts.Given)) (present_most (text_of row texts.Family) (short_text row law texts.Family)))
     (with_part (codes "schemas") (Some (array (schemas_data core_user (Some row.revision)))) _ 9 102 873 key_schemas (schemas_part core_user 44 row.revision (omega (arith, core_user_length)))
     (with_part source_extension (source_data (Some row.revision)) _ 54 34 783 extension_length (revision_part row.revision law.revision)
     (with_part (codes "userName") (Some (string row.login)) no_members 10 770 1 key_user_name

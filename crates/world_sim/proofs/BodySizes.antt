@@ -5,7 +5,7 @@ use Rattle.std.specs.Fmt.{decimal}
 use Rattle.json.specs.Print.{escape_byte, quoted}
 use Rattle.serde_json.specs.Data.{unsigned, Data, boolean, number, string, array, object, no_items, item, Members, no_members, member}
 use Rattle.serde_json.specs.Written.{compact_text, comma_if, members_text}
-use Rattle.scim_json.specs.Writing.{member_if, members_from}
+use Rattle.scim_json.specs.Writing.{Part, member_if, members_from}
 use Rattle.scim_key.specs.declared.records.Kind.{Kind}
 use Rattle.scim_key.specs.declared.records.Kind.TheVariants as kinds
 use Rattle.scim_resource.specs.Contents.{content_kind}
@@ -14,7 +14,7 @@ use Rattle.scim_resource.specs.Locations.{type_name}
 use Rattle.scim_resource.specs.Rows.{ShownRecord}
 use Rattle.scim_resource.specs.Users.{UserRecord}
 use Rattle.scim_resource.specs.Schemas.{core_user, core_group, source_extension}
-use Rattle.scim_resource.specs.Writing.{user_data, group_data, name_data, schemas_data, source_data, emails_data, group_members_data, resource_data, content_data, meta_data, meta_parts, shown_location, shown_data}
+use Rattle.scim_resource.specs.Writing.{user_data, user_front, user_back, group_data, schemas_data, source_data, group_members_data, resource_data, content_data, meta_data, meta_parts, shown_location, shown_data}
 use Rattle.scim_resource.specs.declared.contents.Content.{Content}
 use Rattle.scim_resource.specs.declared.contents.Content.TheVariants.{User, Group}
 use Rattle.scim_message.specs.Bodies.{error_message, list_message, error_parts, error_data, list_data, page_data}
@@ -54,6 +54,11 @@ with_both name (Some d) ms ns k longer = record {
   );
 }
 
+-- the same parts in front
+with_parts : (ps xs ys : List Part) (k : ℕ) → IsLonger (members_from xs) (members_from ys) k → IsLonger (members_from (ps ++ xs)) (members_from (ps ++ ys)) k
+with_parts [] xs ys k longer = longer
+with_parts (p ∷ ps) xs ys k longer = with_both p.0 p.1 (members_from (ps ++ xs)) (members_from (ps ++ ys)) k (with_parts ps xs ys k longer)
+
 member_sum : (name : List ℕ) (d : Data) (ms : Members) → length (quoted name ++ 58 ∷ (compact_text d ++ members_text true ms)) ≡ length (quoted name) + (1 + (length (compact_text d) + length (members_text true ms)))
 member_sum name d ms = omega (arith, length-append (quoted name) (58 ∷ (compact_text d ++ members_text true ms)), length-append (compact_text d) (members_text true ms))
 
@@ -79,10 +84,9 @@ module _ (id meta : Data) (v w : ℕ) (id_short : length (compact_text id) ≤ v
   user_more : (u : UserRecord) → length (compact_text (user_data (Some id) (Some meta) u)) ≤ length (compact_text (user_data None None u)) + (4 + 2 + v + (6 + 2 + w + 0))
   unfolding user_data
   user_more u =
-      let rest : Members =
-      members_from ((codes "name", name_data u.given_name u.family_name) ∷ (codes "schemas", Some (array (schemas_data core_user u.revision))) ∷ (source_extension, source_data u.revision) ∷ (codes "userName", Some (string u.user_name)) ∷ []) in
-      longer_object _ _ _ (with_both (codes "active") (Some (boolean u.active)) _ _ _ (with_both (codes "emails") (emails_data u.emails) _ _ _ (with_both (codes "externalId") (option_map string u.external_id) _ _ _
-      (with_more (codes "id") id (member_if (codes "meta") (Some meta) rest) rest 4 v _ key_id id_short (with_more (codes "meta") meta rest rest 6 w 0 key_meta meta_short (same_members rest))))))
+      let rest : Members = members_from (user_back u) in
+      longer_object _ _ _ (with_parts (user_front u) ((codes "id", Some id) ∷ (codes "meta", Some meta) ∷ user_back u) ((codes "id", None) ∷ (codes "meta", None) ∷ user_back u) _
+      (with_more (codes "id") id (member_if (codes "meta") (Some meta) rest) rest 4 v _ key_id id_short (with_more (codes "meta") meta rest rest 6 w 0 key_meta meta_short (same_members rest))))
 
   group_more : (g : GroupRecord) → length (compact_text (group_data (Some id) (Some meta) g)) ≤ length (compact_text (group_data None None g)) + (4 + 2 + v + (6 + 2 + w + 0))
   unfolding group_data
