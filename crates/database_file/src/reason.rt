@@ -7,7 +7,7 @@ use thiserror::Error as Fault;
 
 /// Why a database file can't be used. Its text is what the system or the library says.
 #[derive(Clone, Copy, Debug, Fault)]
-pub enum Reason {
+pub enum DatabaseReason {
     /// The file can't be opened for writing.
     #[error("{0}")]
     System(io::Error),
@@ -20,7 +20,10 @@ pub enum Reason {
 }
 
 /// Why a database doesn't execute a statement, if it fails.
-pub fn failure_in(mut conn: Connection<FileStore<File>>, statement: &str) -> Option<Reason> {
+pub fn failure_in(
+    mut conn: Connection<FileStore<File>>,
+    statement: &str,
+) -> Option<DatabaseReason> {
     match conn.execute(statement, &[]) {
         Ok(_) => None,
         Err(error) => failure_of(error),
@@ -28,7 +31,7 @@ pub fn failure_in(mut conn: Connection<FileStore<File>>, statement: &str) -> Opt
 }
 
 /// How the disk has failed since the file was opened.
-pub fn failure_since(conn: Connection<FileStore<File>>) -> Reason {
+pub fn failure_since(conn: Connection<FileStore<File>>) -> DatabaseReason {
     match conn.close_files() {
         Ok(files) => failure_by(files.tally()),
         Err((_error, store)) => failure_by(store.tally()),
@@ -36,16 +39,16 @@ pub fn failure_since(conn: Connection<FileStore<File>>) -> Reason {
 }
 
 /// The failure that an error names. A statement that doesn't suit the tables is none.
-pub(crate) fn failure_of(error: Error) -> Option<Reason> {
+pub(crate) fn failure_of(error: Error) -> Option<DatabaseReason> {
     match error {
-        Error::SqliteFailure(code) => Some(Reason::Failed(code)),
+        Error::SqliteFailure(code) => Some(DatabaseReason::Failed(code)),
         _ => None,
     }
 }
 
 /// How a disk failed, by its counts of calls that found no room, and of damaged reads.
-fn failure_by(tally: Tally) -> Reason {
-    Reason::Failed(if tally.refused > 0 {
+fn failure_by(tally: Tally) -> DatabaseReason {
+    DatabaseReason::Failed(if tally.refused > 0 {
         ErrorCode::DiskFull
     } else if tally.caught > 0 {
         ErrorCode::DatabaseCorrupt
