@@ -16,10 +16,10 @@ use Rattle.provider_store.specs.declared.opening.OpenFault.{OpenFault}
 use Rattle.provider_store.specs.declared.opening.OpenFault.TheVariants as opening
 use Rattle.journal_store.specs.declared.opening.OpenFault.{OpenFault as JournalOpenFault}
 use Rattle.journal_store.specs.declared.opening.OpenFault.TheVariants as journal
-use Rattle.journal_file.specs.declared.showing.ShowFault.{ShowFault as ShowJournalFault}
-use Rattle.journal_file.specs.declared.showing.ShowFault.TheVariants as show_journal
-use Rattle.provider_file.specs.declared.showing.ShowFault.{ShowFault}
-use Rattle.provider_file.specs.declared.showing.ShowFault.TheVariants as show
+use Rattle.journal_file.specs.declared.showing.ShowJournalFault.{ShowJournalFault}
+use Rattle.journal_file.specs.declared.showing.ShowJournalFault.TheVariants as show_journal
+use Rattle.provider_file.specs.declared.showing.ShowStoreFault.{ShowStoreFault}
+use Rattle.provider_file.specs.declared.showing.ShowStoreFault.TheVariants as show
 use Rattle.source_csv.specs.declared.faults.RowFault.{RowFault}
 use Rattle.source_csv.specs.declared.faults.SourceFault.{SourceFault}
 use Rattle.source_csv.specs.declared.faults.SourceFault.TheVariants as source
@@ -115,7 +115,7 @@ store_fault opening.Memory = fault.Memory
 store_fault why = fault.StoreFile why
 
 -- the fault of rows that couldn't be shown whole
-abbrev pub show_fault : ShowFault → CommandFault
+abbrev pub show_fault : ShowStoreFault → CommandFault
 show_fault (show.Store why) = store_fault why
 show_fault show.Output = fault.File
 

@@ -7,14 +7,14 @@ use crate::status::{CommandFault, Status};
 use connection::answered;
 use http_text::{Input, Output};
 use provider_core::{MemoryRegistry, Provider};
-use provider_file::{Storage, serve_one};
+use provider_file::{RowStorage, serve_one};
 use scim_key::Base;
 use scim_server::{Served, serve};
 use std::alloc::Global;
 use std::io::{Read, Write};
 
 /// Opens the rows, then reads one request and answers it.
-pub fn answer_stored<K: Storage, I: Read, O: Write>(
+pub fn answer_stored<K: RowStorage, I: Read, O: Write>(
     alloc: Global,
     storage: &K,
     base: &Base,

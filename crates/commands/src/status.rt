@@ -9,7 +9,7 @@ use crate::simulating::EventsFault;
 use crate::words::MOST_REQUESTS;
 use connection::ConnectionFault;
 use mapping::WriteFault;
-use provider_file::ShowFault;
+use provider_file::ShowStoreFault;
 use provider_store::OpenFault;
 use provisioning::{LoopFault, RunFault, UnreadFile};
 use scim_key::Kind;
@@ -319,13 +319,13 @@ impl From<journal_store::OpenFault> for CommandFault {
     }
 }
 
-impl From<journal_file::ShowFault> for CommandFault {
+impl From<journal_file::ShowJournalFault> for CommandFault {
     ghost from_gives = { λ show fault. fault ≡ show_journal_fault show };
 
-    fn from(fault: journal_file::ShowFault) -> CommandFault {
+    fn from(fault: journal_file::ShowJournalFault) -> CommandFault {
         match fault {
-            journal_file::ShowFault::Journal(fault) => CommandFault::from(fault),
-            journal_file::ShowFault::Output => CommandFault::File,
+            journal_file::ShowJournalFault::Journal(fault) => CommandFault::from(fault),
+            journal_file::ShowJournalFault::Output => CommandFault::File,
         }
     }
 }
@@ -351,13 +351,13 @@ impl From<LoopFault> for CommandFault {
     }
 }
 
-impl From<ShowFault> for CommandFault {
+impl From<ShowStoreFault> for CommandFault {
     ghost from_gives = { λ show fault. fault ≡ show_fault show };
 
-    fn from(fault: ShowFault) -> CommandFault {
+    fn from(fault: ShowStoreFault) -> CommandFault {
         match fault {
-            ShowFault::Store(fault) => CommandFault::from(fault),
-            ShowFault::Output => CommandFault::File,
+            ShowStoreFault::Store(fault) => CommandFault::from(fault),
+            ShowStoreFault::Output => CommandFault::File,
         }
     }
 }
@@ -368,7 +368,7 @@ pub enum Reason {
     #[error("{0}")]
     System(io::Error),
     #[error("{0}")]
-    Database(database_file::Reason),
+    Database(database_file::DatabaseReason),
 }
 
 /// What a run used when a fault ended it, by its name in the arguments, and why it failed.

@@ -1,5 +1,5 @@
 //! A database file of the host.
-use crate::reason::{Reason, failure_of};
+use crate::reason::{DatabaseReason, failure_of};
 use sqlite::{Connection, Error, File, FileStore, Unknown};
 use std::fs::OpenOptions;
 use std::io::ErrorKind;
@@ -23,12 +23,12 @@ impl<'a> DatabaseFile<'a> {
 
     /// Opens the file once more, after a call failed and the file was closed; or says why that fails, if the
     /// system or the library says it.
-    pub fn open_again(&self) -> Result<Connection<FileStore<File>>, Option<Reason>> {
+    pub fn open_again(&self) -> Result<Connection<FileStore<File>>, Option<DatabaseReason>> {
         if let Some(reason) = self.refused_by_system() {
             return Err(Some(reason));
         }
         if let Err(error) = sqlite_std_file::open(self.rt, self.path, Unknown) {
-            return Err(Some(Reason::Unopened(error)));
+            return Err(Some(DatabaseReason::Unopened(error)));
         }
         match self.open() {
             Ok(conn) => Ok(conn),
@@ -37,7 +37,7 @@ impl<'a> DatabaseFile<'a> {
     }
 
     /// What the system says if the file is there and can't be written.
-    fn refused_by_system(&self) -> Option<Reason> {
+    fn refused_by_system(&self) -> Option<DatabaseReason> {
         match OpenOptions::new()
             .read(true)
             .write(true)
@@ -46,7 +46,7 @@ impl<'a> DatabaseFile<'a> {
             Ok(_file) => None,
             Err(error) => match error.kind() {
                 ErrorKind::NotFound => None,
-                _ => Some(Reason::System(error)),
+                _ => Some(DatabaseReason::System(error)),
             },
         }
     }

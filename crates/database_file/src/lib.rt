@@ -5,4 +5,4 @@ mod file;
 mod reason;
 
 pub use file::DatabaseFile;
-pub use reason::{Reason, failure_in, failure_since};
+pub use reason::{DatabaseReason, failure_in, failure_since};

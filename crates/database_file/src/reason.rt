@@ -7,7 +7,7 @@ use thiserror::Error as Fault;
 
 /// Why a database file can't be used. Its text is what the system or the library says.
 #[derive(Clone, Copy, Debug, Fault)]
-pub enum Reason {
+pub enum DatabaseReason {
     /// The file can't be opened for writing.
     #[error("{0}")]
     System(io::Error),
@@ -23,7 +23,7 @@ pub enum Reason {
 pub fn failure_in<D: Disk + Drop>(
     mut conn: Connection<FileStore<D>>,
     statement: &str,
-) -> Option<Reason> {
+) -> Option<DatabaseReason> {
     match conn.execute(statement, &[]) {
         Ok(_) => None,
         Err(error) => failure_of(error),
@@ -31,7 +31,7 @@ pub fn failure_in<D: Disk + Drop>(
 }
 
 /// How the disk has failed since the file was opened.
-pub fn failure_since<D: Disk + Drop>(conn: Connection<FileStore<D>>) -> Reason {
+pub fn failure_since<D: Disk + Drop>(conn: Connection<FileStore<D>>) -> DatabaseReason {
     match conn.close_files() {
         Ok(files) => failure_by(files.tally()),
         Err((_error, store)) => failure_by(store.tally()),
@@ -39,16 +39,16 @@ pub fn failure_since<D: Disk + Drop>(conn: Connection<FileStore<D>>) -> Reason {
 }
 
 /// The failure that an error names. A statement that doesn't suit the tables is none.
-pub(crate) fn failure_of(error: Error) -> Option<Reason> {
+pub(crate) fn failure_of(error: Error) -> Option<DatabaseReason> {
     match error {
-        Error::SqliteFailure(code) => Some(Reason::Failed(code)),
+        Error::SqliteFailure(code) => Some(DatabaseReason::Failed(code)),
         _ => None,
     }
 }
 
 /// How a disk failed, by its counts of calls that found no room, and of damaged reads.
-fn failure_by(tally: Tally) -> Reason {
-    Reason::Failed(if tally.refused > 0 {
+fn failure_by(tally: Tally) -> DatabaseReason {
+    DatabaseReason::Failed(if tally.refused > 0 {
         ErrorCode::DiskFull
     } else if tally.caught > 0 {
         ErrorCode::DatabaseCorrupt

@@ -7,12 +7,12 @@ use Rattle.journal_core.specs.declared.journals.Journal.{Ghosts}
 use Rattle.journal_core.specs.declared.journals.JournalFault.{JournalFault}
 use Rattle.journal_core.specs.declared.journals.JournalFault.TheVariants as journal
 use Rattle.journal_store.specs.declared.opening.OpenFault.TheVariants as opening
-use Rattle.journal_file.specs.declared.showing.ShowFault.{ShowFault}
-use Rattle.journal_file.specs.declared.showing.ShowFault.TheVariants.{Journal}
+use Rattle.journal_file.specs.declared.showing.ShowJournalFault.{ShowJournalFault}
+use Rattle.journal_file.specs.declared.showing.ShowJournalFault.TheVariants.{Journal}
 use Rattle.journal_file.specs.Opened.{IsOpened}
 use Rattle.journal_file.specs.Lines.{lines_of}
 
-abbrev pub journal_fault : JournalFault → ShowFault
+abbrev pub journal_fault : JournalFault → ShowJournalFault
 journal_fault journal.Store = Journal opening.Store
 journal_fault journal.Memory = Journal opening.Memory
 

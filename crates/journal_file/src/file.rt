@@ -2,8 +2,8 @@
 ghost use Rattle.std.specs.Prelude.{IfOk};
 ghost use Rattle.journal_file.specs.Opened.{IsOpened};
 
-use crate::storage::{Storage, StoredEntries};
-use database_file::{DatabaseFile, Reason, failure_in, failure_since};
+use crate::storage::{EntryStorage, StoredEntries};
+use database_file::{DatabaseFile, DatabaseReason, failure_in, failure_since};
 use journal_core::Journal;
 use journal_store::{OpenFault, SqlJournal};
 use sqlite::{Alter, Connection, Error, File, FileStore};
@@ -19,7 +19,7 @@ pub struct JournalFile<'a> {
     pub file: DatabaseFile<'a>,
 }
 
-impl<'a> Storage for JournalFile<'a> {
+impl<'a> EntryStorage for JournalFile<'a> {
     type Entries = SqlJournal<FileStore<File>>;
 
     /// If the file is refused, it is closed unchanged.
@@ -27,7 +27,7 @@ impl<'a> Storage for JournalFile<'a> {
         entries_over(self.file.rt.alloc(), self.file.open()?)
     }
 
-    fn reason(&self) -> Option<Reason> {
+    fn reason(&self) -> Option<DatabaseReason> {
         match self.file.open_again() {
             Ok(conn) => refusal(self.file.rt.alloc(), conn),
             Err(reason) => reason,
@@ -66,7 +66,7 @@ fn entries_over<S: Alter + Drop>(
 }
 
 /// Why the entries of a file that was opened again can't be used: it opens them, and writes what is there.
-fn refusal(alloc: Global, conn: Connection<FileStore<File>>) -> Option<Reason> {
+fn refusal(alloc: Global, conn: Connection<FileStore<File>>) -> Option<DatabaseReason> {
     match SqlJournal::open(alloc, conn) {
         Ok(entries) => failure_in(SqlJournal::close(entries), SAME),
         Err((OpenFault::Store, conn)) => Some(failure_since(conn)),

@@ -8,5 +8,5 @@ mod storage;
 
 pub use file::JournalFile;
 pub use lines::entry_line;
-pub use showing::{ShowFault, show_entries, write_entries};
-pub use storage::{Storage, StoredEntries};
+pub use showing::{ShowJournalFault, show_entries, write_entries};
+pub use storage::{EntryStorage, StoredEntries};

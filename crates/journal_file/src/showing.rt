@@ -3,11 +3,11 @@ ghost use Rattle.std.specs.Prelude.{◌≡◌, ◌≢◌, OnOk};
 ghost use Rattle.std.specs.Io.KnownBytes.{Appends};
 ghost use Rattle.journal_file.specs.Lines.{lines_of};
 ghost use Rattle.journal_file.specs.Showing.{ShowsFrom, WritesEntries, journal_fault};
-ghost use Rattle.journal_file.specs.declared.showing.ShowFault.TheVariants.{Output};
+ghost use Rattle.journal_file.specs.declared.showing.ShowJournalFault.TheVariants.{Output};
 ghost use Rattle.journal_store.specs.declared.opening.OpenFault.TheVariants.{Memory};
 
 use crate::lines::entry_line;
-use crate::storage::{Storage, StoredEntries};
+use crate::storage::{EntryStorage, StoredEntries};
 use journal_core::{Entry, Journal, JournalFault};
 use journal_store::OpenFault;
 use std::alloc::{AllocError, Global};
@@ -17,7 +17,7 @@ use thiserror::Error;
 
 /// Why the lines of a journal weren't written whole.
 #[derive(Clone, Copy, Debug, PartialEq, Eq, Error)]
-pub enum ShowFault {
+pub enum ShowJournalFault {
     /// The journal couldn't be opened, it failed, or memory ran out.
     #[error("journal {0}")]
     Journal(OpenFault),
@@ -26,60 +26,60 @@ pub enum ShowFault {
     Output,
 }
 
-impl From<OpenFault> for ShowFault {
-    ghost use Rattle.journal_file.specs.declared.showing.ShowFault.TheVariants.{Journal};
+impl From<OpenFault> for ShowJournalFault {
+    ghost use Rattle.journal_file.specs.declared.showing.ShowJournalFault.TheVariants.{Journal};
 
     ghost from_gives = { λ opening fault. fault ≡ Journal opening };
 
-    fn from(fault: OpenFault) -> ShowFault {
-        ShowFault::Journal(fault)
+    fn from(fault: OpenFault) -> ShowJournalFault {
+        ShowJournalFault::Journal(fault)
     }
 }
 
-impl From<JournalFault> for ShowFault {
+impl From<JournalFault> for ShowJournalFault {
     ghost from_gives = { λ journal fault. fault ≡ journal_fault journal };
 
-    fn from(fault: JournalFault) -> ShowFault {
+    fn from(fault: JournalFault) -> ShowJournalFault {
         match fault {
-            JournalFault::Store => ShowFault::Journal(OpenFault::Store),
-            JournalFault::Memory => ShowFault::Journal(OpenFault::Memory),
+            JournalFault::Store => ShowJournalFault::Journal(OpenFault::Store),
+            JournalFault::Memory => ShowJournalFault::Journal(OpenFault::Memory),
         }
     }
 }
 
-impl From<AllocError> for ShowFault {
-    ghost use Rattle.journal_file.specs.declared.showing.ShowFault.TheVariants.{Journal};
+impl From<AllocError> for ShowJournalFault {
+    ghost use Rattle.journal_file.specs.declared.showing.ShowJournalFault.TheVariants.{Journal};
 
     ghost from_gives = { λ _ fault. fault ≡ Journal Memory };
 
-    fn from(_: AllocError) -> ShowFault {
-        ShowFault::Journal(OpenFault::Memory)
+    fn from(_: AllocError) -> ShowJournalFault {
+        ShowJournalFault::Journal(OpenFault::Memory)
     }
 }
 
-impl From<io::Error> for ShowFault {
-    fn from(error: io::Error) -> ShowFault {
+impl From<io::Error> for ShowJournalFault {
+    fn from(error: io::Error) -> ShowJournalFault {
         output_fault(error.kind())
     }
 }
 
 /// The fault for a failed write.
-fn output_fault(kind: ErrorKind) -> ShowFault
-    ensures memory { kind ≡ ErrorKind.OutOfMemory → result ≡ ShowFault.Journal Memory }
+fn output_fault(kind: ErrorKind) -> ShowJournalFault
+    ensures memory { kind ≡ ErrorKind.OutOfMemory → result ≡ ShowJournalFault.Journal Memory }
     ensures output { kind ≢ ErrorKind.OutOfMemory → result ≡ Output }
 {
     match kind {
-        ErrorKind::OutOfMemory => ShowFault::Journal(OpenFault::Memory),
-        _ => ShowFault::Output,
+        ErrorKind::OutOfMemory => ShowJournalFault::Journal(OpenFault::Memory),
+        _ => ShowJournalFault::Output,
     }
 }
 
 /// Opens the entries, writes a line for each (users by key, then groups by key), and closes them.
-pub fn show_entries<K: Storage, W: Write>(
+pub fn show_entries<K: EntryStorage, W: Write>(
     alloc: Global,
     storage: &K,
     out: &mut W,
-) -> Result<(), ShowFault>
+) -> Result<(), ShowJournalFault>
     ensures { OnOk result (ShowsFrom K.Entries.Journal (W.contents out.old) (W.contents out.new)) }
 {
     let mut entries = storage.open()?;
@@ -94,7 +94,7 @@ pub fn write_entries<J: Journal, W: Write>(
     alloc: Global,
     journal: &mut J,
     out: &mut W,
-) -> Result<(), ShowFault>
+) -> Result<(), ShowJournalFault>
     ensures { J.is_faithful journal.new → OnOk result (WritesEntries (J.entries journal.old) (W.contents out.old) (W.contents out.new)) }
 {
     let entries = journal.load()?;
@@ -102,7 +102,11 @@ pub fn write_entries<J: Journal, W: Write>(
     Ok(out.flush()?)
 }
 
-fn write_lines<W: Write>(alloc: Global, entries: &[Entry], out: &mut W) -> Result<(), ShowFault>
+fn write_lines<W: Write>(
+    alloc: Global,
+    entries: &[Entry],
+    out: &mut W,
+) -> Result<(), ShowJournalFault>
     ensures { OnOk result (Appends (W.contents out.old) (W.contents out.new) (lines_of entries.now)) }
 {
     for entry in entries {

@@ -2,7 +2,7 @@
 ghost use Rattle.std.specs.Prelude.{IfOk};
 ghost use Rattle.journal_file.specs.Opened.{IsOpened};
 
-use database_file::Reason;
+use database_file::DatabaseReason;
 use journal_core::Journal;
 use journal_store::OpenFault;
 
@@ -19,7 +19,7 @@ pub trait StoredEntries: Journal {
 }
 
 /// Where the entries of a connector are kept, open or not.
-pub trait Storage {
+pub trait EntryStorage {
     type Entries: StoredEntries;
 
     /// Opens the entries.
@@ -27,7 +27,7 @@ pub trait Storage {
         ensures { IfOk result (IsOpened Self.Entries.Journal) };
 
     /// Why they can't be opened now, if the system or the database says it. They must be closed.
-    fn reason(&self) -> Option<Reason>;
+    fn reason(&self) -> Option<DatabaseReason>;
 
     /// The name of the place in the arguments.
     fn name(&self) -> &str;

@@ -5,12 +5,12 @@ use Rattle.provider_core.specs.declared.registry.Registry.{Ghosts}
 use Rattle.provider_core.specs.declared.registry.RegistryFault.{RegistryFault}
 use Rattle.provider_core.specs.declared.registry.RegistryFault.TheVariants as registry
 use Rattle.provider_store.specs.declared.opening.OpenFault.TheVariants as opening
-use Rattle.provider_file.specs.declared.showing.ShowFault.{ShowFault}
-use Rattle.provider_file.specs.declared.showing.ShowFault.TheVariants.{Store}
+use Rattle.provider_file.specs.declared.showing.ShowStoreFault.{ShowStoreFault}
+use Rattle.provider_file.specs.declared.showing.ShowStoreFault.TheVariants.{Store}
 use Rattle.provider_file.specs.Opened.{IsOpened}
 use Rattle.provider_file.specs.Lines.{lines_of}
 
-abbrev pub registry_fault : RegistryFault → ShowFault
+abbrev pub registry_fault : RegistryFault → ShowStoreFault
 registry_fault registry.Store = Store opening.Store
 registry_fault registry.Memory = Store opening.Memory
 

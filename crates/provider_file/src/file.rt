@@ -2,8 +2,8 @@
 ghost use Rattle.std.specs.Prelude.{IfOk};
 ghost use Rattle.provider_file.specs.Opened.{IsOpened};
 
-use crate::storage::{Storage, StoredRows};
-use database_file::{DatabaseFile, Reason, failure_in, failure_since};
+use crate::storage::{RowStorage, StoredRows};
+use database_file::{DatabaseFile, DatabaseReason, failure_in, failure_since};
 use provider_core::Registry;
 use provider_store::{OpenFault, SqlRegistry};
 use sqlite::{Alter, Connection, Error, File, FileStore};
@@ -19,7 +19,7 @@ pub struct StoreFile<'a> {
     pub file: DatabaseFile<'a>,
 }
 
-impl<'a> Storage for StoreFile<'a> {
+impl<'a> RowStorage for StoreFile<'a> {
     type Rows = SqlRegistry<FileStore<File>>;
 
     /// It isn't known what an existing file contains.
@@ -30,7 +30,7 @@ impl<'a> Storage for StoreFile<'a> {
         rows_over(self.file.rt.alloc(), self.file.open()?)
     }
 
-    fn reason(&self) -> Option<Reason> {
+    fn reason(&self) -> Option<DatabaseReason> {
         match self.file.open_again() {
             Ok(conn) => refusal(self.file.rt.alloc(), conn),
             Err(reason) => reason,
@@ -73,7 +73,7 @@ fn rows_over<S: Alter + Drop>(
 }
 
 /// Why the rows of a file that was opened again can't be used: it opens them, and writes what is there.
-fn refusal(alloc: Global, conn: Connection<FileStore<File>>) -> Option<Reason> {
+fn refusal(alloc: Global, conn: Connection<FileStore<File>>) -> Option<DatabaseReason> {
     match SqlRegistry::open(alloc, conn) {
         Ok(rows) => failure_in(SqlRegistry::close(rows), SAME),
         Err((OpenFault::Store, conn)) => Some(failure_since(conn)),

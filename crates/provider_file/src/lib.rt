@@ -12,5 +12,5 @@ pub use file::StoreFile;
 pub use lines::row_line;
 pub use memory::InMemory;
 pub use serving::{serve_one, serve_stored};
-pub use showing::{ShowFault, show_rows, write_rows};
-pub use storage::{Storage, StoredRows};
+pub use showing::{ShowStoreFault, show_rows, write_rows};
+pub use storage::{RowStorage, StoredRows};

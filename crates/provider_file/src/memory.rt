@@ -1,6 +1,6 @@
 //! Memory that keeps the rows.
-use crate::storage::{Storage, StoredRows};
-use database_file::Reason;
+use crate::storage::{RowStorage, StoredRows};
+use database_file::DatabaseReason;
 use provider_core::MemoryRegistry;
 use provider_store::OpenFault;
 use std::alloc::Global;
@@ -11,7 +11,7 @@ pub struct InMemory {
     pub alloc: Global,
 }
 
-impl Storage for InMemory {
+impl RowStorage for InMemory {
     type Rows = MemoryRegistry;
 
     /// It refuses nothing.
@@ -21,7 +21,7 @@ impl Storage for InMemory {
         Ok(MemoryRegistry::new(self.alloc))
     }
 
-    fn reason(&self) -> Option<Reason> {
+    fn reason(&self) -> Option<DatabaseReason> {
         None
     }
 

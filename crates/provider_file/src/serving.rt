@@ -3,7 +3,7 @@ ghost use Rattle.std.specs.Prelude.{◌≡◌, ◌<◌, IfErr, IfOk, OnErr};
 ghost use Rattle.provider_file.specs.Opened.{IsMended};
 ghost use Rattle.provider_file.specs.Serving.{AnswersFrom, IsRefused, ServesEach, ServesFrom, ServesNext};
 
-use crate::storage::{Storage, StoredRows};
+use crate::storage::{RowStorage, StoredRows};
 use connection::{ConnectionFault, Listen, serve_connections};
 use http_text::{Input, Output};
 use provider_core::Provider;
@@ -14,7 +14,7 @@ use std::alloc::Global;
 use std::io::{Eprint, Read, Write};
 
 /// Opens the rows, serves one connection from them, and closes them.
-pub fn serve_one<K: Storage, I: Read, O: Write>(
+pub fn serve_one<K: RowStorage, I: Read, O: Write>(
     alloc: Global,
     storage: &K,
     base: &Base,
@@ -34,7 +34,7 @@ pub fn serve_one<K: Storage, I: Read, O: Write>(
 /// Opens the rows, serves `count` connections from them as `serve_connections` does, and closes them. After
 /// a fault of the store, it opens the rows again before it accepts the next connection, and ends if that is
 /// refused.
-pub fn serve_stored<K: Storage, L: Listen>(
+pub fn serve_stored<K: RowStorage, L: Listen>(
     rt: &impl Eprint,
     alloc: Global,
     storage: &K,
@@ -61,7 +61,7 @@ pub fn serve_stored<K: Storage, L: Listen>(
 }
 
 /// The provider; if a fault of its store was counted, its rows are opened again.
-fn mended<K: Storage>(
+fn mended<K: RowStorage>(
     storage: &K,
     provider: Provider<K::Rows>,
 ) -> Result<Provider<K::Rows>, OpenFault>

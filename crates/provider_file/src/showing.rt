@@ -3,11 +3,11 @@ ghost use Rattle.std.specs.Prelude.{◌≡◌, ◌≢◌, OnOk, take, drop};
 ghost use Rattle.std.specs.Io.KnownBytes.{Appends};
 ghost use Rattle.provider_file.specs.Lines.{lines_of};
 ghost use Rattle.provider_file.specs.Showing.{ShowsFrom, registry_fault, ReadsOn};
-ghost use Rattle.provider_file.specs.declared.showing.ShowFault.TheVariants.{Output};
+ghost use Rattle.provider_file.specs.declared.showing.ShowStoreFault.TheVariants.{Output};
 ghost use Rattle.provider_store.specs.declared.opening.OpenFault.TheVariants.{Memory};
 
 use crate::lines::row_line;
-use crate::storage::{Storage, StoredRows};
+use crate::storage::{RowStorage, StoredRows};
 use provider_core::{Registry, RegistryFault};
 use provider_store::OpenFault;
 use scim_resource::Stored;
@@ -21,7 +21,7 @@ const ROWS_AT_ONCE: u32 = 100;
 
 /// Why the lines of a store weren't written whole.
 #[derive(Clone, Copy, Debug, PartialEq, Eq, Error)]
-pub enum ShowFault {
+pub enum ShowStoreFault {
     /// The store couldn't be opened, it failed, or memory ran out.
     #[error("store {0}")]
     Store(OpenFault),
@@ -30,60 +30,60 @@ pub enum ShowFault {
     Output,
 }
 
-impl From<OpenFault> for ShowFault {
-    ghost use Rattle.provider_file.specs.declared.showing.ShowFault.TheVariants.{Store};
+impl From<OpenFault> for ShowStoreFault {
+    ghost use Rattle.provider_file.specs.declared.showing.ShowStoreFault.TheVariants.{Store};
 
     ghost from_gives = { λ opening fault. fault ≡ Store opening };
 
-    fn from(fault: OpenFault) -> ShowFault {
-        ShowFault::Store(fault)
+    fn from(fault: OpenFault) -> ShowStoreFault {
+        ShowStoreFault::Store(fault)
     }
 }
 
-impl From<RegistryFault> for ShowFault {
+impl From<RegistryFault> for ShowStoreFault {
     ghost from_gives = { λ registry fault. fault ≡ registry_fault registry };
 
-    fn from(fault: RegistryFault) -> ShowFault {
+    fn from(fault: RegistryFault) -> ShowStoreFault {
         match fault {
-            RegistryFault::Store => ShowFault::Store(OpenFault::Store),
-            RegistryFault::Memory => ShowFault::Store(OpenFault::Memory),
+            RegistryFault::Store => ShowStoreFault::Store(OpenFault::Store),
+            RegistryFault::Memory => ShowStoreFault::Store(OpenFault::Memory),
         }
     }
 }
 
-impl From<AllocError> for ShowFault {
-    ghost use Rattle.provider_file.specs.declared.showing.ShowFault.TheVariants.{Store};
+impl From<AllocError> for ShowStoreFault {
+    ghost use Rattle.provider_file.specs.declared.showing.ShowStoreFault.TheVariants.{Store};
 
     ghost from_gives = { λ _ fault. fault ≡ Store Memory };
 
-    fn from(_: AllocError) -> ShowFault {
-        ShowFault::Store(OpenFault::Memory)
+    fn from(_: AllocError) -> ShowStoreFault {
+        ShowStoreFault::Store(OpenFault::Memory)
     }
 }
 
-impl From<io::Error> for ShowFault {
-    fn from(error: io::Error) -> ShowFault {
+impl From<io::Error> for ShowStoreFault {
+    fn from(error: io::Error) -> ShowStoreFault {
         output_fault(error.kind())
     }
 }
 
 /// The fault for a failed write.
-fn output_fault(kind: ErrorKind) -> ShowFault
-    ensures memory { kind ≡ ErrorKind.OutOfMemory → result ≡ ShowFault.Store Memory }
+fn output_fault(kind: ErrorKind) -> ShowStoreFault
+    ensures memory { kind ≡ ErrorKind.OutOfMemory → result ≡ ShowStoreFault.Store Memory }
     ensures output { kind ≢ ErrorKind.OutOfMemory → result ≡ Output }
 {
     match kind {
-        ErrorKind::OutOfMemory => ShowFault::Store(OpenFault::Memory),
-        _ => ShowFault::Output,
+        ErrorKind::OutOfMemory => ShowStoreFault::Store(OpenFault::Memory),
+        _ => ShowStoreFault::Output,
     }
 }
 
 /// Opens the rows, writes a line for each in order of creation, and closes them.
-pub fn show_rows<K: Storage, W: Write>(
+pub fn show_rows<K: RowStorage, W: Write>(
     alloc: Global,
     storage: &K,
     out: &mut W,
-) -> Result<(), ShowFault>
+) -> Result<(), ShowStoreFault>
     ensures { OnOk result (ShowsFrom K.Rows.Registry (W.contents out.old) (W.contents out.new)) }
 {
     let mut rows = storage.open()?;
@@ -98,7 +98,7 @@ pub fn write_rows<R: Registry, W: Write>(
     alloc: Global,
     rows: &mut R,
     out: &mut W,
-) -> Result<(), ShowFault>
+) -> Result<(), ShowStoreFault>
     ensures { R.is_faithful rows.new → OnOk result (Appends (W.contents out.old) (W.contents out.new) (lines_of (R.rows rows.old))) }
 {
     write_pages(alloc, rows, out)?;
@@ -109,7 +109,7 @@ fn write_pages<R: Registry, W: Write>(
     alloc: Global,
     rows: &mut R,
     out: &mut W,
-) -> Result<(), ShowFault>
+) -> Result<(), ShowStoreFault>
     ensures { R.is_faithful rows.new → OnOk result (Appends (W.contents out.old) (W.contents out.new) (lines_of (R.rows rows.old))) }
 {
     let all = rows.count()?;
@@ -127,7 +127,7 @@ fn write_page<R: Registry, W: Write>(
     rows: &mut R,
     after: u32,
     out: &mut W,
-) -> Result<(), ShowFault>
+) -> Result<(), ShowStoreFault>
     ensures page { R.is_faithful rows.new → OnOk result (Appends (W.contents out.old) (W.contents out.new)
         (lines_of (take ROWS_AT_ONCE (drop after (R.rows rows.old))))) }
     ensures reads { ReadsOn R.Registry rows.old rows.new }
@@ -136,7 +136,7 @@ fn write_page<R: Registry, W: Write>(
     write_lines(alloc, page.as_slice(), out)
 }
 
-fn write_lines<W: Write>(alloc: Global, rows: &[Stored], out: &mut W) -> Result<(), ShowFault>
+fn write_lines<W: Write>(alloc: Global, rows: &[Stored], out: &mut W) -> Result<(), ShowStoreFault>
     ensures { OnOk result (Appends (W.contents out.old) (W.contents out.new) (lines_of rows.now)) }
 {
     for row in rows {

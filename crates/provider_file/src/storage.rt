@@ -3,7 +3,7 @@ ghost use Rattle.std.specs.Prelude.{◌<◌, ◌↔◌, IfErr, IfOk, IsTrue};
 ghost use Rattle.provider_file.specs.Opened.{IsOpened};
 ghost use Rattle.provider_store.specs.declared.opening.OpenFault.{OpenFault as Refusal};
 
-use database_file::Reason;
+use database_file::DatabaseReason;
 use provider_core::Registry;
 use provider_store::OpenFault;
 
@@ -24,7 +24,7 @@ pub trait StoredRows: Registry {
 }
 
 /// Where the rows of a provider are kept, open or not.
-pub trait Storage {
+pub trait RowStorage {
     type Rows: StoredRows;
 
     /// The refusals with which opening may fail.
@@ -36,7 +36,7 @@ pub trait Storage {
         ensures refused { IfErr result (refuses self.now) };
 
     /// Why they can't be opened now, if the system or the database says it. They must be closed.
-    fn reason(&self) -> Option<Reason>;
+    fn reason(&self) -> Option<DatabaseReason>;
 
     /// The name of the place in the arguments.
     fn name(&self) -> &str;

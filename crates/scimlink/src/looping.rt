@@ -6,7 +6,7 @@ use connector_core::Connector;
 use journal_core::{Journal, MemoryJournal};
 use journal_file::StoredEntries;
 use provider_core::Provider;
-use provider_file::{InMemory, Storage, StoredRows};
+use provider_file::{InMemory, RowStorage, StoredRows};
 use provisioning::{RunFault, Sources, read_sources, run_loop};
 use scim_client::ScimService;
 use scim_key::Base;
@@ -17,7 +17,7 @@ use std::rt::Runtime;
 
 /// Opens the provider's rows, then the connector's journal, carries the records of the files to the
 /// provider, and closes both.
-pub fn run<R: Runtime + Net + AllocGlobal, K: Storage, J: journal_file::Storage>(
+pub fn run<R: Runtime + Net + AllocGlobal, K: RowStorage, J: journal_file::EntryStorage>(
     rt: &R,
     files: &SourceFiles,
     base: Base,
@@ -34,7 +34,7 @@ pub fn run<R: Runtime + Net + AllocGlobal, K: Storage, J: journal_file::Storage>
 }
 
 /// A run over rows that it opens first.
-fn run_stored<R: Runtime + Net + AllocGlobal, K: Storage, J: journal_file::Storage>(
+fn run_stored<R: Runtime + Net + AllocGlobal, K: RowStorage, J: journal_file::EntryStorage>(
     rt: &R,
     storage: &K,
     journal: Option<&J>,
@@ -48,7 +48,7 @@ fn run_stored<R: Runtime + Net + AllocGlobal, K: Storage, J: journal_file::Stora
 }
 
 /// A run to a provider, from a journal in a file or in memory.
-fn run_from<R: Runtime + Net + AllocGlobal, S: StoredRows, J: journal_file::Storage>(
+fn run_from<R: Runtime + Net + AllocGlobal, S: StoredRows, J: journal_file::EntryStorage>(
     rt: &R,
     provider: Provider<S>,
     journal: Option<&J>,
@@ -65,7 +65,7 @@ fn run_from<R: Runtime + Net + AllocGlobal, S: StoredRows, J: journal_file::Stor
 }
 
 /// A run from a journal that it opens first.
-fn run_journaled<R: Runtime + Net + AllocGlobal, S: StoredRows, K: journal_file::Storage>(
+fn run_journaled<R: Runtime + Net + AllocGlobal, S: StoredRows, K: journal_file::EntryStorage>(
     rt: &R,
     provider: Provider<S>,
     storage: &K,

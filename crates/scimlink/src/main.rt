@@ -16,7 +16,7 @@ use commands::{CommandFault, Status, told};
 use database_file::DatabaseFile;
 use journal_file::JournalFile;
 use parts::Parts;
-use provider_file::{Storage, StoreFile};
+use provider_file::{RowStorage, StoreFile};
 use scim_key::Base;
 use std::net::Net;
 use std::process::ExitCode;
@@ -56,7 +56,7 @@ fn done(rt: &HostRuntime, chosen: Chosen) -> Status {
 }
 
 /// Does what was chosen, with the files that it names.
-fn carry_out<R: Runtime + Net + AllocGlobal, K: Storage, J: journal_file::Storage>(
+fn carry_out<R: Runtime + Net + AllocGlobal, K: RowStorage, J: journal_file::EntryStorage>(
     rt: &R,
     choice: Choice,
     store: Option<&K>,
@@ -95,7 +95,7 @@ fn carry_out<R: Runtime + Net + AllocGlobal, K: Storage, J: journal_file::Storag
 }
 
 /// The arguments of `push` name a journal.
-fn push<R: Runtime + Net + AllocGlobal, J: journal_file::Storage>(
+fn push<R: Runtime + Net + AllocGlobal, J: journal_file::EntryStorage>(
     rt: &R,
     journal: Option<&J>,
     files: &SourceFiles,

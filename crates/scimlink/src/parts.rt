@@ -1,7 +1,7 @@
 //! The parts that a run uses, by their names in the arguments.
 use crate::command::SourceFiles;
 use commands::{Cause, CommandFault, Part, Reason, Status, told};
-use provider_file::Storage;
+use provider_file::RowStorage;
 use std::rt::Runtime;
 
 /// The parts that a run uses. A part that it doesn't use has no name.
@@ -15,7 +15,7 @@ pub struct Parts<'a, K, J> {
     journal: Option<&'a J>,
 }
 
-impl<'a, K: Storage, J: journal_file::Storage> Parts<'a, K, J> {
+impl<'a, K: RowStorage, J: journal_file::EntryStorage> Parts<'a, K, J> {
     /// The files that keep rows and entries. No other part has a name yet.
     pub fn over(store: Option<&'a K>, journal: Option<&'a J>) -> Self {
         Parts {

@@ -3,7 +3,7 @@ use crate::command::SourceFiles;
 use commands::{CommandFault, NotedWriter, Status, carried_status};
 use connector_core::Connector;
 use journal_core::Journal;
-use journal_file::{Storage, StoredEntries};
+use journal_file::{EntryStorage, StoredEntries};
 use provisioning::{RunFault, Sources, read_sources};
 use scim_client::ScimService;
 use scim_key::Base;
@@ -14,7 +14,7 @@ use std::rt::Runtime;
 
 /// Opens the journal, carries the records of files to the provider at an address, and closes the journal.
 /// What was confirmed stays in the journal, however the run ends.
-pub fn push<R: Runtime + Net + AllocGlobal, K: Storage>(
+pub fn push<R: Runtime + Net + AllocGlobal, K: EntryStorage>(
     rt: &R,
     storage: &K,
     files: &SourceFiles,
@@ -28,7 +28,7 @@ pub fn push<R: Runtime + Net + AllocGlobal, K: Storage>(
 }
 
 /// The connector over a journal. If the connector refuses the journal, it is closed.
-pub fn open_connector<R: Runtime + AllocGlobal, K: Storage>(
+pub fn open_connector<R: Runtime + AllocGlobal, K: EntryStorage>(
     rt: &R,
     storage: &K,
 ) -> Result<Connector<K::Entries>, CommandFault> {

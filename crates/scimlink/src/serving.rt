@@ -1,7 +1,7 @@
 //! `serve`: connections to a socket, answered by one provider, as their requests are whole.
 use commands::{CommandFault, Status, listen_fault, outcome_status};
 use connection::{Sockets, serve_from_memory};
-use provider_file::{Storage, StoredRows, serve_stored};
+use provider_file::{RowStorage, StoredRows, serve_stored};
 use provisioning::CONNECTION_SECONDS;
 use scim_key::Base;
 use std::io;
@@ -11,7 +11,7 @@ use std::time::Duration;
 
 /// Serves `requests` connections to an address, from the rows of a file, which it opens first, or from a
 /// provider in memory that starts empty.
-pub fn serve<R: Runtime + Net + AllocGlobal, K: Storage>(
+pub fn serve<R: Runtime + Net + AllocGlobal, K: RowStorage>(
     rt: &R,
     address: &str,
     requests: u32,
@@ -29,7 +29,7 @@ pub fn serve<R: Runtime + Net + AllocGlobal, K: Storage>(
 }
 
 /// Opens the rows, listens, and serves `requests` connections.
-fn serve_from_file<R: Runtime + Net + AllocGlobal, K: Storage>(
+fn serve_from_file<R: Runtime + Net + AllocGlobal, K: RowStorage>(
     rt: &R,
     address: &str,
     requests: u32,

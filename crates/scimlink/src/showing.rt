@@ -8,7 +8,7 @@ use std::rt::Runtime;
 
 /// Prints what one of the files keeps: the rows of a provider, in order of creation, or the entries of a
 /// connector, users by key, then groups by key.
-pub fn show<R: Runtime + AllocGlobal, K: provider_file::Storage, J: journal_file::Storage>(
+pub fn show<R: Runtime + AllocGlobal, K: provider_file::RowStorage, J: journal_file::EntryStorage>(
     rt: &R,
     store: Option<&K>,
     journal: Option<&J>,
@@ -20,7 +20,7 @@ pub fn show<R: Runtime + AllocGlobal, K: provider_file::Storage, J: journal_file
     }
 }
 
-fn show_store<R: Runtime + AllocGlobal, K: provider_file::Storage>(
+fn show_store<R: Runtime + AllocGlobal, K: provider_file::RowStorage>(
     rt: &R,
     store: &K,
 ) -> Result<Status, CommandFault> {
@@ -31,7 +31,7 @@ fn show_store<R: Runtime + AllocGlobal, K: provider_file::Storage>(
     }
 }
 
-fn show_journal<R: Runtime + AllocGlobal, J: journal_file::Storage>(
+fn show_journal<R: Runtime + AllocGlobal, J: journal_file::EntryStorage>(
     rt: &R,
     journal: &J,
 ) -> Result<Status, CommandFault> {
