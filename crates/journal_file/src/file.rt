@@ -66,7 +66,10 @@ fn entries_over<S: Alter + Drop>(
 }
 
 /// Why the entries of a file that was opened again can't be used: it opens them, and writes what is there.
-fn refusal(alloc: Global, conn: Connection<FileStore<File>>) -> Option<DatabaseReason> {
+fn refusal<D: Disk + Drop>(
+    alloc: Global,
+    conn: Connection<FileStore<D>>,
+) -> Option<DatabaseReason> {
     match SqlJournal::open(alloc, conn) {
         Ok(entries) => failure_in(SqlJournal::close(entries), SAME),
         Err((OpenFault::Store, conn)) => Some(failure_since(conn)),

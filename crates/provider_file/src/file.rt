@@ -73,7 +73,10 @@ fn rows_over<S: Alter + Drop>(
 }
 
 /// Why the rows of a file that was opened again can't be used: it opens them, and writes what is there.
-fn refusal(alloc: Global, conn: Connection<FileStore<File>>) -> Option<DatabaseReason> {
+fn refusal<D: Disk + Drop>(
+    alloc: Global,
+    conn: Connection<FileStore<D>>,
+) -> Option<DatabaseReason> {
     match SqlRegistry::open(alloc, conn) {
         Ok(rows) => failure_in(SqlRegistry::close(rows), SAME),
         Err((OpenFault::Store, conn)) => Some(failure_since(conn)),
