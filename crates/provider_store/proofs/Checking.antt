@@ -1,16 +1,14 @@
 -- What the checks of an opening show, and what they leave.
-use Rattle.std.proofs.Common.{◌≡◌, ◌≢◌, ◌⊎◌, ◌<◌, ℕ, zero, suc, ◌+◌, ◌-◌, ℤ, pos, true, false, List, [], ◌∷◌, ◌++◌, map, filter, length, codes, Some, None, Result, Ok, Err, IsTrue, OnOk, IfErr, IsErrAnd, refl, sym, ap, ◌∙◌, subst, inl, inr, arith, IsPermutation}
+use Rattle.std.proofs.Common.{◌≡◌, ◌≢◌, ◌⊎◌, ◌<◌, ℕ, zero, suc, ◌+◌, ◌-◌, ℤ, pos, false, List, [], ◌∷◌, ◌++◌, map, filter, length, codes, Some, None, Result, Ok, Err, IsTrue, IfErr, IsErrAnd, refl, sym, ap, ◌∙◌, subst, inl, inr, arith, IsPermutation}
 use Rattle.std.specs.Prelude.{slice_get}
 use Rattle.std.proofs.lemmas.Option.{slice_get_within}
 use Rattle.sqlite_value.specs.declared.value.Value.TheVariants.{Int}
 use Rattle.sqlite_value.specs.Order.{Row, column}
-use Rattle.sqlite_trees.specs.Tree.{Trees, rowid, has_rowid}
+use Rattle.sqlite_trees.specs.Tree.{rowid, has_rowid}
 use Rattle.sqlite_rules.specs.Lists.{Has}
 use Rattle.sqlite_rules.proofs.ListLemmas.{has_filtered}
 use Rattle.sqlite.specs.Effect.{Database}
-use Rattle.sqlite.specs.State.{State, HasCleanDisk, Survives}
-use Rattle.sqlite.proofs.StateLemmas.{survives_then}
-use Rattle.sqlite.proofs.Callers.{one_permutation}
+use Rattle.sqlite.specs.State.{State, HasCleanDisk}
 use Rattle.sqlite_trees.proofs.ListLemmas.{filter_same, all_of}
 use Rattle.scim_resource.specs.Contents.{content_name}
 use Rattle.scim_resource.specs.Rows.{StoredRecord}
@@ -21,32 +19,27 @@ use Rattle.provider_core.proofs.RowLaws.{same_name-eq, find-passes}
 use Rattle.provider_core.proofs.MemoryLaws.{found-at, apart-none}
 use Rattle.provider_core.proofs.TableLaws.{at_push}
 use Rattle.scim_key.specs.declared.records.RecordName.{RecordName}
-use Rattle.provider_store.specs.Format.{marked_text, outside_text, no_schema}
+use Rattle.provider_store.specs.Format.{outside_text}
 use Rattle.provider_store.specs.Rows.{shown_row, IsRowOf, number_at, Holds}
-use Rattle.provider_store.specs.Connections.{IsLaid, Answers, FindsName, resources}
+use Rattle.provider_store.specs.Connections.{IsLaid, FindsName, resources}
 use Rattle.provider_store.specs.Faults.{FailsFor}
 use Rattle.provider_store.specs.Lawful.{IsLawfulAt, is_outside, IsOutside, AreWithin}
-use Rattle.provider_store.specs.Opening.{IsFormat, IsMarked, IsFor, IsAlone, HoldsFirst, IsProvider, Looks, LeavesStore, IsNewer, IsNotLaid, IsSpoilt, IsDamaged, IsCause, IsOfRows, OpenFailsFor, open_fault}
+use Rattle.provider_store.specs.Opening.{IsFor, IsAlone, HoldsFirst, IsNewer, IsNotLaid, IsSpoilt, IsDamaged, IsCause, IsOfRows, OpenFailsFor, open_fault}
 use Rattle.provider_store.specs.declared.opening.OpenFault.{OpenFault}
 use Rattle.provider_store.specs.declared.opening.OpenFault.TheVariants.{Store, Damaged, Newer, Memory}
 use Rattle.provider_store.specs.declared.tables.Found.TheVariants.{There}
-use Rattle.provider_store.proofs.Texts.{marked_shown, marked_is, marked_query, outside_term, outside_shown, outside_is, outside_query}
-use Rattle.provider_store.proofs.Selecting.{passes, shows, from_answer}
+use Rattle.provider_store.proofs.Texts.{outside_term, outside_shown, outside_is, outside_query}
 use Rattle.provider_store.proofs.Outside.{outside_passes, none_passes, outside_tests}
-use Rattle.provider_store.proofs.Finding.{answered_by, empty, single, only_one, has_named, found_alone}
+use Rattle.provider_store.proofs.Finding.{only_one, has_named, found_alone}
 use Rattle.provider_store.proofs.Holding.{numbered_append, apart_append, number_of}
-use Rattle.provider_store.proofs.Keeping.{laid_still, keeps_then}
-use Rattle.provider_store.proofs.Leaving.{keeps_leaves}
+use Rattle.sql_tables.proofs.Looking.{same_now}
+use Rattle.sql_tables.proofs.Results.{if_err}
+use Rattle.sql_tables.specs.Layouts.{no_schema}
+use Rattle.sql_tables.specs.Statements.{Answers, Looks}
+use Rattle.sql_tables.proofs.Selecting.{passes, shows, from_answer}
+use Rattle.sql_tables.proofs.Answering.{answered_by, empty}
 
 -- ---- results
-
-pub on_ok : {T F P Q : Type 0} (r : Result T F) → (P → Q) → OnOk r P → OnOk r Q
-on_ok (Ok x) f p = f p
-on_ok (Err e) f p = tt
-
-pub if_err : {T F : Type 0} {P Q : F → Type 0} (r : Result T F) → ((e : F) → P e → Q e) → IfErr r P → IfErr r Q
-if_err (Ok x) f p = tt
-if_err (Err e) f p = f e p
 
 pub is_for : {P Q : Type 0} {D E : ℕ → Type 0} (f : P → Q) (h : (n : ℕ) → D n → E n) (fault : OpenFault) → IsFor P D fault → IsFor Q E fault
 is_for f h Store it = tt
@@ -122,86 +115,15 @@ fails_of P (Err given) fault is it = subst (OpenFailsFor P) (sym is) (told_fails
 
 -- ---- looking
 
-pub survives_same : (s : State) (P : Trees → Type 0) → Survives s s P
-survives_same s P = record { clean = omega arith; shield = λ h. h; counts = omega arith; limit = refl; closes = λ clean still. inl still; crash = λ clean db may. inl may }
-
-pub looks_same : (s : State) → Looks s s
-looks_same s = record { keeps = λ _. record { was_open = λ still. still; same = λ still laid. (refl, laid.committed, laid.autocommit) }; quiet = survives_same s (λ _. ⊥) }
-
-pub looks_then : (a b c : State) → Looks a b → Looks b c → Looks a c
-looks_then a b c first second = record {
-  keeps = λ clean. keeps_then a b c (first.keeps (omega (arith, clean, second.quiet.clean))) (second.keeps clean);
-  quiet = survives_then a b c _ _ (λ _. ⊥) (λ _ db none. none) (λ _ db none. none) first.quiet second.quiet;
-}
-
-abbrev pub LaidIfOpen : State → Type 0
-LaidIfOpen s = HasCleanDisk s → IsTrue s.is_open → IsLaid s
-
-module _ (old new : State) (looks : Looks old new) (laid : LaidIfOpen old) where
-  pub was_clean : HasCleanDisk new → HasCleanDisk old
-  was_clean clean = omega (arith, clean, looks.quiet.clean)
-
-  pub was_laid : HasCleanDisk new → IsTrue new.is_open → IsLaid old
-  was_laid clean still = laid (was_clean clean) ((looks.keeps clean).was_open still)
-
-  pub laid_on : LaidIfOpen new
-  laid_on clean still = laid_still old new (looks.keeps clean) still (was_laid clean still)
-
-  pub same_now : HasCleanDisk new → IsTrue new.is_open → new.now ≡ old.now
-  same_now clean still = ((looks.keeps clean).same still (was_laid clean still)).0
-
-  pub same_rows : HasCleanDisk new → IsTrue new.is_open → resources new ≡ resources old
-  same_rows clean still = ap (λ (d : Database). d.trees 1) (same_now clean still)
-
-  pub looks_leaves : HasCleanDisk new → LeavesStore old new
-  looks_leaves clean = keeps_leaves old new (looks.keeps clean) (laid (was_clean clean))
-
--- ---- the tables
-
-pub laid_from : (s : State) → s.in_transaction ≡ false → (IsTrue s.is_open → s.now ≡ s.committed) → IsProvider s.now.schema → IsTrue s.is_open → IsLaid s
-laid_from s autocommit settled provider still = record {
-  format_checks = provider.format_checks;
-  resource_checks = provider.resource_checks;
-  order = provider.order;
-  schema = provider.is;
-  committed = sym (settled still);
-  autocommit = autocommit;
-}
-
--- ---- the format
-
-all_pass : (rows : List Row) → filter (λ _. true) rows ≡ rows
-all_pass [] = refl
-all_pass (r ∷ rows) = ap (λ l. r ∷ l) (all_pass rows)
-
-pub marked_found : (s : State) (rows given : List Row) (number : ℕ) → given ≡ rows → IsLaid s → Answers marked_text [] s rows → IsMarked given number → IsFormat s number
-marked_found s rows given number same laid answers marked =
-    let all = answered_by s marked_text 0 (λ _. refl) [] marked_shown (codes "number" ∷ []) [] rows marked_is marked_query laid answers in
-    let one = single (shows marked_shown []) (filter (passes [] []) (s.now.trees 0)) marked.0 (subst (IsPermutation (map (shows marked_shown []) (filter (passes [] []) (s.now.trees 0)))) (sym same ∙ marked.1) all) in
-    let table : s.now.trees 0 ≡ one.0 ∷ [] = sym (all_pass (s.now.trees 0)) ∙ one.1 in
-    let number_is : column one.0 2 ≡ Int (pos number) = sym (ap (λ row. column row 0) one.2) ∙ marked.2 in
-    ap (map (λ (r : Row). column r 2)) table ∙ ap (λ v. v ∷ []) number_is
-
-one_mapped : {A B : Type 0} (f : A → B) (xs : List A) (y : B) → map f xs ≡ y ∷ [] → (x : A) × (xs ≡ x ∷ []) × (f x ≡ y)
-one_mapped f [] y is = absurd (cc)
-one_mapped f (x ∷ []) y is = (x, refl, cc)
-one_mapped f (x ∷ z ∷ xs) y is = absurd (cc)
-
--- and what is in the table is what its rows show
-pub found_marked : (s : State) (rows given : List Row) (number : ℕ) → given ≡ rows → IsLaid s → Answers marked_text [] s rows → IsFormat s number → IsMarked given number
-found_marked s rows given number same laid answers format =
-    let all = answered_by s marked_text 0 (λ _. refl) [] marked_shown (codes "number" ∷ []) [] rows marked_is marked_query laid answers in
-    let one = one_mapped (λ (r : Row). column r 2) (s.now.trees 0) (Int (pos number)) format in
-    let table : filter (passes [] []) (s.now.trees 0) ≡ one.0 ∷ [] = all_pass (s.now.trees 0) ∙ one.1 in
-    let shown : rows ≡ shows marked_shown [] one.0 ∷ [] = one_permutation (shows marked_shown [] one.0) rows (subst (λ l. IsPermutation (map (shows marked_shown []) l) rows) table all) in
-    (shows marked_shown [] one.0, same ∙ shown, one.2)
+pub same_rows : (old new : State) → Looks old new → (HasCleanDisk old → IsTrue old.is_open → IsLaid old) → HasCleanDisk new → IsTrue new.is_open → resources new ≡ resources old
+same_rows old new looks laid clean still = ap (λ (d : Database). d.trees 1) (same_now old new looks laid clean still)
 
 -- ---- the rows outside
 
 pub outside_found : (s : State) (number : ℤ) (count : ℕ) (rows given : List Row) → number ≡ pos count → given ≡ rows → IsLaid s → Answers outside_text (Int number ∷ []) s rows → given ≡ [] → (k : ℕ) → count < k → filter (has_rowid (pos k)) (resources s) ≡ []
 outside_found s number count rows given is same laid answers none k far =
     let params : Row = Int (pos count) ∷ [] in
-    let all = answered_by s outside_text 1 (λ _. refl) (outside_term ∷ []) outside_shown (codes "number" ∷ []) params rows outside_is outside_query laid (subst (λ n. Answers outside_text (Int n ∷ []) s rows) is answers) in
+    let all = answered_by s outside_text 1 (λ _. refl) (outside_term ∷ []) outside_shown [] (codes "number" ∷ []) params rows outside_is outside_query laid (subst (λ n. Answers outside_text (Int n ∷ []) s rows) is answers) in
     let nothing = empty (shows outside_shown params) (filter (passes (outside_term ∷ []) params) (resources s)) (subst (IsPermutation (map (shows outside_shown params) (filter (passes (outside_term ∷ []) params) (resources s)))) (sym same ∙ none) all) in
     none_passes (passes (outside_term ∷ []) params) (has_rowid (pos k)) (resources s) (λ r has. outside_passes count k r far has) nothing
 
@@ -209,7 +131,7 @@ module _ (s : State) (number : ℤ) (count : ℕ) (rows given : List Row) (is : 
   outside_all : IsPermutation (map (shows outside_shown (Int (pos count) ∷ [])) (filter (passes (outside_term ∷ []) (Int (pos count) ∷ [])) (resources s))) rows
   outside_all =
       let params : Row = Int (pos count) ∷ [] in
-      answered_by s outside_text 1 (λ _. refl) (outside_term ∷ []) outside_shown (codes "number" ∷ []) params rows outside_is outside_query laid (subst (λ n. Answers outside_text (Int n ∷ []) s rows) is answers)
+      answered_by s outside_text 1 (λ _. refl) (outside_term ∷ []) outside_shown [] (codes "number" ∷ []) params rows outside_is outside_query laid (subst (λ n. Answers outside_text (Int n ∷ []) s rows) is answers)
 
   by_outside : filter (passes (outside_term ∷ []) (Int (pos count) ∷ [])) (resources s) ≡ filter (λ r. is_outside count (rowid r)) (resources s)
   by_outside = filter_same (passes (outside_term ∷ []) (Int (pos count) ∷ [])) (λ r. is_outside count (rowid r)) (resources s) (all_of (λ r. passes (outside_term ∷ []) (Int (pos count) ∷ []) r ≡ is_outside count (rowid r)) (λ r. outside_tests count r) (resources s))

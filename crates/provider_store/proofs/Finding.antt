@@ -1,5 +1,5 @@
 -- What the look-ups find, in the table and among the records that it holds.
-use Rattle.std.proofs.Common.{◌≡◌, ℕ, zero, suc, ◌-◌, ◌<◌, ◌^◌, ℤ, pos, Bool, true, false, ◌&&◌, cond, List, [], ◌∷◌, map, filter, Some, None, Ok, Err, Result, refl, sym, ap, ◌∙◌, subst, inl, inr, arith, IsPermutation}
+use Rattle.std.proofs.Common.{◌≡◌, ℕ, zero, suc, ◌-◌, ◌<◌, ◌^◌, ℤ, pos, Bool, true, false, ◌&&◌, cond, List, [], ◌∷◌, map, filter, Some, None, refl, sym, ap, ◌∙◌, subst, inl, inr, arith, IsPermutation}
 use Rattle.std.specs.Prelude.{slice_get}
 use Rattle.std.specs.List.{AllByRecursion}
 use Rattle.std.specs.Ordering.{int_eq}
@@ -7,22 +7,15 @@ use Rattle.std.specs.Str.{bytes_eq}
 use Rattle.std.proofs.lemmas.Bool.{and_parts, and_from}
 use Rattle.std.proofs.lemmas.Bool.Decides.{Decides-int_eq}
 use Rattle.std.proofs.lemmas.Slice.Eq.{bytes_eq-Decides}
-use Rattle.std.proofs.lemmas.List.Sorted.{length_permutation}
 use Rattle.std.proofs.lemmas.Map.Keys.{IsDistinct-head, IsDistinct-tail}
 use Rattle.sqlite_value.specs.declared.value.Value.TheVariants.{Int, Text}
-use Rattle.sqlite_value.specs.declared.keys.Order.{Order}
 use Rattle.sqlite_value.specs.Order.{Row, column}
-use Rattle.sqlite_trees.specs.Tree.{Trees, rowid, has_rowid}
-use Rattle.sqlite_sql.specs.Program.{overlay}
+use Rattle.sqlite_trees.specs.Tree.{rowid, has_rowid}
 use Rattle.sqlite_trees.proofs.ListLemmas.{filter_same, all_of}
 use Rattle.sqlite_sql.specs.Term.{Term}
 use Rattle.sqlite_schema.specs.declared.command.Command.TheVariants.{Select}
 use Rattle.sqlite_rules.specs.Lists.{Has}
 use Rattle.sqlite_rules.proofs.ListLemmas.{has_kept, has_filtered}
-use Rattle.sqlite_resolve.specs.declared.compiled.Compiled.{Compiled}
-use Rattle.sqlite_resolve.specs.declared.error.CompileError.{CompileError}
-use Rattle.sqlite.specs.Effect.{Database, Reads}
-use Rattle.sqlite.specs.Given.{IsPlain}
 use Rattle.sqlite.specs.Listing.{understood}
 use Rattle.sqlite.specs.State.{State}
 use Rattle.sqlite.proofs.Callers.{command_of, one_permutation}
@@ -34,48 +27,26 @@ use Rattle.scim_resource.specs.Rows.{StoredRecord}
 use Rattle.provider_core.specs.Rows.{same_name, is_named, row_named, names_of, AreNamedApart}
 use Rattle.provider_core.proofs.RowLaws.{same_name-eq, same_name-self, same_name-sym, find-passes}
 use Rattle.provider_core.proofs.MemoryLaws.{found-at}
-use Rattle.provider_store.specs.Format.{provider_schema, named_text, numbered_text}
+use Rattle.provider_store.specs.Format.{Form, provider_schema, named_text, numbered_text}
 use Rattle.provider_store.specs.Rows.{kind_code, shown_row, IsRowOf, record_in, Holds}
 use Rattle.provider_store.specs.Lawful.{has_name}
-use Rattle.provider_store.specs.Connections.{IsLaid, IsQuery, Answers, AreDamaged, IsOnly, IsNamed, FindsName, FindsNumber, resources}
+use Rattle.provider_store.specs.Connections.{IsLaid, AreDamaged, IsOnly, IsNamed, FindsName, FindsNumber, resources}
 use Rattle.provider_store.specs.declared.tables.Found.{Found}
 use Rattle.provider_store.specs.declared.tables.Found.TheVariants.{Nothing, Damaged, There}
-use Rattle.provider_store.proofs.Texts.{query, query_over, shown_terms, names, number_is, name_terms, named_is, named_query, numbered_is, numbered_query}
-use Rattle.provider_store.proofs.Selecting.{passes, shows, selected_over, number_passes, name_passes, name_tests}
+use Rattle.provider_store.proofs.Texts.{shown_terms, names, number_is, name_terms, named_is, named_query, numbered_is, numbered_query}
+use Rattle.provider_store.proofs.Selecting.{number_passes, name_passes, name_tests}
 use Rattle.provider_store.proofs.Holding.{has_own, shown_record}
+use Rattle.sql_tables.proofs.Answering.{answered_by, empty, nothing, single}
+use Rattle.sql_tables.specs.Statements.{IsQuery, Answers}
+use Rattle.sql_tables.proofs.Queries.{query}
+use Rattle.sql_tables.proofs.Selecting.{passes}
 
 -- ---- the rows of an answer
 
-read_by : (r : Result Compiled CompileError) (db : Database) (params : Row) (rows : List Row) → IsPlain r → ((c : Compiled) → r ≡ Ok c → Reads c.command db params rows) → Reads (command_of r) db params rows
-read_by (Ok c) db params rows plain reads = reads c refl
-read_by (Err e) db params rows plain reads = absurd plain
-
-pub answered_by : (s : State) (sql : List ℕ) (tree : ℕ) → ((db : Trees) → overlay db [] tree ≡ db tree) → (terms shown : List Term) (heads : List (List ℕ)) (params : Row) (rows : List Row)
-    → ((a b : List Term) (o : Order) → command_of (understood (provider_schema a b o) sql) ≡ Select (record { lets = []; body = query_over tree terms shown }) heads)
-    → IsQuery sql → IsLaid s → Answers sql params s rows → IsPermutation (map (shows shown params) (filter (passes terms params) (s.now.trees tree))) rows
-answered_by s sql tree own terms shown heads params rows means query_text laid answers =
-    let schema = provider_schema laid.format_checks laid.resource_checks laid.order in
-    let plain = (query_text laid.format_checks laid.resource_checks laid.order).0 in
-    let reads = read_by (understood schema sql) s.now params rows plain (λ c is. answers c (ap (λ x. understood x sql) laid.schema ∙ is)) in
-    selected_over tree terms shown params own s.now rows (subst (λ command. Reads command s.now params rows) (means laid.format_checks laid.resource_checks laid.order) reads)
-
 pub picked : (s : State) (sql : List ℕ) (terms : List Term) (params : Row) (rows : List Row)
-    → ((a b : List Term) (o : Order) → command_of (understood (provider_schema a b o) sql) ≡ Select (record { lets = []; body = query terms shown_terms }) names)
-    → IsQuery sql → IsLaid s → Answers sql params s rows → IsPermutation (map shown_row (filter (passes terms params) (resources s))) rows
-picked s sql terms params rows means query_text laid answers = answered_by s sql 1 (λ _. refl) terms shown_terms names params rows means query_text laid answers
-
-pub empty : {A B : Type 0} (f : A → B) (xs : List A) → IsPermutation (map f xs) [] → xs ≡ []
-empty f [] same = refl
-empty f (x ∷ xs) same = absurd (omega (arith, length_permutation (map f (x ∷ xs)) [] same))
-
-pub single : {A B : Type 0} (f : A → B) (xs : List A) (y : B) → IsPermutation (map f xs) (y ∷ []) → (x : A) × (xs ≡ x ∷ []) × (y ≡ f x)
-single f [] y same = absurd (omega (arith, length_permutation (map f []) (y ∷ []) same))
-single f (x ∷ []) y same = (x, refl, let one : y ∷ [] ≡ f x ∷ [] = one_permutation (f x) (y ∷ []) same in cc)
-single f (x ∷ z ∷ xs) y same = absurd (omega (arith, length_permutation (map f (x ∷ z ∷ xs)) (y ∷ []) same))
-
-nothing : {A : Type 0} (xs : List A) → IsPermutation [] xs → xs ≡ []
-nothing [] same = refl
-nothing (x ∷ xs) same = absurd (omega (arith, length_permutation [] (x ∷ xs) same))
+    → ((f : Form) → command_of (understood (provider_schema f) sql) ≡ Select (record { lets = []; body = query 1 terms shown_terms [] }) names)
+    → IsQuery provider_schema sql → IsLaid s → Answers sql params s rows → IsPermutation (map shown_row (filter (passes terms params) (resources s))) rows
+picked s sql terms params rows means query_text laid answers = answered_by s sql 1 (λ _. refl) terms shown_terms [] names params rows means query_text laid answers
 
 -- rows whose answer is damaged are
 damaged : (xs rows : List Row) → IsPermutation (map shown_row xs) rows → IsOnly rows Damaged → AreDamaged xs

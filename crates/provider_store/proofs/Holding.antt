@@ -25,8 +25,8 @@ use Rattle.provider_core.proofs.RowLaws.{same_name-equivalence, numbers_same, fi
 use Rattle.provider_core.proofs.MemoryLaws.{found-at, update-sets, apart-none}
 use Rattle.provider_core.proofs.TableLaws.{at_push}
 use Rattle.provider_store.specs.Rows.{shown_row, row_of, stored_row, IsRowOf, kind_at, record_with, record_in, record_of_kind, listed, record_at, rows_from, rows_of, Holds}
-use Rattle.provider_store.proofs.Trees.{put_other, put_here, without_here, without_other, free}
-use Rattle.provider_store.proofs.Values.{rowid_is}
+use Rattle.sql_tables.proofs.Trees.{put_other, put_here, without_here, without_other, free, one_rowid}
+use Rattle.sql_tables.proofs.Values.{rowid_is}
 
 -- ---- numbers
 
@@ -228,7 +228,7 @@ module _ (table : List Row) (rows : List StoredRecord) (s : StoredRecord) (new :
   elsewhere : (n : ℕ) → suc n ≢ s.number → filter (has_rowid (pos (suc n))) (put_row new (without_rowid (pos s.number) table)) ≡ filter (has_rowid (pos (suc n))) table
   elsewhere n apart =
       put_other (has_rowid (pos (suc n))) new (without_rowid (pos s.number) table) (has_other new s.number (suc n) is (λ e. apart (sym e))) still_free
-      ∙ without_other (has_rowid (pos (suc n))) (pos s.number) (λ r has. Rattle.provider_store.proofs.Trees.one_rowid r (pos (suc n)) (pos s.number) has (other_number (suc n) s.number apart)) table
+      ∙ without_other (has_rowid (pos (suc n))) (pos s.number) (λ r has. one_rowid r (pos (suc n)) (pos s.number) has (other_number (suc n) s.number apart)) table
 
   pub replaced : Holds (put_row new (without_rowid (pos s.number) table)) (with_row s rows)
   replaced =

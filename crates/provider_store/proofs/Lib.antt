@@ -1,15 +1,10 @@
 pub mod Texts
-pub mod Trees
-pub mod Values
 pub mod Selecting
 pub mod Outside
 pub mod Holding
-pub mod Keeping
 pub mod Writing
 pub mod Making
 pub mod Fields
-pub mod Leaving
-pub mod Asking
 pub mod Failing
 pub mod Giving
 pub mod Finding

@@ -1,25 +1,23 @@
 -- The tables that one transaction makes, and what its end leaves.
 use Rattle.std.proofs.Common.{◌≡◌, ℕ, ℤ, pos, false, List, [], ◌∷◌, map, Ok, IsTrue, refl, sym, ap, ◌∙◌, subst}
 use Rattle.sqlite_value.specs.declared.value.Value.TheVariants.{Int}
-use Rattle.sqlite_value.specs.declared.keys.Order.{Order}
 use Rattle.sqlite_value.specs.Order.{Row, column}
-use Rattle.sqlite_sql.specs.Term.{Term}
 use Rattle.sqlite.specs.Effect.{Database}
 use Rattle.sqlite.specs.State.{State, Executes, Shows}
-use Rattle.provider_store.specs.Format.{provider_schema, format_table, resource_table, no_schema, format_number, format_text, mark_text, resource_text}
+use Rattle.provider_store.specs.Format.{Form, format_name, provider_schema, resource_table, format_number, format_text, mark_text, resource_text}
 use Rattle.provider_store.specs.Rows.{Holds}
-use Rattle.provider_store.specs.Opening.{IsBlank, IsStore}
+use Rattle.provider_store.specs.Opening.{IsStore}
 use Rattle.provider_store.specs.Lawful.{AreAllLawful}
 use Rattle.provider_store.proofs.Refusing.{none_lawful}
 use Rattle.provider_store.proofs.Holding.{holds_nothing}
-use Rattle.provider_store.proofs.Making.{format_schema, format_made, resource_made, resource_schema, creates, marks}
+use Rattle.provider_store.proofs.Making.{format_made, mark_is, resource_made, resource_schema}
+use Rattle.sql_tables.specs.Layouts.{format_table, no_schema, IsBlank, format_schema}
+use Rattle.sql_tables.proofs.Making.{creates, marks}
 
 -- both tables are there: the one with the number of the format, the other empty
 pub record AreMade (db : Database) (mark : ℤ) : Type 0 where
-  pub format_checks : List Term
-  pub resource_checks : List Term
-  pub order : Order
-  pub schema : db.schema ≡ provider_schema format_checks resource_checks order
+  pub form : Form
+  pub schema : db.schema ≡ provider_schema form
   pub none : db.trees 1 ≡ []
   pub format : map (λ (r : Row). column r 2) (db.trees 0) ≡ Int mark ∷ []
 
@@ -27,14 +25,12 @@ pub tables_made : (b m1 m2 m3 : State) (n1 n2 n3 : ℕ) (mark : ℤ) → b.now.s
     → AreMade m3.now mark
 tables_made b m1 m2 m3 n1 n2 n3 mark blank one two three =
     let a = format_made.0 in
-    let first = creates format_text no_schema (format_table a) b m1 n1 format_made.1 refl blank one in
-    let second = marks a m1 m2 mark n2 first.0 first.1 two in
+    let first = creates format_text no_schema (format_table format_name a) b m1 n1 format_made.1 refl blank one in
+    let second = marks format_name mark_text a m1 m2 mark n2 (mark_is a) first.0 first.1 two in
     let r = resource_made a in
-    let third = creates resource_text (format_schema a) (record (resource_table r.0 r.1) { tree = 0 }) m2 m3 n3 r.2 refl second.0 three in
+    let third = creates resource_text (format_schema format_name a) (record (resource_table r.0 r.1) { tree = 0 }) m2 m3 n3 r.2 refl second.0 three in
     record {
-      format_checks = a;
-      resource_checks = r.0;
-      order = r.1;
+      form = record { format_checks = a; resource_checks = r.0; order = r.1 };
       schema = third.0 ∙ resource_schema a r.0 r.1;
       none = third.1;
       format = ap (map (λ (r : Row). column r 2)) (third.2.0 ∙ second.1);
@@ -46,9 +42,7 @@ tables_kept old m3 end blank made shows = (
   blank,
   record {
     laid = record {
-      format_checks = made.format_checks;
-      resource_checks = made.resource_checks;
-      order = made.order;
+      form = made.form;
       schema = ap (λ (d : Database). d.schema) shows.now_is ∙ made.schema;
       committed = shows.committed_is ∙ sym shows.now_is;
       autocommit = shows.mode;

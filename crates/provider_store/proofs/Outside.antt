@@ -14,7 +14,7 @@ use Rattle.sqlite_sql.specs.declared.ops.CompareOp.TheVariants.{Lt, Gt}
 use Rattle.sqlite_trees.specs.Tree.{rowid, has_rowid}
 use Rattle.provider_store.specs.Lawful.{is_outside}
 use Rattle.provider_store.proofs.Texts.{outside_term}
-use Rattle.provider_store.proofs.Selecting.{passes, and_true}
+use Rattle.sql_tables.proofs.Selecting.{passes, and_true}
 
 greater : (k n : ℕ) → n < k → int_cmp (pos k) (pos n) ≡ Greater
 greater k n low =

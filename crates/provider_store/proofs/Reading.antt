@@ -9,7 +9,7 @@ use Rattle.provider_core.specs.Stores.{CountsFault, CountsFaults, OnlyReads}
 use Rattle.provider_core.specs.declared.registry.RegistryFault.{RegistryFault}
 use Rattle.provider_store.specs.Format.{resource_tree}
 use Rattle.provider_store.specs.Rows.{Holds, rows_of}
-use Rattle.provider_store.specs.Connections.{IsLaid, Keeps, resources}
+use Rattle.provider_store.specs.Connections.{IsLaid, resources}
 use Rattle.provider_store.specs.Kept.{Kept, IsFaithful, IsHonest, IsSound, IsWhole, MayHold, kept_rows}
 use Rattle.scim_key.specs.declared.records.RecordName.{RecordName}
 use Rattle.provider_core.specs.Rows.{row_named}
@@ -17,7 +17,8 @@ use Rattle.provider_store.specs.Connections.{FindsName}
 use Rattle.provider_store.specs.Lookups.{found_of}
 use Rattle.provider_store.specs.declared.tables.Found.{Found}
 use Rattle.provider_store.proofs.Finding.{none_named, some_named}
-use Rattle.provider_store.proofs.Keeping.{laid_still}
+use Rattle.sql_tables.specs.Statements.{Keeps}
+use Rattle.sql_tables.proofs.Keeping.{kept_now, laid_still}
 
 module _ {S : Type 0} (g : Ghosts S) where
   abbrev at : Kept S → State
@@ -26,14 +27,14 @@ module _ {S : Type 0} (g : Ghosts S) where
   -- a connection that is kept keeps the rows
   module _ (old new : Kept S) (usable : new.is_usable ≡ old.is_usable) (count : new.count ≡ old.count) (keeps : Keeps (at old) (at new)) where
     committed_same : IsLaid (at old) → IsTrue (at new).is_open → (at new).committed ≡ (at old).committed
-    committed_same laid still = let same = keeps.same still laid in same.1 ∙ same.0 ∙ sym laid.committed
+    committed_same laid still = let same = kept_now (at old) (at new) keeps still laid in same.1 ∙ same.0 ∙ sym laid.committed
 
     pub rows_same : IsLaid (at old) → IsTrue (at new).is_open → kept_rows g new ≡ kept_rows g old
     rows_same laid still = ap (λ (d : Database). rows_of (d.trees resource_tree)) (committed_same laid still)
 
     pub whole_still : IsWhole g old → IsTrue (at new).is_open → IsWhole g new
     whole_still whole still =
-        let same = keeps.same still whole.laid in
+        let same = kept_now (at old) (at new) keeps still whole.laid in
         let rows = rows_same whole.laid still in
         record {
           laid = laid_still (at old) (at new) keeps still whole.laid;

@@ -16,12 +16,14 @@ use Rattle.provider_store.specs.Format.{format_number}
 use Rattle.provider_store.specs.Rows.{shown_row, IsRowOf, record_in, Holds}
 use Rattle.provider_store.specs.Lawful.{has_name, IsLawfulAt, IsWrong, NoneNamed, AreLawfulTo, is_outside, AreAllLawful, IsFirstWrong, IsAstray, IsUnlawfulAt}
 use Rattle.provider_store.specs.Connections.{IsLaid, AreDamaged, FindsName, resources}
-use Rattle.provider_store.specs.Opening.{IsProvider, IsFormat, IsStore, IsBlank, IsDamaged, IsSpoilt, IsUnmarked, Stands}
+use Rattle.provider_store.specs.Opening.{IsProvider, IsStore, IsDamaged, IsSpoilt, IsUnmarked, Stands}
 use Rattle.provider_store.specs.declared.tables.Found.{Found}
 use Rattle.provider_store.specs.declared.tables.Found.TheVariants.{Nothing, Damaged}
 use Rattle.provider_store.proofs.Finding.{same_some, only_one}
 use Rattle.provider_store.proofs.Holding.{number_of, shown_record, few, none_past}
+use Rattle.sql_tables.proofs.Looking.{one_of_laid}
 use Rattle.provider_store.proofs.Outside.{outside_passes, outside_tests}
+use Rattle.sql_tables.specs.Layouts.{IsFormat, IsBlank}
 
 -- ---- one row
 
@@ -86,11 +88,8 @@ first_wrong table count told before is wrong = record {
 
 -- ---- the tables
 
-pub provider_of : (s : State) → IsLaid s → IsProvider s.now.schema
-provider_of s laid = record { format_checks = laid.format_checks; resource_checks = laid.resource_checks; order = laid.order; is = laid.schema }
-
 pub spoilt_by : (s : State) (number : ℕ) → IsLaid s → IsFormat s format_number → IsUnlawfulAt (resources s) number → IsSpoilt s number
-spoilt_by s number laid format row = (provider_of s laid, inr (record { format = format; row = row }))
+spoilt_by s number laid format row = (one_of_laid s laid, inr (record { format = format; row = row }))
 
 -- ---- all rows
 
@@ -134,7 +133,7 @@ module _ (table : List Row) (rows : List StoredRecord) (holds : Holds table rows
 -- a store that an opening accepts isn't one that it refuses
 module _ (s : State) (rows : List StoredRecord) (store : IsStore s rows) where
   provider : IsProvider s.now.schema
-  provider = provider_of s store.laid
+  provider = one_of_laid s store.laid
 
   marked : IsUnmarked s → ⊥
   marked none = none format_number (omega arith) store.format

@@ -15,9 +15,10 @@ use Rattle.provider_store.specs.Lawful.{AreAllLawful}
 use Rattle.provider_store.specs.Connections.{resources}
 use Rattle.provider_store.specs.Kept.{Kept, IsFaithful, IsHonest, IsWhole, MayHold, kept_rows}
 use Rattle.provider_store.specs.Lookups.{answered, failing}
-use Rattle.provider_store.specs.Opening.{IsStore, Looks}
+use Rattle.provider_store.specs.Opening.{IsStore}
 use Rattle.provider_store.proofs.Holding.{held_rows}
-use Rattle.provider_store.proofs.Keeping.{laid_still}
+use Rattle.sql_tables.specs.Statements.{Looks}
+use Rattle.sql_tables.proofs.Keeping.{kept_now, laid_still}
 
 -- the rows that were committed are those that the tables hold
 pub committed_rows : (s : State) (rows : List StoredRecord) → IsStore s rows → rows_of (s.committed.trees resource_tree) ≡ rows
@@ -27,7 +28,7 @@ committed_rows s rows store = ap (λ (d : Database). rows_of (d.trees resource_t
 pub store_on : (old new : State) (rows : List StoredRecord) → Looks old new → IsStore old rows → HasCleanDisk new → IsTrue new.is_open → IsStore new rows
 store_on old new rows looks store clean still =
     let keeps = looks.keeps clean in
-    let same = (keeps.same still store.laid).0 in
+    let same = (kept_now old new keeps still store.laid).0 in
     record {
       laid = laid_still old new keeps still store.laid;
       format = subst (λ (d : Database). map (λ (r : Row). column r 2) (d.trees 0) ≡ Int (pos format_number) ∷ []) (sym same) store.format;

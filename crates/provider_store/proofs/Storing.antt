@@ -16,11 +16,12 @@ use Rattle.provider_core.proofs.MemoryLaws.{update-sets}
 use Rattle.std.proofs.Math.ListN.{length-set}
 use Rattle.provider_store.specs.Format.{resource_tree}
 use Rattle.provider_store.specs.Rows.{Holds, rows_of, stored_row, shown_row, IsRowOf}
-use Rattle.provider_store.specs.Connections.{IsThere, IsSpelled, Keeps, Makes, Leaves, added, renewed, resources, content_text}
+use Rattle.provider_store.specs.Connections.{IsThere, IsSpelled, Makes, Leaves, added, renewed, resources, content_text}
 use Rattle.provider_store.specs.Lookups.{answered, failing}
 use Rattle.provider_store.specs.Kept.{Kept, IsFaithful, IsHonest, IsSound, IsWhole, MayHold, kept_rows}
 use Rattle.provider_store.proofs.Holding.{held_rows, held_at, joined, replaced}
 use Rattle.provider_store.proofs.Reading.{rows_same, whole_still}
+use Rattle.sql_tables.specs.Statements.{Keeps}
 
 shows_stored : (s : StoredRecord) → IsStored s → IsSpelled s → IsRowOf (shown_row (stored_row s (content_text s.content))) s
 shows_stored s lawful spelled = record { text = content_text s.content; shows = refl; reads = spelled; lawful = lawful }

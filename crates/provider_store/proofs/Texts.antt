@@ -1,30 +1,20 @@
 -- What the statements mean over the tables.
-use Rattle.std.proofs.Common.{◌≡◌, ℕ, pos, negsuc, List, [], ◌∷◌, codes, length, false, None, Result, Ok, Err, refl}
+use Rattle.std.proofs.Common.{◌≡◌, ℕ, pos, List, [], ◌∷◌, codes, refl}
 use Rattle.sqlite_value.specs.declared.value.Value.TheVariants.{Null, Int}
-use Rattle.sqlite_value.specs.declared.keys.Order.{Order}
 use Rattle.sqlite_value.specs.declared.keys.Collation.TheVariants.{Binary}
 use Rattle.sqlite_sql.specs.Term.{Term, lit, col, op1, op2}
-use Rattle.sqlite_sql.specs.Query.{Query, inner, end}
 use Rattle.sqlite_sql.specs.declared.ops.UnaryOp.TheVariants.{ToNumeric}
 use Rattle.sqlite_sql.specs.declared.ops.BinaryOp.TheVariants.{Compare, Or}
 use Rattle.sqlite_sql.specs.declared.ops.CompareOp.TheVariants.{Eq, Lt, Gt}
 use Rattle.sqlite_schema.specs.declared.command.Source.TheVariants.{Values}
 use Rattle.sqlite_schema.specs.declared.command.Command.TheVariants.{Insert, Update, Select}
 use Rattle.sqlite_tied.specs.Compute.{everything}
-use Rattle.sqlite_resolve.specs.declared.compiled.Compiled.{Compiled}
-use Rattle.sqlite_resolve.specs.declared.error.CompileError.{CompileError}
-use Rattle.sqlite.specs.Listing.{understood, reads_listing}
+use Rattle.sqlite.specs.Listing.{understood}
 use Rattle.sqlite.proofs.Callers.{IsPlain, command_of}
-use Rattle.provider_store.specs.Format.{provider_schema, insert_text, update_text, named_text, numbered_text, marked_text, outside_text}
-
--- where the statement of a text ends, and how many parameters it has
-abbrev pub tail_of : Result Compiled CompileError → ℕ
-tail_of (Ok c) = c.tail
-tail_of (Err e) = 0
-
-abbrev pub count_of : Result Compiled CompileError → ℕ
-count_of (Ok c) = length c.names
-count_of (Err e) = 0
+use Rattle.sql_tables.proofs.Queries.{query}
+use Rattle.sql_tables.proofs.Marking.{marked_shown}
+use Rattle.sql_tables.specs.Statements.{IsQuery}
+use Rattle.provider_store.specs.Format.{Form, provider_schema, insert_text, update_text, named_text, numbered_text, marked_text, outside_text}
 
 abbrev pub insert_terms : List Term
 insert_terms = col 0 0 ∷ lit Null ∷ col 0 1 ∷ col 0 2 ∷ col 0 3 ∷ col 0 4 ∷ []
@@ -32,26 +22,9 @@ insert_terms = col 0 0 ∷ lit Null ∷ col 0 1 ∷ col 0 2 ∷ col 0 3 ∷ col 
 abbrev pub update_terms : List Term
 update_terms = col 1 0 ∷ col 1 0 ∷ lit Null ∷ col 1 2 ∷ col 1 3 ∷ col 0 1 ∷ col 0 2 ∷ []
 
-pub insert_is : (a b : List Term) (o : Order) → command_of (understood (provider_schema a b o) insert_text) ≡ Insert 1 (Values insert_terms 6)
+pub insert_is : (f : Form) → command_of (understood (provider_schema f) insert_text) ≡ Insert 1 (Values insert_terms 6)
 unfolding understood everything
-insert_is a b o = refl
-
--- a query over one table
-abbrev pub query_over : ℕ → List Term → List Term → Query
-query_over tree terms shown = record {
-  from = inner tree end;
-  filter = terms;
-  group = None;
-  project = shown;
-  distinct = false;
-  collations = [];
-  order = [];
-  limit = lit (Int (negsuc 0));
-  offset = lit (Int (pos 0));
-}
-
-abbrev pub query : List Term → List Term → Query
-query = query_over 1
+insert_is f = refl
 
 abbrev pub shown_terms : List Term
 shown_terms = col 1 0 ∷ col 1 2 ∷ col 1 3 ∷ col 1 4 ∷ col 1 5 ∷ []
@@ -59,9 +32,9 @@ shown_terms = col 1 0 ∷ col 1 2 ∷ col 1 3 ∷ col 1 4 ∷ col 1 5 ∷ []
 abbrev pub number_is : Term
 number_is = op2 (Compare Eq Binary) (col 1 0) (col 0 0)
 
-pub update_is : (a b : List Term) (o : Order) → command_of (understood (provider_schema a b o) update_text) ≡ Update 1 (record { lets = []; body = query (number_is ∷ []) update_terms })
+pub update_is : (f : Form) → command_of (understood (provider_schema f) update_text) ≡ Update 1 (record { lets = []; body = query 1 (number_is ∷ []) update_terms [] })
 unfolding understood everything
-update_is a b o = refl
+update_is f = refl
 
 -- the kind and the key are these
 abbrev pub name_terms : List Term
@@ -70,22 +43,18 @@ name_terms = op2 (Compare Eq Binary) (col 1 2) (op1 ToNumeric (col 0 0)) ∷ op2
 abbrev pub names : List (List ℕ)
 names = codes "number" ∷ codes "kind" ∷ codes "name_key" ∷ codes "version" ∷ codes "content" ∷ []
 
-pub named_is : (a b : List Term) (o : Order) → command_of (understood (provider_schema a b o) named_text)
-    ≡ Select (record { lets = []; body = query name_terms shown_terms }) names
+pub named_is : (f : Form) → command_of (understood (provider_schema f) named_text)
+    ≡ Select (record { lets = []; body = query 1 name_terms shown_terms [] }) names
 unfolding understood everything
-named_is a b o = refl
+named_is f = refl
 
-pub numbered_is : (a b : List Term) (o : Order) → command_of (understood (provider_schema a b o) numbered_text) ≡ Select (record { lets = []; body = query (number_is ∷ []) shown_terms }) names
+pub numbered_is : (f : Form) → command_of (understood (provider_schema f) numbered_text) ≡ Select (record { lets = []; body = query 1 (number_is ∷ []) shown_terms [] }) names
 unfolding understood everything
-numbered_is a b o = refl
+numbered_is f = refl
 
--- the number of the format
-abbrev pub marked_shown : List Term
-marked_shown = col 1 2 ∷ []
-
-pub marked_is : (a b : List Term) (o : Order) → command_of (understood (provider_schema a b o) marked_text) ≡ Select (record { lets = []; body = query_over 0 [] marked_shown }) (codes "number" ∷ [])
+pub marked_is : (f : Form) → command_of (understood (provider_schema f) marked_text) ≡ Select (record { lets = []; body = query 0 [] marked_shown [] }) (codes "number" ∷ [])
 unfolding understood everything
-marked_is a b o = refl
+marked_is f = refl
 
 -- a number outside the first ones
 abbrev pub outside_term : Term
@@ -94,32 +63,32 @@ outside_term = op2 Or (op2 (Compare Lt Binary) (col 1 0) (lit (Int (pos 1)))) (o
 abbrev pub outside_shown : List Term
 outside_shown = col 1 0 ∷ []
 
-pub outside_is : (a b : List Term) (o : Order) → command_of (understood (provider_schema a b o) outside_text) ≡ Select (record { lets = []; body = query_over 1 (outside_term ∷ []) outside_shown }) (codes "number" ∷ [])
+pub outside_is : (f : Form) → command_of (understood (provider_schema f) outside_text) ≡ Select (record { lets = []; body = query 1 (outside_term ∷ []) outside_shown [] }) (codes "number" ∷ [])
 unfolding understood everything
-outside_is a b o = refl
+outside_is f = refl
 
 -- ---- none reads the time or the schema, and none shows what it wrote
 
-pub insert_plain : (a b : List Term) (o : Order) → IsPlain (understood (provider_schema a b o) insert_text)
+pub insert_plain : (f : Form) → IsPlain (understood (provider_schema f) insert_text)
 unfolding understood everything
-insert_plain a b o = (refl, refl)
+insert_plain f = (refl, refl)
 
-pub update_plain : (a b : List Term) (o : Order) → IsPlain (understood (provider_schema a b o) update_text)
+pub update_plain : (f : Form) → IsPlain (understood (provider_schema f) update_text)
 unfolding understood everything
-update_plain a b o = (refl, refl)
+update_plain f = (refl, refl)
 
-pub named_query : (a b : List Term) (o : Order) → IsPlain (understood (provider_schema a b o) named_text) × (reads_listing (provider_schema a b o) named_text ≡ false)
+pub named_query : IsQuery provider_schema named_text
 unfolding understood everything
-named_query a b o = ((refl, refl), refl)
+named_query f = ((refl, refl), refl)
 
-pub numbered_query : (a b : List Term) (o : Order) → IsPlain (understood (provider_schema a b o) numbered_text) × (reads_listing (provider_schema a b o) numbered_text ≡ false)
+pub numbered_query : IsQuery provider_schema numbered_text
 unfolding understood everything
-numbered_query a b o = ((refl, refl), refl)
+numbered_query f = ((refl, refl), refl)
 
-pub marked_query : (a b : List Term) (o : Order) → IsPlain (understood (provider_schema a b o) marked_text) × (reads_listing (provider_schema a b o) marked_text ≡ false)
+pub marked_query : IsQuery provider_schema marked_text
 unfolding understood everything
-marked_query a b o = ((refl, refl), refl)
+marked_query f = ((refl, refl), refl)
 
-pub outside_query : (a b : List Term) (o : Order) → IsPlain (understood (provider_schema a b o) outside_text) × (reads_listing (provider_schema a b o) outside_text ≡ false)
+pub outside_query : IsQuery provider_schema outside_text
 unfolding understood everything
-outside_query a b o = ((refl, refl), refl)
+outside_query f = ((refl, refl), refl)

@@ -1,50 +1,40 @@
 -- What the two writes leave, as the rows of the records.
-use Rattle.std.proofs.Common.{◌≡◌, ◌≤◌, ℕ, pos, List, [], ◌∷◌, None, Ok, Err, Result, IsTrue, refl, sym, ap, ◌∙◌, subst, ℤ, arith}
+use Rattle.std.proofs.Common.{◌≡◌, ◌≤◌, ℕ, pos, List, [], ◌∷◌, None, Ok, IsTrue, refl, ap, ◌∙◌, subst, ℤ, arith}
 use Rattle.sqlite_value.specs.declared.value.Value.TheVariants.{Int, Text}
 use Rattle.sqlite_value.specs.Order.{Row, column}
 use Rattle.sqlite_trees.specs.Tree.{Trees}
-use Rattle.sqlite_schema.specs.declared.schema.Schema.{Schema}
 use Rattle.sqlite_schema.specs.declared.command.Command.{Command}
 use Rattle.sqlite_schema.specs.declared.command.Command.TheVariants.{Insert, Update}
 use Rattle.sqlite_schema.specs.declared.command.Source.TheVariants.{Values}
-use Rattle.sqlite_resolve.specs.declared.compiled.Compiled.{Compiled}
-use Rattle.sqlite_resolve.specs.declared.error.CompileError.{CompileError}
 use Rattle.sqlite.specs.Does.{Tally, Does}
 use Rattle.sqlite.specs.Effect.{Database}
-use Rattle.sqlite.specs.Given.{IsPlain}
-use Rattle.sqlite.specs.Listing.{understood}
 use Rattle.sqlite.specs.State.{State}
-use Rattle.sqlite.proofs.Callers.{command_of}
 use Rattle.scim_resource.specs.Contents.{content_kind, content_name}
 use Rattle.scim_resource.specs.Rows.{StoredRecord, IsStored, last_version}
 use Rattle.scim_key.specs.Identifiers.{last_number}
 use Rattle.provider_store.specs.Format.{provider_schema, insert_text, update_text}
 use Rattle.provider_store.specs.Rows.{kind_code}
-use Rattle.provider_store.specs.Connections.{IsLaid, IsEdit, IsEditText, IsSpelled, IsThere, Ran, MayLeave, Makes, Leaves, added, renewed, resources, content_text, plain_mode}
-use Rattle.provider_store.proofs.Texts.{query, number_is, insert_terms, update_terms, insert_is, insert_plain, update_is, update_plain}
+use Rattle.provider_store.specs.Connections.{IsLaid, IsSpelled, IsThere, Makes, Leaves, added, renewed, resources, content_text}
+use Rattle.provider_store.proofs.Texts.{number_is, insert_terms, update_terms, insert_is, insert_plain, update_is, update_plain}
 use Rattle.provider_store.proofs.Writing.{inserts, updates}
+use Rattle.sql_tables.proofs.Editing.{command_is, edits_by}
 use Rattle.provider_store.proofs.Holding.{number_of}
+use Rattle.sql_tables.specs.Statements.{IsEditText, Ran, MayLeave, plain_mode}
+use Rattle.sql_tables.proofs.Queries.{query}
 use Rattle.scim_key.specs.declared.records.RecordName.{RecordName}
 use Rattle.sqlite.specs.State.{HasCleanDisk, Survives}
 use Rattle.sqlite.proofs.StateLemmas.{survives_weaker}
 
 -- ---- the texts
 
-edit_of_plain : (r : Result Compiled CompileError) (c : Compiled) (command : Command) → IsPlain r → command_of r ≡ command → IsEdit command → r ≡ Ok c → (c.returning ≡ None) × (c.formats ≡ []) × IsEdit c.command
-edit_of_plain (Ok d) c command plain means edit is =
-    let same : d ≡ c = cc in
-    subst (λ (x : Compiled). (x.returning ≡ None) × (x.formats ≡ []) × IsEdit x.command) same (plain.0, plain.1, subst IsEdit (sym means) edit)
-edit_of_plain (Err e) c command plain means edit is = absurd plain
+abbrev update_command : Command
+update_command = Update 1 (record { lets = []; body = query 1 (number_is ∷ []) update_terms [] })
 
-pub insert_edits : IsEditText insert_text
-insert_edits a b o c is = edit_of_plain (understood (provider_schema a b o) insert_text) c _ (insert_plain a b o) (insert_is a b o) tt is
+pub insert_edits : IsEditText provider_schema insert_text
+insert_edits = edits_by provider_schema insert_text (Insert 1 (Values insert_terms 6)) insert_plain insert_is tt
 
-pub update_edits : IsEditText update_text
-update_edits a b o c is = edit_of_plain (understood (provider_schema a b o) update_text) c _ (update_plain a b o) (update_is a b o) tt is
-
-command_is : (s : State) (sql : List ℕ) (c : Compiled) (command : Command) (laid : IsLaid s) → command_of (understood (provider_schema laid.format_checks laid.resource_checks laid.order) sql) ≡ command
-    → understood s.now.schema sql ≡ Ok c → c.command ≡ command
-command_is s sql c command laid means is = ap command_of (sym is ∙ ap (λ (schema : Schema). understood schema sql) laid.schema) ∙ means
+pub update_edits : IsEditText provider_schema update_text
+update_edits = edits_by provider_schema update_text update_command update_plain update_is tt
 
 -- ---- an insertion
 
@@ -53,23 +43,23 @@ insert_params s = Int (pos s.number) ∷ Int (pos (kind_code (content_kind s.con
 
 pub inserted : (old new : State) (s : StoredRecord) → IsLaid old → IsSpelled s → IsStored s → Ran insert_text (insert_params s) old new → Makes old new s (added s (resources old))
 inserted old new s laid spelled lawful ran =
-    let command = command_is old insert_text ran.compiled (Insert 1 (Values insert_terms 6)) laid (insert_is laid.format_checks laid.resource_checks laid.order) ran.is in
+    let command = command_is old insert_text ran.compiled (Insert 1 (Values insert_terms 6)) laid (insert_is laid.form) ran.is in
     let does = subst (λ k. Does ran.limit plain_mode (insert_params s) old.now ran.text None k (Ok (ran.tally, new.now))) command ran.does in
-    let made = inserts ran.limit laid.format_checks laid.resource_checks laid.order old.now new.now ran.tally ran.text laid.schema (pos s.number) (pos (kind_code (content_kind s.content))) (pos s.version) (content_name s.content).key (content_text s.content) does in
+    let made = inserts ran.limit laid.form old.now new.now ran.tally ran.text laid.schema (pos s.number) (pos (kind_code (content_kind s.content))) (pos s.version) (content_name s.content).key (content_text s.content) does in
     record {
       was_open = ran.was_open;
       is_open = ran.is_open;
       lawful = lawful;
       spelled = spelled;
       rows = made.1;
-      laid = record { format_checks = laid.format_checks; resource_checks = laid.resource_checks; order = laid.order; schema = made.0; committed = (ran.settled laid).0; autocommit = (ran.settled laid).1 };
+      laid = record { form = laid.form; schema = made.0; committed = (ran.settled laid.autocommit).0; autocommit = (ran.settled laid.autocommit).1 };
     }
 
 pub insert_leaves : (old : State) (s : StoredRecord) (db : Trees) → IsLaid old → IsSpelled s → IsStored s → MayLeave insert_text (insert_params s) old db → Leaves s (added s (resources old)) db
 insert_leaves old s db laid spelled lawful may =
-    let command = command_is old insert_text may.compiled (Insert 1 (Values insert_terms 6)) laid (insert_is laid.format_checks laid.resource_checks laid.order) may.is in
+    let command = command_is old insert_text may.compiled (Insert 1 (Values insert_terms 6)) laid (insert_is laid.form) may.is in
     let does = subst (λ k. Does may.limit plain_mode (insert_params s) old.now may.text None k (Ok (may.tally, may.after))) command may.does in
-    let made = inserts may.limit laid.format_checks laid.resource_checks laid.order old.now may.after may.tally may.text laid.schema (pos s.number) (pos (kind_code (content_kind s.content))) (pos s.version) (content_name s.content).key (content_text s.content) does in
+    let made = inserts may.limit laid.form old.now may.after may.tally may.text laid.schema (pos s.number) (pos (kind_code (content_kind s.content))) (pos s.version) (content_name s.content).key (content_text s.content) does in
     record { lawful = lawful; spelled = spelled; rows = ap (λ (t : Trees). t 1) may.trees ∙ made.1 }
 
 -- ---- an update
@@ -77,23 +67,20 @@ insert_leaves old s db laid spelled lawful may =
 abbrev pub update_params : StoredRecord → Row
 update_params s = Int (pos s.number) ∷ Int (pos s.version) ∷ Text (content_text s.content) ∷ []
 
-abbrev update_command : Command
-update_command = Update 1 (record { lets = []; body = query (number_is ∷ []) update_terms })
-
 renews : (limit : Rattle.std.specs.Prelude.Option ℕ) (old : State) (after : Database) (tally : Tally) (sql : List ℕ) (s : StoredRecord) (laid : IsLaid old) → IsThere (resources old) s
     → Does limit plain_mode (update_params s) old.now sql None update_command (Ok (tally, after))
-    → (after.schema ≡ provider_schema laid.format_checks laid.resource_checks laid.order) × (after.trees 1 ≡ renewed s (resources old))
+    → (after.schema ≡ provider_schema laid.form) × (after.trees 1 ≡ renewed s (resources old))
 renews limit old after tally sql s laid there does =
     let h = there.held in
     let number : column there.row 0 ≡ Int (pos s.number) = number_of there.row h s.number (resources old) there.shows there.only in
     let kind : column there.row 2 ≡ Int (pos (kind_code (content_kind s.content))) = ap (λ row. column row 1) there.shows.shows ∙ ap (λ (n : RecordName). Int (pos (kind_code n.kind))) there.named in
     let key : column there.row 3 ≡ Text (content_name s.content).key = ap (λ row. column row 2) there.shows.shows ∙ ap (λ (n : RecordName). Text n.key) there.named in
-    updates limit laid.format_checks laid.resource_checks laid.order old.now after tally sql laid.schema (pos s.number) (pos (kind_code (content_kind s.content))) (pos s.version) (content_name s.content).key (content_text s.content)
+    updates limit laid.form old.now after tally sql laid.schema (pos s.number) (pos (kind_code (content_kind s.content))) (pos s.version) (content_name s.content).key (content_text s.content)
     there.row there.only number kind key does
 
 pub updated : (old new : State) (s : StoredRecord) → IsLaid old → IsThere (resources old) s → IsSpelled s → IsStored s → Ran update_text (update_params s) old new → Makes old new s (renewed s (resources old))
 updated old new s laid there spelled lawful ran =
-    let command = command_is old update_text ran.compiled update_command laid (update_is laid.format_checks laid.resource_checks laid.order) ran.is in
+    let command = command_is old update_text ran.compiled update_command laid (update_is laid.form) ran.is in
     let does = subst (λ k. Does ran.limit plain_mode (update_params s) old.now ran.text None k (Ok (ran.tally, new.now))) command ran.does in
     let made = renews ran.limit old new.now ran.tally ran.text s laid there does in
     record {
@@ -102,12 +89,12 @@ updated old new s laid there spelled lawful ran =
       lawful = lawful;
       spelled = spelled;
       rows = made.1;
-      laid = record { format_checks = laid.format_checks; resource_checks = laid.resource_checks; order = laid.order; schema = made.0; committed = (ran.settled laid).0; autocommit = (ran.settled laid).1 };
+      laid = record { form = laid.form; schema = made.0; committed = (ran.settled laid.autocommit).0; autocommit = (ran.settled laid.autocommit).1 };
     }
 
 pub update_leaves : (old : State) (s : StoredRecord) (db : Trees) → IsLaid old → IsThere (resources old) s → IsSpelled s → IsStored s → MayLeave update_text (update_params s) old db → Leaves s (renewed s (resources old)) db
 update_leaves old s db laid there spelled lawful may =
-    let command = command_is old update_text may.compiled update_command laid (update_is laid.format_checks laid.resource_checks laid.order) may.is in
+    let command = command_is old update_text may.compiled update_command laid (update_is laid.form) may.is in
     let does = subst (λ k. Does may.limit plain_mode (update_params s) old.now may.text None k (Ok (may.tally, may.after))) command may.does in
     let made = renews may.limit old may.after may.tally may.text s laid there does in
     record { lawful = lawful; spelled = spelled; rows = ap (λ (t : Trees). t 1) may.trees ∙ made.1 }

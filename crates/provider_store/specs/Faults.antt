@@ -1,22 +1,18 @@
--- What the error of a statement means, and why the store is to blame.
-use Rattle.std.specs.Prelude.{◌≡◌, ◌⊎◌, false, IsSome}
-use Rattle.sqlite.specs.State.{State}
-use Rattle.sqlite.specs.declared.error.ErrorCode.TheVariants as code
+-- What the error of a statement means for the registry, and why the store is to blame.
 use Rattle.sqlite.specs.declared.error.Error.{Error}
-use Rattle.sqlite.specs.declared.error.Error.TheVariants.{SqliteFailure}
-use Rattle.provider_core.specs.Stores.{HasRisen}
+use Rattle.sql_tables.specs.Faults.{statement_fault as fault_of}
+use Rattle.sql_tables.specs.declared.statements.StatementFault.{StatementFault}
+use Rattle.sql_tables.specs.declared.statements.StatementFault.TheVariants as statement
 use Rattle.provider_core.specs.declared.registry.RegistryFault.{RegistryFault}
 use Rattle.provider_core.specs.declared.registry.RegistryFault.TheVariants.{Store, Memory}
 
+abbrev pub registry_of : StatementFault → RegistryFault
+registry_of statement.Store = Store
+registry_of statement.Memory = Memory
+
 -- out of memory, or the store failed
 abbrev pub statement_fault : Error → RegistryFault
-statement_fault (SqliteFailure code.OutOfMemory) = Memory
-statement_fault error = Store
-
--- why a statement fails although there is memory: the connection was shut, the disk failed or refused a call meanwhile,
--- or a limit on steps is set
-abbrev pub HasFailed : (old new : State) → Type 0
-HasFailed old new = (old.is_open ≡ false) ⊎ (HasRisen old.faults new.faults ⊎ IsSome old.step_limit)
+statement_fault error = registry_of (fault_of error)
 
 -- a fault that says that the store failed has this cause
 abbrev pub FailsFor : (failure : Type 0) → RegistryFault → Type 0

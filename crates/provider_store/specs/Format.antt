@@ -1,33 +1,23 @@
 -- The tables of format 1, as SQLite keeps them.
 use Rattle.std.specs.Prelude.{ℕ, true, false, List, [], ◌∷◌, Some, codes}
-use Rattle.sqlite_value.specs.declared.keys.Collation.TheVariants.{Binary}
-use Rattle.sqlite_value.specs.declared.value.Value.TheVariants.{Null}
 use Rattle.sqlite_value.specs.declared.keys.Order.{Order}
 use Rattle.sqlite_sql.specs.Term.{Term}
 use Rattle.sqlite_schema.specs.declared.schema.Column.{Column}
 use Rattle.sqlite_schema.specs.declared.schema.Table.{Table}
 use Rattle.sqlite_schema.specs.declared.schema.Index.{Index}
 use Rattle.sqlite_schema.specs.declared.schema.Schema.{Schema}
-use Rattle.sqlite_schema.specs.declared.schema.Kind.{Kind}
 use Rattle.sqlite_schema.specs.declared.schema.Kind.TheVariants.{Integer, Text}
+use Rattle.sql_tables.specs.Layouts.{format_table, no_stamps, optional, required}
 
 -- the number of the format
 abbrev pub format_number : ℕ
 format_number = 1
 
--- ---- columns
-
-abbrev pub required : List ℕ → Kind → Column
-required name kind = record { name = name; kind = kind; is_strict = false; not_null = true; default = Null; collation = Binary }
-
--- the column that is the number of the row
-abbrev pub numbering : List ℕ → Column
-numbering name = record { name = name; kind = Integer; is_strict = false; not_null = false; default = Null; collation = Binary }
-
 -- ---- tables
 
-abbrev pub format_tree : ℕ
-format_tree = 0
+-- the name of the table of the format
+abbrev pub format_name : List ℕ
+format_name = codes "provider_format"
 
 abbrev pub resource_tree : ℕ
 resource_tree = 1
@@ -35,28 +25,12 @@ resource_tree = 1
 abbrev pub name_tree : ℕ
 name_tree = 2
 
-abbrev pub format_table : List Term → Table
-format_table checks = record {
-  name = codes "provider_format";
-  tree = format_tree;
-  columns = numbering (codes "one") ∷ required (codes "number") Integer ∷ [];
-  key = Some 0;
-  primary = 0 ∷ [];
-  uniques = [];
-  orders = [];
-  checks = checks;
-  references = [];
-  computed = [];
-  stamps = record { places = []; terms = []; formats = [] };
-  is_counted = false;
-}
-
 -- the places of kind and key, by which rows are found
 abbrev pub name_places : List ℕ
 name_places = 2 ∷ 3 ∷ []
 
 abbrev pub resource_columns : List Column
-resource_columns = numbering (codes "number") ∷ required (codes "kind") Integer ∷ required (codes "name_key") Text ∷ required (codes "version") Integer ∷ required (codes "content") Text ∷ []
+resource_columns = optional (codes "number") Integer ∷ required (codes "kind") Integer ∷ required (codes "name_key") Text ∷ required (codes "version") Integer ∷ required (codes "content") Text ∷ []
 
 abbrev pub resource_table : List Term → Order → Table
 resource_table checks order = record {
@@ -70,19 +44,22 @@ resource_table checks order = record {
   checks = checks;
   references = [];
   computed = [];
-  stamps = record { places = []; terms = []; formats = [] };
+  stamps = no_stamps;
   is_counted = false;
 }
 
 abbrev pub name_index : Order → Index
 name_index order = record { name = codes "sqlite_autoindex_resource_1"; tree = name_tree; table = resource_tree; columns = name_places; order = order; is_unique = true }
 
-abbrev pub provider_schema : (format_checks resource_checks : List Term) → Order → Schema
-provider_schema format_checks resource_checks order =
-    record { tables = format_table format_checks ∷ resource_table resource_checks order ∷ []; indexes = name_index order ∷ []; views = [] }
+-- what SQLite chooses of the tables: the terms of their CHECKs, and the order of the index
+pub record Form : Type 0 where
+  pub format_checks : List Term
+  pub resource_checks : List Term
+  pub order : Order
 
-abbrev pub no_schema : Schema
-no_schema = record { tables = []; indexes = []; views = [] }
+abbrev pub provider_schema : Form → Schema
+provider_schema form =
+    record { tables = format_table format_name form.format_checks ∷ resource_table form.resource_checks form.order ∷ []; indexes = name_index form.order ∷ []; views = [] }
 
 -- ---- statements
 

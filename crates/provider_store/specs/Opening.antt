@@ -1,22 +1,19 @@
 -- What an opening looks for, what it finds, and what it leaves if it refuses.
-use Rattle.std.specs.Prelude.{◌≡◌, ◌≢◌, ◌⊎◌, ℕ, suc, ◌<◌, ◌≤◌, pos, true, false, List, [], ◌∷◌, Some, IsTrue, length, map, filter, slice_get, codes}
-use Rattle.sqlite_value.specs.declared.keys.Order.{Order}
-use Rattle.sqlite_value.specs.declared.value.Value.TheVariants.{Int}
-use Rattle.sqlite_value.specs.Order.{Row, column}
+use Rattle.std.specs.Prelude.{◌≡◌, ◌≢◌, ◌⊎◌, ℕ, suc, ◌<◌, ◌≤◌, pos, true, List, [], ◌∷◌, Some, IsTrue, length, filter, slice_get, codes}
+use Rattle.sqlite_value.specs.Order.{Row}
 use Rattle.sqlite_trees.specs.Tree.{Trees, has_rowid}
-use Rattle.sqlite_sql.specs.Term.{Term}
-use Rattle.sqlite_schema.specs.declared.schema.Stamps.{Stamps}
 use Rattle.sqlite_schema.specs.declared.schema.Table.{Table}
 use Rattle.sqlite_schema.specs.declared.schema.Schema.{Schema}
-use Rattle.sqlite.specs.State.{State, HasCleanDisk, Survives}
+use Rattle.sqlite.specs.State.{State}
 use Rattle.scim_key.specs.declared.records.RecordName.{RecordName}
 use Rattle.scim_resource.specs.Rows.{StoredRecord}
 use Rattle.provider_core.specs.Rows.{IsNumberedFrom, AreNamedApart}
-use Rattle.provider_store.specs.Format.{provider_schema, no_schema, format_tree, resource_tree, resource_columns, name_places, format_number}
+use Rattle.provider_store.specs.Format.{provider_schema, resource_tree, resource_columns, name_places, format_number}
 use Rattle.provider_store.specs.Rows.{shown_row, IsRowOf, Holds}
-use Rattle.provider_store.specs.Faults.{HasFailed}
 use Rattle.provider_store.specs.Lawful.{AreAllLawful, IsUnlawfulAt}
-use Rattle.provider_store.specs.Connections.{IsLaid, Keeps, IsNamed, resources}
+use Rattle.provider_store.specs.Connections.{IsLaid, IsNamed, resources}
+use Rattle.sql_tables.specs.Layouts.{IsBlank, IsFormat, IsOne, IsPlainTable, no_schema}
+use Rattle.sql_tables.specs.Faults.{HasFailed}
 use Rattle.provider_store.specs.declared.opening.OpenFault.{OpenFault}
 use Rattle.provider_store.specs.declared.opening.OpenFault.TheVariants.{Store, Damaged, Newer, Memory}
 use Rattle.provider_core.specs.declared.registry.RegistryFault.{RegistryFault}
@@ -24,48 +21,19 @@ use Rattle.provider_core.specs.declared.registry.RegistryFault.TheVariants as re
 
 -- ---- the tables
 
-abbrev pub no_stamps : Stamps
-no_stamps = record { places = []; terms = []; formats = [] }
-
--- the first column is the number of the row, and nothing else is declared for the table
-pub record IsPlainTable (table : Table) : Type 0 where
-  pub key : table.key ≡ Some 0
-  pub primary : table.primary ≡ 0 ∷ []
-  pub references : table.references ≡ []
-  pub computed : table.computed ≡ []
-  pub stamps : table.stamps ≡ no_stamps
-  pub uncounted : table.is_counted ≡ false
-
 -- the table is that of the resources, in any order of its index
 pub record IsResourceTable (table : Table) : Type 0 where
   pub name : table.name ≡ codes "resource"
   pub tree : table.tree ≡ resource_tree
   pub columns : table.columns ≡ resource_columns
+  pub key : table.key ≡ Some 0
+  pub primary : table.primary ≡ 0 ∷ []
   pub plain : IsPlainTable table
   pub uniques : table.uniques ≡ name_places ∷ []
 
 -- the schema has exactly the tables of the format
-pub record IsProvider (schema : Schema) : Type 0 where
-  pub format_checks : List Term
-  pub resource_checks : List Term
-  pub order : Order
-  pub is : schema ≡ provider_schema format_checks resource_checks order
-
--- there are no tables, and no transaction is open
-pub record IsBlank (s : State) : Type 0 where
-  pub schema : s.now.schema ≡ no_schema
-  pub committed : s.committed ≡ s.now
-  pub autocommit : s.in_transaction ≡ false
-
--- ---- the format
-
--- the table of the format has one row, with this number
-abbrev pub IsFormat : State → ℕ → Type 0
-IsFormat s number = map (λ (r : Row). column r 2) (s.now.trees format_tree) ≡ Int (pos number) ∷ []
-
--- the result shows only this number
-abbrev pub IsMarked : List Row → ℕ → Type 0
-IsMarked rows number = (r : Row) × (rows ≡ r ∷ []) × (column r 0 ≡ Int (pos number))
+abbrev pub IsProvider : Schema → Type 0
+IsProvider = IsOne provider_schema
 
 -- ---- faults
 
@@ -119,16 +87,6 @@ pub record IsStore (s : State) (rows : List StoredRecord) : Type 0 where
 -- what is in a store: the records of its tables, or none if there are no tables
 abbrev pub Stands : State → List StoredRecord → Type 0
 Stands s rows = IsStore s rows ⊎ (IsBlank s × (rows ≡ []))
-
--- a call that only looks: the connection is unchanged, and nothing is committed
-pub record Looks (old new : State) : Type 0 where
-  pub keeps : HasCleanDisk new → Keeps old new
-  pub quiet : Survives old new (λ _. ⊥)
-
--- what was committed stays
-pub record LeavesStore (old new : State) : Type 0 where
-  pub was_open : IsTrue new.is_open → IsTrue old.is_open
-  pub committed : IsTrue new.is_open → new.committed ≡ old.committed
 
 -- ---- what is refused
 

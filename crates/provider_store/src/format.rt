@@ -1,23 +1,23 @@
 //! The format of a store: its number, its tables, and the check of a schema at run time.
-ghost use Rattle.std.specs.Prelude.{◌≡◌, false, [], ◌∷◌, IsTrue};
-ghost use Rattle.sqlite_value.specs.declared.value.Value.TheVariants.{Null};
-ghost use Rattle.sqlite_value.specs.declared.keys.Collation.TheVariants.{Binary};
-ghost use Rattle.provider_store.specs.Format.{format_table, name_index, name_places, no_schema, resource_columns};
-ghost use Rattle.provider_store.specs.Opening.{IsPlainTable, IsProvider, IsResourceTable, no_stamps};
+ghost use Rattle.std.specs.Prelude.{◌≡◌, [], ◌∷◌, IsTrue};
+ghost use Rattle.provider_store.specs.Format.{name_index, name_places, resource_columns};
+ghost use Rattle.provider_store.specs.Opening.{IsProvider, IsResourceTable};
 
+use sql_tables::{Layout, has_order, is_column, is_format, is_plain};
 use sqlite_schema::schema::{Column, Index, Kind, Schema, Table};
-use sqlite_value::keys::Collation;
-use sqlite_value::value::Value;
 
 /// The number of the format that is written; no other format is read.
 pub(crate) const FORMAT: u64 = 1;
 
-/// Whether there are no tables.
-pub(crate) fn is_blank(schema: &Schema) -> bool
-    ensures is { IsTrue result → schema.now ≡ no_schema }
-    ensures known { schema.now ≡ no_schema → IsTrue result }
-{
-    schema.tables.is_empty() && schema.indexes.is_empty() && schema.views.is_empty()
+/// The tables of the format.
+pub(crate) struct Provider;
+
+impl Layout for Provider {
+    ghost use Rattle.provider_store.specs.Format.{Form, provider_schema};
+
+    ghost form = { Form };
+
+    ghost layout = { provider_schema };
 }
 
 /// Whether the tables are those of the format. Their CHECKs may have any terms, because each row is checked
@@ -32,38 +32,11 @@ pub(crate) fn is_provider(schema: &Schema) -> bool
     let [index] = schema.indexes.as_slice() else {
         return false;
     };
-    is_format(format)
+    is_format(format, b"provider_format")
         && is_resource(resource)
         && is_name_index(index)
         && schema.views.is_empty()
         && has_order(resource, index)
-}
-
-/// Whether the table's only UNIQUE has the order of the index.
-fn has_order(table: &Table, index: &Index) -> bool
-    ensures is { IsTrue result → table.now.orders ≡ index.now.order ∷ [] }
-    ensures known { table.now.orders ≡ index.now.order ∷ [] → IsTrue result }
-{
-    match table.orders.as_slice() {
-        [order] => order.digits == index.order.digits,
-        _ => false,
-    }
-}
-
-fn is_format(table: &Table) -> bool
-    ensures is { IsTrue result → table.now ≡ format_table table.now.checks }
-    ensures known { table.now ≡ format_table table.now.checks → IsTrue result }
-{
-    match table.columns.as_slice() {
-        [one, number] => table.name.as_slice() == b"provider_format".as_slice()
-            && table.tree == 0
-            && is_column(one, b"one", Kind::Integer, false)
-            && is_column(number, b"number", Kind::Integer, true)
-            && table.uniques.is_empty()
-            && table.orders.is_empty()
-            && is_plain(table),
-        _ => false,
-    }
 }
 
 fn is_resource(table: &Table) -> bool
@@ -73,6 +46,8 @@ fn is_resource(table: &Table) -> bool
     table.name.as_slice() == b"resource".as_slice()
         && table.tree == 1
         && has_columns(table.columns.as_slice())
+        && table.key == Some(0)
+        && table.primary.as_slice() == [0].as_slice()
         && is_plain(table)
         && has_unique(table)
 }
@@ -116,38 +91,4 @@ fn is_name_index(index: &Index) -> bool
         && index.table == 1
         && index.columns.as_slice() == [2, 3].as_slice()
         && index.is_unique
-}
-
-/// Whether the first column is the number of the row, and nothing else is declared for the table.
-fn is_plain(table: &Table) -> bool
-    ensures is { IsTrue result → IsPlainTable table.now }
-    ensures known { IsPlainTable table.now → IsTrue result }
-{
-    table.key == Some(0)
-        && table.primary.as_slice() == [0].as_slice()
-        && table.references.is_empty()
-        && table.computed.is_empty()
-        && has_no_stamps(table)
-        && !table.is_counted
-}
-
-fn has_no_stamps(table: &Table) -> bool
-    ensures is { IsTrue result → table.now.stamps ≡ no_stamps }
-    ensures known { table.now.stamps ≡ no_stamps → IsTrue result }
-{
-    table.stamps.places.is_empty()
-        && table.stamps.terms.roots.is_empty()
-        && table.stamps.formats.is_empty()
-}
-
-fn is_column(column: &Column, name: &[u8], kind: Kind, not_null: bool) -> bool
-    ensures is { IsTrue result → column.now ≡ record { name = name.now; kind = kind; is_strict = false; not_null = not_null; default = Null; collation = Binary } }
-    ensures known { column.now ≡ record { name = name.now; kind = kind; is_strict = false; not_null = not_null; default = Null; collation = Binary } → IsTrue result }
-{
-    column.name.as_slice() == name
-        && column.kind == kind
-        && !column.is_strict
-        && column.not_null == not_null
-        && matches!(column.default, Value::Null)
-        && column.collation == Collation::Binary
 }

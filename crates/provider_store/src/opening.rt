@@ -7,18 +7,21 @@ ghost use Rattle.sqlite.specs.Held.{state};
 ghost use Rattle.sqlite.specs.State.{HasCleanDisk, Survives};
 ghost use Rattle.scim_resource.specs.Contents.{content_name};
 ghost use Rattle.scim_resource.specs.Rows.{StoredRecord};
-ghost use Rattle.provider_store.specs.Faults.{HasFailed};
 ghost use Rattle.provider_store.specs.Format.{format_number};
 ghost use Rattle.provider_store.specs.Connections.{IsLaid, resources};
 ghost use Rattle.provider_store.specs.Lawful.{AreLawfulTo, AreWithin, EndsAt, IsFirstWrong, IsLawfulAt, IsOutside, IsWrong, NoneNamed, has_name};
 ghost use Rattle.provider_store.specs.Rows.{number_at};
-ghost use Rattle.provider_store.specs.Opening.{HoldsFirst, IsAlone, IsBlank, IsCause, IsDamaged, IsFormat, IsFor, IsMarked, IsNewer, IsNotLaid, IsOfRows, IsSpoilt, IsStore, IsUnmarked, LeavesNone, LeavesStore, Looks, OpenFailsFor, OpeningFails, Stands};
+ghost use Rattle.provider_store.specs.Opening.{HoldsFirst, IsAlone, IsCause, IsDamaged, IsFor, IsNewer, IsNotLaid, IsOfRows, IsSpoilt, IsStore, IsUnmarked, LeavesNone, OpenFailsFor, OpeningFails, Stands};
+ghost use Rattle.sql_tables.specs.Faults.{HasFailed};
+ghost use Rattle.sql_tables.specs.Layouts.{IsBlank, IsFormat};
+ghost use Rattle.sql_tables.specs.Statements.{LeavesStore, Looks};
 
-use crate::format::{FORMAT, is_blank, is_provider};
-use crate::tables::{Found, ask, fault_of, find_named, find_numbered, number_at};
+use crate::format::{FORMAT, Provider, is_provider};
+use crate::tables::{Found, fault_of, find_named, find_numbered};
 use provider_core::RegistryFault;
 use scim_key::LAST_NUMBER;
 use scim_resource::Stored;
+use sql_tables::{Mark, ask, find_mark, is_blank, number_at};
 use sqlite::{Alter, Connection, Error, Row};
 use sqlite_value::value::ValueRef;
 use std::alloc::{AllocError, Global};
@@ -112,25 +115,11 @@ fn check_format<S: Alter>(conn: &mut Connection<S>) -> Result<(), OpenFault>
     ensures failed { HasCleanDisk (state S.Store conn.new) → IfErr result (OpenFailsFor (HasFailed (state S.Store conn.old) (state S.Store conn.new))) }
     ensures looks { Looks (state S.Store conn.old) (state S.Store conn.new) }
 {
-    match ask(conn, "SELECT number FROM provider_format", &[]) {
-        Ok(rows) => format_in(rows.as_slice()),
+    match find_mark::<S, Provider>(conn, "SELECT number FROM provider_format", FORMAT) {
+        Ok(Mark::Own) => Ok(()),
+        Ok(Mark::Newer) => Err(OpenFault::Newer),
+        Ok(Mark::Unmarked) => Err(OpenFault::Damaged(0)),
         Err(error) => Err(OpenFault::from(error)),
-    }
-}
-
-/// Checks that the rows show the number of the format, and no other.
-fn format_in(rows: &[Row]) -> Result<(), OpenFault>
-    ensures known { OnOk result (IsMarked rows.now format_number) }
-    ensures cause { IfErr result (IsFor ((number : ℕ) × (format_number < number) × IsMarked rows.now number) (λ told. (told ≡ 0) × ((number : ℕ) → format_number ≤ number → IsMarked rows.now number → ⊥))) }
-    ensures read { IfErr result IsOfRows }
-{
-    let [row] = rows else {
-        return Err(OpenFault::Damaged(0));
-    };
-    match number_at(row, 0) {
-        Some(FORMAT) => Ok(()),
-        Some(number) if number > FORMAT => Err(OpenFault::Newer),
-        _ => Err(OpenFault::Damaged(0)),
     }
 }
 
@@ -209,7 +198,7 @@ fn check_rest<S: Alter>(conn: &mut Connection<S>, count: u32) -> Result<(), Open
     ensures failed { HasCleanDisk (state S.Store conn.new) → IfErr result (OpenFailsFor (HasFailed (state S.Store conn.old) (state S.Store conn.new))) }
     ensures looks { Looks (state S.Store conn.old) (state S.Store conn.new) }
 {
-    match ask(
+    match ask::<S, Provider>(
         conn,
         "SELECT number FROM resource WHERE number < 1 OR number > ?1",
         &[ValueRef::Int(i64::from(count))],

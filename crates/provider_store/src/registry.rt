@@ -7,12 +7,14 @@ ghost use Rattle.provider_core.specs.Stores.{CountsFault, CountsFaults, HasRisen
 ghost use Rattle.provider_core.specs.declared.registry.RegistryFault.TheVariants.{Store};
 ghost use Rattle.provider_store.specs.Kept.{IsFaithful, IsHonest, IsRefused, MayHold, kept_rows};
 ghost use Rattle.provider_store.specs.Connections.{FindsName, FindsNumber, resources};
-ghost use Rattle.provider_store.specs.Faults.{FailsFor, HasFailed};
+ghost use Rattle.provider_store.specs.Faults.{FailsFor};
 ghost use Rattle.provider_store.specs.declared.tables.Found.TheVariants.{Damaged};
 ghost use Rattle.provider_store.specs.Lookups.{IsFaultOf, found_of};
-ghost use Rattle.provider_store.specs.Opening.{IsCause, IsDamaged, LeavesNone, LeavesStore, OpenFailsFor, OpeningFails, Stands, registry_fault};
+ghost use Rattle.provider_store.specs.Opening.{IsCause, IsDamaged, LeavesNone, OpenFailsFor, OpeningFails, Stands, registry_fault};
 ghost use Rattle.sqlite.specs.Held.{state};
 ghost use Rattle.sqlite.specs.State.{HasCleanDisk, Survives};
+ghost use Rattle.sql_tables.specs.Faults.{HasFailed};
+ghost use Rattle.sql_tables.specs.Statements.{LeavesStore};
 
 use crate::opening::{OpenFault, check_tables, open_tables};
 use crate::tables::{Found, find_named, find_numbered, insert_row, update_row};

@@ -8,14 +8,18 @@ ghost use Rattle.sqlite.specs.Values.{bound};
 ghost use Rattle.scim_resource.specs.Contents.{content_kind, content_name};
 ghost use Rattle.scim_resource.specs.Reading.{content_in};
 ghost use Rattle.scim_resource.specs.Rows.{IsStored, StoredRecord};
-ghost use Rattle.provider_store.specs.Faults.{FailsFor, HasFailed, statement_fault};
+ghost use Rattle.provider_store.specs.Faults.{FailsFor, statement_fault};
 ghost use Rattle.provider_store.specs.Rows.{IsRowOf, kind_code};
-ghost use Rattle.provider_store.specs.Connections.{Answers, FindsName, FindsNumber, IsEditText, IsGiven, IsLaid, IsOnly, IsQuery, IsThere, Keeps, Leaves, Makes, MayLeave, Ran, added, content_text, renewed, resources};
+ghost use Rattle.provider_store.specs.Connections.{FindsName, FindsNumber, IsLaid, IsOnly, IsThere, Leaves, Makes, added, content_text, renewed, resources};
+ghost use Rattle.sql_tables.specs.Faults.{HasFailed};
+ghost use Rattle.sql_tables.specs.Statements.{Keeps};
 
+use crate::format::Provider;
 use provider_core::RegistryFault;
 use scim_key::{Kind, LAST_NUMBER, RecordName};
 use scim_resource::{Content, LAST_VERSION, ReadFault, Stored};
-use sqlite::{Alter, Connection, Error, ErrorCode, Row};
+use sql_tables::{StatementFault, ask, number_at, text_at, write};
+use sqlite::{Alter, Connection, Error, Row};
 use sqlite_value::value::ValueRef;
 use std::alloc::{AllocError, Global};
 
@@ -32,73 +36,13 @@ pub enum Found {
 pub(crate) fn fault_of(error: Error) -> RegistryFault
     ensures { result ≡ statement_fault error }
 {
-    match error {
-        Error::SqliteFailure(ErrorCode::OutOfMemory) => RegistryFault::Memory,
-        _ => RegistryFault::Store,
+    match StatementFault::from(error) {
+        StatementFault::Memory => RegistryFault::Memory,
+        StatementFault::Store => RegistryFault::Store,
     }
-}
-
-// ---- statements
-
-/// The rows that a query returns.
-pub(crate) fn ask<S: Alter>(
-    conn: &mut Connection<S>,
-    sql: &str,
-    params: &[ValueRef<'_>],
-) -> Result<Vec<Row>, Error>
-    requires query { IsQuery sql.now }
-    requires given { IsGiven sql.now (bound params.now) }
-    requires laid { HasCleanDisk (state S.Store conn.old) → IsTrue (state S.Store conn.old).is_open → IsLaid (state S.Store conn.old) }
-    ensures rows { HasCleanDisk (state S.Store conn.new) → IfOk result (λ rows. Answers sql.now (bound params.now) (state S.Store conn.old) rows.items) }
-    ensures failed { HasCleanDisk (state S.Store conn.new) → IfErr result (λ e. FailsFor (HasFailed (state S.Store conn.old) (state S.Store conn.new)) (statement_fault e)) }
-    ensures keeps { HasCleanDisk (state S.Store conn.new) → Keeps (state S.Store conn.old) (state S.Store conn.new) }
-    ensures open { HasCleanDisk (state S.Store conn.new) → OnOk result (IsTrue (state S.Store conn.new).is_open) }
-    ensures quiet { Survives (state S.Store conn.old) (state S.Store conn.new) (λ _. ⊥) }
-{
-    let statement = conn.prepare(sql)?;
-    statement.query_all(conn, params)
-}
-
-/// Runs one write, which commits by itself.
-fn write<S: Alter>(
-    conn: &mut Connection<S>,
-    sql: &str,
-    params: &[ValueRef<'_>],
-) -> Result<(), Error>
-    requires edit { IsEditText sql.now }
-    requires laid { HasCleanDisk (state S.Store conn.old) → IsTrue (state S.Store conn.old).is_open → IsLaid (state S.Store conn.old) }
-    ensures ran { HasCleanDisk (state S.Store conn.new) → OnOk result (Ran sql.now (bound params.now) (state S.Store conn.old) (state S.Store conn.new)) }
-    ensures keeps { HasCleanDisk (state S.Store conn.new) → OnErr result (Keeps (state S.Store conn.old) (state S.Store conn.new)) }
-    ensures stop { Survives (state S.Store conn.old) (state S.Store conn.new) (MayLeave sql.now (bound params.now) (state S.Store conn.old)) }
-{
-    let statement = conn.prepare(sql)?;
-    statement.execute(conn, params)?;
-    Ok(())
 }
 
 // ---- rows
-
-/// The number in a column, if there is one and it isn't negative.
-pub(crate) fn number_at(row: &Row, at: usize) -> Option<u64>
-    ensures some { IfSome result (λ n. column row.now at ≡ Int (pos n)) }
-    ensures none { IfNone result ((n : ℕ) → column row.now at ≡ Int (pos n) → ⊥) }
-{
-    match row.get_ref(at) {
-        Ok(ValueRef::Int(number)) => u64::try_from(number).ok(),
-        _ => None,
-    }
-}
-
-/// The text in a column, if there is one.
-fn text_at(row: &Row, at: usize) -> Option<&[u8]>
-    ensures some { IfSome result (λ text. column row.now at ≡ Text text.now) }
-    ensures none { IfNone result ((text : List ℕ) → column row.now at ≡ Text text → ⊥) }
-{
-    match row.get_ref(at) {
-        Ok(ValueRef::Text(text)) => Some(text),
-        _ => None,
-    }
-}
 
 fn kind_of(code: u64) -> Option<Kind>
     ensures some { IfSome result (λ kind. code ≡ kind_code kind) }
@@ -208,7 +152,7 @@ pub(crate) fn find_numbered<S: Alter>(
     ensures open { HasCleanDisk (state S.Store conn.new) → OnOk result (IsTrue (state S.Store conn.new).is_open) }
     ensures quiet { Survives (state S.Store conn.old) (state S.Store conn.new) (λ _. ⊥) }
 {
-    match ask(
+    match ask::<S, Provider>(
         conn,
         "SELECT number, kind, name_key, version, content FROM resource WHERE number = ?1",
         &[ValueRef::Int(i64::from(number))],
@@ -231,7 +175,7 @@ pub(crate) fn find_named<S: Alter>(
     ensures open { HasCleanDisk (state S.Store conn.new) → OnOk result (IsTrue (state S.Store conn.new).is_open) }
     ensures quiet { Survives (state S.Store conn.old) (state S.Store conn.new) (λ _. ⊥) }
 {
-    match ask(
+    match ask::<S, Provider>(
         conn,
         "SELECT number, kind, name_key, version, content FROM resource WHERE kind = ?1 AND name_key = ?2",
         &[
@@ -265,7 +209,7 @@ pub(crate) fn insert_row<S: Alter>(
 {
     let name = row.content().name(alloc)?;
     let text = text_of(alloc, row.content())?;
-    match write(
+    match write::<S, Provider>(
         conn,
         "INSERT INTO resource (number, kind, name_key, version, content) VALUES (?1, ?2, ?3, ?4, ?5)",
         &[
@@ -294,7 +238,7 @@ pub(crate) fn update_row<S: Alter>(
     ensures stop { Survives (state S.Store conn.old) (state S.Store conn.new) (λ db. IsTrue (state S.Store conn.old).is_open × Leaves row.now (renewed row.now (resources (state S.Store conn.old))) db) }
 {
     let text = text_of(alloc, row.content())?;
-    match write(
+    match write::<S, Provider>(
         conn,
         "UPDATE resource SET version = ?2, content = ?3 WHERE number = ?1",
         &[

@@ -1,6 +1,6 @@
 use Rattle.std.proofs.Common.{◌≡◌, [], ◌∷◌, ◌∙◌, sym, ap, rules, tests}
 use Rattle.provider_store.specs.Format.{name_places}
-use Rattle.provider_store.proofs.Fields.{one_item}
+use Rattle.sql_tables.proofs.Items.{one_item}
 use Rattle.provider_store.proofs.format.has_unique.Goals as goal
 
 pub returns-in-len1-clause-is : goal.returns-in-len1-clause-is

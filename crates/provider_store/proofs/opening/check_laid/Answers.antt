@@ -5,11 +5,13 @@ use Rattle.sqlite.specs.State.{HasCleanDisk}
 use Rattle.provider_store.specs.Connections.{resources}
 use Rattle.provider_store.specs.Opening.{HoldsFirst, IsNewer, IsSpoilt, IsUnmarked}
 use Rattle.provider_store.specs.Lawful.{AreAllLawful, AreLawfulTo, AreWithin, EndsAt, IsFirstWrong, IsOutside}
-use Rattle.provider_store.proofs.Refusing.{provider_of, spoilt_by}
-use Rattle.provider_store.proofs.Checking.{both_of, damage_of, laid_on, was_laid, same_rows, first_all}
-use Rattle.provider_store.specs.Faults.{HasFailed}
-use Rattle.provider_store.proofs.Checking.{looks_then, opens_of}
-use Rattle.provider_store.proofs.Failing.{failed_after}
+use Rattle.provider_store.proofs.Refusing.{spoilt_by}
+use Rattle.sql_tables.proofs.Looking.{one_of_laid}
+use Rattle.provider_store.proofs.Checking.{both_of, damage_of, same_rows, first_all}
+use Rattle.provider_store.proofs.Checking.{opens_of}
+use Rattle.sql_tables.proofs.Looking.{laid_on, was_laid, looks_then}
+use Rattle.sql_tables.specs.Faults.{HasFailed}
+use Rattle.sql_tables.proofs.Failing.{failed_since}
 use Rattle.provider_store.proofs.opening.check_laid.Goals as goal
 
 pub returns-clause-store : goal.returns-clause-store
@@ -43,7 +45,7 @@ returns-in_err-check_format-clause-cause g c clean =
     let old = state g.S.Store c.args.conn.now in
     let new = state g.S.Store c.check_format.new.conn in
     both_of (IsNewer old) (IsTrue new.is_open) (λ told. (told ≡ 0) × IsUnmarked old) (λ _. IsTrue new.is_open) (IsSpoilt old)
-    (λ told d still. (provider_of old (c.requires.laid early ((err.looks.keeps clean).was_open still)), inl d))
+    (λ told d still. (one_of_laid old (c.requires.laid early ((err.looks.keeps clean).was_open still)), inl d))
     c.from_residual.result c.in_err-check_format.field-0.0 c.from_residual.ensures.1 (err.cause clean) (err.told clean)
 
 pub returns-in_err-count-clause-cause : goal.returns-in_err-count-clause-cause
@@ -97,7 +99,7 @@ returns-in_err-count-clause-failed g c clean =
     let new = state g.S.Store c.check_rows.new.conn in
     let err = c.in_err-count.ensures in
     let early : HasCleanDisk marked = omega (arith, clean, err.looks.quiet.clean) in
-    opens_of (HasFailed marked new) (HasFailed old new) (failed_after old marked new c.in_ok-check_format.ensures.looks.quiet early err.looks.quiet.counts)
+    opens_of (HasFailed marked new) (HasFailed old new) (failed_since old marked new c.in_ok-check_format.ensures.looks.quiet early err.looks.quiet.counts)
     c.from_residual-in_err-count.result c.in_err-count.field-0.0 c.from_residual-in_err-count.ensures.1 (err.failed clean)
 
 pub returns-in_err-check_rest-clause-failed : goal.returns-in_err-check_rest-clause-failed
@@ -108,5 +110,5 @@ returns-in_err-check_rest-clause-failed g c clean =
     let err = c.in_err-check_rest.ensures in
     let later : HasCleanDisk counted = omega (arith, clean, err.looks.quiet.clean) in
     let to_counted = looks_then old (state g.S.Store c.check_format.new.conn) counted c.in_ok-check_format.ensures.looks c.in_ok-count.ensures.looks in
-    opens_of (HasFailed counted new) (HasFailed old new) (failed_after old counted new to_counted.quiet later err.looks.quiet.counts)
+    opens_of (HasFailed counted new) (HasFailed old new) (failed_since old counted new to_counted.quiet later err.looks.quiet.counts)
     c.from_residual-in_err-check_rest.result c.in_err-check_rest.field-0.0 c.from_residual-in_err-check_rest.ensures.1 (err.failed clean)

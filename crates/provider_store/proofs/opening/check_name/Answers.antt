@@ -7,8 +7,8 @@ use Rattle.provider_store.proofs.Refusing.{none_by}
 use Rattle.provider_store.specs.Connections.{FindsName, resources}
 use Rattle.provider_store.specs.Opening.{IsAlone}
 use Rattle.provider_store.proofs.Checking.{alone_from}
-use Rattle.provider_store.specs.Faults.{HasFailed}
 use Rattle.provider_store.proofs.Checking.{fails_of}
+use Rattle.sql_tables.specs.Faults.{HasFailed}
 use Rattle.provider_store.proofs.opening.check_name.Goals as goal
 
 pub returns-in-There-clause-alone : goal.returns-in-There-clause-alone

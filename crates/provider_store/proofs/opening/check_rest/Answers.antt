@@ -2,11 +2,14 @@ use Rattle.std.proofs.Common.{arith, of_z, to_z, w64, subst, sym}
 use Rattle.sqlite.specs.Held.{state}
 use Rattle.sqlite.specs.State.{HasCleanDisk}
 use Rattle.provider_store.proofs.Texts.{outside_query}
-use Rattle.provider_store.proofs.Values.{bound_int}
-use Rattle.provider_store.proofs.Checking.{rows_fail, told_fails, on_ok, if_err, is_for, outside_found, within_found, beside_found}
-use Rattle.provider_store.specs.Faults.{HasFailed, statement_fault}
+use Rattle.provider_store.proofs.Checking.{rows_fail, told_fails, is_for, outside_found, within_found, beside_found}
+use Rattle.provider_store.specs.Faults.{statement_fault}
 use Rattle.provider_store.specs.Opening.{OpenFailsFor}
+use Rattle.provider_store.proofs.Failing.{fails_as}
 use Rattle.provider_store.proofs.Giving.{outside_given}
+use Rattle.sql_tables.proofs.Values.{bound_int}
+use Rattle.sql_tables.proofs.Results.{on_ok, if_err}
+use Rattle.sql_tables.specs.Faults.{HasFailed, statement_fault as fault_of}
 use Rattle.provider_store.proofs.opening.check_rest.Goals as goal
 
 pub ask-requires-clause-query : goal.ask-requires-clause-query
@@ -49,4 +52,4 @@ returns-in-Ok-clause-failed g c clean = if_err c.none_in.result (rows_fail (HasF
 pub returns-in-Err-clause-failed : goal.returns-in-Err-clause-failed
 returns-in-Err-clause-failed g c clean =
     let failure = HasFailed (state g.S.Store c.args.conn.now) (state g.S.Store c.ask.new.conn) in
-    subst (OpenFailsFor failure) (sym c.from-in-Err.ensures.0) (told_fails failure (statement_fault c.in-Err.error) (c.in-Err.ensures.failed clean))
+    subst (OpenFailsFor failure) (sym c.from-in-Err.ensures.0) (told_fails failure (statement_fault c.in-Err.error) (fails_as failure (fault_of c.in-Err.error) (c.in-Err.ensures.failed clean)))

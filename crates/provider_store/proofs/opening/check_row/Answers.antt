@@ -5,13 +5,13 @@ use Rattle.sqlite.specs.State.{HasCleanDisk}
 use Rattle.scim_resource.specs.Contents.{content_name}
 use Rattle.provider_store.specs.Connections.{FindsNumber, resources}
 use Rattle.provider_store.specs.Lawful.{has_name, NoneNamed, IsWrong}
-use Rattle.provider_store.specs.Opening.{Looks}
 use Rattle.provider_store.proofs.Finding.{has_named}
 use Rattle.provider_store.proofs.Refusing.{numbered_there, lawful_alone, told_number, wrong_shared, wrong_damaged}
 use Rattle.provider_store.proofs.Checking.{damage_of, same_rows}
-use Rattle.provider_store.specs.Faults.{HasFailed}
 use Rattle.provider_store.proofs.Checking.{fails_of, opens_of}
-use Rattle.provider_store.proofs.Failing.{failed_after}
+use Rattle.sql_tables.specs.Statements.{Looks}
+use Rattle.sql_tables.specs.Faults.{HasFailed}
+use Rattle.sql_tables.proofs.Failing.{failed_since}
 use Rattle.provider_store.proofs.opening.check_row.Goals as goal
 
 pub returns-in_ok-check_name-in-There-clause-lawful : goal.returns-in_ok-check_name-in-There-clause-lawful
@@ -62,5 +62,5 @@ returns-in_err-check_name-in-There-clause-failed g c clean =
     let new = state g.S.Store c.check_name.new.conn in
     let later = c.in_err-check_name-in-There.ensures in
     let mid_clean : HasCleanDisk mid = omega (arith, clean, later.looks.quiet.clean) in
-    opens_of (HasFailed mid new) (HasFailed old new) (failed_after old mid new c.in_ok-row.ensures.quiet mid_clean later.looks.quiet.counts)
+    opens_of (HasFailed mid new) (HasFailed old new) (failed_since old mid new c.in_ok-row.ensures.quiet mid_clean later.looks.quiet.counts)
     c.from_residual-in_err-check_name-in-There.result c.in_err-check_name-in-There.field-0.0 c.from_residual-in_err-check_name-in-There.ensures.1 (later.failed clean)

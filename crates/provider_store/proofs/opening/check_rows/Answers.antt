@@ -4,10 +4,11 @@ use Rattle.sqlite.specs.State.{HasCleanDisk}
 use Rattle.provider_store.specs.Connections.{resources}
 use Rattle.provider_store.specs.Lawful.{IsLawfulAt, IsFirstWrong, IsWrong}
 use Rattle.provider_store.proofs.Refusing.{none_lawful, next_lawful, first_wrong}
-use Rattle.provider_store.proofs.Checking.{damage_of, looks_same, looks_then, same_rows, first_none, first_next}
-use Rattle.provider_store.specs.Faults.{HasFailed}
+use Rattle.provider_store.proofs.Checking.{damage_of, same_rows, first_none, first_next}
 use Rattle.provider_store.proofs.Checking.{opens_of}
-use Rattle.provider_store.proofs.Failing.{failed_after}
+use Rattle.sql_tables.proofs.Looking.{looks_same, looks_then}
+use Rattle.sql_tables.specs.Faults.{HasFailed}
+use Rattle.sql_tables.proofs.Failing.{failed_since}
 use Rattle.provider_store.proofs.opening.check_rows.Goals as goal
 
 pub loop-count-init : goal.loop-count-init
@@ -56,4 +57,4 @@ returns-in_err-check_row-clause-failed g c clean =
     let so_far = c.loop-count.invariant.0 in
     let err = c.in_err-check_row.ensures in
     let mid_clean : HasCleanDisk mid = omega (arith, clean, err.looks.quiet.clean) in
-    opens_of (HasFailed mid new) (HasFailed old new) (failed_after old mid new so_far.quiet mid_clean err.looks.quiet.counts) c.from_residual.result c.in_err-check_row.field-0.0 c.from_residual.ensures.1 (err.failed clean)
+    opens_of (HasFailed mid new) (HasFailed old new) (failed_since old mid new so_far.quiet mid_clean err.looks.quiet.counts) c.from_residual.result c.in_err-check_row.field-0.0 c.from_residual.ensures.1 (err.failed clean)

@@ -4,7 +4,8 @@ use Rattle.sqlite.specs.State.{HasCleanDisk}
 use Rattle.scim_resource.specs.Rows.{StoredRecord}
 use Rattle.provider_store.specs.Connections.{resources}
 use Rattle.provider_store.specs.Lawful.{AreLawfulTo}
-use Rattle.provider_store.specs.Opening.{HoldsFirst, Looks}
+use Rattle.provider_store.specs.Opening.{HoldsFirst}
+use Rattle.sql_tables.specs.Statements.{Looks}
 use Rattle.provider_store.proofs.opening.check_rows.Given as goal
 
 -- the connection is unchanged, and `count` rows follow each other

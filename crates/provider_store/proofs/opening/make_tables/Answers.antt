@@ -5,9 +5,10 @@ use Rattle.sqlite.specs.State.{HasCleanDisk, Survives}
 use Rattle.sqlite.proofs.StateLemmas.{survives_then}
 use Rattle.sqlite.proofs.Callers.{survives_begin}
 use Rattle.provider_store.specs.Format.{format_number}
-use Rattle.provider_store.specs.Opening.{IsBlank, IsStore, LeavesNone}
-use Rattle.provider_store.proofs.Checking.{on_ok}
+use Rattle.provider_store.specs.Opening.{IsStore, LeavesNone}
 use Rattle.provider_store.proofs.Made.{AreMade, tables_made, tables_kept}
+use Rattle.sql_tables.specs.Layouts.{IsBlank}
+use Rattle.sql_tables.proofs.Results.{on_ok}
 use Rattle.provider_store.proofs.opening.make_tables.Goals as goal
 
 pub returns-clause-made : goal.returns-clause-made

@@ -2,9 +2,10 @@ use Rattle.std.proofs.Common.{◌≡◌, false, IsTrue, inl, inr, sym, ◌∙◌
 use Rattle.sqlite.specs.Held.{state}
 use Rattle.provider_store.proofs.Checking.{opening_cause}
 use Rattle.provider_store.proofs.Refusing.{checked_sound}
-use Rattle.provider_store.specs.Faults.{HasFailed}
 use Rattle.provider_store.specs.Opening.{OpeningFails}
-use Rattle.provider_store.proofs.Checking.{if_err, opens_by, opens_so}
+use Rattle.provider_store.proofs.Checking.{opens_by, opens_so}
+use Rattle.sql_tables.specs.Faults.{HasFailed}
+use Rattle.sql_tables.proofs.Results.{if_err}
 use Rattle.provider_store.proofs.opening.open_tables.Goals as goal
 
 pub returns-then-not-is_blank-clause-sound : goal.returns-then-not-is_blank-clause-sound

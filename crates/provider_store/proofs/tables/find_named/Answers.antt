@@ -3,9 +3,12 @@ use Rattle.sqlite.specs.Held.{state}
 use Rattle.sqlite.specs.State.{HasCleanDisk}
 use Rattle.provider_store.proofs.Texts.{named_query}
 use Rattle.provider_store.proofs.Finding.{name_found, code_small}
-use Rattle.provider_store.proofs.Values.{bound_int}
-use Rattle.provider_store.specs.Faults.{FailsFor, HasFailed}
+use Rattle.provider_store.specs.Faults.{FailsFor}
+use Rattle.sql_tables.specs.Faults.{statement_fault}
+use Rattle.provider_store.proofs.Failing.{fails_as}
 use Rattle.provider_store.proofs.Giving.{named_given}
+use Rattle.sql_tables.proofs.Values.{bound_int}
+use Rattle.sql_tables.specs.Faults.{HasFailed}
 use Rattle.provider_store.proofs.tables.find_named.Goals as goal
 
 pub ask-requires-clause-query : goal.ask-requires-clause-query
@@ -22,4 +25,4 @@ pub ask-requires-clause-given : goal.ask-requires-clause-given
 ask-requires-clause-given g c = named_given (to_z w64 (of_z w64 c.code_of.result)) c.as_bytes.result.now
 
 pub returns-in-Err-clause-failed : goal.returns-in-Err-clause-failed
-returns-in-Err-clause-failed g c clean = subst (FailsFor (HasFailed (state g.S.Store c.args.conn.now) (state g.S.Store c.ask.new.conn))) (sym c.fault_of.ensures) (c.in-Err.ensures.failed clean)
+returns-in-Err-clause-failed g c clean = subst (FailsFor (HasFailed (state g.S.Store c.args.conn.now) (state g.S.Store c.ask.new.conn))) (sym c.fault_of.ensures) (fails_as _ (statement_fault c.in-Err.error) (c.in-Err.ensures.failed clean))

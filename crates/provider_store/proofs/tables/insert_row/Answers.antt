@@ -7,8 +7,8 @@ use Rattle.scim_key.specs.declared.records.RecordName.{RecordName}
 use Rattle.provider_store.specs.Rows.{kind_code}
 use Rattle.provider_store.specs.Connections.{IsSpelled, content_text}
 use Rattle.provider_store.proofs.Finding.{code_small}
-use Rattle.provider_store.proofs.Values.{bound_int}
 use Rattle.provider_store.proofs.Written.{lawful_row, insert_edits, insert_made, insert_stops, same_params}
+use Rattle.sql_tables.proofs.Values.{bound_int}
 use Rattle.provider_store.proofs.tables.insert_row.Goals as goal
 
 pub write-requires-clause-edit : goal.write-requires-clause-edit

@@ -1,5 +1,5 @@
-use Rattle.provider_store.proofs.Fields.{one_item}
 use Rattle.provider_store.proofs.RowReading.{row_damaged}
+use Rattle.sql_tables.proofs.Items.{one_item}
 use Rattle.provider_store.proofs.tables.only.Goals as goal
 
 pub returns-in-None : goal.returns-in-None

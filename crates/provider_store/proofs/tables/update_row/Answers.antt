@@ -3,8 +3,8 @@ use Rattle.std.proofs.lemmas.Int.{to_z_pos}
 use Rattle.sqlite.specs.Held.{state}
 use Rattle.sqlite.specs.State.{HasCleanDisk}
 use Rattle.provider_store.specs.Connections.{IsSpelled, content_text}
-use Rattle.provider_store.proofs.Values.{bound_int}
 use Rattle.provider_store.proofs.Written.{lawful_row, update_edits, update_made, update_stops, three_params}
+use Rattle.sql_tables.proofs.Values.{bound_int}
 use Rattle.provider_store.proofs.tables.update_row.Goals as goal
 
 pub write-requires-clause-edit : goal.write-requires-clause-edit
