@@ -24,7 +24,9 @@ use Rattle.scim_resource.specs.Schemas.{core_user, core_group, source_extension}
 use Rattle.scim_resource.specs.Writing.{source_data, schemas_data, name_data, name_parts, email_data, email_parts, emails_data, user_data, member_data, group_members_data, group_data, content_data}
 use Rattle.scim_resource.specs.declared.contents.Content.{Content}
 use Rattle.source_csv.specs.Records.{IsRow}
-use Rattle.source_csv.specs.Rows.{UserFields, GroupFields, IsUserRow, IsGroupRow}
+use Rattle.source_csv.proofs.RowLemmas.{short_text}
+use Rattle.source_csv.specs.Rows.{UserFields, GroupFields, IsUserRow, IsGroupRow, text_of}
+use Rattle.source_csv.specs.declared.texts.UserText.TheVariants as texts
 use Rattle.source_csv.specs.declared.rows.Row.{Row}
 use Rattle.source_csv.specs.declared.rows.Row.TheVariants.{User, Group}
 use Rattle.source_book.specs.History.{user, members_of}
@@ -284,10 +286,10 @@ user_size : (row : UserFields) → IsUserRow row → length (compact_text (conte
 unfolding user_data
 user_size row law =
     let whole : length (compact_text (content_data (user_image row))) ≤ 7259 = object_most _ 7258 (with_part (codes "active") (Some (boolean row.active)) _ 8 5 7243 key_active (λ d is. just (boolean row.active) d 5 (boolean_most row.active) is)
-    (with_part (codes "emails") (emails_data (emails_of row.mail)) _ 8 1582 5651 key_emails (emails_part row.mail law.mail)
-    (with_part (codes "externalId") (option_map string (present row.number)) _ 12 1538 4099 key_external_id (present_most row.number law.number)
-    (with_part (codes "name") (name_data (present row.given) (present row.family)) _ 6 3105 986 key_name
-    (name_part (present row.given) (present row.family) (present_most row.given law.given) (present_most row.family law.family))
+    (with_part (codes "emails") (emails_data (emails_of (text_of row texts.Mail))) _ 8 1582 5651 key_emails (emails_part (text_of row texts.Mail) (short_text row law texts.Mail))
+    (with_part (codes "externalId") (option_map string (present (text_of row texts.Number))) _ 12 1538 4099 key_external_id (present_most (text_of row texts.Number) (short_text row law texts.Number))
+    (with_part (codes "name") (name_data (present (text_of row texts.Given)) (present (text_of row texts.Family))) _ 6 3105 986 key_name
+    (name_part (present (text_of row texts.Given)) (present (text_of row texts.Family)) (present_most (text_of row texts.Given) (short_text row law texts.Given)) (present_most (text_of row texts.Family) (short_text row law texts.Family)))
     (with_part (codes "schemas") (Some (array (schemas_data core_user (Some row.revision)))) _ 9 102 873 key_schemas (schemas_part core_user 44 row.revision (omega (arith, core_user_length)))
     (with_part source_extension (source_data (Some row.revision)) _ 54 34 783 extension_length (revision_part row.revision law.revision)
     (with_part (codes "userName") (Some (string row.login)) no_members 10 770 1 key_user_name
