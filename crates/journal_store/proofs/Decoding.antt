@@ -92,10 +92,15 @@ members_back (key ∷ keys) are = pieces-some (members_text (key ∷ keys)) (not
 same_self : (name : RecordName) → same_name name name ≡ true
 same_self name = (same_names name name).1 refl
 
+-- the texts of a row, one by one, are its texts
+each_text : (texts : List (List ℕ)) → length texts ≡ 4 → get_or texts 0 [] ∷ get_or texts 1 [] ∷ get_or texts 2 [] ∷ get_or texts 3 [] ∷ [] ≡ texts
+each_text (number ∷ given ∷ family ∷ mail ∷ []) four = refl
+each_text texts four = absurd (omega arith)
+
 pub reads_back : (row : source.Row) (confirmed : RevisionValue) (id : Option (List ℕ)) → IsRow row → confirmed_of (revision_number confirmed) ≡ Some confirmed
     → entry_in (row_name row).kind (row_by row confirmed id) ≡ Some (record { row = row; confirmed = confirmed; id = id })
 reads_back (User u) confirmed id lawful confirms =
-    rw (are_read_back.from_number u.revision lawful.revision, active_back u.active, confirms, id_back id, same_self (row_name (User u))) refl
+    rw (each_text u.texts lawful.count, are_read_back.from_number u.revision lawful.revision, active_back u.active, confirms, id_back id, same_self (row_name (User u))) refl
 reads_back (Group g) confirmed id lawful confirms =
     rw (are_read_back.from_number g.revision lawful.revision, members_back g.members lawful.keys, confirms, id_back id, same_self (row_name (Group g))) refl
 

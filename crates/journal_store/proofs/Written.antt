@@ -22,9 +22,10 @@ use Rattle.sqlite.proofs.StateLemmas.{survives_weaker}
 use Rattle.scim_key.specs.Revisions.{RevisionValue, revision_number}
 use Rattle.scim_key.specs.declared.records.Kind.{Kind}
 use Rattle.source_csv.specs.Records.{IsRow, row_name}
-use Rattle.source_csv.specs.Rows.{GroupFields, UserFields}
+use Rattle.source_csv.specs.Rows.{GroupFields, UserFields, text_of}
 use Rattle.source_csv.specs.declared.rows.Row as source
 use Rattle.source_csv.specs.declared.rows.Row.TheVariants.{User, Group}
+use Rattle.source_csv.specs.declared.texts.UserText.TheVariants as text
 use Rattle.journal_core.specs.declared.entries.Entry.{Entry}
 use Rattle.journal_store.specs.Format.{journal_schema, entry_place, entry_tree}
 use Rattle.journal_store.specs.Rows.{active_number, id_value, members_text, revision_value, row_by, row_of}
@@ -73,7 +74,7 @@ module _ (limit : Option ℕ) (old : State) (after : Database) (tally : Tally) (
   adds : (row : source.Row) (confirmed : RevisionValue) (id : Option (List ℕ)) → IsRow row → Does limit plain_mode (row_by row confirmed id) old.now sql None (put_command false (row_name row).kind) (Ok (tally, after))
       → same_schema × PutsIn false (record { row = row; confirmed = confirmed; id = id }) old.now.trees after.trees
   adds (User u) confirmed id lawful does =
-      let made = inserts_user limit laid.format_checks laid.users laid.groups old.now after tally sql laid.schema (row_name (User u)).key u.login u.number u.given u.family u.mail
+      let made = inserts_user limit laid.format_checks laid.users laid.groups old.now after tally sql laid.schema (row_name (User u)).key u.login (text_of u text.Number) (text_of u text.Given) (text_of u text.Family) (text_of u text.Mail)
       (pos (revision_number u.revision)) (pos (active_number u.active)) (pos (revision_number confirmed)) id does in
       (made.1, record { lawful = lawful; puts = (made.0, made.2, made.3); users = λ e. absurd (cc); groups = λ _. made.4 })
   adds (Group g) confirmed id lawful does =
@@ -85,7 +86,7 @@ module _ (limit : Option ℕ) (old : State) (after : Database) (tally : Tally) (
       → Does limit plain_mode (row_by row confirmed id) old.now sql None (put_command true (row_name row).kind) (Ok (tally, after))
       → same_schema × PutsIn true (record { row = row; confirmed = confirmed; id = id }) old.now.trees after.trees
   renews (User u) confirmed id lawful there does =
-      let made = updates_user limit laid.format_checks laid.users laid.groups old.now after tally sql laid.schema (row_name (User u)).key u.login u.number u.given u.family u.mail
+      let made = updates_user limit laid.format_checks laid.users laid.groups old.now after tally sql laid.schema (row_name (User u)).key u.login (text_of u text.Number) (text_of u text.Given) (text_of u text.Family) (text_of u text.Mail)
       (pos (revision_number u.revision)) (pos (active_number u.active)) (pos (revision_number confirmed)) id there.row there.number there.only there.numbered there.keyed does in
       (made.0, record { lawful = lawful; puts = (there.row, there.number, there.numbered, there.only, made.1); users = λ e. absurd (cc); groups = λ _. made.2 })
   renews (Group g) confirmed id lawful there does =
@@ -131,8 +132,8 @@ put_stops old new is_there entry lawful laid there it =
 
 -- ---- what is bound is the row
 
-pub user_bound : (u : UserFields) (confirmed : RevisionValue) (id : Option (List ℕ)) {k l r n g f m a c i : Value} → k ≡ Text (row_name (User u)).key → l ≡ Text u.login → r ≡ revision_value u.revision → n ≡ Text u.number
-    → g ≡ Text u.given → f ≡ Text u.family → m ≡ Text u.mail → a ≡ Int (pos (active_number u.active)) → c ≡ revision_value confirmed → i ≡ id_value id
+pub user_bound : (u : UserFields) (confirmed : RevisionValue) (id : Option (List ℕ)) {k l r n g f m a c i : Value} → k ≡ Text (row_name (User u)).key → l ≡ Text u.login → r ≡ revision_value u.revision → n ≡ Text (text_of u text.Number)
+    → g ≡ Text (text_of u text.Given) → f ≡ Text (text_of u text.Family) → m ≡ Text (text_of u text.Mail) → a ≡ Int (pos (active_number u.active)) → c ≡ revision_value confirmed → i ≡ id_value id
     → ◌≡◌ {A = Row} (k ∷ l ∷ r ∷ n ∷ g ∷ f ∷ m ∷ a ∷ c ∷ i ∷ []) (row_by (User u) confirmed id)
 user_bound u confirmed id k l r n g f m a c i = λ j. k j ∷ l j ∷ r j ∷ n j ∷ g j ∷ f j ∷ m j ∷ a j ∷ c j ∷ i j ∷ []
 

@@ -16,8 +16,10 @@ use Rattle.scim_key.specs.declared.records.Kind.TheVariants as kind
 use Rattle.scim_key.specs.declared.records.RecordName.{RecordName}
 use Rattle.source_csv.specs.Fields.{pieces}
 use Rattle.source_csv.specs.Records.{row_name}
+use Rattle.source_csv.specs.Rows.{text_of}
 use Rattle.source_csv.specs.declared.rows.Row as source
 use Rattle.source_csv.specs.declared.rows.Row.TheVariants.{User, Group}
+use Rattle.source_csv.specs.declared.texts.UserText.TheVariants as text
 use Rattle.journal_core.specs.Entries.{EntryMap, named}
 use Rattle.journal_core.specs.declared.entries.Entry.{Entry}
 use Rattle.journal_store.specs.Format.{entry_tree}
@@ -44,7 +46,8 @@ members_text keys = join_with_byte 32 keys
 -- the key, the fields of the row, the confirmed revision, and the id
 abbrev pub row_by : source.Row → RevisionValue → Option (List ℕ) → Row
 row_by (User u) confirmed id =
-    Text (row_name (User u)).key ∷ Text u.login ∷ revision_value u.revision ∷ Text u.number ∷ Text u.given ∷ Text u.family ∷ Text u.mail
+    Text (row_name (User u)).key ∷ Text u.login ∷ revision_value u.revision
+    ∷ Text (text_of u text.Number) ∷ Text (text_of u text.Given) ∷ Text (text_of u text.Family) ∷ Text (text_of u text.Mail)
     ∷ Int (pos (active_number u.active)) ∷ revision_value confirmed ∷ id_value id ∷ []
 row_by (Group g) confirmed id =
     Text (row_name (Group g)).key ∷ Text g.name ∷ revision_value g.revision ∷ Text (members_text g.members) ∷ revision_value confirmed ∷ id_value id ∷ []
@@ -116,7 +119,7 @@ user_in r = do
   family ← text_in (column r 5)
   mail ← text_in (column r 6)
   active ← active_in (column r 7)
-  Some (User (record { login = login; revision = revision; number = number; given = given; family = family; mail = mail; active = active }))
+  Some (User (record { login = login; revision = revision; texts = number ∷ given ∷ family ∷ mail ∷ []; active = active }))
 
 abbrev pub group_in : Row → Option source.Row
 group_in r = do

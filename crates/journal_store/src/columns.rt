@@ -1,5 +1,5 @@
 //! The columns of a result row, and the entry that they show.
-ghost use Rattle.std.specs.Prelude.{◌≡◌, ◌≤◌, ◌+◌, ℕ, ℤ, pos, false, List, Option, None, Some, IfErr, IfOk, OnErr, OnOk, IsTrue, string_bytes};
+ghost use Rattle.std.specs.Prelude.{◌≡◌, ◌≤◌, ◌+◌, ℕ, ℤ, pos, false, List, Option, None, Some, IfErr, IfOk, OnErr, OnOk, IsTrue};
 ghost use Rattle.std.specs.List.{AllByRecursion};
 ghost use Rattle.std.specs.Str.{IsUtf8};
 ghost use Rattle.scim_key.specs.Revisions.{IsRevision};
@@ -17,7 +17,7 @@ ghost use Rattle.journal_store.specs.Rows.{IsLawfulId, IsReadable, active_in, co
 use crate::statements::TableFault;
 use journal_core::Entry;
 use scim_key::{GroupName, Key, Kind, ResourceId, Revision, UserName};
-use source_csv::{GroupRow, Row as SourceRow, UserRow};
+use source_csv::{GroupRow, Row as SourceRow, Text as UserValue, UserRow};
 use sqlite::Row;
 use sqlite_value::value::ValueRef;
 use std::alloc::Global;
@@ -72,13 +72,13 @@ fn text_at(row: &Row, at: usize) -> Result<&str, TableFault>
     }
 }
 
-fn value_at(alloc: Global, row: &Row, at: usize) -> Result<String, TableFault>
-    ensures some { IfOk result (λ value. column row.now at ≡ Text (string_bytes value)) }
-    ensures utf8 { IfOk result (λ value. IsUtf8 (string_bytes value)) }
+fn value_at(alloc: Global, row: &Row, at: usize) -> Result<UserValue, TableFault>
+    ensures some { IfOk result (λ value. column row.now at ≡ Text value) }
+    ensures utf8 { IfOk result IsUtf8 }
     ensures none { IfErr result (HasCause ((text : List ℕ) → column row.now at ≡ Text text → IsUtf8 text → ⊥)) }
     ensures read { IfErr result IsOfRow }
 {
-    Ok(String::from_str(alloc, text_at(row, at)?)?)
+    Ok(UserValue::new(String::from_str(alloc, text_at(row, at)?)?))
 }
 
 fn revision_at(row: &Row, at: usize) -> Result<Revision, TableFault>
@@ -179,7 +179,7 @@ fn user_at(alloc: Global, row: &Row) -> Result<SourceRow, TableFault>
     let family = value_at(alloc, row, 5)?;
     let mail = value_at(alloc, row, 6)?;
     let active = active_at(row, 7)?;
-    match UserRow::new(login, revision, number, given, family, mail, active) {
+    match UserRow::new(login, revision, [number, given, family, mail], active) {
         Some(user) => Ok(SourceRow::User(user)),
         None => Err(TableFault::Damaged),
     }

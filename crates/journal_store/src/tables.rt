@@ -21,7 +21,7 @@ use crate::columns::read_entry;
 use crate::statements::{TableFault, ask, write};
 use journal_core::Entry;
 use scim_key::{Key, Kind, RecordName, ResourceId, Revision};
-use source_csv::{GroupRow, Row as SourceRow, UserRow};
+use source_csv::{GroupRow, Row as SourceRow, UserRow, UserText};
 use sqlite::{Alter, Connection, Row};
 use sqlite_value::value::ValueRef;
 use std::alloc::{AllocError, Global};
@@ -189,10 +189,10 @@ pub(crate) fn user_params<'a>(
         text_param(key.as_str()),
         text_param(user.login().as_str()),
         number_param(revision.number()),
-        text_param(user.number()),
-        text_param(user.given()),
-        text_param(user.family()),
-        text_param(user.mail()),
+        text_param(user.text(UserText::Number)),
+        text_param(user.text(UserText::Given)),
+        text_param(user.text(UserText::Family)),
+        text_param(user.text(UserText::Mail)),
         active_param(user.is_active()),
         number_param(confirmed.number()),
         id_param(id),

@@ -1,5 +1,5 @@
 -- Schedules: what a text says, line by line, should happen in a world.
-use Rattle.std.specs.Prelude.{ℕ, ◌+◌, Bool, true, List, [], ◌∷◌, ◌++◌, Option, Some, None, Result, Ok, if◌then◌else◌, ◌==◌, ◌&&◌, codes, length, nat_le, option_to_list}
+use Rattle.std.specs.Prelude.{ℕ, ◌+◌, Bool, true, List, [], ◌∷◌, ◌++◌, Option, Some, None, Result, Ok, if◌then◌else◌, ◌==◌, ◌&&◌, codes, length, map, nat_le, option_to_list}
 use Rattle.std.specs.Char.{is_ascii_digit}
 use Rattle.std.specs.List.{after_first, before_first, join_with_byte, list_all}
 use Rattle.std.specs.Option.{ok_or, option_and_then, option_map}
@@ -12,9 +12,10 @@ use Rattle.scim_key.specs.declared.records.Kind.TheVariants as kind
 use Rattle.scim_key.specs.declared.records.RecordName.{RecordName}
 use Rattle.scim_filter.specs.Names.{record_named}
 use Rattle.source_csv.specs.Fields.{Record}
-use Rattle.source_csv.specs.Files.{AreRecordsOf, header_of, rows_of}
+use Rattle.source_csv.specs.Files.{AreRecordsOf, rows_of}
 use Rattle.source_csv.specs.declared.faults.RowFault.{RowFault}
 use Rattle.source_csv.specs.declared.faults.SourceFault.{SourceFault}
+use Rattle.source_csv.specs.declared.files.TheConstants.{GROUP_COLUMNS, USER_COLUMNS}
 use Rattle.source_csv.specs.declared.rows.Row.{Row}
 use Rattle.world_sim.specs.declared.events.Event.{Event}
 use Rattle.world_sim.specs.declared.events.Event.TheVariants as events
@@ -26,6 +27,11 @@ use Rattle.world_sim.specs.declared.schedules.TheConstants.{NUMBER_DIGITS}
 -- records
 abbrev pub ReadsFiles : (List ℕ → List Record) → Type 0
 ReadsFiles records_in = (bytes : List ℕ) → AreRecordsOf bytes (records_in bytes)
+
+-- the header of a record of this kind in a schedule
+abbrev pub header_of : Kind → Record
+header_of kind.User = map (λ column. column.now) USER_COLUMNS
+header_of kind.Group = map (λ column. column.now) GROUP_COLUMNS
 
 -- a file of this kind with one record: its header, a line end, and the record
 abbrev pub file_of : Kind → List ℕ → List ℕ

@@ -11,7 +11,7 @@ returns c =
     (c.text_param.ensures ∙ ap Text (c.as_str.ensures.value ∙ c.requires.key))
     (c.text_param-2.ensures ∙ ap Text (c.as_str-2.ensures.value ∙ c.login.ensures.value))
     (c.number_param.ensures ∙ ap (λ (n : ℕ). Int (pos n)) (c.number.ensures ∙ ap revision_number c.requires.revision))
-    (c.text_param-3.ensures ∙ ap Text c.number-2.ensures.value) (c.text_param-4.ensures ∙ ap Text c.given.ensures.value)
-    (c.text_param-5.ensures ∙ ap Text c.family.ensures.value) (c.text_param-6.ensures ∙ ap Text c.mail.ensures.value)
+    (c.text_param-3.ensures ∙ ap Text c.text.ensures.value) (c.text_param-4.ensures ∙ ap Text c.text-2.ensures.value)
+    (c.text_param-5.ensures ∙ ap Text c.text-3.ensures.value) (c.text_param-6.ensures ∙ ap Text c.text-4.ensures.value)
     (c.active_param.ensures ∙ ap (λ (b : Bool). Int (pos (active_number b))) c.is_active.ensures)
-    (c.number_param-2.ensures ∙ ap (λ (n : ℕ). Int (pos n)) c.number-3.ensures) c.id_param.ensures
+    (c.number_param-2.ensures ∙ ap (λ (n : ℕ). Int (pos n)) c.number-2.ensures) c.id_param.ensures

@@ -3,7 +3,7 @@ use Rattle.std.proofs.Math.ListN.{get_or}
 use lib.Utf8.{encode}
 use Rattle.std.proofs.lemmas.List.{map_push, take_more}
 use Rattle.std.specs.List.{join_with_byte}
-use Rattle.source_csv.specs.Files.{named}
+use Rattle.source_csv.specs.Fields.{named}
 use Rattle.world_sim.proofs.ScheduleLemmas.{join_push}
 use Rattle.world_sim.proofs.schedules.header.Goals as goal
 

@@ -1,6 +1,6 @@
 use Rattle.std.proofs.Common.{◌≡◌, ◌∷◌, string_bytes, take}
 use Rattle.std.specs.List.{join_with_byte}
-use Rattle.source_csv.specs.Files.{named}
+use Rattle.source_csv.specs.Fields.{named}
 use Rattle.world_sim.proofs.schedules.header.Given as goal
 
 -- so far the first column and the columns up to here
