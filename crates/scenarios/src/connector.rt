@@ -8,4 +8,5 @@ mod longest;
 mod messages;
 mod offers;
 mod pushing;
+mod store_faults;
 mod worlds;

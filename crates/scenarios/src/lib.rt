@@ -40,6 +40,8 @@ mod scripts;
 #[cfg(test)]
 mod searching;
 #[cfg(test)]
+mod store_faults;
+#[cfg(test)]
 mod stores;
 #[cfg(test)]
 mod streams;

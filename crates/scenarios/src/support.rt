@@ -193,7 +193,7 @@ pub enum Said {
 /// answer.
 pub type Round = (&'static str, &'static str, &'static str, u16, Said);
 
-fn request(rt: &impl Abort, alloc: Global, line: &str, fields: &str, body: &str) -> Vec<u8> {
+pub fn request(rt: &impl Abort, alloc: Global, line: &str, fields: &str, body: &str) -> Vec<u8> {
     let head = " HTTP/1.1\r\nHost: localhost:8080\r\nContent-Type: application/scim+json\r\n";
     let length = printed(rt, alloc, body.len());
     let mut text = joined(rt, alloc, &[line, head, fields]);

@@ -112,7 +112,7 @@ fn tag_text(tag: &EntityTag) -> &'static str {
     }
 }
 
-fn seen_text(rt: &impl Abort, alloc: Global, seen: Option<&Seen>) -> String {
+pub fn seen_text(rt: &impl Abort, alloc: Global, seen: Option<&Seen>) -> String {
     let text = match seen {
         Some(Seen::Unknown) => String::from_str(alloc, "unknown").expect(rt, "memory"),
         Some(Seen::Absent) => String::from_str(alloc, "absent").expect(rt, "memory"),
