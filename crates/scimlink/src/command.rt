@@ -1,7 +1,9 @@
 //! The arguments.
 use clap::error::ErrorKind;
 use clap::{Arg, ArgAction, ArgMatches, Command, Error, value_parser};
-use commands::simulating::{Events, count, schedule, seed, settles, wanted_events};
+use commands::simulating::{
+    DEFAULT_EVENTS, Events, MOST_EVENTS, count, schedule, seed, settles, wanted_events,
+};
 use commands::words::{
     address, base, base_fault, file, groups, journal, requests, store, to, users, words_status,
 };
@@ -80,7 +82,8 @@ pub fn words<R: Runtime + AllocGlobal>(rt: &R) -> Result<Vec<String>, CommandFau
 
 /// What these arguments ask for.
 pub fn choose<R: Runtime + AllocGlobal>(rt: &R, words: &[String]) -> Result<Chosen, CommandFault> {
-    let command = command(rt.alloc())?;
+    let events_help = events_help(rt.alloc())?;
+    let command = command(rt.alloc(), events_help.as_str())?;
     match command.try_get_matches_from(words) {
         Ok(matches) => chosen_by(rt.alloc(), &matches),
         Err(error) => tell(rt, error),
@@ -224,11 +227,16 @@ fn seed_option<'a>(alloc: Global) -> Arg<'a> {
         .value_parser(value_parser!(u64))
 }
 
-fn events_option<'a>(alloc: Global) -> Arg<'a> {
+fn events_help(alloc: Global) -> Result<String, AllocError> {
+    let (most, default) = (MOST_EVENTS, DEFAULT_EVENTS);
+    format!(in alloc; "how many random events: 1 to {most}, {default} by default")
+}
+
+fn events_option<'a>(alloc: Global, help: &'a str) -> Arg<'a> {
     Arg::new(alloc, "events")
         .long("events")
         .value_name("N")
-        .help("how many random events: 1 to 100000, 1000 by default")
+        .help(help)
         .value_parser(value_parser!(u32))
 }
 
@@ -239,12 +247,12 @@ fn settle_option<'a>(alloc: Global) -> Arg<'a> {
         .action(ArgAction::SetTrue)
 }
 
-fn simulate_command<'a>(alloc: Global) -> Result<Command<'a>, AllocError> {
+fn simulate_command<'a>(alloc: Global, events_help: &'a str) -> Result<Command<'a>, AllocError> {
     let file = Command::new(alloc, "simulate")
         .about("runs events over both sides in memory: each event's report, then each record")
         .arg(schedule_argument(alloc));
     let seed = with_option(file, seed_option(alloc));
-    let events = with_option(seed, events_option(alloc));
+    let events = with_option(seed, events_option(alloc, events_help));
     with_option(events, settle_option(alloc))
 }
 
@@ -255,14 +263,14 @@ fn program<'a>(alloc: Global) -> Command<'a> {
         .subcommand_required(true)
 }
 
-fn command<'a>(alloc: Global) -> Result<Command<'a>, AllocError> {
+fn command<'a>(alloc: Global, events_help: &'a str) -> Result<Command<'a>, AllocError> {
     let answering = with_subcommand(Ok(program(alloc)), answer_command(alloc));
     let looping = with_subcommand(answering, loop_command(alloc));
     let mapping = with_subcommand(looping, map_command(alloc));
     let pushing = with_subcommand(mapping, push_command(alloc));
     let serving = with_subcommand(pushing, serve_command(alloc));
     let showing = with_subcommand(serving, show_command(alloc));
-    with_subcommand(showing, simulate_command(alloc))
+    with_subcommand(showing, simulate_command(alloc, events_help))
 }
 
 /// A command with one more subcommand. The chain of these calls has no early return that would drop all
