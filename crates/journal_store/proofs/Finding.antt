@@ -1,34 +1,24 @@
 -- What the rows of an answer show.
-use Rattle.std.proofs.Common.{◌≡◌, ℕ, codes, List, [], ◌∷◌, map, filter, Option, Some, None, Result, IfOk, refl, ap, ◌∙◌, subst, IsPermutation}
-use Rattle.sqlite_value.specs.declared.keys.Key.{Key}
+use Rattle.std.proofs.Common.{◌≡◌, ℕ, List, [], ◌∷◌, map, filter, Option, Some, None, Result, IfOk, refl, ap, ◌∙◌, subst, IsPermutation}
 use Rattle.sqlite_value.specs.declared.value.Value.TheVariants.{Text}
 use Rattle.sqlite_value.specs.Order.{Row, column}
 use Rattle.sqlite_trees.proofs.ListLemmas.{all_of, filter_same}
-use Rattle.sqlite_sql.specs.Term.{Env, Term, col, eval, eval_all}
+use Rattle.sqlite_sql.specs.Term.{Env, col, eval, eval_all}
 use Rattle.sqlite_trees.specs.Tree.{rowid}
-use Rattle.sqlite_schema.specs.declared.command.Command.TheVariants.{Select}
-use Rattle.sqlite.specs.Listing.{understood}
 use Rattle.sqlite.specs.State.{State}
-use Rattle.sqlite.proofs.Callers.{command_of}
 use Rattle.scim_key.specs.declared.records.Kind.{Kind}
 use Rattle.scim_key.specs.declared.records.Kind.TheVariants.{User, Group}
 use Rattle.scim_key.specs.declared.records.RecordName.{RecordName}
 use Rattle.journal_core.specs.declared.entries.Entry.{Entry}
-use Rattle.journal_store.specs.Format.{Form, entry_tree, find_text, all_text, journal_schema, numbers_text}
-use Rattle.sql_tables.specs.Statements.{Answers, IsQuery}
-use Rattle.sql_tables.proofs.Queries.{query}
+use Rattle.journal_store.specs.Format.{entry_tree, find_text, all_text, numbers_text}
+use Rattle.sql_tables.specs.Statements.{Answers}
 use Rattle.sql_tables.proofs.Selecting.{IsOrdered, ordered_over, passes, shows}
 use Rattle.journal_store.specs.Rows.{shown_row}
 use Rattle.journal_store.specs.Connections.{AreShown, Finds, IsLaid, IsOnly, ListsAll, Shows, has_key}
 use Rattle.sql_tables.proofs.Answering.{answered_by, empty, every, read_as, single}
 use Rattle.sql_tables.proofs.Results.{if_ok}
-use Rattle.journal_store.proofs.Texts.{shown_terms, names, key_is, find_is, find_query, all_is, all_query, all_order, number_shown, number_order, numbers_is, numbers_query}
+use Rattle.journal_store.proofs.Texts.{all_is, find_is, key_is, number_shown, numbers_is, shown_terms}
 use Rattle.journal_store.proofs.Selecting.{same_tree, shows_all, key_passes}
-
-picked : (s : State) (sql : List ℕ) (kind : Kind) (terms : List Term) (order : List (Term × Key)) (params : Row) (rows : List Row)
-    → ((f : Form) → command_of (understood (journal_schema f) sql) ≡ Select (record { lets = []; body = query (entry_tree kind) terms (shown_terms kind) order }) (names kind))
-    → IsQuery journal_schema sql → IsLaid s → Answers sql params s rows → IsPermutation (map (shows (shown_terms kind) params) (filter (passes terms params) (s.now.trees (entry_tree kind)))) rows
-picked s sql kind terms order = answered_by s sql (entry_tree kind) (same_tree kind) terms (shown_terms kind) order (names kind)
 
 map_same : {A B : Type 0} (f g : A → B) → ((x : A) → f x ≡ g x) → (xs : List A) → map f xs ≡ map g xs
 map_same f g same [] = refl
@@ -41,7 +31,7 @@ pub rows_of_key : (s : State) (kind : Kind) (key : List ℕ) (rows : List Row) �
 rows_of_key s kind key rows laid answers =
     let table = s.now.trees (entry_tree kind) in
     let params : Row = Text key ∷ [] in
-    let all = picked s (find_text kind) kind (key_is ∷ []) [] params rows (find_is kind) (find_query kind) laid answers in
+    let all = answered_by s params rows (find_is kind) laid answers (same_tree kind) in
     let tests : filter (passes (key_is ∷ []) params) table ≡ filter (has_key key) table =
     filter_same (passes (key_is ∷ []) params) (has_key key) table (all_of (λ x. passes (key_is ∷ []) params x ≡ has_key key x) (λ x. key_passes key [] x) table) in
     subst (λ l. IsPermutation l rows) (ap (map (shows (shown_terms kind) params)) tests ∙ map_same (shows (shown_terms kind) params) (shown_row kind) (shows_all kind params) (filter (has_key key) table)) all
@@ -58,7 +48,7 @@ pub rows_of_all : (s : State) (kind : Kind) (rows : List Row) → IsLaid s → A
 rows_of_all s kind rows laid answers =
     let table = s.now.trees (entry_tree kind) in
     subst (λ l. IsPermutation l rows) (ap (map (shows (shown_terms kind) [])) (every table []) ∙ map_same (shows (shown_terms kind) []) (shown_row kind) (shows_all kind []) table)
-    (picked s (all_text kind) kind [] all_order [] rows (all_is kind) (all_query kind) laid answers)
+    (answered_by s [] rows (all_is kind) laid answers (same_tree kind))
 
 -- ---- their order
 
@@ -69,16 +59,16 @@ by_key Group env = refl
 pub all_ordered : (s : State) (kind : Kind) (rows : List Row) → IsLaid s → Answers (all_text kind) [] s rows → IsOrdered rows
 all_ordered s kind rows laid answers =
     ordered_over (entry_tree kind) [] (shown_terms kind) (col 1 1) [] (by_key kind) s.now rows
-    (read_as s (all_text kind) (Select (record { lets = []; body = query (entry_tree kind) [] (shown_terms kind) all_order }) (names kind)) [] rows (all_is kind) (all_query kind) laid answers)
+    (read_as s [] rows (all_is kind) laid answers)
 
 pub numbers_ordered : (s : State) (kind : Kind) (rows : List Row) → IsLaid s → Answers (numbers_text kind) [] s rows → IsOrdered rows
 numbers_ordered s kind rows laid answers =
     ordered_over (entry_tree kind) [] number_shown (col 1 0) [] (λ _. refl) s.now rows
-    (read_as s (numbers_text kind) (Select (record { lets = []; body = query (entry_tree kind) [] number_shown number_order }) (codes "rowid" ∷ [])) [] rows (numbers_is kind) (numbers_query kind) laid answers)
+    (read_as s [] rows (numbers_is kind) laid answers)
 
 pub numbers_of_all : (s : State) (kind : Kind) (rows : List Row) → IsLaid s → Answers (numbers_text kind) [] s rows → IsPermutation (map (λ (r : Row). rowid r ∷ []) (s.now.trees (entry_tree kind))) rows
 numbers_of_all s kind rows laid answers =
-    let all = answered_by s (numbers_text kind) (entry_tree kind) (same_tree kind) [] number_shown number_order (codes "rowid" ∷ []) [] rows (numbers_is kind) (numbers_query kind) laid answers in
+    let all = answered_by s [] rows (numbers_is kind) laid answers (same_tree kind) in
     subst (λ l. IsPermutation (map (λ (r : Row). rowid r ∷ []) l) rows) (every (s.now.trees (entry_tree kind)) []) all
 
 -- ---- what the calls answer

@@ -9,10 +9,7 @@ use Rattle.sqlite_schema.specs.declared.command.Command.TheVariants.{Insert, Upd
 use Rattle.sqlite_schema.specs.declared.command.Source.TheVariants.{Values}
 use Rattle.sqlite.specs.Does.{Tally, Does}
 use Rattle.sqlite.specs.Effect.{Database}
-use Rattle.sqlite.specs.Given.{IsPlain}
-use Rattle.sqlite.specs.Listing.{understood}
 use Rattle.sqlite.specs.State.{State, HasCleanDisk, Survives}
-use Rattle.sqlite.proofs.Callers.{command_of}
 use Rattle.sqlite.proofs.StateLemmas.{survives_weaker}
 use Rattle.scim_key.specs.Revisions.{RevisionValue, revision_number}
 use Rattle.scim_key.specs.declared.records.Kind.{Kind}
@@ -22,13 +19,13 @@ use Rattle.source_csv.specs.declared.rows.Row as source
 use Rattle.source_csv.specs.declared.rows.Row.TheVariants.{User, Group}
 use Rattle.source_csv.specs.declared.texts.UserText.TheVariants as text
 use Rattle.journal_core.specs.declared.entries.Entry.{Entry}
-use Rattle.journal_store.specs.Format.{Form, journal_schema, entry_place, entry_tree}
+use Rattle.journal_store.specs.Format.{journal_schema, entry_place, entry_tree}
 use Rattle.sql_tables.specs.Statements.{IsEdit, IsEditText, MayLeave, Ran, plain_mode}
 use Rattle.sql_tables.proofs.Queries.{query}
 use Rattle.journal_store.specs.Rows.{active_number, id_value, members_text, revision_value, row_by, row_of}
 use Rattle.journal_store.specs.Connections.{IsLaid, IsThere, Makes, PutsIn, put_text}
-use Rattle.journal_store.proofs.Texts.{key_is, insert_terms, insert_width, insert_is, insert_plain, update_terms, update_is, update_plain}
-use Rattle.sql_tables.proofs.Editing.{command_is, edits_by}
+use Rattle.journal_store.proofs.Texts.{key_is, insert_terms, insert_width, insert_is, update_terms, update_is}
+use Rattle.sql_tables.proofs.Editing.{IsWrite, command_is, edits_by}
 use Rattle.journal_store.proofs.Writing.{inserts_user, inserts_group, updates_user, updates_group}
 
 -- ---- the texts
@@ -38,20 +35,16 @@ abbrev put_command : Bool → Kind → Command
 put_command false kind = Insert (entry_place kind) (Values (insert_terms kind) (insert_width kind))
 put_command true kind = Update (entry_place kind) (record { lets = []; body = query (entry_tree kind) (key_is ∷ []) (update_terms kind) [] })
 
-put_is : (is_there : Bool) (kind : Kind) (f : Form) → command_of (understood (journal_schema f) (put_text is_there kind)) ≡ put_command is_there kind
-put_is false kind f = insert_is kind f
-put_is true kind f = update_is kind f
-
-put_plain : (is_there : Bool) (kind : Kind) (f : Form) → IsPlain (understood (journal_schema f) (put_text is_there kind))
-put_plain false kind f = insert_plain kind f
-put_plain true kind f = update_plain kind f
+put_is : (is_there : Bool) (kind : Kind) → IsWrite journal_schema (put_text is_there kind) (put_command is_there kind)
+put_is false kind = insert_is kind
+put_is true kind = update_is kind
 
 is_edit : (is_there : Bool) (kind : Kind) → IsEdit (put_command is_there kind)
 is_edit false kind = tt
 is_edit true kind = tt
 
 pub put_edits : (is_there : Bool) (kind : Kind) → IsEditText journal_schema (put_text is_there kind)
-put_edits is_there kind = edits_by journal_schema (put_text is_there kind) (put_command is_there kind) (put_plain is_there kind) (put_is is_there kind) (is_edit is_there kind)
+put_edits is_there kind = edits_by (put_is is_there kind) (is_edit is_there kind)
 
 -- ---- an entry is put
 
@@ -92,7 +85,7 @@ pub put_made : (old new : State) (is_there : Bool) (entry : Entry) → IsRow ent
     → Ran (put_text is_there (row_name entry.row).kind) (row_of entry) old new → Makes is_there entry old new
 put_made old new is_there entry lawful laid there ran =
     let type = (row_name entry.row).kind in
-    let command = command_is old (put_text is_there type) ran.compiled (put_command is_there type) laid (put_is is_there type laid.form) ran.is in
+    let command = command_is (put_is is_there type) old ran.compiled laid ran.is in
     let does = subst (λ k. Does ran.limit plain_mode (row_of entry) old.now ran.text None k (Ok (ran.tally, new.now))) command ran.does in
     let made = puts_it ran.limit old new.now ran.tally ran.text laid is_there entry lawful there does in
     record {
@@ -106,7 +99,7 @@ pub put_leaves : (old : State) (is_there : Bool) (entry : Entry) (db : Trees) �
     → MayLeave (put_text is_there (row_name entry.row).kind) (row_of entry) old db → PutsIn is_there entry old.now.trees db
 put_leaves old is_there entry db lawful laid there may =
     let type = (row_name entry.row).kind in
-    let command = command_is old (put_text is_there type) may.compiled (put_command is_there type) laid (put_is is_there type laid.form) may.is in
+    let command = command_is (put_is is_there type) old may.compiled laid may.is in
     let does = subst (λ k. Does may.limit plain_mode (row_of entry) old.now may.text None k (Ok (may.tally, may.after))) command may.does in
     subst (PutsIn is_there entry old.now.trees) (sym may.trees) (puts_it may.limit old may.after may.tally may.text laid is_there entry lawful there does).1
 

@@ -1,5 +1,5 @@
 -- What the checks of an opening show, and what they leave.
-use Rattle.std.proofs.Common.{◌≡◌, ◌≢◌, ◌⊎◌, ◌<◌, ℕ, zero, suc, ◌+◌, ◌-◌, ℤ, pos, false, List, [], ◌∷◌, ◌++◌, map, filter, length, codes, Some, None, Result, Ok, Err, IsTrue, IfErr, IsErrAnd, refl, sym, ap, ◌∙◌, subst, inl, inr, arith, IsPermutation}
+use Rattle.std.proofs.Common.{◌≡◌, ◌≢◌, ◌⊎◌, ◌<◌, ℕ, zero, suc, ◌+◌, ◌-◌, ℤ, pos, false, List, [], ◌∷◌, ◌++◌, map, filter, length, Some, None, Result, Ok, Err, IsTrue, IfErr, IsErrAnd, refl, sym, ap, ◌∙◌, subst, inl, inr, arith, IsPermutation}
 use Rattle.std.specs.Prelude.{slice_get}
 use Rattle.std.proofs.lemmas.Option.{slice_get_within}
 use Rattle.sqlite_value.specs.declared.value.Value.TheVariants.{Int}
@@ -28,7 +28,7 @@ use Rattle.provider_store.specs.Opening.{IsFor, IsAlone, HoldsFirst, IsNewer, Is
 use Rattle.provider_store.specs.declared.opening.OpenFault.{OpenFault}
 use Rattle.provider_store.specs.declared.opening.OpenFault.TheVariants.{Store, Damaged, Newer, Memory}
 use Rattle.provider_store.specs.declared.tables.Found.TheVariants.{There}
-use Rattle.provider_store.proofs.Texts.{outside_term, outside_shown, outside_is, outside_query}
+use Rattle.provider_store.proofs.Texts.{outside_term, outside_shown, outside_is}
 use Rattle.provider_store.proofs.Outside.{outside_passes, none_passes, outside_tests}
 use Rattle.provider_store.proofs.Finding.{only_one, has_named, found_alone}
 use Rattle.provider_store.proofs.Holding.{numbered_append, apart_append, number_of}
@@ -123,7 +123,7 @@ same_rows old new looks laid clean still = ap (λ (d : Database). d.trees 1) (sa
 pub outside_found : (s : State) (number : ℤ) (count : ℕ) (rows given : List Row) → number ≡ pos count → given ≡ rows → IsLaid s → Answers outside_text (Int number ∷ []) s rows → given ≡ [] → (k : ℕ) → count < k → filter (has_rowid (pos k)) (resources s) ≡ []
 outside_found s number count rows given is same laid answers none k far =
     let params : Row = Int (pos count) ∷ [] in
-    let all = answered_by s outside_text 1 (λ _. refl) (outside_term ∷ []) outside_shown [] (codes "number" ∷ []) params rows outside_is outside_query laid (subst (λ n. Answers outside_text (Int n ∷ []) s rows) is answers) in
+    let all = answered_by s params rows outside_is laid (subst (λ n. Answers outside_text (Int n ∷ []) s rows) is answers) (λ _. refl) in
     let nothing = empty (shows outside_shown params) (filter (passes (outside_term ∷ []) params) (resources s)) (subst (IsPermutation (map (shows outside_shown params) (filter (passes (outside_term ∷ []) params) (resources s)))) (sym same ∙ none) all) in
     none_passes (passes (outside_term ∷ []) params) (has_rowid (pos k)) (resources s) (λ r has. outside_passes count k r far has) nothing
 
@@ -131,7 +131,7 @@ module _ (s : State) (number : ℤ) (count : ℕ) (rows given : List Row) (is : 
   outside_all : IsPermutation (map (shows outside_shown (Int (pos count) ∷ [])) (filter (passes (outside_term ∷ []) (Int (pos count) ∷ [])) (resources s))) rows
   outside_all =
       let params : Row = Int (pos count) ∷ [] in
-      answered_by s outside_text 1 (λ _. refl) (outside_term ∷ []) outside_shown [] (codes "number" ∷ []) params rows outside_is outside_query laid (subst (λ n. Answers outside_text (Int n ∷ []) s rows) is answers)
+      answered_by s params rows outside_is laid (subst (λ n. Answers outside_text (Int n ∷ []) s rows) is answers) (λ _. refl)
 
   by_outside : filter (passes (outside_term ∷ []) (Int (pos count) ∷ [])) (resources s) ≡ filter (λ r. is_outside count (rowid r)) (resources s)
   by_outside = filter_same (passes (outside_term ∷ []) (Int (pos count) ∷ [])) (λ r. is_outside count (rowid r)) (resources s) (all_of (λ r. passes (outside_term ∷ []) (Int (pos count) ∷ []) r ≡ is_outside count (rowid r)) (λ r. outside_tests count r) (resources s))

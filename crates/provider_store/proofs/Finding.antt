@@ -13,12 +13,10 @@ use Rattle.sqlite_value.specs.Order.{Row, column}
 use Rattle.sqlite_trees.specs.Tree.{rowid, has_rowid}
 use Rattle.sqlite_trees.proofs.ListLemmas.{filter_same, all_of}
 use Rattle.sqlite_sql.specs.Term.{Term}
-use Rattle.sqlite_schema.specs.declared.command.Command.TheVariants.{Select}
 use Rattle.sqlite_rules.specs.Lists.{Has}
 use Rattle.sqlite_rules.proofs.ListLemmas.{has_kept, has_filtered}
-use Rattle.sqlite.specs.Listing.{understood}
 use Rattle.sqlite.specs.State.{State}
-use Rattle.sqlite.proofs.Callers.{command_of, one_permutation}
+use Rattle.sqlite.proofs.Callers.{one_permutation}
 use Rattle.scim_key.specs.declared.records.Kind.{Kind}
 use Rattle.scim_key.specs.declared.records.Kind.TheVariants.{User, Group}
 use Rattle.scim_key.specs.declared.records.RecordName.{RecordName}
@@ -27,26 +25,25 @@ use Rattle.scim_resource.specs.Rows.{StoredRecord}
 use Rattle.provider_core.specs.Rows.{same_name, is_named, row_named, names_of, AreNamedApart}
 use Rattle.provider_core.proofs.RowLaws.{same_name-eq, same_name-self, same_name-sym, find-passes}
 use Rattle.provider_core.proofs.MemoryLaws.{found-at}
-use Rattle.provider_store.specs.Format.{Form, provider_schema, named_text, numbered_text}
+use Rattle.provider_store.specs.Format.{provider_schema, named_text, numbered_text}
 use Rattle.provider_store.specs.Rows.{kind_code, shown_row, IsRowOf, record_in, Holds}
 use Rattle.provider_store.specs.Lawful.{has_name}
 use Rattle.provider_store.specs.Connections.{IsLaid, AreDamaged, IsOnly, IsNamed, FindsName, FindsNumber, resources}
 use Rattle.provider_store.specs.declared.tables.Found.{Found}
 use Rattle.provider_store.specs.declared.tables.Found.TheVariants.{Nothing, Damaged, There}
-use Rattle.provider_store.proofs.Texts.{shown_terms, names, number_is, name_terms, named_is, named_query, numbered_is, numbered_query}
+use Rattle.provider_store.proofs.Texts.{shown_terms, names, number_is, name_terms, named_is, numbered_is}
 use Rattle.provider_store.proofs.Selecting.{number_passes, name_passes, name_tests}
 use Rattle.provider_store.proofs.Holding.{has_own, shown_record}
+use Rattle.sql_tables.proofs.Queries.{IsSelect}
 use Rattle.sql_tables.proofs.Answering.{answered_by, empty, nothing, single}
-use Rattle.sql_tables.specs.Statements.{IsQuery, Answers}
-use Rattle.sql_tables.proofs.Queries.{query}
+use Rattle.sql_tables.specs.Statements.{Answers}
 use Rattle.sql_tables.proofs.Selecting.{passes}
 
 -- ---- the rows of an answer
 
-pub picked : (s : State) (sql : List ℕ) (terms : List Term) (params : Row) (rows : List Row)
-    → ((f : Form) → command_of (understood (provider_schema f) sql) ≡ Select (record { lets = []; body = query 1 terms shown_terms [] }) names)
-    → IsQuery provider_schema sql → IsLaid s → Answers sql params s rows → IsPermutation (map shown_row (filter (passes terms params) (resources s))) rows
-picked s sql terms params rows means query_text laid answers = answered_by s sql 1 (λ _. refl) terms shown_terms [] names params rows means query_text laid answers
+pub picked : (s : State) {sql : List ℕ} {terms : List Term} {count : ℕ} (params : Row) (rows : List Row) → IsSelect provider_schema sql 1 terms shown_terms [] names count → IsLaid s → Answers sql params s rows
+    → IsPermutation (map shown_row (filter (passes terms params) (resources s))) rows
+picked s params rows is laid answers = answered_by s params rows is laid answers (λ _. refl)
 
 -- rows whose answer is damaged are
 damaged : (xs rows : List Row) → IsPermutation (map shown_row xs) rows → IsOnly rows Damaged → AreDamaged xs
@@ -214,14 +211,14 @@ pub number_found : (s : State) (n : ℕ) (number : ℤ) (rows given : List Row) 
     → FindsNumber (resources s) n found
 number_found s n number rows given found is same laid answers only =
     finds_number (resources s) n rows found
-    (picked s numbered_text (number_is ∷ []) (Int (pos n) ∷ []) rows numbered_is numbered_query laid (subst (λ k. Answers numbered_text (Int k ∷ []) s rows) is answers))
+    (picked s (Int (pos n) ∷ []) rows numbered_is laid (subst (λ k. Answers numbered_text (Int k ∷ []) s rows) is answers))
     (subst (λ l. IsOnly l found) same only)
 
 pub name_found : (s : State) (name : RecordName) (code : ℤ) (key : List ℕ) (rows given : List Row) (found : Found) → code ≡ pos (kind_code name.kind) → key ≡ name.key → given ≡ rows → IsLaid s
     → Answers named_text (Int code ∷ Text key ∷ []) s rows → IsOnly given found → FindsName (resources s) name found
 name_found s name code key rows given found kinds keys same laid answers only =
     finds_name (resources s) name rows found
-    (picked s named_text name_terms (Int (pos (kind_code name.kind)) ∷ Text name.key ∷ []) rows named_is named_query laid
+    (picked s (Int (pos (kind_code name.kind)) ∷ Text name.key ∷ []) rows named_is laid
     (subst (λ k. Answers named_text (Int (pos (kind_code name.kind)) ∷ Text k ∷ []) s rows) keys (subst (λ k. Answers named_text (Int k ∷ Text key ∷ []) s rows) kinds answers)))
     (subst (λ l. IsOnly l found) same only)
 

@@ -1,5 +1,5 @@
 -- What the statements mean over the tables.
-use Rattle.std.proofs.Common.{◌≡◌, ℕ, pos, List, [], ◌∷◌, codes, refl}
+use Rattle.std.proofs.Common.{ℕ, pos, List, [], ◌∷◌, codes, refl}
 use Rattle.sqlite_value.specs.declared.value.Value.TheVariants.{Null, Int}
 use Rattle.sqlite_value.specs.declared.keys.Collation.TheVariants.{Binary}
 use Rattle.sqlite_sql.specs.Term.{Term, lit, col, op1, op2}
@@ -7,14 +7,14 @@ use Rattle.sqlite_sql.specs.declared.ops.UnaryOp.TheVariants.{ToNumeric}
 use Rattle.sqlite_sql.specs.declared.ops.BinaryOp.TheVariants.{Compare, Or}
 use Rattle.sqlite_sql.specs.declared.ops.CompareOp.TheVariants.{Eq, Lt, Gt}
 use Rattle.sqlite_schema.specs.declared.command.Source.TheVariants.{Values}
-use Rattle.sqlite_schema.specs.declared.command.Command.TheVariants.{Insert, Update, Select}
+use Rattle.sqlite_schema.specs.declared.command.Command.TheVariants.{Insert, Update}
 use Rattle.sqlite_tied.specs.Compute.{everything}
 use Rattle.sqlite.specs.Listing.{understood}
-use Rattle.sqlite.proofs.Callers.{IsPlain, command_of}
-use Rattle.sql_tables.proofs.Queries.{query}
+use Rattle.sqlite_schema.specs.declared.command.Command.{Command}
+use Rattle.sql_tables.proofs.Queries.{IsSelect, query}
+use Rattle.sql_tables.proofs.Editing.{IsWrite}
 use Rattle.sql_tables.proofs.Marking.{marked_shown}
-use Rattle.sql_tables.specs.Statements.{IsQuery}
-use Rattle.provider_store.specs.Format.{Form, provider_schema, insert_text, update_text, named_text, numbered_text, marked_text, outside_text}
+use Rattle.provider_store.specs.Format.{provider_schema, insert_text, update_text, named_text, numbered_text, marked_text, outside_text}
 
 abbrev pub insert_terms : List Term
 insert_terms = col 0 0 ∷ lit Null ∷ col 0 1 ∷ col 0 2 ∷ col 0 3 ∷ col 0 4 ∷ []
@@ -22,9 +22,12 @@ insert_terms = col 0 0 ∷ lit Null ∷ col 0 1 ∷ col 0 2 ∷ col 0 3 ∷ col 
 abbrev pub update_terms : List Term
 update_terms = col 1 0 ∷ col 1 0 ∷ lit Null ∷ col 1 2 ∷ col 1 3 ∷ col 0 1 ∷ col 0 2 ∷ []
 
-pub insert_is : (f : Form) → command_of (understood (provider_schema f) insert_text) ≡ Insert 1 (Values insert_terms 6)
+abbrev pub insert_command : Command
+insert_command = Insert 1 (Values insert_terms 6)
+
+pub insert_is : IsWrite provider_schema insert_text insert_command
 unfolding understood everything
-insert_is f = refl
+insert_is = record { means = λ f. refl; plain = λ f. (refl, refl) }
 
 abbrev pub shown_terms : List Term
 shown_terms = col 1 0 ∷ col 1 2 ∷ col 1 3 ∷ col 1 4 ∷ col 1 5 ∷ []
@@ -32,9 +35,12 @@ shown_terms = col 1 0 ∷ col 1 2 ∷ col 1 3 ∷ col 1 4 ∷ col 1 5 ∷ []
 abbrev pub number_is : Term
 number_is = op2 (Compare Eq Binary) (col 1 0) (col 0 0)
 
-pub update_is : (f : Form) → command_of (understood (provider_schema f) update_text) ≡ Update 1 (record { lets = []; body = query 1 (number_is ∷ []) update_terms [] })
+abbrev pub update_command : Command
+update_command = Update 1 (record { lets = []; body = query 1 (number_is ∷ []) update_terms [] })
+
+pub update_is : IsWrite provider_schema update_text update_command
 unfolding understood everything
-update_is f = refl
+update_is = record { means = λ f. refl; plain = λ f. (refl, refl) }
 
 -- the kind and the key are these
 abbrev pub name_terms : List Term
@@ -43,18 +49,17 @@ name_terms = op2 (Compare Eq Binary) (col 1 2) (op1 ToNumeric (col 0 0)) ∷ op2
 abbrev pub names : List (List ℕ)
 names = codes "number" ∷ codes "kind" ∷ codes "name_key" ∷ codes "version" ∷ codes "content" ∷ []
 
-pub named_is : (f : Form) → command_of (understood (provider_schema f) named_text)
-    ≡ Select (record { lets = []; body = query 1 name_terms shown_terms [] }) names
+pub named_is : IsSelect provider_schema named_text 1 name_terms shown_terms [] names 2
 unfolding understood everything
-named_is f = refl
+named_is = record { means = λ f. refl; reads = λ f. ((refl, refl), refl); fits = λ f. (refl, refl) }
 
-pub numbered_is : (f : Form) → command_of (understood (provider_schema f) numbered_text) ≡ Select (record { lets = []; body = query 1 (number_is ∷ []) shown_terms [] }) names
+pub numbered_is : IsSelect provider_schema numbered_text 1 (number_is ∷ []) shown_terms [] names 1
 unfolding understood everything
-numbered_is f = refl
+numbered_is = record { means = λ f. refl; reads = λ f. ((refl, refl), refl); fits = λ f. (refl, refl) }
 
-pub marked_is : (f : Form) → command_of (understood (provider_schema f) marked_text) ≡ Select (record { lets = []; body = query 0 [] marked_shown [] }) (codes "number" ∷ [])
+pub marked_is : IsSelect provider_schema marked_text 0 [] marked_shown [] (codes "number" ∷ []) 0
 unfolding understood everything
-marked_is f = refl
+marked_is = record { means = λ f. refl; reads = λ f. ((refl, refl), refl); fits = λ f. (refl, refl) }
 
 -- a number outside the first ones
 abbrev pub outside_term : Term
@@ -63,32 +68,6 @@ outside_term = op2 Or (op2 (Compare Lt Binary) (col 1 0) (lit (Int (pos 1)))) (o
 abbrev pub outside_shown : List Term
 outside_shown = col 1 0 ∷ []
 
-pub outside_is : (f : Form) → command_of (understood (provider_schema f) outside_text) ≡ Select (record { lets = []; body = query 1 (outside_term ∷ []) outside_shown [] }) (codes "number" ∷ [])
+pub outside_is : IsSelect provider_schema outside_text 1 (outside_term ∷ []) outside_shown [] (codes "number" ∷ []) 1
 unfolding understood everything
-outside_is f = refl
-
--- ---- none reads the time or the schema, and none shows what it wrote
-
-pub insert_plain : (f : Form) → IsPlain (understood (provider_schema f) insert_text)
-unfolding understood everything
-insert_plain f = (refl, refl)
-
-pub update_plain : (f : Form) → IsPlain (understood (provider_schema f) update_text)
-unfolding understood everything
-update_plain f = (refl, refl)
-
-pub named_query : IsQuery provider_schema named_text
-unfolding understood everything
-named_query f = ((refl, refl), refl)
-
-pub numbered_query : IsQuery provider_schema numbered_text
-unfolding understood everything
-numbered_query f = ((refl, refl), refl)
-
-pub marked_query : IsQuery provider_schema marked_text
-unfolding understood everything
-marked_query f = ((refl, refl), refl)
-
-pub outside_query : IsQuery provider_schema outside_text
-unfolding understood everything
-outside_query f = ((refl, refl), refl)
+outside_is = record { means = λ f. refl; reads = λ f. ((refl, refl), refl); fits = λ f. (refl, refl) }

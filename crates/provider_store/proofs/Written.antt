@@ -3,9 +3,6 @@ use Rattle.std.proofs.Common.{◌≡◌, ◌≤◌, ℕ, pos, List, [], ◌∷�
 use Rattle.sqlite_value.specs.declared.value.Value.TheVariants.{Int, Text}
 use Rattle.sqlite_value.specs.Order.{Row, column}
 use Rattle.sqlite_trees.specs.Tree.{Trees}
-use Rattle.sqlite_schema.specs.declared.command.Command.{Command}
-use Rattle.sqlite_schema.specs.declared.command.Command.TheVariants.{Insert, Update}
-use Rattle.sqlite_schema.specs.declared.command.Source.TheVariants.{Values}
 use Rattle.sqlite.specs.Does.{Tally, Does}
 use Rattle.sqlite.specs.Effect.{Database}
 use Rattle.sqlite.specs.State.{State}
@@ -15,26 +12,22 @@ use Rattle.scim_key.specs.Identifiers.{last_number}
 use Rattle.provider_store.specs.Format.{provider_schema, insert_text, update_text}
 use Rattle.provider_store.specs.Rows.{kind_code}
 use Rattle.provider_store.specs.Connections.{IsLaid, IsSpelled, IsThere, Makes, Leaves, added, renewed, resources, content_text}
-use Rattle.provider_store.proofs.Texts.{number_is, insert_terms, update_terms, insert_is, insert_plain, update_is, update_plain}
+use Rattle.provider_store.proofs.Texts.{insert_is, update_command, update_is}
 use Rattle.provider_store.proofs.Writing.{inserts, updates}
 use Rattle.sql_tables.proofs.Editing.{command_is, edits_by}
 use Rattle.provider_store.proofs.Holding.{number_of}
 use Rattle.sql_tables.specs.Statements.{IsEditText, Ran, MayLeave, plain_mode}
-use Rattle.sql_tables.proofs.Queries.{query}
 use Rattle.scim_key.specs.declared.records.RecordName.{RecordName}
 use Rattle.sqlite.specs.State.{HasCleanDisk, Survives}
 use Rattle.sqlite.proofs.StateLemmas.{survives_weaker}
 
 -- ---- the texts
 
-abbrev update_command : Command
-update_command = Update 1 (record { lets = []; body = query 1 (number_is ∷ []) update_terms [] })
-
 pub insert_edits : IsEditText provider_schema insert_text
-insert_edits = edits_by provider_schema insert_text (Insert 1 (Values insert_terms 6)) insert_plain insert_is tt
+insert_edits = edits_by insert_is tt
 
 pub update_edits : IsEditText provider_schema update_text
-update_edits = edits_by provider_schema update_text update_command update_plain update_is tt
+update_edits = edits_by update_is tt
 
 -- ---- an insertion
 
@@ -43,7 +36,7 @@ insert_params s = Int (pos s.number) ∷ Int (pos (kind_code (content_kind s.con
 
 pub inserted : (old new : State) (s : StoredRecord) → IsLaid old → IsSpelled s → IsStored s → Ran insert_text (insert_params s) old new → Makes old new s (added s (resources old))
 inserted old new s laid spelled lawful ran =
-    let command = command_is old insert_text ran.compiled (Insert 1 (Values insert_terms 6)) laid (insert_is laid.form) ran.is in
+    let command = command_is insert_is old ran.compiled laid ran.is in
     let does = subst (λ k. Does ran.limit plain_mode (insert_params s) old.now ran.text None k (Ok (ran.tally, new.now))) command ran.does in
     let made = inserts ran.limit laid.form old.now new.now ran.tally ran.text laid.schema (pos s.number) (pos (kind_code (content_kind s.content))) (pos s.version) (content_name s.content).key (content_text s.content) does in
     record {
@@ -57,7 +50,7 @@ inserted old new s laid spelled lawful ran =
 
 pub insert_leaves : (old : State) (s : StoredRecord) (db : Trees) → IsLaid old → IsSpelled s → IsStored s → MayLeave insert_text (insert_params s) old db → Leaves s (added s (resources old)) db
 insert_leaves old s db laid spelled lawful may =
-    let command = command_is old insert_text may.compiled (Insert 1 (Values insert_terms 6)) laid (insert_is laid.form) may.is in
+    let command = command_is insert_is old may.compiled laid may.is in
     let does = subst (λ k. Does may.limit plain_mode (insert_params s) old.now may.text None k (Ok (may.tally, may.after))) command may.does in
     let made = inserts may.limit laid.form old.now may.after may.tally may.text laid.schema (pos s.number) (pos (kind_code (content_kind s.content))) (pos s.version) (content_name s.content).key (content_text s.content) does in
     record { lawful = lawful; spelled = spelled; rows = ap (λ (t : Trees). t 1) may.trees ∙ made.1 }
@@ -80,7 +73,7 @@ renews limit old after tally sql s laid there does =
 
 pub updated : (old new : State) (s : StoredRecord) → IsLaid old → IsThere (resources old) s → IsSpelled s → IsStored s → Ran update_text (update_params s) old new → Makes old new s (renewed s (resources old))
 updated old new s laid there spelled lawful ran =
-    let command = command_is old update_text ran.compiled update_command laid (update_is laid.form) ran.is in
+    let command = command_is update_is old ran.compiled laid ran.is in
     let does = subst (λ k. Does ran.limit plain_mode (update_params s) old.now ran.text None k (Ok (ran.tally, new.now))) command ran.does in
     let made = renews ran.limit old new.now ran.tally ran.text s laid there does in
     record {
@@ -94,7 +87,7 @@ updated old new s laid there spelled lawful ran =
 
 pub update_leaves : (old : State) (s : StoredRecord) (db : Trees) → IsLaid old → IsThere (resources old) s → IsSpelled s → IsStored s → MayLeave update_text (update_params s) old db → Leaves s (renewed s (resources old)) db
 update_leaves old s db laid there spelled lawful may =
-    let command = command_is old update_text may.compiled update_command laid (update_is laid.form) may.is in
+    let command = command_is update_is old may.compiled laid may.is in
     let does = subst (λ k. Does may.limit plain_mode (update_params s) old.now may.text None k (Ok (may.tally, may.after))) command may.does in
     let made = renews may.limit old may.after may.tally may.text s laid there does in
     record { lawful = lawful; spelled = spelled; rows = ap (λ (t : Trees). t 1) may.trees ∙ made.1 }

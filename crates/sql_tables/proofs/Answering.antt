@@ -7,7 +7,6 @@ use Rattle.sqlite_sql.specs.Program.{overlay}
 use Rattle.sqlite_sql.specs.Term.{Term}
 use Rattle.sqlite_trees.specs.Tree.{Trees}
 use Rattle.sqlite_schema.specs.declared.schema.Schema.{Schema}
-use Rattle.sqlite_schema.specs.declared.command.Command.{Command}
 use Rattle.sqlite_schema.specs.declared.command.Command.TheVariants.{Select}
 use Rattle.sqlite_resolve.specs.declared.compiled.Compiled.{Compiled}
 use Rattle.sqlite_resolve.specs.declared.error.CompileError.{CompileError}
@@ -17,28 +16,24 @@ use Rattle.sqlite.specs.Listing.{understood}
 use Rattle.sqlite.specs.State.{State}
 use Rattle.sqlite.proofs.Callers.{command_of, one_permutation}
 use Rattle.sql_tables.specs.Layouts.{IsLaid}
-use Rattle.sql_tables.specs.Statements.{Answers, IsQuery}
-use Rattle.sql_tables.proofs.Queries.{query}
+use Rattle.sql_tables.specs.Statements.{Answers}
+use Rattle.sql_tables.proofs.Queries.{IsSelect, query}
 use Rattle.sql_tables.proofs.Selecting.{passes, selected_over, shows}
 
 read_by : (r : Result Compiled CompileError) (db : Database) (params : Row) (rows : List Row) → IsPlain r → ((c : Compiled) → r ≡ Ok c → Reads c.command db params rows) → Reads (command_of r) db params rows
 read_by (Ok c) db params rows plain reads = reads c refl
 read_by (Err e) db params rows plain reads = absurd plain
 
-module _ {Form : Type 0} {layout : Form → Schema} where
-  pub read_as : (s : State) (sql : List ℕ) (command : Command) (params : Row) (rows : List Row) → ((form : Form) → command_of (understood (layout form) sql) ≡ command) → IsQuery layout sql → IsLaid layout s
-      → Answers sql params s rows → Reads command s.now params rows
-  read_as s sql command params rows means query_text laid answers =
+module _ {Form : Type 0} {layout : Form → Schema} (s : State) {sql : List ℕ} {tree : ℕ} {terms shown : List Term} {order : List (Term × Key)} {heads : List (List ℕ)} {count : ℕ} (params : Row) (rows : List Row)
+    (is : IsSelect layout sql tree terms shown order heads count) (laid : IsLaid layout s) (answers : Answers sql params s rows) where
+  pub read_as : Reads (Select (record { lets = []; body = query tree terms shown order }) heads) s.now params rows
+  read_as =
       let schema = layout laid.form in
-      let plain = (query_text laid.form).0 in
-      let reads = read_by (understood schema sql) s.now params rows plain (λ c is. answers c (ap (λ x. understood x sql) laid.schema ∙ is)) in
-      subst (λ it. Reads it s.now params rows) (means laid.form) reads
+      let reads = read_by (understood schema sql) s.now params rows (is.reads laid.form).0 (λ c known. answers c (ap (λ x. understood x sql) laid.schema ∙ known)) in
+      subst (λ it. Reads it s.now params rows) (is.means laid.form) reads
 
-  pub answered_by : (s : State) (sql : List ℕ) (tree : ℕ) → ((db : Trees) → overlay db [] tree ≡ db tree) → (terms shown : List Term) (order : List (Term × Key)) (heads : List (List ℕ)) (params : Row) (rows : List Row)
-      → ((form : Form) → command_of (understood (layout form) sql) ≡ Select (record { lets = []; body = query tree terms shown order }) heads)
-      → IsQuery layout sql → IsLaid layout s → Answers sql params s rows → IsPermutation (map (shows shown params) (filter (passes terms params) (s.now.trees tree))) rows
-  answered_by s sql tree own terms shown order heads params rows means query_text laid answers =
-      selected_over tree terms shown order params own s.now rows (read_as s sql (Select (record { lets = []; body = query tree terms shown order }) heads) params rows means query_text laid answers)
+  pub answered_by : ((db : Trees) → overlay db [] tree ≡ db tree) → IsPermutation (map (shows shown params) (filter (passes terms params) (s.now.trees tree))) rows
+  answered_by own = selected_over tree terms shown order params own s.now rows read_as
 
 -- ---- short answers
 

@@ -17,13 +17,17 @@ edit_of_plain (Ok d) c command plain means edit is =
     subst (λ (x : Compiled). (x.returning ≡ None) × (x.formats ≡ []) × IsEdit x.command) same (plain.0, plain.1, subst IsEdit (sym means) edit)
 edit_of_plain (Err e) c command plain means edit is = absurd plain
 
-pub edits_by : {Form : Type 0} (layout : Form → Schema) (sql : List ℕ) (command : Command) → ((form : Form) → IsPlain (understood (layout form) sql)) → ((form : Form) → command_of (understood (layout form) sql) ≡ command) → IsEdit command
-    → IsEditText layout sql
-edits_by layout sql command plain means edit form c is = edit_of_plain (understood (layout form) sql) c command (plain form) (means form) edit is
+-- over each schema the text is this write, without RETURNING and without the time
+pub record IsWrite {Form : Type 0} (layout : Form → Schema) (sql : List ℕ) (command : Command) : Type 0 where
+  pub means : (form : Form) → command_of (understood (layout form) sql) ≡ command
+  pub plain : (form : Form) → IsPlain (understood (layout form) sql)
 
-pub command_is : {Form : Type 0} {layout : Form → Schema} (s : State) (sql : List ℕ) (c : Compiled) (command : Command) (laid : IsLaid layout s) → command_of (understood (layout laid.form) sql) ≡ command
-    → understood s.now.schema sql ≡ Ok c → c.command ≡ command
-command_is s sql c command laid means is = ap command_of (sym is ∙ ap (λ (schema : Schema). understood schema sql) laid.schema) ∙ means
+module _ {Form : Type 0} {layout : Form → Schema} {sql : List ℕ} {command : Command} (is : IsWrite layout sql command) where
+  pub edits_by : IsEdit command → IsEditText layout sql
+  edits_by edit form c known = edit_of_plain (understood (layout form) sql) c command (is.plain form) (is.means form) edit known
+
+  pub command_is : (s : State) (c : Compiled) → IsLaid layout s → understood s.now.schema sql ≡ Ok c → c.command ≡ command
+  command_is s c laid known = ap command_of (sym known ∙ ap (λ (schema : Schema). understood schema sql) laid.schema) ∙ is.means laid.form
 
 -- a part that gave a value did not stop on the way
 pub went : {B E R : Type 0} {b : B} {Stops : E → Type 0} → ((stop : E) × Stops stop × (Ok b ≡ Err stop)) ⊎ R → R

@@ -1,57 +1,24 @@
 -- Why a query fails although there is memory.
-use Rattle.std.proofs.Common.{◌≡◌, ◌≤◌, ◌^◌, ◌-◌, ◌+◌, min, ℕ, true, false, leb, List, [], length, append-nil, None, Result, Ok, Err, IfErr, IsTrue, IsSome, refl, sym, ap, ◌∙◌, subst, inl, inr, arith}
-use Rattle.std.proofs.lemmas.Bool.{cases_Bool, cases_lt, leb-true}
+use Rattle.std.proofs.Common.{◌≡◌, ◌≤◌, ◌^◌, ◌-◌, ◌+◌, min, ℕ, true, false, List, length, append-nil, None, Result, Ok, Err, IfErr, IsTrue, IsSome, sym, ◌∙◌, subst, inl, inr, arith}
+use Rattle.std.proofs.lemmas.Bool.{cases_Bool, cases_lt}
 use Rattle.sqlite_value.specs.Order.{Row}
-use Rattle.sqlite_value.specs.declared.keys.Key.{Key}
 use Rattle.sqlite_trees.specs.Tree.{Trees}
 use Rattle.sqlite_trees.specs.declared.error.StoreError.{StoreError}
 use Rattle.sqlite_trees.specs.declared.error.StoreError.TheVariants.{OutOfMemory, Io, Corrupt, Full, Broken, Unstorable}
-use Rattle.sqlite_sql.specs.Term.{Term}
-use Rattle.sqlite_typing.specs.Types.{accepts_program}
-use Rattle.sqlite_schema.specs.declared.command.Command.TheVariants.{Select}
 use Rattle.sqlite_schema.specs.declared.schema.Schema.{Schema}
 use Rattle.sqlite_resolve.specs.declared.compiled.Compiled.{Compiled}
-use Rattle.sqlite_resolve.specs.declared.error.CompileError.{CompileError}
 use Rattle.sqlite.specs.declared.error.Error.{Error}
 use Rattle.sqlite.specs.Effect.{Database, RefusesToRead}
 use Rattle.sqlite.specs.Given.{IsPlain}
 use Rattle.sqlite.specs.Listing.{understood, IsSourceOf}
 use Rattle.sqlite.specs.State.{State, HasCause, Survives, HasCleanDisk, FailsToQuery, FailsToShow, IsNotRun, store_error}
-use Rattle.sqlite.proofs.Callers.{command_of}
 use Rattle.scim_key.specs.Stores.{HasRisen}
 use Rattle.sql_tables.specs.Faults.{FailsFor, HasFailed, statement_fault}
 use Rattle.sql_tables.specs.Layouts.{IsLaid}
-use Rattle.sql_tables.specs.Statements.{IsAnswered, IsGiven, IsQuery, IsWhole}
+use Rattle.sql_tables.specs.Statements.{IsGiven, IsQuery}
 use Rattle.sql_tables.specs.declared.statements.StatementFault.{StatementFault}
 use Rattle.sql_tables.specs.declared.statements.StatementFault.TheVariants as statement
 use Rattle.sql_tables.proofs.Asking.{query_at}
-use Rattle.sql_tables.proofs.Queries.{count_of, query, tail_of}
-
--- ---- what a text is
-
-whole_by : (r : Result Compiled CompileError) (size count : ℕ) → IsPlain r → leb size (tail_of r) ≡ true → count ≡ count_of r → (c : Compiled) × (r ≡ Ok c) × (size ≤ c.tail) × (count ≡ length c.names)
-whole_by (Ok c) size count plain fits same = (c, refl, leb-true size c.tail fits, same)
-whole_by (Err e) size count plain fits same = absurd plain
-
-module _ {Form : Type 0} (layout : Form → Schema) where
-  pub whole : (sql : List ℕ) (count : ℕ) → IsQuery layout sql → ((form : Form) → leb (length sql) (tail_of (understood (layout form) sql)) ≡ true) → ((form : Form) → count ≡ count_of (understood (layout form) sql)) → IsWhole layout sql count
-  whole sql count query_text fits same form = whole_by (understood (layout form) sql) (length sql) count (query_text form).0 (fits form) (same form)
-
-  -- a query over one table has no sum that may be too great
-  pub answered_as : (sql : List ℕ) (tree : ℕ) (terms shown : List Term) (order : List (Term × Key)) (heads : List (List ℕ)) (params : Row)
-      → ((form : Form) → command_of (understood (layout form) sql) ≡ Select (record { lets = []; body = query tree terms shown order }) heads)
-      → ((form : Form) → accepts_program (layout form) [] (query tree terms shown order) params ≡ true) → IsAnswered layout sql params
-  answered_as sql tree terms shown order heads params means accepts form c limit trees error is refuses =
-      let command : c.command ≡ Select (record { lets = []; body = query tree terms shown order }) heads = ap command_of (sym is) ∙ means form in
-      let db : Database = record { schema = layout form; trees = trees } in
-      elim (subst (λ k. RefusesToRead limit k db params error) command refuses) [
-        | inl untyped ↦ absurd (let clash : true ≡ false = sym (accepts form) ∙ untyped.1 in cc)
-        | inr (inl (is_error, inl none)) ↦ absurd none
-        | inr (inl (is_error, inr fold)) ↦ absurd fold.4
-        | inr (inr (is_error, set)) ↦ set
-      ]
-
--- ---- why a statement fails
 
 pub fails_by : (P Q : Type 0) → (P → Q) → (fault : StatementFault) → FailsFor P fault → FailsFor Q fault
 fails_by P Q h statement.Store it = h it

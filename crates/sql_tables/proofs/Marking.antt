@@ -14,7 +14,7 @@ use Rattle.sql_tables.specs.Layouts.{IsFormat, IsLaid, IsMark, IsMarked, format_
 use Rattle.sql_tables.specs.Statements.{Answers, IsGiven, ShowsFormat}
 use Rattle.sql_tables.specs.declared.marks.Mark.{Mark}
 use Rattle.sql_tables.specs.declared.marks.Mark.TheVariants.{Own, Newer, Unmarked}
-use Rattle.sql_tables.proofs.Queries.{query}
+use Rattle.sql_tables.proofs.Queries.{IsSelect, query}
 use Rattle.sql_tables.proofs.Selecting.{selected_over, shows}
 use Rattle.sql_tables.proofs.Answering.{every, single}
 
@@ -22,11 +22,10 @@ use Rattle.sql_tables.proofs.Answering.{every, single}
 abbrev pub marked_shown : List Term
 marked_shown = col 1 2 ∷ []
 
-pub shows_format : {Form : Type 0} (layout : Form → Schema) (sql : List ℕ) (heads : List (List ℕ)) → ((form : Form) → command_of (understood (layout form) sql) ≡ Select (record { lets = []; body = query format_tree [] marked_shown [] }) heads)
-    → ShowsFormat layout sql
-shows_format layout sql heads means form trees c rows is reads =
+pub shows_format : {Form : Type 0} {layout : Form → Schema} {sql : List ℕ} {heads : List (List ℕ)} {count : ℕ} → IsSelect layout sql format_tree [] marked_shown [] heads count → ShowsFormat layout sql
+shows_format {layout = layout} {sql} {heads} it form trees c rows is reads =
     let db : Database = record { schema = layout form; trees = trees } in
-    let command : c.command ≡ Select (record { lets = []; body = query format_tree [] marked_shown [] }) heads = ap command_of (sym is) ∙ means form in
+    let command : c.command ≡ Select (record { lets = []; body = query format_tree [] marked_shown [] }) heads = ap command_of (sym is) ∙ it.means form in
     subst (λ l. IsPermutation (map (shows marked_shown []) l) rows) (every (trees format_tree) [])
     (selected_over format_tree [] marked_shown [] [] (λ _. refl) db rows (subst (λ k. Reads k db [] rows) command reads))
 

@@ -9,7 +9,7 @@ use Rattle.journal_store.specs.Format.{entry_tree}
 use Rattle.journal_store.specs.Opening.{IsUnnumbered}
 use Rattle.sql_tables.specs.Faults.{statement_fault as fault_of}
 use Rattle.journal_store.proofs.Failing.{fails_as}
-use Rattle.journal_store.proofs.Texts.{numbers_query}
+use Rattle.journal_store.proofs.Texts.{numbers_is}
 use Rattle.journal_store.proofs.Checking.{damage_on, no_damage, numbers_found, rows_fail, told_fails}
 use Rattle.journal_store.proofs.Refusing.{unnumbered}
 use Rattle.journal_store.specs.Faults.{statement_fault}
@@ -18,7 +18,7 @@ use Rattle.journal_store.proofs.Giving.{numbers_given}
 use Rattle.journal_store.proofs.opening.check_table.Goals as goal
 
 pub ask-requires-clause-query : goal.ask-requires-clause-query
-ask-requires-clause-query g c = rw c.numbers_statement.ensures (numbers_query c.args.kind)
+ask-requires-clause-query g c = rw c.numbers_statement.ensures (numbers_is c.args.kind).reads
 
 pub returns-in-Ok-clause-numbered : goal.returns-in-Ok-clause-numbered
 returns-in-Ok-clause-numbered g c clean =

@@ -6,7 +6,7 @@ use Rattle.sqlite.specs.State.{HasCleanDisk}
 use Rattle.sqlite.specs.Values.{bound_value}
 use Rattle.sql_tables.specs.Faults.{statement_fault as fault_of}
 use Rattle.journal_store.proofs.Failing.{fails_as}
-use Rattle.journal_store.proofs.Texts.{find_query}
+use Rattle.journal_store.proofs.Texts.{find_is}
 use Rattle.sql_tables.specs.Faults.{HasFailed}
 use Rattle.sql_tables.proofs.Results.{if_err}
 use Rattle.journal_store.proofs.Finding.{found_by}
@@ -20,7 +20,7 @@ use Rattle.journal_store.proofs.Refusing.{cause_by, unfound}
 use Rattle.journal_store.proofs.tables.find_entry.Goals as goal
 
 pub ask-requires-clause-query : goal.ask-requires-clause-query
-ask-requires-clause-query g c = rw c.find_statement.ensures (find_query c.args.name.now.kind)
+ask-requires-clause-query g c = rw c.find_statement.ensures (find_is c.args.name.now.kind).reads
 
 pub returns-in-Ok-clause-found : goal.returns-in-Ok-clause-found
 returns-in-Ok-clause-found g c clean =

@@ -3,7 +3,7 @@ use Rattle.sqlite.specs.Held.{state}
 use Rattle.sqlite.specs.State.{HasCleanDisk}
 use Rattle.sql_tables.specs.Faults.{statement_fault as fault_of}
 use Rattle.journal_store.proofs.Failing.{fails_as}
-use Rattle.journal_store.proofs.Texts.{all_query}
+use Rattle.journal_store.proofs.Texts.{all_is}
 use Rattle.sql_tables.proofs.Results.{if_err}
 use Rattle.sql_tables.specs.Faults.{HasFailed}
 use Rattle.journal_store.specs.Connections.{IsUnshown, ListsNone}
@@ -15,7 +15,7 @@ use Rattle.journal_store.proofs.Giving.{all_given}
 use Rattle.journal_store.proofs.tables.list_entries.Goals as goal
 
 pub ask-requires-clause-query : goal.ask-requires-clause-query
-ask-requires-clause-query g c = rw c.all_statement.ensures (all_query c.args.kind)
+ask-requires-clause-query g c = rw c.all_statement.ensures (all_is c.args.kind).reads
 
 pub returns-in-Ok-clause-all : goal.returns-in-Ok-clause-all
 returns-in-Ok-clause-all g c clean =

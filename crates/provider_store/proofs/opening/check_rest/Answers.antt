@@ -1,7 +1,7 @@
 use Rattle.std.proofs.Common.{arith, of_z, to_z, w64, subst, sym}
 use Rattle.sqlite.specs.Held.{state}
 use Rattle.sqlite.specs.State.{HasCleanDisk}
-use Rattle.provider_store.proofs.Texts.{outside_query}
+use Rattle.provider_store.proofs.Texts.{outside_is}
 use Rattle.provider_store.proofs.Checking.{rows_fail, told_fails, is_for, outside_found, within_found, beside_found}
 use Rattle.provider_store.specs.Faults.{statement_fault}
 use Rattle.provider_store.specs.Opening.{OpenFailsFor}
@@ -13,7 +13,7 @@ use Rattle.sql_tables.specs.Faults.{HasFailed, statement_fault as fault_of}
 use Rattle.provider_store.proofs.opening.check_rest.Goals as goal
 
 pub ask-requires-clause-query : goal.ask-requires-clause-query
-ask-requires-clause-query g c = outside_query
+ask-requires-clause-query g c = outside_is.reads
 
 pub returns-in-Ok-clause-none : goal.returns-in-Ok-clause-none
 returns-in-Ok-clause-none g c clean =

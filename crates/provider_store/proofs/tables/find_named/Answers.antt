@@ -1,7 +1,7 @@
 use Rattle.std.proofs.Common.{◌∙◌, arith, of_z, to_z, w64, subst, sym}
 use Rattle.sqlite.specs.Held.{state}
 use Rattle.sqlite.specs.State.{HasCleanDisk}
-use Rattle.provider_store.proofs.Texts.{named_query}
+use Rattle.provider_store.proofs.Texts.{named_is}
 use Rattle.provider_store.proofs.Finding.{name_found, code_small}
 use Rattle.provider_store.specs.Faults.{FailsFor}
 use Rattle.sql_tables.specs.Faults.{statement_fault}
@@ -12,7 +12,7 @@ use Rattle.sql_tables.specs.Faults.{HasFailed}
 use Rattle.provider_store.proofs.tables.find_named.Goals as goal
 
 pub ask-requires-clause-query : goal.ask-requires-clause-query
-ask-requires-clause-query g c = named_query
+ask-requires-clause-query g c = named_is.reads
 
 pub returns-in_ok-only-in-Ok-clause-found : goal.returns-in_ok-only-in-Ok-clause-found
 returns-in_ok-only-in-Ok-clause-found g c clean =
