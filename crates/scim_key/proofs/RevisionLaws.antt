@@ -8,7 +8,7 @@ use Rattle.std.specs.Char.{is_ascii_digit}
 use Rattle.std.specs.Fmt.{decimal}
 use Rattle.std.specs.List.{list_all}
 use Rattle.std.specs.Str.Parse.{ParsesUnsigned, digits_value}
-use Rattle.scim_key.specs.Revisions.{RevisionValue, IsOrder, IsRevision, RevisionsAreReadBack, before, later, rank, is_numeral, is_revision, no_revision, most_revisions, read_revision, revision_number, revision_of_number, revision_text, same_revision, ◌≺◌, ◌≼◌}
+use Rattle.scim_key.specs.Revisions.{RevisionValue, IsNoneOrRevision, IsOrder, IsRevision, RevisionsAreReadBack, before, later, rank, is_numeral, is_revision, no_revision, most_revisions, read_revision, revision_number, revision_of_number, revision_text, same_revision, ◌≺◌, ◌≼◌}
 
 pub irreflexive : (a : RevisionValue) → a ≺ a → ⊥
 unfolding before
@@ -30,9 +30,9 @@ pub none_before : (a : RevisionValue) → IsRevision a → no_revision ≺ a
 unfolding before is_revision
 none_before a lawful = grind (arith, nat_tests)
 
-pub rank_rises : (a b : RevisionValue) → a ≺ b → nat_lt (rank a) (rank b) ≡ true
+pub rank_rises : (a b : RevisionValue) → IsNoneOrRevision a → IsRevision b → a ≺ b → nat_lt (rank a) (rank b) ≡ true
 unfolding before rank
-rank_rises a b lt = lt
+rank_rises a b known lawful lt = lt
 
 pub rank_bounded : (a : RevisionValue) → IsRevision a → nat_le (rank a) most_revisions ≡ true
 unfolding rank is_revision

@@ -41,6 +41,10 @@ is_revision r = nat_le 1 r && nat_le r LAST_REVISION
 abbrev pub IsRevision : RevisionValue → Type 0
 IsRevision r = is_revision r ≡ true
 
+-- what may be confirmed of a record: none, or a revision that the source may give
+abbrev pub IsNoneOrRevision : RevisionValue → Type 0
+IsNoneOrRevision r = (r ≡ no_revision) ⊎ IsRevision r
+
 -- ---- reading and writing
 
 -- the revision with this number, and the number that is written for a revision
@@ -84,7 +88,7 @@ pub record IsOrder : Type 0 where
   pub total : (a b : RevisionValue) → a ≼ b → b ≼ a → a ≡ b
   pub none_first : (a : RevisionValue) → no_revision ≼ a
   pub none_before : (a : RevisionValue) → IsRevision a → no_revision ≺ a
-  pub rank_rises : (a b : RevisionValue) → a ≺ b → nat_lt (rank a) (rank b) ≡ true
+  pub rank_rises : (a b : RevisionValue) → IsNoneOrRevision a → IsRevision b → a ≺ b → nat_lt (rank a) (rank b) ≡ true
   pub rank_bounded : (a : RevisionValue) → IsRevision a → nat_le (rank a) most_revisions ≡ true
   pub reflexive_up_to : (a : RevisionValue) → a ≼ a
   pub transitive_up_to : (a b c : RevisionValue) → a ≼ b → b ≼ c → a ≼ c

@@ -1,5 +1,5 @@
 -- A story has no more versions than there are revisions.
-use Rattle.std.proofs.Common.{◌≡◌, ℕ, zero, suc, ◌<◌, ◌≤◌, List, [], ◌∷◌, length, Some, arith, length-append}
+use Rattle.std.proofs.Common.{◌≡◌, ℕ, zero, suc, ◌<◌, ◌≤◌, List, [], ◌∷◌, length, Some, refl, inl, inr, arith, length-append}
 use Rattle.std.proofs.lemmas.Bool.{ltb-true, leb-true}
 use Rattle.std.proofs.lemmas.Option.{slice_get_within}
 use Rattle.scim_key.proofs.RevisionLaws.{none_before, rank_rises, rank_bounded}
@@ -29,13 +29,13 @@ AllOfRevisions contents = (i : ℕ) (c : Content) → IsAt contents i c → IsOf
 
 ranked : (contents : List Content) → StoryRises contents → AllOfRevisions contents → (j : ℕ) (c : Content) (r : RevisionValue) → IsAt contents j c → content_revision c ≡ Some r → IsRevision r
     → j < rank r
-ranked contents rises lawful zero c r at has law = let up = ltb-true (rank no_revision) (rank r) (rank_rises no_revision r (none_before r law)) in omega (arith, up)
+ranked contents rises lawful zero c r at has law = let up = ltb-true (rank no_revision) (rank r) (rank_rises no_revision r (inl refl) law (none_before r law)) in omega (arith, up)
 ranked contents rises lawful (suc j) c r at has law =
     let within = slice_get_within contents (suc j) c at in
     let (d, there) = at_within contents j (omega (arith, within)) in
     let its = lawful j d there in
     let below = ranked contents rises lawful j d its.revision there its.has its.lawful in
-    let up = ltb-true (rank its.revision) (rank r) (rank_rises its.revision r (rises j (suc j) d c its.revision r (omega arith) there at its.has has)) in
+    let up = ltb-true (rank its.revision) (rank r) (rank_rises its.revision r (inr its.lawful) law (rises j (suc j) d c its.revision r (omega arith) there at its.has has)) in
     omega (arith, below, up)
 
 few_versions : (e : Entry) → StoryRises (story e) → AllOfRevisions (story e) → length (story e) ≤ most_revisions
