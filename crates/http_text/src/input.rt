@@ -9,7 +9,7 @@ use std::io::{ErrorKind, Read};
 use std::marker::Model;
 
 /// The most bytes that are read ahead.
-const AHEAD_LIMIT: usize = 4_096;
+const AHEAD_LIMIT: usize = 8_192;
 
 /// A reader that counts its reads and its failed reads, each up to the greatest `u64`. An interrupted read
 /// isn't a failure. It reads ahead into its own array, so that taking a byte needs no call of the reader.
@@ -37,6 +37,7 @@ impl<R: Read> Model for Input<R> {
     ghost use Rattle.std.specs.Prelude.{◌≤◌, slice_range};
     ghost use Rattle.std.specs.Io.KnownBytes.{prepend_known};
     ghost use Rattle.http_text.specs.Counts.{Reading};
+    ghost use Rattle.http_text.specs.declared.input.TheConstants.{AHEAD_LIMIT};
 
     ghost Value = { Reading };
 
@@ -47,7 +48,7 @@ impl<R: Read> Model for Input<R> {
       failures = s.failed_reads;
     } };
 
-    ghost invariant = { λ s. (s.start ≤ s.end) × (s.end ≤ 4096) };
+    ghost invariant = { λ s. (s.start ≤ s.end) × (s.end ≤ AHEAD_LIMIT) };
 }
 
 impl<R: Read> Input<R> {
