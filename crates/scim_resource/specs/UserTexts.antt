@@ -1,5 +1,5 @@
 -- The texts that a user may have, each at the place of its `UserText`.
-use Rattle.std.specs.Prelude.{◌≡◌, ℕ, Bool, List, Option, None, codes, get_or, is_some, length, map}
+use Rattle.std.specs.Prelude.{◌≡◌, ℕ, Bool, List, Option, None, Some, codes, get_or, is_some, length, map}
 use Rattle.std.specs.List.{AllByRecursion, list_any}
 use denote.Enum.Declared.{tag_of}
 use Rattle.scim_resource.specs.Texts.{IsTextIf}
@@ -9,6 +9,11 @@ use Rattle.scim_resource.specs.declared.user_texts.Holder.TheVariants as holder
 use Rattle.scim_resource.specs.declared.user_texts.TheConstants.{TEXT_COUNT, USER_TEXTS}
 use Rattle.scim_resource.specs.declared.user_texts.UserText.{UserText}
 use Rattle.scim_resource.specs.declared.user_texts.UserText.TheVariants as text
+
+-- the attribute of a user whose value is the object; none for the user itself
+abbrev pub attribute_of : Holder → Option (List ℕ)
+attribute_of holder.User = None
+attribute_of holder.Name = Some (codes "name")
 
 -- where a text is in JSON: the object that has it as a member, and the member's name
 abbrev pub member_of : UserText → Holder × List ℕ

@@ -21,7 +21,7 @@ use Rattle.scim_key.proofs.RevisionLaws.{are_read_back}
 use Rattle.scim_key.specs.declared.records.RecordName.{RecordName}
 use Rattle.scim_resource.specs.Contents.{content_kind}
 use Rattle.scim_resource.specs.Schemas.{core_user, core_group, source_extension}
-use Rattle.scim_resource.specs.Writing.{source_data, schemas_data, object_if, name_data, email_data, email_parts, emails_data, user_data, user_front, user_back, member_data, group_members_data, group_data, content_data}
+use Rattle.scim_resource.specs.Writing.{Extension, source_data, schemas_data, object_if, name_data, email_data, email_parts, emails_data, user_data, user_front, user_back, member_data, group_members_data, group_data, content_data}
 use Rattle.scim_resource.specs.declared.contents.Content.{Content}
 use Rattle.source_csv.specs.Records.{IsRow}
 use Rattle.source_csv.proofs.RowLemmas.{short_text}
@@ -246,13 +246,17 @@ revision_part : (r : RevisionValue) → IsRevision r → (d : Data) → source_d
 revision_part r law d is =
     just (object (member (codes "revision") (number (unsigned (revision_number r))) no_members)) d 34 (object_most (member (codes "revision") (number (unsigned (revision_number r))) no_members) 33 (with_member (codes "revision") (number (unsigned (revision_number r))) no_members 10 20 1 key_revision (revision_most r law) no_more_members)) is
 
-schemas_most : (core : List ℕ) (n : ℕ) (r : RevisionValue) → length (quoted core) ≤ n → length (compact_text (array (schemas_data core (Some r)))) ≤ n + 58
-schemas_most core n r short =
-    let items = with_item (string core) (item (string source_extension) no_items) n 56 short (with_item (string source_extension) no_items 54 1 (omega (arith, extension_length)) no_more_items) in
-    omega (arith, array_most (schemas_data core (Some r)) (1 + n + 56) items)
+-- an image has the source extension
+abbrev sourced : List Extension
+sourced = (source_extension, true) ∷ []
 
-schemas_part : (core : List ℕ) (n : ℕ) (r : RevisionValue) → length (quoted core) ≤ n → (d : Data) → Some (array (schemas_data core (Some r))) ≡ Some d → length (compact_text d) ≤ n + 58
-schemas_part core n r short d is = just (array (schemas_data core (Some r))) d (n + 58) (schemas_most core n r short) is
+schemas_most : (core : List ℕ) (n : ℕ) → length (quoted core) ≤ n → length (compact_text (array (schemas_data core sourced))) ≤ n + 58
+schemas_most core n short =
+    let items = with_item (string core) (item (string source_extension) no_items) n 56 short (with_item (string source_extension) no_items 54 1 (omega (arith, extension_length)) no_more_items) in
+    omega (arith, array_most (schemas_data core sourced) (1 + n + 56) items)
+
+schemas_part : (core : List ℕ) (n : ℕ) → length (quoted core) ≤ n → (d : Data) → Some (array (schemas_data core sourced)) ≡ Some d → length (compact_text d) ≤ n + 58
+schemas_part core n short d is = just (array (schemas_data core sourced)) d (n + 58) (schemas_most core n short) is
 
 -- the parts of a name
 abbrev name_parts : Option (List ℕ) → Option (List ℕ) → List Part
@@ -295,7 +299,7 @@ user_size row law =
     (with_part (codes "externalId") (option_map string (present (text_of row texts.Number))) _ 12 1538 4099 key_external_id (present_most (text_of row texts.Number) (short_text row law texts.Number))
     (with_part (codes "name") (name_data (image_texts row)) _ 6 3105 986 key_name
     (name_part (present (text_of row texts.Given)) (present (text_of row texts.Family)) (present_most (text_of row texts.Given) (short_text row law texts.Given)) (present_most (text_of row texts.Family) (short_text row law texts.Family)))
-    (with_part (codes "schemas") (Some (array (schemas_data core_user (Some row.revision)))) _ 9 102 873 key_schemas (schemas_part core_user 44 row.revision (omega (arith, core_user_length)))
+    (with_part (codes "schemas") (Some (array (schemas_data core_user sourced))) _ 9 102 873 key_schemas (schemas_part core_user 44 (omega (arith, core_user_length)))
     (with_part source_extension (source_data (Some row.revision)) _ 54 34 783 extension_length (revision_part row.revision law.revision)
     (with_part (codes "userName") (Some (string row.login)) no_members 10 770 1 key_user_name
     (λ d is. just (string row.login) d 770 (omega (arith, quoted_most row.login, user_name_short row.login law.login)) is) no_more_members))))))) in
@@ -332,7 +336,7 @@ group_size row ids law all few =
     let whole : length (compact_text (content_data (group_image ids row))) ≤ 20604 = object_most _ 20603 (with_part (codes "displayName") (Some (string row.name)) _ 13 770 19818 key_display_name
     (λ d is. just (string row.name) d 770 (omega (arith, quoted_most row.name, group_name_short row.name law.name)) is)
     (with_part (codes "members") (group_members_data (once ids)) _ 9 19602 205 key_members (members_part (once ids) all few)
-    (with_part (codes "schemas") (Some (array (schemas_data core_group (Some row.revision)))) _ 9 103 91 key_schemas (schemas_part core_group 45 row.revision (omega (arith, core_group_length)))
+    (with_part (codes "schemas") (Some (array (schemas_data core_group sourced))) _ 9 103 91 key_schemas (schemas_part core_group 45 (omega (arith, core_group_length)))
     (with_part source_extension (source_data (Some row.revision)) no_members 54 34 1 extension_length (revision_part row.revision law.revision) no_more_members)))) in
     omega (arith, whole)
 
