@@ -10,7 +10,7 @@ use Rattle.scim_json.specs.Attributes.{same_name, named, is_empty, present, attr
 use Rattle.scim_json.specs.Values.{is_text, some_text, flag_or, whole_in, members_in}
 use Rattle.scim_resource.specs.Alike.{Alike, same, lists, objects, ItemsAlike, no_more, one_more, AlikeIf, neither, both}
 use Rattle.scim_resource.specs.Reading.{checked, is_text_or_null, all_texts, lists_schema, user_name_in, revision_of, revision_in, text_in, part_of, object_at, value_of, text_of, texts_in, user_texts_in, email_with, email_of, email_in, with_email, emails_of, few_emails, emails_in, display_name_in, member_in, with_member, members_after, few_members, group_members_in, user_fields, group_fields, user_repeats, group_repeats, unless_repeated, read_user, read_group, read_content}
-use Rattle.scim_resource.specs.Schemas.{core_user, core_group, source_extension}
+use Rattle.scim_resource.specs.Schemas.{core_user, core_group, enterprise_extension, source_extension}
 use Rattle.scim_resource.specs.UserTexts.{attribute_of, holder_of, name_of}
 use Rattle.scim_resource.specs.declared.contents.Content.TheVariants.{User, Group}
 use Rattle.scim_resource.specs.declared.faults.ReadFault.{ReadFault}
@@ -223,7 +223,7 @@ members_alike o p (both d e (objects ms ns r f)) = refl
 user_repeats_alike : (ms ns : Members) → Match ms ns → user_repeats ms ≡ user_repeats ns
 unfolding user_repeats
 user_repeats_alike ms ns m =
-    rw (m.repeat, value_repeats_alike _ _ (attribute_alike source_extension ms ns m), value_repeats_alike _ _ (attribute_alike (codes "name") ms ns m), list_repeats_alike _ _ (attribute_alike (codes "emails") ms ns m))
+    rw (m.repeat, value_repeats_alike _ _ (attribute_alike source_extension ms ns m), value_repeats_alike _ _ (attribute_alike enterprise_extension ms ns m), value_repeats_alike _ _ (attribute_alike (codes "name") ms ns m), list_repeats_alike _ _ (attribute_alike (codes "emails") ms ns m))
 
 group_repeats_alike : (ms ns : Members) → Match ms ns → group_repeats ms ≡ group_repeats ns
 unfolding group_repeats

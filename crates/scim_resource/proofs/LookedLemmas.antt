@@ -6,9 +6,9 @@ use Rattle.scim_key.specs.declared.records.Kind.TheVariants as kinds
 use Rattle.serde_json.specs.Data.{Data, object, Members}
 use Rattle.serde_json.specs.View.{items_of}
 use Rattle.scim_json.specs.Attributes.{attribute, repeats, value_repeats, items_repeat, list_repeats}
-use Rattle.scim_resource.specs.Looked.{Lists, IsLookedInto, the_body, the_extension, a_name, an_email, a_member}
+use Rattle.scim_resource.specs.Looked.{Lists, IsLookedInto, the_body, the_source, an_enterprise, a_name, an_email, a_member}
 use Rattle.scim_resource.specs.Reading.{user_repeats, group_repeats, user_fields, group_fields, unless_repeated, read_content}
-use Rattle.scim_resource.specs.Schemas.{source_extension}
+use Rattle.scim_resource.specs.Schemas.{enterprise_extension, source_extension}
 use Rattle.scim_resource.specs.declared.contents.Content.TheVariants.{User, Group}
 use Rattle.scim_resource.specs.declared.faults.ReadFault.TheVariants.{InvalidSyntax}
 
@@ -40,8 +40,9 @@ group_first ms h = ap (λ b. unless_repeated b (group_fields ms) >>= (λ g. Ok (
 
 user_repeats_at : (ms inner : Members) → IsLookedInto kinds.User ms inner → repeats inner ≡ true → user_repeats ms ≡ true
 unfolding user_repeats
-user_repeats_at ms inner (the_body is) h = first _ _ (first _ _ (first _ _ (ap repeats (sym is) ∙ h)))
-user_repeats_at ms inner (the_extension is) h = first _ _ (first _ _ (later _ _ (value_with source_extension ms inner is h)))
+user_repeats_at ms inner (the_body is) h = first _ _ (first _ _ (first _ _ (first _ _ (ap repeats (sym is) ∙ h))))
+user_repeats_at ms inner (the_source is) h = first _ _ (first _ _ (first _ _ (later _ _ (value_with source_extension ms inner is h))))
+user_repeats_at ms inner (an_enterprise k is) h = first _ _ (first _ _ (later _ _ (value_with enterprise_extension ms inner is h)))
 user_repeats_at ms inner (a_name k is) h = first _ _ (later _ _ (value_with (codes "name") ms inner is h))
 user_repeats_at ms inner (an_email k l) h = later _ _ (list_with (codes "emails") ms inner l h)
 user_repeats_at ms inner (a_member k l) h = cc
@@ -49,7 +50,8 @@ user_repeats_at ms inner (a_member k l) h = cc
 group_repeats_at : (ms inner : Members) → IsLookedInto kinds.Group ms inner → repeats inner ≡ true → group_repeats ms ≡ true
 unfolding group_repeats
 group_repeats_at ms inner (the_body is) h = first _ _ (first _ _ (ap repeats (sym is) ∙ h))
-group_repeats_at ms inner (the_extension is) h = first _ _ (later _ _ (value_with source_extension ms inner is h))
+group_repeats_at ms inner (the_source is) h = first _ _ (later _ _ (value_with source_extension ms inner is h))
+group_repeats_at ms inner (an_enterprise k is) h = cc
 group_repeats_at ms inner (a_name k is) h = cc
 group_repeats_at ms inner (an_email k l) h = cc
 group_repeats_at ms inner (a_member k l) h = later _ _ (list_with (codes "members") ms inner l h)

@@ -12,7 +12,7 @@ use Rattle.scim_json.specs.Parsing.{json_of}
 use Rattle.scim_json.specs.declared.values.ValueFault.{ValueFault}
 use Rattle.scim_resource.specs.Emails.{are_few}
 use Rattle.scim_resource.specs.Groups.{GroupRecord, is_among, are_few_members}
-use Rattle.scim_resource.specs.Schemas.{core_user, core_group, source_extension}
+use Rattle.scim_resource.specs.Schemas.{core_user, core_group, enterprise_extension, source_extension}
 use Rattle.scim_resource.specs.Texts.{is_short_text}
 use Rattle.scim_resource.specs.UserTexts.{UserTexts, attribute_of, holder_of, name_of}
 use Rattle.scim_resource.specs.Users.{UserRecord}
@@ -226,8 +226,8 @@ group_fields ms =
 -- one of the objects that reading looks into repeats a name
 unfoldable pub user_repeats : Members → Bool
 user_repeats ms =
-    repeats ms || value_repeats (attribute source_extension ms) || value_repeats (attribute (codes "name") ms)
-    || list_repeats (attribute (codes "emails") ms)
+    repeats ms || value_repeats (attribute source_extension ms) || value_repeats (attribute enterprise_extension ms)
+    || value_repeats (attribute (codes "name") ms) || list_repeats (attribute (codes "emails") ms)
 
 abbrev pub unless_repeated : {X : Type 0} → Bool → Result X ReadFault → Result X ReadFault
 unless_repeated true answer = Err InvalidSyntax

@@ -9,13 +9,13 @@ use Rattle.scim_resource.specs.Contents.{content_kind}
 use Rattle.scim_resource.specs.Groups.{GroupRecord}
 use Rattle.scim_resource.specs.Locations.{location_text, type_name}
 use Rattle.scim_resource.specs.Rows.{ShownRecord}
-use Rattle.scim_resource.specs.Schemas.{core_user, core_group, source_extension}
-use Rattle.scim_resource.specs.UserTexts.{UserTexts, name_of, text_at}
+use Rattle.scim_resource.specs.Schemas.{core_user, core_group, enterprise_extension, source_extension}
+use Rattle.scim_resource.specs.UserTexts.{UserTexts, has_some, name_of, text_at}
 use Rattle.scim_resource.specs.Users.{UserRecord}
 use Rattle.scim_resource.specs.declared.contents.Content.{Content}
 use Rattle.scim_resource.specs.declared.contents.Content.TheVariants.{User, Group}
 use Rattle.scim_resource.specs.declared.emails.Email.{Email}
-use Rattle.scim_resource.specs.declared.user_texts.TheConstants.{NAME_TEXTS, TOP_TEXTS}
+use Rattle.scim_resource.specs.declared.user_texts.TheConstants.{ENTERPRISE_TEXTS, NAME_TEXTS, TOP_TEXTS}
 use Rattle.scim_resource.specs.declared.user_texts.UserText.{UserText}
 
 -- the source extension, if there is a revision
@@ -60,9 +60,9 @@ text_part texts which = (name_of which, option_map string (text_at which texts))
 abbrev pub text_parts : UserTexts → List UserText → List Part
 text_parts texts ws = map (text_part texts) ws
 
--- a name, if it has a part
-abbrev pub name_data : UserTexts → Option Data
-name_data texts = object_if (members_from (text_parts texts NAME_TEXTS))
+-- an object of these texts, if a user has one of them
+abbrev pub held_data : UserTexts → List UserText → Option Data
+held_data texts ws = object_if (members_from (text_parts texts ws))
 
 -- `primary`, only if it is true
 abbrev pub primary_data : Bool → Option Data
@@ -83,7 +83,7 @@ emails_data (e ∷ es) = Some (array (items_of (map email_data (e ∷ es))))
 
 -- the extensions of a user, in the order of `schemas`
 abbrev pub user_extensions : UserRecord → List Extension
-user_extensions u = source_if u.revision ∷ []
+user_extensions u = (enterprise_extension, has_some u.texts ENTERPRISE_TEXTS) ∷ source_if u.revision ∷ []
 
 -- a user's attributes in byte order: those before `id`, and those after `meta`
 unfoldable pub user_front : UserRecord → List Part
@@ -94,9 +94,10 @@ user_front u =
 
 unfoldable pub user_back : UserRecord → List Part
 user_back u =
-    (codes "name", name_data u.texts)
+    (codes "name", held_data u.texts NAME_TEXTS)
     ∷ (codes "schemas", Some (array (schemas_data core_user (user_extensions u))))
     ∷ (source_extension, source_data u.revision)
+    ∷ (enterprise_extension, held_data u.texts ENTERPRISE_TEXTS)
     ∷ (codes "userName", Some (string u.user_name))
     ∷ []
 

@@ -14,7 +14,7 @@ use crate::contents::Content;
 use crate::emails::{Email, Emails};
 use crate::faults::ReadFault;
 use crate::group_reading::read_group;
-use crate::schemas::{core_user, source_extension};
+use crate::schemas::{core_user, enterprise_extension, source_extension};
 use crate::texts::{Text, is_short_text};
 use crate::user_texts::{Holder, TEXT_COUNT, USER_TEXTS, UserText};
 use crate::users::User;
@@ -67,6 +67,7 @@ fn user_repeats(alloc: Global, members: &Map<String, Value>) -> Result<bool, All
     Ok(
         repeats(alloc, members)?
             || value_repeats(alloc, attribute(members, source_extension()))?
+            || value_repeats(alloc, attribute(members, enterprise_extension()))?
             || value_repeats(alloc, attribute(members, "name"))?
             || list_repeats(alloc, attribute(members, "emails"))?,
     )

@@ -18,9 +18,9 @@ use crate::emails::Email;
 use crate::group_writing::{write_group, write_shown_group};
 use crate::locations::{location, type_name};
 use crate::rows::Shown;
-use crate::schemas::{core_user, source_extension};
+use crate::schemas::{core_user, enterprise_extension, source_extension};
 use crate::texts::Text;
-use crate::user_texts::{NAME_TEXTS, TOP_TEXTS, UserText};
+use crate::user_texts::{ENTERPRISE_TEXTS, NAME_TEXTS, TOP_TEXTS, UserText};
 use crate::users::User;
 use json::Writer;
 use scim_json::{TEXT_ROOM, write_text, write_whole};
@@ -157,13 +157,19 @@ fn write_user_back(out: &mut Writer, user: &User) -> Result<(), AllocError>
     ensures lawful { OnOk result (IsUser user.now) }
 {
     write_held(out, "name", user, &NAME_TEXTS)?;
-    write_schemas(
-        out,
-        core_user(),
-        &[(source_extension(), user.revision().is_some())],
-    )?;
+    write_schemas(out, core_user(), &extensions_of(user))?;
     write_source(out, user.revision())?;
+    write_held(out, enterprise_extension(), user, &ENTERPRISE_TEXTS)?;
     write_text(out, "userName", user.user_name().as_str())
+}
+
+/// The extensions of a user, in the order of `schemas`, and whether the user has each.
+fn extensions_of(user: &User) -> [(&'static str, bool); 2]
+    ensures { map (λ e. (e.0.now, e.1)) result ≡ spec.user_extensions user.now }
+{
+    let enterprise = (enterprise_extension(), has_some(user, &ENTERPRISE_TEXTS));
+    let source = (source_extension(), user.revision().is_some());
+    [enterprise, source]
 }
 
 /// Writes a text of an attribute, if there is one.
@@ -206,7 +212,7 @@ fn write_held(
     texts: &[UserText],
 ) -> Result<(), AllocError>
     ensures { OnOk result (WritesPart name.now
-        (spec.object_if (members_from (spec.text_parts user.now.texts texts.now))) out.old out.new) }
+        (spec.held_data user.now.texts texts.now) out.old out.new) }
 {
     if !has_some(user, texts) {
         return Ok(());
