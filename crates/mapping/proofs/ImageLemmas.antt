@@ -14,6 +14,7 @@ use Rattle.scim_resource.specs.UserTexts.{AreUserTexts}
 use Rattle.scim_resource.specs.declared.emails.Email.{Email}
 use Rattle.scim_resource.specs.declared.user_texts.TheConstants.{USER_TEXTS}
 use Rattle.scim_resource.specs.declared.user_texts.UserText.{UserText}
+use Rattle.scim_resource.specs.declared.user_texts.UserText.TheVariants as texts
 use Rattle.scim_resource.specs.declared.texts.TheConstants.{TEXT_LIMIT}
 use Rattle.scim_resource.proofs.RoundTrips.{content_read, content_spelled}
 use Rattle.source_csv.specs.Records.{row_name, user}
@@ -28,7 +29,7 @@ use Rattle.group_sync.specs.Ready.{ready}
 use Rattle.group_sync.specs.declared.ids.Ready.{Ready}
 use Rattle.group_sync.specs.declared.ids.Ready.TheVariants.{Ids, Waits}
 use Rattle.group_sync.proofs.ReadyLemmas.{means}
-use Rattle.mapping.specs.Images.{present, emails_of, group_image, image, image_by, image_texts, source_of, user_image}
+use Rattle.mapping.specs.Images.{present, emails_of, group_image, image, image_by, image_texts, source_text, user_image}
 use Rattle.mapping.specs.Laws.{AreIds, ImagesReadBack, ImagesStay, ReadsBack}
 use Rattle.mapping.proofs.MemberLemmas.{once_lawful, text_of_id}
 
@@ -72,9 +73,15 @@ emails_are_lawful (b ∷ mail) short = record {
   few = few_of_one _ refl;
 }
 
-texts_lawful : (row : UserFields) (ws : List UserText) → IsUserRow row → AllByRecursion IsTextIf (map (λ which. present (text_of row (source_of which))) ws)
+source_short : (row : UserFields) → IsUserRow row → (which : UserText) → length (source_text row which) ≤ TEXT_LIMIT
+source_short row lawful texts.Department = omega arith
+source_short row lawful texts.ExternalId = short_text row lawful field.Number
+source_short row lawful texts.FamilyName = short_text row lawful field.Family
+source_short row lawful texts.GivenName = short_text row lawful field.Given
+
+texts_lawful : (row : UserFields) (ws : List UserText) → IsUserRow row → AllByRecursion IsTextIf (map (λ which. present (source_text row which)) ws)
 texts_lawful row [] lawful = tt
-texts_lawful row (w ∷ ws) lawful = (present_is_text (text_of row (source_of w)) (short_text row lawful (source_of w)), texts_lawful row ws lawful)
+texts_lawful row (w ∷ ws) lawful = (present_is_text (source_text row w) (source_short row lawful w), texts_lawful row ws lawful)
 
 pub image_texts_lawful : (row : UserFields) → IsUserRow row → AreUserTexts (image_texts row)
 image_texts_lawful row lawful = record { count = refl; each = texts_lawful row USER_TEXTS lawful }

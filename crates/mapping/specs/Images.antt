@@ -12,7 +12,6 @@ use Rattle.scim_resource.specs.declared.user_texts.TheConstants.{USER_TEXTS}
 use Rattle.scim_resource.specs.declared.user_texts.UserText.{UserText}
 use Rattle.scim_resource.specs.declared.user_texts.UserText.TheVariants as texts
 use Rattle.source_csv.specs.Rows.{GroupFields, UserFields, text_of}
-use Rattle.source_csv.specs.declared.texts.UserText as fields
 use Rattle.source_csv.specs.declared.texts.UserText.TheVariants as field
 use Rattle.source_csv.specs.declared.rows.Row.{Row}
 use Rattle.source_csv.specs.declared.rows.Row.TheVariants.{User, Group}
@@ -35,15 +34,16 @@ abbrev pub emails_of : List ℕ → List Email
 emails_of [] = []
 emails_of (b ∷ mail) = work_email (b ∷ mail) ∷ []
 
--- the text of a row that gives a text of a user
-abbrev pub source_of : UserText → fields.UserText
-source_of texts.ExternalId = field.Number
-source_of texts.FamilyName = field.Family
-source_of texts.GivenName = field.Given
+-- the text of a row that gives a text of a user; empty if no field gives it
+abbrev pub source_text : UserFields → UserText → List ℕ
+source_text row texts.Department = []
+source_text row texts.ExternalId = text_of row field.Number
+source_text row texts.FamilyName = text_of row field.Family
+source_text row texts.GivenName = text_of row field.Given
 
 -- the texts of a user
 abbrev pub image_texts : UserFields → UserTexts
-image_texts row = map (λ which. present (text_of row (source_of which))) USER_TEXTS
+image_texts row = map (λ which. present (source_text row which)) USER_TEXTS
 
 -- The image of a row of a user
 abbrev pub user_image : UserFields → Content

@@ -1,9 +1,8 @@
 //! Images of rows.
 ghost use Rattle.std.specs.Prelude.{◌≡◌, ◌≤◌, Some, IfOk, length, map, codes};
 ghost use Rattle.std.specs.List.{All};
-ghost use Rattle.source_csv.specs.Rows.{text_of};
 ghost use Rattle.scim_resource.specs.declared.texts.TheConstants.{TEXT_LIMIT};
-ghost use Rattle.mapping.specs.Images.{emails_of, image_texts, present, source_of, user_image};
+ghost use Rattle.mapping.specs.Images.{emails_of, image_texts, present, source_text, user_image};
 
 use scim_resource::{
     Content, Email, Emails, TEXT_COUNT, TEXT_LIMIT, Text, USER_TEXTS, User, UserText,
@@ -22,23 +21,25 @@ pub fn user_content(alloc: Global, row: &UserRow) -> Result<Content, AllocError>
     Ok(Content::User(user.with_texts(texts).with_emails(emails)))
 }
 
-/// The field of a row that gives a text of a user.
-fn source_of(which: UserText) -> Field
-    ensures { result ≡ source_of which }
+/// The field of a row that gives a text of a user; empty if no field gives it.
+fn source_text(row: &UserRow, which: UserText) -> &str
+    ensures value { result.now ≡ source_text row.now which }
+    ensures short { length result.now ≤ TEXT_LIMIT }
 {
     match which {
-        UserText::ExternalId => Field::Number,
-        UserText::FamilyName => Field::Family,
-        UserText::GivenName => Field::Given,
+        UserText::Department => "",
+        UserText::ExternalId => row.text(Field::Number),
+        UserText::FamilyName => row.text(Field::Family),
+        UserText::GivenName => row.text(Field::Given),
     }
 }
 
 /// The fields that give the texts of a user.
 fn fields(row: &UserRow) -> [&str; TEXT_COUNT]
-    ensures value { map (λ f. f.now) result ≡ map (λ which. text_of row.now (source_of which)) USER_TEXTS }
+    ensures value { map (λ f. f.now) result ≡ map (source_text row.now) USER_TEXTS }
     ensures short { All (λ f. length f.now ≤ TEXT_LIMIT) result }
 {
-    USER_TEXTS.map(|which| row.text(source_of(which)))
+    USER_TEXTS.map(|which| source_text(row, which))
 }
 
 /// The texts of a user. An empty field is an absent text.

@@ -14,6 +14,8 @@ mod connector;
 #[cfg(test)]
 mod creating;
 #[cfg(test)]
+mod departments;
+#[cfg(test)]
 mod exchanges;
 #[cfg(test)]
 mod grouping;

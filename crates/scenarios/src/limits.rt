@@ -77,6 +77,13 @@ static BODIES: &[Limit] = &[
         VALUE,
     ),
     (
+        "{\"schemas\":[\"urn:ietf:params:scim:schemas:core:2.0:User\"],\"userName\":\"a\",\"urn:ietf:params:scim:schemas:extension:enterprise:2.0:User\":{\"department\":\"",
+        ("a", 256),
+        "\"}}",
+        CREATED,
+        VALUE,
+    ),
+    (
         "{\"schemas\":[\"urn:ietf:params:scim:schemas:core:2.0:User\"],\"userName\":\"a\",\"emails\":[{\"value\":\"",
         ("a", 256),
         "\"}]}",

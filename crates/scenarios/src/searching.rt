@@ -304,6 +304,8 @@ static NO_FILTERS: &[&str] = &[
     "?filter=userName+gt+%22a%22",
     "?filter=emails%5Btype+eq+%22work%22%5D",
     "?filter=active+co+%22t%22",
+    "?filter=department+eq+%22x%22",
+    "?filter=urn%3Aietf%3Aparams%3Ascim%3Aschemas%3Aextension%3Aenterprise%3A2.0%3AUser%3Adepartment+eq+%22x%22",
 ];
 
 #[test]

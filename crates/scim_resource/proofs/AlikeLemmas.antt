@@ -9,13 +9,11 @@ use Rattle.serde_json.specs.Data.{Data, object, Items, Members, no_members, memb
 use Rattle.scim_json.specs.Attributes.{same_name, named, is_empty, present, attribute, has_name, repeats, value_repeats, items_repeat, list_repeats}
 use Rattle.scim_json.specs.Values.{is_text, some_text, flag_or, whole_in, members_in}
 use Rattle.scim_resource.specs.Alike.{Alike, same, lists, objects, ItemsAlike, no_more, one_more, AlikeIf, neither, both}
-use Rattle.scim_resource.specs.Reading.{checked, is_text_or_null, all_texts, lists_schema, user_name_in, revision_of, revision_in, text_in, part_of, value_in, value_of, texts_in, user_texts_in, email_with, email_of, email_in, with_email, emails_of, few_emails, emails_in, if_listed, display_name_in, member_in, with_member, members_after, few_members, group_members_in, user_fields, group_fields, user_repeats, group_repeats, unless_repeated, read_user, read_group, read_content}
-use Rattle.scim_resource.specs.Schemas.{core_user, core_group, source_extension}
-use Rattle.scim_resource.specs.UserTexts.{UserTexts, holder_of, name_of}
+use Rattle.scim_resource.specs.Reading.{checked, is_text_or_null, all_texts, lists_schema, user_name_in, revision_of, revision_in, text_in, part_of, object_at, value_of, text_of, texts_in, user_texts_in, email_with, email_of, email_in, with_email, emails_of, few_emails, emails_in, display_name_in, member_in, with_member, members_after, few_members, group_members_in, user_fields, group_fields, user_repeats, group_repeats, unless_repeated, read_user, read_group, read_content}
+use Rattle.scim_resource.specs.Schemas.{core_user, core_group, enterprise_extension, source_extension}
+use Rattle.scim_resource.specs.UserTexts.{attribute_of, holder_of, name_of}
 use Rattle.scim_resource.specs.declared.contents.Content.TheVariants.{User, Group}
 use Rattle.scim_resource.specs.declared.faults.ReadFault.{ReadFault}
-use Rattle.scim_resource.specs.declared.user_texts.Holder.{Holder}
-use Rattle.scim_resource.specs.declared.user_texts.Holder.TheVariants as holder
 use Rattle.scim_resource.specs.declared.user_texts.TheConstants.{USER_TEXTS}
 use Rattle.scim_resource.specs.declared.user_texts.UserText.{UserText}
 
@@ -137,50 +135,27 @@ revision_alike o p (both d e (objects ms ns r f)) =
 
 -- ---- the texts of a user
 
--- the members of two names, if there are any
-abbrev MatchIf : Option Members → Option Members → Type 0
-MatchIf None None = Unit {0}
-MatchIf None (Some n) = ⊥
-MatchIf (Some m) None = ⊥
-MatchIf (Some m) (Some n) = Match m n
+held_alike : (key : List ℕ) (o p : Option Data) → AlikeIf o p → text_of (members_in o >>= (λ held. Ok (part_of key held))) ≡ text_of (members_in p >>= (λ held. Ok (part_of key held)))
+held_alike key o p neither = refl
+held_alike key o p (both d e (same x)) = refl
+held_alike key o p (both d e (lists ds es h)) = refl
+held_alike key o p (both d e (objects ms ns r f)) = text_alike _ _ (attribute_alike key ms ns (record { repeat = r; found = f }))
 
-same_match_if : (m : Option Members) → MatchIf m m
-same_match_if None = tt
-same_match_if (Some m) = same_match m
+-- a text of the user itself, or of the object under an attribute
+text_at_alike : (place : Option (List ℕ)) (key : List ℕ) (ms ns : Members) → Match ms ns
+    → text_of (object_at place ms >>= (λ held. Ok (part_of key held))) ≡ text_of (object_at place ns >>= (λ held. Ok (part_of key held)))
+text_at_alike None key ms ns m = text_alike _ _ (attribute_alike key ms ns m)
+text_at_alike (Some name) key ms ns m = held_alike key _ _ (attribute_alike name ms ns m)
 
-part_alike : (key : List ℕ) (m n : Option Members) → MatchIf m n → AlikeIf (part_of key m) (part_of key n)
-part_alike key None None h = neither
-part_alike key None (Some n) h = absurd h
-part_alike key (Some m) None h = absurd h
-part_alike key (Some m) (Some n) h = attribute_alike key m n h
-
-value_alike : (h : Holder) (key : List ℕ) (ms ns : Members) (m n : Option Members) → Match ms ns → MatchIf m n → AlikeIf (value_in h ms m key) (value_in h ns n key)
-value_alike holder.User key ms ns m n whole name = attribute_alike key ms ns whole
-value_alike holder.Name key ms ns m n whole name = part_alike key m n name
-
-texts_alike : (ms ns : Members) (m n : Option Members) → Match ms ns → MatchIf m n → (ws : List UserText) → texts_in (map (value_of ms m) ws) ≡ texts_in (map (value_of ns n) ws)
+texts_alike : (ms ns : Members) → Match ms ns → (ws : List UserText) → texts_in (map (value_of ms) ws) ≡ texts_in (map (value_of ns) ws)
 unfolding texts_in
-texts_alike ms ns m n whole name [] = refl
-texts_alike ms ns m n whole name (w ∷ ws) =
-    ap₂ (λ a b. a >>= (λ text. b >>= (λ texts. Ok (text ∷ texts)))) (text_alike _ _ (value_alike (holder_of w) (name_of w) ms ns m n whole name)) (texts_alike ms ns m n whole name ws)
+texts_alike ms ns m [] = refl
+texts_alike ms ns m (w ∷ ws) =
+    ap₂ (λ a b. a >>= (λ text. b >>= (λ texts. Ok (text ∷ texts)))) (text_at_alike (attribute_of (holder_of w)) (name_of w) ms ns m) (texts_alike ms ns m ws)
 
-user_texts_alike : (ms ns : Members) (m n : Option Members) → Match ms ns → MatchIf m n → user_texts_in ms m ≡ user_texts_in ns n
+user_texts_alike : (ms ns : Members) → Match ms ns → user_texts_in ms ≡ user_texts_in ns
 unfolding user_texts_in
-user_texts_alike ms ns m n whole name = texts_alike ms ns m n whole name USER_TEXTS
-
-after_same : {X Y : Type 0} (f g : X → Result Y ReadFault) (r : Result X ReadFault) → ((x : X) → f x ≡ g x) → r >>= f ≡ r >>= g
-after_same f g (Ok x) h = h x
-after_same f g (Err e) h = refl
-
--- the texts, read after the name
-texts_after : {X : Type 0} (f : UserTexts → Result X ReadFault) (ms ns : Members) → Match ms ns → (o p : Option Data) → AlikeIf o p
-    → checked (members_in o) >>= (λ name. user_texts_in ms name >>= f) ≡ checked (members_in p) >>= (λ name. user_texts_in ns name >>= f)
-texts_after f ms ns whole o p neither = ap (λ r. r >>= f) (user_texts_alike ms ns None None whole tt)
-texts_after f ms ns whole o p (both d e (same x)) =
-    after_same (λ name. user_texts_in ms name >>= f) (λ name. user_texts_in ns name >>= f) (checked (members_in (Some x)))
-    (λ name. ap (λ r. r >>= f) (user_texts_alike ms ns name name whole (same_match_if name)))
-texts_after f ms ns whole o p (both d e (lists ds es h)) = refl
-texts_after f ms ns whole o p (both d e (objects m n r g)) = ap (λ r. r >>= f) (user_texts_alike ms ns (Some m) (Some n) whole (record { repeat = r; found = g }))
+user_texts_alike ms ns m = texts_alike ms ns m USER_TEXTS
 
 -- ---- emails
 
@@ -248,7 +223,7 @@ members_alike o p (both d e (objects ms ns r f)) = refl
 user_repeats_alike : (ms ns : Members) → Match ms ns → user_repeats ms ≡ user_repeats ns
 unfolding user_repeats
 user_repeats_alike ms ns m =
-    rw (m.repeat, value_repeats_alike _ _ (attribute_alike source_extension ms ns m), value_repeats_alike _ _ (attribute_alike (codes "name") ms ns m), list_repeats_alike _ _ (attribute_alike (codes "emails") ms ns m))
+    rw (m.repeat, value_repeats_alike _ _ (attribute_alike source_extension ms ns m), value_repeats_alike _ _ (attribute_alike enterprise_extension ms ns m), value_repeats_alike _ _ (attribute_alike (codes "name") ms ns m), list_repeats_alike _ _ (attribute_alike (codes "emails") ms ns m))
 
 group_repeats_alike : (ms ns : Members) → Match ms ns → group_repeats ms ≡ group_repeats ns
 unfolding group_repeats
@@ -258,14 +233,7 @@ group_repeats_alike ms ns m =
 user_fields_alike : (ms ns : Members) → Match ms ns → user_fields ms ≡ user_fields ns
 unfolding user_fields
 user_fields_alike ms ns m =
-    rw (schema_alike core_user _ _ (attribute_alike (codes "schemas") ms ns m), user_name_alike _ _ (attribute_alike (codes "userName") ms ns m), emails_alike _ _ (attribute_alike (codes "emails") ms ns m), flag_alike true _ _ (attribute_alike (codes "active") ms ns m), revision_alike _ _ (attribute_alike source_extension ms ns m))
-    (ap (λ r. if_listed (lists_schema core_user (attribute (codes "schemas") ns)) (user_name_in (attribute (codes "userName") ns) >>= r))
-    (λ i user_name. texts_after (λ texts.
-    emails_in (attribute (codes "emails") ns) >>= (λ emails.
-    checked (flag_or true (attribute (codes "active") ns)) >>= (λ active.
-    revision_in (attribute source_extension ns) >>= (λ revision.
-    Ok (record { user_name = user_name; texts = texts; emails = emails; active = active; revision = revision })))))
-    ms ns m (attribute (codes "name") ms) (attribute (codes "name") ns) (attribute_alike (codes "name") ms ns m) i))
+    rw (schema_alike core_user _ _ (attribute_alike (codes "schemas") ms ns m), user_name_alike _ _ (attribute_alike (codes "userName") ms ns m), user_texts_alike ms ns m, emails_alike _ _ (attribute_alike (codes "emails") ms ns m), flag_alike true _ _ (attribute_alike (codes "active") ms ns m), revision_alike _ _ (attribute_alike source_extension ms ns m))
 
 group_fields_alike : (ms ns : Members) → Match ms ns → group_fields ms ≡ group_fields ns
 unfolding group_fields

@@ -1,24 +1,22 @@
 -- A group that is written is plain, and is read back as itself.
-use Rattle.std.proofs.Common.{◌≡◌, ℕ, suc, ◌≤◌, ◌==◌, List, [], ◌∷◌, ◌++◌, length, Bool, true, false, cond, not, Option, Some, None, Ok, option_map, map, codes, refl, sym, ap, ◌∙◌, append_assoc, append-nil, arith}
+use Rattle.std.proofs.Common.{◌≡◌, ℕ, suc, ◌≤◌, ◌==◌, List, [], ◌∷◌, ◌++◌, length, Bool, true, false, cond, not, Option, Some, Ok, option_map, map, codes, refl, sym, ap, ◌∙◌, append_assoc, append-nil, arith}
 use Rattle.std.proofs.lemmas.Bool.{and_parts, ne_eqb}
 use Rattle.scim_key.specs.Names.{group_name_fault, IsGroupName}
 use Rattle.scim_key.specs.Outcome.{◌>>=◌}
-use Rattle.scim_key.specs.Revisions.{RevisionValue}
 use Rattle.serde_json.specs.Data.{Data, string, array, Members, no_members, member, depth, items_depth}
 use Rattle.serde_json.specs.View.{items_of}
 use Rattle.scim_json.specs.Attributes.{named, has_name, attribute, present, repeats, value_repeats, items_repeat, list_repeats}
-use Rattle.scim_json.specs.Values.{some_text}
 use Rattle.scim_json.specs.Plain.{IsPlain, ItemsArePlain}
 use Rattle.scim_json.specs.Writing.{members_from}
 use Rattle.scim_json.proofs.Parts.{are_rising, are_apart, part_named, named-members_from, repeats-members_from, IsPlainIf, ArePlainIf, MembersArePlain-members_from, depth_if, AreWithin, members_depth-members_from}
 use Rattle.scim_resource.specs.Groups.{GroupRecord, IsGroup, IsMemberList, AreTexts, is_among, are_distinct, are_few_members}
-use Rattle.scim_resource.specs.Reading.{lists_schema, all_texts, display_name_in, member_in, members_after, group_members_in, few_members, with_member, group_fields, group_repeats, read_group, unless_repeated}
+use Rattle.scim_resource.specs.Reading.{display_name_in, member_in, members_after, group_members_in, few_members, with_member, group_fields, group_repeats, read_group, unless_repeated}
 use Rattle.scim_resource.specs.Schemas.{core_group, source_extension}
 use Rattle.scim_resource.specs.Texts.{IsText}
-use Rattle.scim_resource.specs.Writing.{source_data, schemas_data, member_data, group_members_data, group_parts, group_data}
+use Rattle.scim_resource.specs.Writing.{source_data, schemas_data, member_data, group_extensions, group_members_data, group_parts, group_data}
+use Rattle.scim_resource.proofs.ExtensionTrips.{source_present, source_read, source_repeats, source_plain, source_depth, schemas_listed, schemas_plain, schemas_depth}
 use Rattle.scim_resource.proofs.MemberLists.{Fresh, Fresh-none, Fresh-push}
 use Rattle.scim_resource.proofs.TextTrips.{text_present, text_read, text_plain, text_depth}
-use Rattle.scim_resource.proofs.UserTrips.{source_present, source_read, source_repeats, source_plain, schemas_plain, source_depth, schemas_depth}
 
 -- ---- the names of a group's parts
 
@@ -56,11 +54,6 @@ values_present : (vs : List (List ℕ)) → present (group_members_data vs) ≡ 
 values_present [] = refl
 values_present (v ∷ vs) = refl
 
-schemas_listed : (r : Option RevisionValue) → lists_schema core_group (Some (array (schemas_data core_group r))) ≡ true
-unfolding core_group source_extension all_texts some_text
-schemas_listed None = refl
-schemas_listed (Some r) = refl
-
 name_read : (name : List ℕ) → IsGroupName name → display_name_in (Some (string name)) ≡ Ok name
 name_read name h = rw h
 
@@ -97,7 +90,7 @@ values_read (v ∷ vs) h =
 
 -- an object with these attributes is read as this group
 pub record Shows (ms : Members) (g : GroupRecord) : Type 0 where
-  pub schemas : attribute (codes "schemas") ms ≡ Some (array (schemas_data core_group g.revision))
+  pub schemas : attribute (codes "schemas") ms ≡ Some (array (schemas_data core_group (group_extensions g)))
   pub display_name : attribute (codes "displayName") ms ≡ Some (string g.display_name)
   pub external_id : attribute (codes "externalId") ms ≡ option_map string g.external_id
   pub values : attribute (codes "members") ms ≡ group_members_data g.members
@@ -106,7 +99,7 @@ pub record Shows (ms : Members) (g : GroupRecord) : Type 0 where
 fields_read : (ms : Members) (g : GroupRecord) → IsGroup g → Shows ms g → group_fields ms ≡ Ok g
 unfolding group_fields
 fields_read ms g h s =
-    rw (s.schemas, schemas_listed g.revision, s.display_name, name_read g.display_name h.display_name, s.external_id, text_read g.external_id h.external_id, s.values, values_read g.members h.members, s.source, source_read g.revision h.revision)
+    rw (s.schemas, schemas_listed core_group (group_extensions g), s.display_name, name_read g.display_name h.display_name, s.external_id, text_read g.external_id h.external_id, s.values, values_read g.members h.members, s.source, source_read g.revision h.revision)
 
 member_repeats : (v : List ℕ) → value_repeats (Some (member_data v)) ≡ false
 unfolding member_data repeats has_name
@@ -155,7 +148,7 @@ values_plain (v ∷ vs) = items_plain (v ∷ vs)
 
 parts_plain : (id meta : Option Data) (g : GroupRecord) → IsGroup g → IsPlainIf id → IsPlainIf meta → ArePlainIf (group_parts id meta g)
 parts_plain id meta g h i m =
-    (tt, (text_plain g.external_id, (i, (values_plain g.members, (m, (schemas_plain core_group g.revision, (source_plain g.revision h.revision, tt)))))))
+    (tt, (text_plain g.external_id, (i, (values_plain g.members, (m, (schemas_plain core_group (group_extensions g), (source_plain g.revision h.revision, tt)))))))
 
 pub group_data_plain : (id meta : Option Data) (g : GroupRecord) → IsGroup g → IsPlainIf id → IsPlainIf meta → IsPlain (group_data id meta g)
 unfolding group_data
@@ -177,7 +170,7 @@ pub group_data_depth : (id meta : Option Data) (g : GroupRecord) → depth_if id
 unfolding group_data
 group_data_depth id meta g i m =
     let within : AreWithin 2 (group_parts id meta g) =
-    (omega arith, (omega (arith, text_depth g.external_id), (i, (values_depth g.members, (m, (schemas_depth core_group g.revision, (source_depth g.revision, tt))))))) in
+    (omega arith, (omega (arith, text_depth g.external_id), (i, (values_depth g.members, (m, (schemas_depth core_group (group_extensions g), (source_depth g.revision, tt))))))) in
     omega (arith, members_depth-members_from 2 (group_parts id meta g) within)
 
 -- ---- an id and `meta`

@@ -1,5 +1,6 @@
 pub mod AlikeLemmas
 pub mod EmailLists
+pub mod ExtensionTrips
 pub mod FirstLemmas
 pub mod GroupTrips
 pub mod Lists

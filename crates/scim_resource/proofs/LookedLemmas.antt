@@ -6,9 +6,9 @@ use Rattle.scim_key.specs.declared.records.Kind.TheVariants as kinds
 use Rattle.serde_json.specs.Data.{Data, object, Members}
 use Rattle.serde_json.specs.View.{items_of}
 use Rattle.scim_json.specs.Attributes.{attribute, repeats, value_repeats, items_repeat, list_repeats}
-use Rattle.scim_resource.specs.Looked.{Lists, IsLookedInto, the_body, the_extension, a_name, an_email, a_member}
+use Rattle.scim_resource.specs.Looked.{Lists, IsLookedInto, the_body, the_source, an_enterprise, a_name, an_email, a_member}
 use Rattle.scim_resource.specs.Reading.{user_repeats, group_repeats, user_fields, group_fields, unless_repeated, read_content}
-use Rattle.scim_resource.specs.Schemas.{source_extension}
+use Rattle.scim_resource.specs.Schemas.{enterprise_extension, source_extension}
 use Rattle.scim_resource.specs.declared.contents.Content.TheVariants.{User, Group}
 use Rattle.scim_resource.specs.declared.faults.ReadFault.TheVariants.{InvalidSyntax}
 
@@ -38,68 +38,23 @@ group_first : (ms : Members) → group_repeats ms ≡ true → read_content kind
 unfolding read_content
 group_first ms h = ap (λ b. unless_repeated b (group_fields ms) >>= (λ g. Ok (Group g))) h
 
-first_of : (a b c d : Bool) → a ≡ true → (a || b || c || d) ≡ true
-first_of true b c d h = refl
-first_of false b c d h = cc
-
-second_of : (a b c d : Bool) → b ≡ true → (a || b || c || d) ≡ true
-second_of true b c d h = refl
-second_of false true c d h = refl
-second_of false false c d h = cc
-
-third_of : (a b c d : Bool) → c ≡ true → (a || b || c || d) ≡ true
-third_of true b c d h = refl
-third_of false true c d h = refl
-third_of false false true d h = refl
-third_of false false false d h = cc
-
-fourth_of : (a b c d : Bool) → d ≡ true → (a || b || c || d) ≡ true
-fourth_of true b c d h = refl
-fourth_of false true c d h = refl
-fourth_of false false true d h = refl
-fourth_of false false false true h = refl
-fourth_of false false false false h = cc
-
-first_of_three : (a b c : Bool) → a ≡ true → (a || b || c) ≡ true
-first_of_three true b c h = refl
-first_of_three false b c h = cc
-
-second_of_three : (a b c : Bool) → b ≡ true → (a || b || c) ≡ true
-second_of_three true b c h = refl
-second_of_three false true c h = refl
-second_of_three false false c h = cc
-
-third_of_three : (a b c : Bool) → c ≡ true → (a || b || c) ≡ true
-third_of_three true b c h = refl
-third_of_three false true c h = refl
-third_of_three false false true h = refl
-third_of_three false false false h = cc
-
--- what is asked of a user and of a group, in order
-abbrev extension : Members → Bool
-extension ms = value_repeats (attribute source_extension ms)
-
-abbrev name : Members → Bool
-name ms = value_repeats (attribute (codes "name") ms)
-
-abbrev items : List ℕ → Members → Bool
-items key ms = list_repeats (attribute key ms)
-
 user_repeats_at : (ms inner : Members) → IsLookedInto kinds.User ms inner → repeats inner ≡ true → user_repeats ms ≡ true
 unfolding user_repeats
-user_repeats_at ms inner (the_body is) h = first_of (repeats ms) (extension ms) (name ms) (items (codes "emails") ms) (ap repeats (sym is) ∙ h)
-user_repeats_at ms inner (the_extension is) h = second_of (repeats ms) (extension ms) (name ms) (items (codes "emails") ms) (value_with source_extension ms inner is h)
-user_repeats_at ms inner (a_name k is) h = third_of (repeats ms) (extension ms) (name ms) (items (codes "emails") ms) (value_with (codes "name") ms inner is h)
-user_repeats_at ms inner (an_email k l) h = fourth_of (repeats ms) (extension ms) (name ms) (items (codes "emails") ms) (list_with (codes "emails") ms inner l h)
+user_repeats_at ms inner (the_body is) h = first _ _ (first _ _ (first _ _ (first _ _ (ap repeats (sym is) ∙ h))))
+user_repeats_at ms inner (the_source is) h = first _ _ (first _ _ (first _ _ (later _ _ (value_with source_extension ms inner is h))))
+user_repeats_at ms inner (an_enterprise k is) h = first _ _ (first _ _ (later _ _ (value_with enterprise_extension ms inner is h)))
+user_repeats_at ms inner (a_name k is) h = first _ _ (later _ _ (value_with (codes "name") ms inner is h))
+user_repeats_at ms inner (an_email k l) h = later _ _ (list_with (codes "emails") ms inner l h)
 user_repeats_at ms inner (a_member k l) h = cc
 
 group_repeats_at : (ms inner : Members) → IsLookedInto kinds.Group ms inner → repeats inner ≡ true → group_repeats ms ≡ true
 unfolding group_repeats
-group_repeats_at ms inner (the_body is) h = first_of_three (repeats ms) (extension ms) (items (codes "members") ms) (ap repeats (sym is) ∙ h)
-group_repeats_at ms inner (the_extension is) h = second_of_three (repeats ms) (extension ms) (items (codes "members") ms) (value_with source_extension ms inner is h)
+group_repeats_at ms inner (the_body is) h = first _ _ (first _ _ (ap repeats (sym is) ∙ h))
+group_repeats_at ms inner (the_source is) h = first _ _ (later _ _ (value_with source_extension ms inner is h))
+group_repeats_at ms inner (an_enterprise k is) h = cc
 group_repeats_at ms inner (a_name k is) h = cc
 group_repeats_at ms inner (an_email k l) h = cc
-group_repeats_at ms inner (a_member k l) h = third_of_three (repeats ms) (extension ms) (items (codes "members") ms) (list_with (codes "members") ms inner l h)
+group_repeats_at ms inner (a_member k l) h = later _ _ (list_with (codes "members") ms inner l h)
 
 pub repeated_first : (kind : Kind) (ms inner : Members) → IsLookedInto kind ms inner → repeats inner ≡ true → read_content kind (object ms) ≡ Err InvalidSyntax
 repeated_first kinds.User ms inner looked h = user_first ms (user_repeats_at ms inner looked h)

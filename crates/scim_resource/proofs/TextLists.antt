@@ -3,7 +3,8 @@ use Rattle.std.proofs.Common.{◌≡◌, ℕ, zero, suc, ◌<◌, List, [], ◌�
 use Rattle.std.specs.List.{AllByRecursion, AllZip, IsAmong}
 use Rattle.scim_key.specs.Outcome.{◌>>=◌, Gives}
 use Rattle.serde_json.specs.Data.{Data, null, boolean, number, string, array, object, Members}
-use Rattle.scim_resource.specs.Reading.{text_in, value_of, texts_in, user_texts_in}
+use Rattle.scim_json.specs.declared.values.ValueFault.{ValueFault}
+use Rattle.scim_resource.specs.Reading.{text_in, text_of, value_of, texts_in, user_texts_in}
 use Rattle.scim_resource.specs.Texts.{IsTextIf, is_short_text}
 use Rattle.scim_resource.specs.UserTexts.{UserTexts}
 use Rattle.scim_resource.specs.declared.faults.ReadFault.{ReadFault}
@@ -11,8 +12,8 @@ use Rattle.scim_resource.specs.declared.faults.ReadFault.TheVariants.{InvalidVal
 use Rattle.scim_resource.specs.declared.user_texts.TheConstants.{USER_TEXTS}
 
 -- these values were read one by one
-pub texts_made : {A : Type 0} {R : A → Option (List ℕ) → Type 0} (seen : A → Option Data) (values : List A) (texts : UserTexts) → AllZip R values texts
-    → ((v : A) (t : Option (List ℕ)) → R v t → (text_in (seen v) ≡ Ok t) × IsTextIf t)
+pub texts_made : {A : Type 0} {R : A → Option (List ℕ) → Type 0} (seen : A → Result (Option Data) ValueFault) (values : List A) (texts : UserTexts) → AllZip R values texts
+    → ((v : A) (t : Option (List ℕ)) → R v t → (text_of (seen v) ≡ Ok t) × IsTextIf t)
     → (texts_in (map seen values) ≡ Ok texts) × AllByRecursion IsTextIf texts
 unfolding texts_in
 texts_made seen [] [] all read = (refl, tt)
@@ -37,22 +38,26 @@ text_fault (Some (string s)) e h = short_fault (is_short_text s) s e h
 text_fault (Some (array ds)) e h = cc
 text_fault (Some (object ms)) e h = cc
 
+text_of_fault : (d : Result (Option Data) ValueFault) (e : ReadFault) → text_of d ≡ Err e → e ≡ InvalidValue
+text_of_fault (Ok d) e h = text_fault d e h
+text_of_fault (Err f) e h = cc
+
 -- a fault behind a text that may be one itself
-behind : (r : Result (Option (List ℕ)) ReadFault) (ds : List (Option Data)) (e : ReadFault) → ((f : ReadFault) → r ≡ Err f → f ≡ e) → texts_in ds ≡ Err e
+behind : (r : Result (Option (List ℕ)) ReadFault) (ds : List (Result (Option Data) ValueFault)) (e : ReadFault) → ((f : ReadFault) → r ≡ Err f → f ≡ e) → texts_in ds ≡ Err e
     → r >>= (λ text. texts_in ds >>= (λ texts. Ok (text ∷ texts))) ≡ Err e
 behind (Ok t) ds e same h = rw h refl
 behind (Err f) ds e same h = ap Err (same f refl)
 
-fault_at : {A : Type 0} (seen : A → Option Data) (values : List A) (i : ℕ) (v : A) (e : ReadFault) → i < length values → text_in (seen (get_or values i v)) ≡ Err e
+fault_at : {A : Type 0} (seen : A → Result (Option Data) ValueFault) (values : List A) (i : ℕ) (v : A) (e : ReadFault) → i < length values → text_of (seen (get_or values i v)) ≡ Err e
     → texts_in (map seen values) ≡ Err e
 unfolding texts_in
 fault_at seen [] i v e fits h = absurd (omega arith)
 fault_at seen (x ∷ values) zero v e fits h = rw h refl
 fault_at seen (x ∷ values) (suc i) v e fits h =
-    behind (text_in (seen x)) (map seen values) e (λ f is. text_fault (seen x) f is ∙ sym (text_fault (seen (get_or values i v)) e h)) (fault_at seen values i v e (omega (arith, fits)) h)
+    behind (text_of (seen x)) (map seen values) e (λ f is. text_of_fault (seen x) f is ∙ sym (text_of_fault (seen (get_or values i v)) e h)) (fault_at seen values i v e (omega (arith, fits)) h)
 
-pub text_refused : {A : Type 0} (seen : A → Option Data) (values : List A) (v : A) (e : ReadFault) → IsAmong values v → text_in (seen v) ≡ Err e → texts_in (map seen values) ≡ Err e
-text_refused seen values v e (i, (fits, at)) h = fault_at seen values i v e fits (ap (λ x. text_in (seen x)) (sym at) ∙ h)
+pub text_refused : {A : Type 0} (seen : A → Result (Option Data) ValueFault) (values : List A) (v : A) (e : ReadFault) → IsAmong values v → text_of (seen v) ≡ Err e → texts_in (map seen values) ≡ Err e
+text_refused seen values v e (i, (fits, at)) h = fault_at seen values i v e fits (ap (λ x. text_of (seen x)) (sym at) ∙ h)
 
 pub gives : {X F : Type 0} (memory : F) (r answer : Result X F) → IfOk r (λ x. answer ≡ Ok x) → IfErr r (λ e. (e ≡ memory) ⊎ (answer ≡ Err e)) → Gives memory r answer
 gives memory (Ok x) answer ok err = ok
@@ -62,7 +67,7 @@ pub refused_or_memory : {F : Type 0} {P Q : Type 0} (e memory : F) → (P → Q)
 refused_or_memory e memory f (inl is) = inl is
 refused_or_memory e memory f (inr p) = inr (f p)
 
-pub texts_of_user : (ms : Members) (name : Option Members) (ds : List (Option Data)) (answer : Result UserTexts ReadFault) → ds ≡ map (value_of ms name) USER_TEXTS → texts_in ds ≡ answer
-    → user_texts_in ms name ≡ answer
+pub texts_of_user : (ms : Members) (ds : List (Result (Option Data) ValueFault)) (answer : Result UserTexts ReadFault) → ds ≡ map (value_of ms) USER_TEXTS → texts_in ds ≡ answer
+    → user_texts_in ms ≡ answer
 unfolding user_texts_in
-texts_of_user ms name ds answer is h = ap texts_in (sym is) ∙ h
+texts_of_user ms ds answer is h = ap texts_in (sym is) ∙ h

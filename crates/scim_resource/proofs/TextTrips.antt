@@ -1,17 +1,19 @@
 -- The texts of a user that are written are plain, and are read back as themselves.
-use Rattle.std.proofs.Common.{◌≡◌, ℕ, zero, suc, ◌≤◌, ◌==◌, List, [], ◌∷◌, ◌++◌, length, get_or, true, false, Option, Some, None, Ok, option_map, map, refl, sym, ap, ap₂, ◌∙◌, arith}
+use Rattle.std.proofs.Common.{◌≡◌, ℕ, zero, suc, ◌≤◌, ◌==◌, List, [], ◌∷◌, ◌++◌, length, get_or, true, false, Option, Some, None, Result, Ok, option_map, map, refl, sym, ap, ap₂, ◌∙◌, arith}
 use Rattle.std.proofs.lemmas.Bool.{ne_eqb}
 use Rattle.std.specs.List.{AllByRecursion}
-use Rattle.serde_json.specs.Data.{string, Members, no_members, member, members_depth}
+use Rattle.scim_key.specs.Outcome.{◌>>=◌}
+use Rattle.serde_json.specs.Data.{Data, string, Members, no_members, member, members_depth}
 use Rattle.scim_json.specs.Attributes.{named, attribute, present, repeats, value_repeats}
 use Rattle.scim_json.specs.Plain.{MembersArePlain}
 use Rattle.scim_json.specs.Values.{members_in}
+use Rattle.scim_json.specs.declared.values.ValueFault.{ValueFault}
 use Rattle.scim_json.specs.Writing.{Part, members_from}
-use Rattle.scim_json.proofs.Parts.{are_apart, part_named, named-members_from, IsPlainIf, ArePlainIf, depth_if, AreWithin}
+use Rattle.scim_json.proofs.Parts.{are_rising, are_apart, part_named, named-members_from, repeats-members_from, IsPlainIf, ArePlainIf, MembersArePlain-members_from, depth_if, AreWithin, members_depth-members_from}
 use Rattle.scim_resource.specs.Reading.{text_in, part_of, texts_in}
 use Rattle.scim_resource.specs.Texts.{IsText, IsTextIf, is_short_text}
 use Rattle.scim_resource.specs.UserTexts.{UserTexts, AreUserTexts, text_at}
-use Rattle.scim_resource.specs.Writing.{object_if, text_parts}
+use Rattle.scim_resource.specs.Writing.{held_data, object_if, text_parts}
 use Rattle.scim_resource.specs.declared.user_texts.TheConstants.{TEXT_COUNT, USER_TEXTS}
 use Rattle.scim_resource.specs.declared.user_texts.UserText.{UserText}
 
@@ -60,22 +62,26 @@ pub texts_present : (texts : UserTexts) → AllByRecursion IsTextIf texts → ma
 texts_present [] h = refl
 texts_present (t ∷ texts) h = ap₂ (λ d ds. d ∷ ds) (text_present t h.0) (texts_present texts h.1)
 
-pub texts_read : (texts : UserTexts) → AllByRecursion IsTextIf texts → texts_in (map (option_map string) texts) ≡ Ok texts
+-- a value whose object is there
+abbrev pub given : Option Data → Result (Option Data) ValueFault
+given d = Ok d
+
+pub texts_read : (texts : UserTexts) → AllByRecursion IsTextIf texts → texts_in (map given (map (option_map string) texts)) ≡ Ok texts
 unfolding texts_in
 texts_read [] h = refl
 texts_read (t ∷ texts) h = rw (text_read t h.0, texts_read texts h.1)
 
 -- ---- an object that is there if it has a member
 
-abbrev pub some_members : Members → Option Members
+abbrev some_members : Members → Option Members
 some_members no_members = None
 some_members (member name d ms) = Some (member name d ms)
 
-pub object_present : (ms : Members) → present (object_if ms) ≡ object_if ms
+object_present : (ms : Members) → present (object_if ms) ≡ object_if ms
 object_present no_members = refl
 object_present (member name d ms) = refl
 
-pub object_read : (ms : Members) → members_in (object_if ms) ≡ Ok (some_members ms)
+object_read : (ms : Members) → members_in (object_if ms) ≡ Ok (some_members ms)
 object_read no_members = refl
 object_read (member name d ms) = refl
 
@@ -84,18 +90,22 @@ unfolding named
 part_in key no_members = refl
 part_in key (member name d ms) = refl
 
-pub part_found : (key : List ℕ) (ps : List Part) → are_apart ps ≡ true → part_of key (some_members (members_from ps)) ≡ present (part_named key ps)
-part_found key ps apart = part_in key (members_from ps) ∙ ap present (named-members_from key ps apart)
+-- a part of an object is found in it
+pub part_found : (o : Option Data) (key : List ℕ) (ps : List Part) → are_apart ps ≡ true → o ≡ object_if (members_from ps)
+    → members_in o >>= (λ held. Ok (part_of key held)) ≡ Ok (present (part_named key ps))
+part_found o key ps apart is =
+    ap (λ d. members_in d >>= (λ held. Ok (part_of key held))) is ∙ ap (λ r. r >>= (λ held. Ok (part_of key held))) (object_read (members_from ps))
+    ∙ ap Ok (part_in key (members_from ps) ∙ ap present (named-members_from key ps apart))
 
-pub object_repeats : (ms : Members) → repeats ms ≡ false → value_repeats (object_if ms) ≡ false
+object_repeats : (ms : Members) → repeats ms ≡ false → value_repeats (object_if ms) ≡ false
 object_repeats no_members h = refl
 object_repeats (member name d ms) h = h
 
-pub object_plain : (ms : Members) → MembersArePlain ms → IsPlainIf (object_if ms)
+object_plain : (ms : Members) → MembersArePlain ms → IsPlainIf (object_if ms)
 object_plain no_members h = tt
 object_plain (member name d ms) h = h
 
-pub object_depth : (n : ℕ) (ms : Members) → members_depth ms ≤ n → depth_if (object_if ms) ≤ suc n
+object_depth : (n : ℕ) (ms : Members) → members_depth ms ≤ n → depth_if (object_if ms) ≤ suc n
 object_depth n no_members h = omega arith
 object_depth n (member name d ms) h = omega (arith, h)
 
@@ -124,3 +134,17 @@ texts_within n texts (w ∷ ws) = (omega (arith, text_depth (text_at w texts)), 
 pub AreWithin-append : (n : ℕ) (ps qs : List Part) → AreWithin n ps → AreWithin n qs → AreWithin n (ps ++ qs)
 AreWithin-append n [] qs h g = g
 AreWithin-append n (p ∷ ps) qs h g = (h.0, AreWithin-append n ps qs h.1 g)
+
+-- ---- an object of texts
+
+pub held_present : (texts : UserTexts) (ws : List UserText) → present (held_data texts ws) ≡ held_data texts ws
+held_present texts ws = object_present (members_from (text_parts texts ws))
+
+pub held_repeats : (texts : UserTexts) (ws : List UserText) → are_apart (text_parts texts ws) ≡ true → value_repeats (held_data texts ws) ≡ false
+held_repeats texts ws apart = object_repeats _ (repeats-members_from (text_parts texts ws) apart)
+
+pub held_plain : (texts : UserTexts) (ws : List UserText) → are_rising (text_parts texts ws) ≡ true → IsPlainIf (held_data texts ws)
+held_plain texts ws rising = object_plain _ (MembersArePlain-members_from (text_parts texts ws) rising (texts_plain texts ws))
+
+pub held_depth : (texts : UserTexts) (ws : List UserText) → depth_if (held_data texts ws) ≤ 1
+held_depth texts ws = object_depth 0 _ (members_depth-members_from 0 (text_parts texts ws) (texts_within 0 texts ws))

@@ -1,37 +1,36 @@
 -- A user that is written is plain, and is read back as itself.
-use Rattle.std.proofs.Common.{◌≡◌, ℕ, suc, ◌≤◌, ◌==◌, List, [], ◌∷◌, length, Bool, true, false, Option, Some, None, Ok, option_map, map, codes, refl, ap, ◌∙◌, arith}
+use Rattle.std.proofs.Common.{◌≡◌, ℕ, suc, ◌≤◌, ◌==◌, List, [], ◌∷◌, length, Bool, true, false, Option, Some, Ok, option_map, map, codes, refl, ap, ◌∙◌, arith}
 use Rattle.std.proofs.lemmas.Bool.{ne_eqb}
 use Rattle.scim_key.specs.Names.{user_name_fault, IsUserName}
-use Rattle.scim_key.specs.Revisions.{RevisionValue}
-use Rattle.scim_key.proofs.RevisionLaws.{are_read_back}
 use Rattle.serde_json.specs.Data.{Data, boolean, string, array, Members, depth, items_depth}
 use Rattle.serde_json.specs.View.{items_of}
 use Rattle.scim_key.specs.Outcome.{◌>>=◌}
-use Rattle.scim_json.specs.Attributes.{named, has_name, attribute, present, repeats, value_repeats, items_repeat, list_repeats}
-use Rattle.scim_json.specs.Values.{some_text, flag_or}
+use Rattle.scim_json.specs.Attributes.{attribute, present, repeats, value_repeats, items_repeat, list_repeats}
+use Rattle.scim_json.specs.Values.{flag_or}
 use Rattle.scim_json.specs.Plain.{IsPlain, ItemsArePlain}
 use Rattle.scim_json.specs.Writing.{Part, members_from}
 use Rattle.scim_json.proofs.Parts.{are_rising, are_apart, part_named, named-members_from, repeats-members_from, IsPlainIf, ArePlainIf, MembersArePlain-members_from, depth_if, AreWithin, members_depth-members_from}
 use Rattle.scim_resource.specs.Emails.{IsEmail, AreEmails, IsEmailList, are_few}
-use Rattle.scim_resource.specs.Reading.{lists_schema, all_texts, user_name_in, value_in, value_of, texts_in, user_texts_in, email_of, email_in, emails_of, emails_in, few_emails, revision_in, user_fields, user_repeats, read_user, unless_repeated}
-use Rattle.scim_resource.specs.Schemas.{core_user, source_extension}
-use Rattle.scim_resource.specs.UserTexts.{UserTexts, AreUserTexts, holder_of, name_of, text_at}
-use Rattle.scim_resource.specs.Users.{UserRecord, IsUser, IsSourceRevision}
+use Rattle.scim_resource.specs.Reading.{user_name_in, part_of, object_at, value_of, texts_in, user_texts_in, email_of, email_in, emails_of, emails_in, few_emails, user_fields, user_repeats, read_user, unless_repeated}
+use Rattle.scim_resource.specs.Schemas.{core_user, enterprise_extension, source_extension}
+use Rattle.scim_resource.specs.UserTexts.{AreUserTexts, attribute_of, holder_of, name_of, text_at}
+use Rattle.scim_resource.specs.Users.{UserRecord, IsUser}
 use Rattle.scim_resource.specs.declared.emails.Email.{Email}
 use Rattle.scim_resource.specs.declared.user_texts.Holder.{Holder}
 use Rattle.scim_resource.specs.declared.user_texts.Holder.TheVariants as holder
-use Rattle.scim_resource.specs.declared.user_texts.TheConstants.{NAME_TEXTS, TOP_TEXTS, USER_TEXTS}
-use Rattle.scim_resource.specs.Writing.{text_parts, name_data, primary_data, email_parts, email_data, emails_data, source_data, schemas_data, user_front, user_back, user_parts, user_data}
-use Rattle.scim_resource.proofs.TextTrips.{map_same, each_text, text_present, text_read, texts_present, texts_read, some_members, object_present, object_read, part_found, object_repeats, object_plain, object_depth, text_plain, texts_plain, ArePlainIf-append, text_depth, texts_within, AreWithin-append}
+use Rattle.scim_resource.specs.declared.user_texts.TheConstants.{ENTERPRISE_TEXTS, NAME_TEXTS, TOP_TEXTS, USER_TEXTS}
+use Rattle.scim_resource.specs.Writing.{text_parts, held_data, primary_data, email_parts, email_data, emails_data, source_data, schemas_data, user_extensions, user_front, user_back, user_parts, user_data}
+use Rattle.scim_resource.proofs.ExtensionTrips.{source_present, source_read, source_repeats, source_plain, source_depth, schemas_listed, schemas_plain, schemas_depth}
+use Rattle.scim_resource.proofs.TextTrips.{map_same, each_text, text_present, text_read, given, texts_present, texts_read, part_found, text_plain, texts_plain, ArePlainIf-append, text_depth, texts_within, AreWithin-append, held_present, held_repeats, held_plain, held_depth}
 
 -- ---- the names of a user's parts
 
 rising : (id meta : Option Data) (u : UserRecord) → are_rising (user_parts id meta u) ≡ true
-unfolding source_extension user_front user_back
+unfolding source_extension enterprise_extension user_front user_back
 rising id meta u = refl
 
 apart : (id meta : Option Data) (u : UserRecord) → are_apart (user_parts id meta u) ≡ true
-unfolding source_extension user_front user_back
+unfolding source_extension enterprise_extension user_front user_back
 apart id meta u = refl
 
 -- ---- the parts of a user that are found
@@ -42,15 +41,15 @@ members id meta u = members_from (user_parts id meta u)
 found : (name : List ℕ) (id meta : Option Data) (u : UserRecord) → attribute name (members id meta u) ≡ present (part_named name (user_parts id meta u))
 found name id meta u = ap present (named-members_from name (user_parts id meta u) (apart id meta u))
 
-schemas_part : (id meta : Option Data) (u : UserRecord) → part_named (codes "schemas") (user_parts id meta u) ≡ Some (array (schemas_data core_user u.revision))
+schemas_part : (id meta : Option Data) (u : UserRecord) → part_named (codes "schemas") (user_parts id meta u) ≡ Some (array (schemas_data core_user (user_extensions u)))
 unfolding user_front user_back
 schemas_part id meta u = refl
 
 user_name_part : (id meta : Option Data) (u : UserRecord) → part_named (codes "userName") (user_parts id meta u) ≡ Some (string u.user_name)
-unfolding source_extension user_front user_back
+unfolding source_extension enterprise_extension user_front user_back
 user_name_part id meta u = refl
 
-name_part : (id meta : Option Data) (u : UserRecord) → part_named (codes "name") (user_parts id meta u) ≡ name_data u.texts
+name_part : (id meta : Option Data) (u : UserRecord) → part_named (codes "name") (user_parts id meta u) ≡ held_data u.texts NAME_TEXTS
 unfolding user_front user_back
 name_part id meta u = refl
 
@@ -66,29 +65,38 @@ source_part : (id meta : Option Data) (u : UserRecord) → part_named source_ext
 unfolding source_extension user_front user_back
 source_part id meta u = refl
 
+enterprise_part : (id meta : Option Data) (u : UserRecord) → part_named enterprise_extension (user_parts id meta u) ≡ held_data u.texts ENTERPRISE_TEXTS
+unfolding source_extension enterprise_extension user_front user_back
+enterprise_part id meta u = refl
+
 -- the parts of the object that has a text
 abbrev held_parts : Holder → Option Data → Option Data → UserRecord → List Part
 held_parts holder.User id meta u = user_parts id meta u
 held_parts holder.Name id meta u = text_parts u.texts NAME_TEXTS
+held_parts holder.Enterprise id meta u = text_parts u.texts ENTERPRISE_TEXTS
 
--- the members of a user's name, if it has a part
-abbrev name_members : UserTexts → Option Members
-name_members texts = some_members (members_from (text_parts texts NAME_TEXTS))
+name_found : (id meta : Option Data) (u : UserRecord) → attribute (codes "name") (members id meta u) ≡ held_data u.texts NAME_TEXTS
+name_found id meta u = found (codes "name") id meta u ∙ ap present (name_part id meta u) ∙ held_present u.texts NAME_TEXTS
 
-value_found : (h : Holder) (key : List ℕ) (id meta : Option Data) (u : UserRecord) → value_in h (members id meta u) (name_members u.texts) key ≡ present (part_named key (held_parts h id meta u))
-value_found holder.User key id meta u = found key id meta u
-value_found holder.Name key id meta u = part_found key (text_parts u.texts NAME_TEXTS) refl
+enterprise_found : (id meta : Option Data) (u : UserRecord) → attribute enterprise_extension (members id meta u) ≡ held_data u.texts ENTERPRISE_TEXTS
+enterprise_found id meta u = found enterprise_extension id meta u ∙ ap present (enterprise_part id meta u) ∙ held_present u.texts ENTERPRISE_TEXTS
+
+value_found : (h : Holder) (key : List ℕ) (id meta : Option Data) (u : UserRecord)
+    → object_at (attribute_of h) (members id meta u) >>= (λ held. Ok (part_of key held)) ≡ Ok (present (part_named key (held_parts h id meta u)))
+value_found holder.User key id meta u = ap Ok (found key id meta u)
+value_found holder.Name key id meta u = part_found _ key (text_parts u.texts NAME_TEXTS) refl (name_found id meta u)
+value_found holder.Enterprise key id meta u = part_found _ key (text_parts u.texts ENTERPRISE_TEXTS) refl (enterprise_found id meta u)
 
 -- each text of the table is a part of its object
 texts_held : (id meta : Option Data) (u : UserRecord)
-    → map (λ which. present (part_named (name_of which) (held_parts (holder_of which) id meta u))) USER_TEXTS ≡ map present (map (option_map string) (map (λ which. text_at which u.texts) USER_TEXTS))
-unfolding user_front user_back source_extension
+    → map (λ which. given (present (part_named (name_of which) (held_parts (holder_of which) id meta u)))) USER_TEXTS ≡ map given (map present (map (option_map string) (map (λ which. text_at which u.texts) USER_TEXTS)))
+unfolding user_front user_back source_extension enterprise_extension
 texts_held id meta u = refl
 
-texts_found : (id meta : Option Data) (u : UserRecord) → AreUserTexts u.texts → map (value_of (members id meta u) (name_members u.texts)) USER_TEXTS ≡ map (option_map string) u.texts
+texts_found : (id meta : Option Data) (u : UserRecord) → AreUserTexts u.texts → map (value_of (members id meta u)) USER_TEXTS ≡ map given (map (option_map string) u.texts)
 texts_found id meta u h =
     map_same _ _ USER_TEXTS (λ which. value_found (holder_of which) (name_of which) id meta u) ∙ texts_held id meta u
-    ∙ ap (λ texts. map present (map (option_map string) texts)) (each_text u.texts h) ∙ texts_present u.texts h.each
+    ∙ ap (λ texts. map given (map present (map (option_map string) texts))) (each_text u.texts h) ∙ ap (map given) (texts_present u.texts h.each)
 
 -- ---- what they are read as
 
@@ -104,22 +112,8 @@ emails_present : (es : List Email) → present (emails_data es) ≡ emails_data 
 emails_present [] = refl
 emails_present (e ∷ es) = refl
 
-pub source_present : (r : Option RevisionValue) → present (source_data r) ≡ source_data r
-source_present None = refl
-source_present (Some r) = refl
-
-schemas_listed : (r : Option RevisionValue) → lists_schema core_user (Some (array (schemas_data core_user r))) ≡ true
-unfolding core_user source_extension all_texts some_text
-schemas_listed None = refl
-schemas_listed (Some r) = refl
-
 name_read : (name : List ℕ) → IsUserName name → user_name_in (Some (string name)) ≡ Ok name
 name_read name h = rw h
-
-pub source_read : (r : Option RevisionValue) → IsSourceRevision r → revision_in (source_data r) ≡ Ok r
-unfolding named
-source_read None h = refl
-source_read (Some r) h = rw (are_read_back.from_number r h)
 
 primary_present : (p : Bool) → present (primary_data p) ≡ primary_data p
 primary_present true = refl
@@ -159,30 +153,23 @@ emails_read (e ∷ es) h = ap (λ o. o >>= few_emails) (emails_of_read (e ∷ es
 
 -- an object with these attributes is read as this user
 pub record Shows (ms : Members) (u : UserRecord) : Type 0 where
-  pub schemas : attribute (codes "schemas") ms ≡ Some (array (schemas_data core_user u.revision))
+  pub schemas : attribute (codes "schemas") ms ≡ Some (array (schemas_data core_user (user_extensions u)))
   pub user_name : attribute (codes "userName") ms ≡ Some (string u.user_name)
-  pub name : attribute (codes "name") ms ≡ name_data u.texts
-  pub texts : map (value_of ms (name_members u.texts)) USER_TEXTS ≡ map (option_map string) u.texts
+  pub name : attribute (codes "name") ms ≡ held_data u.texts NAME_TEXTS
+  pub enterprise : attribute enterprise_extension ms ≡ held_data u.texts ENTERPRISE_TEXTS
+  pub texts : map (value_of ms) USER_TEXTS ≡ map given (map (option_map string) u.texts)
   pub emails : attribute (codes "emails") ms ≡ emails_data u.emails
   pub active : attribute (codes "active") ms ≡ Some (boolean u.active)
   pub source : attribute source_extension ms ≡ source_data u.revision
 
-texts_shown : (ms : Members) (u : UserRecord) → IsUser u → Shows ms u → user_texts_in ms (name_members u.texts) ≡ Ok u.texts
+texts_shown : (ms : Members) (u : UserRecord) → IsUser u → Shows ms u → user_texts_in ms ≡ Ok u.texts
 unfolding user_texts_in
 texts_shown ms u h s = ap texts_in s.texts ∙ texts_read u.texts h.texts.each
 
 fields_read : (ms : Members) (u : UserRecord) → IsUser u → Shows ms u → user_fields ms ≡ Ok u
 unfolding user_fields
 fields_read ms u h s =
-    rw (s.schemas, schemas_listed u.revision, s.user_name, name_read u.user_name h.user_name, s.name, object_read (members_from (text_parts u.texts NAME_TEXTS)), texts_shown ms u h s, s.emails, emails_read u.emails h.emails, s.active, s.source, source_read u.revision h.revision)
-
-pub source_repeats : (r : Option RevisionValue) → value_repeats (source_data r) ≡ false
-unfolding repeats has_name
-source_repeats None = refl
-source_repeats (Some r) = refl
-
-name_repeats : (texts : UserTexts) → value_repeats (name_data texts) ≡ false
-name_repeats texts = object_repeats _ (repeats-members_from (text_parts texts NAME_TEXTS) refl)
+    rw (s.schemas, schemas_listed core_user (user_extensions u), s.user_name, name_read u.user_name h.user_name, texts_shown ms u h s, s.emails, emails_read u.emails h.emails, s.active, s.source, source_read u.revision h.revision)
 
 email_repeats : (e : Email) → value_repeats (Some (email_data e)) ≡ false
 unfolding email_data
@@ -200,7 +187,7 @@ emails_repeat (e ∷ es) = items_repeat_none (e ∷ es)
 repeats_none : (ms : Members) (u : UserRecord) → repeats ms ≡ false → Shows ms u → user_repeats ms ≡ false
 unfolding user_repeats
 repeats_none ms u clear s =
-    rw (clear, s.source, source_repeats u.revision, s.name, name_repeats u.texts, s.emails, emails_repeat u.emails)
+    rw (clear, s.source, source_repeats u.revision, s.enterprise, held_repeats u.texts ENTERPRISE_TEXTS refl, s.name, held_repeats u.texts NAME_TEXTS refl, s.emails, emails_repeat u.emails)
 
 pub user_data_read : (id meta : Option Data) (u : UserRecord) → IsUser u → read_user (user_data id meta u) ≡ Ok u
 unfolding user_data
@@ -209,7 +196,8 @@ user_data_read id meta u h =
     let shows : Shows ms u = record {
       schemas = found (codes "schemas") id meta u ∙ ap present (schemas_part id meta u);
       user_name = found (codes "userName") id meta u ∙ ap present (user_name_part id meta u) ∙ name_present u.user_name h.user_name;
-      name = found (codes "name") id meta u ∙ ap present (name_part id meta u) ∙ object_present (members_from (text_parts u.texts NAME_TEXTS));
+      name = name_found id meta u;
+      enterprise = enterprise_found id meta u;
       texts = texts_found id meta u h.texts;
       emails = found (codes "emails") id meta u ∙ ap present (emails_part id meta u) ∙ emails_present u.emails;
       active = found (codes "active") id meta u ∙ ap present (active_part id meta u);
@@ -219,17 +207,6 @@ user_data_read id meta u h =
     ap (λ b. unless_repeated b (user_fields ms)) (repeats_none ms u clear shows) ∙ fields_read ms u h shows
 
 -- ---- plain data
-
-pub source_plain : (r : Option RevisionValue) → IsSourceRevision r → IsPlainIf (source_data r)
-source_plain None h = tt
-source_plain (Some r) h = (tt, are_read_back.number_fits r h, tt)
-
-pub schemas_plain : (core : List ℕ) (r : Option RevisionValue) → IsPlain (array (schemas_data core r))
-schemas_plain core None = (tt, tt)
-schemas_plain core (Some r) = (tt, (tt, tt))
-
-name_plain : (texts : UserTexts) → IsPlainIf (name_data texts)
-name_plain texts = object_plain _ (MembersArePlain-members_from (text_parts texts NAME_TEXTS) refl (texts_plain texts NAME_TEXTS))
 
 primary_plain : (p : Bool) → IsPlainIf (primary_data p)
 primary_plain true = tt
@@ -250,23 +227,12 @@ emails_plain (e ∷ es) = email_items_plain (e ∷ es)
 parts_plain : (id meta : Option Data) (u : UserRecord) → IsUser u → IsPlainIf id → IsPlainIf meta → ArePlainIf (user_parts id meta u)
 unfolding user_front user_back
 parts_plain id meta u h i m =
-    let back : ArePlainIf (user_back u) = (name_plain u.texts, (schemas_plain core_user u.revision, (source_plain u.revision h.revision, (tt, tt)))) in
+    let back : ArePlainIf (user_back u) = (held_plain u.texts NAME_TEXTS refl, (schemas_plain core_user (user_extensions u), (source_plain u.revision h.revision, (held_plain u.texts ENTERPRISE_TEXTS refl, (tt, tt))))) in
     (tt, (emails_plain u.emails, ArePlainIf-append (text_parts u.texts TOP_TEXTS) ((codes "id", id) ∷ (codes "meta", meta) ∷ user_back u) (texts_plain u.texts TOP_TEXTS) (i, (m, back))))
 
 pub user_data_plain : (id meta : Option Data) (u : UserRecord) → IsUser u → IsPlainIf id → IsPlainIf meta → IsPlain (user_data id meta u)
 unfolding user_data
 user_data_plain id meta u h i m = MembersArePlain-members_from (user_parts id meta u) (rising id meta u) (parts_plain id meta u h i m)
-
-pub source_depth : (r : Option RevisionValue) → depth_if (source_data r) ≤ 2
-source_depth None = omega arith
-source_depth (Some r) = omega arith
-
-pub schemas_depth : (core : List ℕ) (r : Option RevisionValue) → depth (array (schemas_data core r)) ≤ 2
-schemas_depth core None = omega arith
-schemas_depth core (Some r) = omega arith
-
-name_depth : (texts : UserTexts) → depth_if (name_data texts) ≤ 1
-name_depth texts = object_depth 0 _ (members_depth-members_from 0 (text_parts texts NAME_TEXTS) (texts_within 0 texts NAME_TEXTS))
 
 primary_depth : (p : Bool) → depth_if (primary_data p) ≤ 0
 primary_depth true = omega arith
@@ -287,7 +253,7 @@ emails_depth (e ∷ es) = omega (arith, email_items_depth (e ∷ es))
 parts_within : (id meta : Option Data) (u : UserRecord) → depth_if id ≤ 2 → depth_if meta ≤ 2 → AreWithin 2 (user_parts id meta u)
 unfolding user_front user_back
 parts_within id meta u i m =
-    let back : AreWithin 2 (user_back u) = (omega (arith, name_depth u.texts), (schemas_depth core_user u.revision, (source_depth u.revision, (omega arith, tt)))) in
+    let back : AreWithin 2 (user_back u) = (omega (arith, held_depth u.texts NAME_TEXTS), (schemas_depth core_user (user_extensions u), (source_depth u.revision, (omega (arith, held_depth u.texts ENTERPRISE_TEXTS), (omega arith, tt))))) in
     (omega arith, (emails_depth u.emails, AreWithin-append 2 (text_parts u.texts TOP_TEXTS) ((codes "id", id) ∷ (codes "meta", meta) ∷ user_back u) (texts_within 2 u.texts TOP_TEXTS) (i, (m, back))))
 
 pub user_data_depth : (id meta : Option Data) (u : UserRecord) → depth_if id ≤ 2 → depth_if meta ≤ 2 → depth (user_data id meta u) ≤ 3

@@ -1,12 +1,14 @@
 -- The tokens of what is written, part by part.
-use Rattle.std.proofs.Common.{◌≡◌, ℕ, List, [], ◌∷◌, ◌++◌, Option, None, Some, Result, OnOk, option_map, codes, map, length, is_some, take, take_all, flat_map, ◌≤◌, ◌||◌, ◌==◌, Bool, true, false, refl, sym, ap, ◌∙◌, append-nil}
-use Rattle.json.specs.Token.{Token, begin_object, end_object}
+use Rattle.std.proofs.Common.{◌≡◌, ℕ, List, [], ◌∷◌, ◌++◌, Option, None, Some, Result, OnOk, option_map, codes, map, length, is_some, take, take_all, flat_map, ◌≤◌, ◌||◌, ◌==◌, Bool, true, false, refl, sym, ap, ◌∙◌, append_assoc, append-nil}
+use Rattle.json.specs.Token.{Token, begin_array, begin_object, end_array, end_object, key}
+use Rattle.json.specs.Tree.{items_tokens}
 use Rattle.json.specs.Written.{Written}
 use Rattle.json.specs.Written as token
-use Rattle.serde_json.specs.Data.{Data, array, string, object, Members, no_members}
+use Rattle.serde_json.specs.Data.{Data, array, string, object, Items, Members, no_members}
 use Rattle.serde_json.specs.View.{items_of}
-use Rattle.scim_json.specs.Writing.{member_if, members_from, part_tokens, parts_tokens, Adds, Writes, WritesPart, WritesParts}
-use Rattle.scim_json.proofs.Written.{parts_tokens-append, then, object_closed}
+use Rattle.serde_json.specs.Written.{items_outline}
+use Rattle.scim_json.specs.Writing.{data_tokens, member_if, members_from, part_tokens, parts_tokens, Adds, Writes, WritesPart, WritesParts}
+use Rattle.scim_json.proofs.Written.{parts_tokens-append, then, closed, keyed, object_closed}
 use Rattle.scim_resource.specs.Contents.{content_kind}
 use Rattle.scim_resource.specs.Groups.{GroupRecord}
 use Rattle.scim_resource.specs.Locations.{type_name}
@@ -15,7 +17,7 @@ use Rattle.scim_resource.specs.UserTexts.{UserTexts, has_some, name_of, text_at}
 use Rattle.scim_resource.specs.Users.{UserRecord}
 use Rattle.scim_resource.specs.declared.emails.Email.{Email}
 use Rattle.scim_resource.specs.declared.user_texts.UserText.{UserText}
-use Rattle.scim_resource.specs.Writing.{group_parts, group_data, group_front, group_back, group_members_data, member_data, user_parts, user_data, user_front, user_back, text_parts, object_if, email_parts, email_data, primary_data, emails_data, meta_parts, meta_data, shown_location}
+use Rattle.scim_resource.specs.Writing.{Extension, urn_if, urns_of, urn_tokens, schemas_data, group_parts, group_data, group_front, group_back, group_members_data, member_data, user_parts, user_data, user_front, user_back, text_parts, object_if, email_parts, email_data, primary_data, emails_data, meta_parts, meta_data, shown_location}
 
 pub user_closed : {E : Type 0} (r : Result (Unit {0}) E) (u : UserRecord) (a b c d e : Written) → Adds (begin_object ∷ []) a b → WritesParts (user_front u) b c → WritesParts (user_back u) c d
     → token.Writes r d e end_object → OnOk r (Writes (user_data None None u) a e)
@@ -134,6 +136,33 @@ held_some r name texts ws a b h written = rw (texts_some texts ws h) written
 pub emails_some : (es : List Email) → (length es == 0) ≡ false → emails_data es ≡ Some (array (items_of (map email_data es)))
 emails_some [] h = cc
 emails_some (e ∷ es) h = refl
+
+-- ---- the URNs of extensions
+
+abbrev tokens_of : {A : Type 0} → (A → Extension) → A → List Token
+tokens_of seen x = urn_tokens (seen x).0 (seen x).1
+
+urn_written : (urn : List ℕ) (there : Bool) (ds : Items) → items_tokens (items_outline (urn_if urn there ds)) ≡ urn_tokens urn there ++ items_tokens (items_outline ds)
+urn_written urn true ds = refl
+urn_written urn false ds = refl
+
+urns_written : {A : Type 0} (seen : A → Extension) (xs : List A) → items_tokens (items_outline (urns_of (map seen xs))) ≡ flat_map (tokens_of seen) xs ++ end_array ∷ []
+urns_written seen [] = refl
+urns_written seen (x ∷ xs) =
+    urn_written (seen x).0 (seen x).1 (urns_of (map seen xs)) ∙ ap (λ ts. tokens_of seen x ++ ts) (urns_written seen xs)
+    ∙ sym (append_assoc (tokens_of seen x) (flat_map (tokens_of seen) xs) (end_array ∷ []))
+
+-- the core URN and those of these extensions, whose loop has come to its end
+pub schemas_closed : {E A : Type 0} (r : Result (Unit {0}) E) (core : List ℕ) (seen : A → Extension) (xs : List A) (i : ℕ) (a b c d e f : Written) → length xs ≤ i
+    → Adds (key (codes "schemas") ∷ []) a b → Adds (begin_array ∷ []) b c → Adds (data_tokens (string core)) c d → Adds (flat_map (tokens_of seen) (take i xs)) d e → token.Writes r e f end_array
+    → OnOk r (WritesPart (codes "schemas") (Some (array (schemas_data core (map seen xs)))) a f)
+schemas_closed r core seen xs i a b c d e f past named first front each last =
+    let us = flat_map (tokens_of seen) xs in
+    let value = array (schemas_data core (map seen xs)) in
+    let whole : Adds us d e = (each.0, each.1 ∙ ap (λ ys. d.tokens ++ flat_map (tokens_of seen) ys) (take_all i xs past)) in
+    keyed r (codes "schemas") value a b f named
+    (closed r value (begin_array ∷ (data_tokens (string core) ++ us)) end_array b e f (ap (λ ts. begin_array ∷ (data_tokens (string core) ++ ts)) (urns_written seen xs))
+    (then (begin_array ∷ []) (data_tokens (string core) ++ us) b c e first (then (data_tokens (string core)) us c d e front whole)) last)
 
 pub members_some : (vs : List (List ℕ)) → (length vs == 0) ≡ false → group_members_data vs ≡ Some (array (items_of (map member_data vs)))
 members_some [] h = cc

@@ -12,17 +12,15 @@ use Rattle.scim_json.specs.Parsing.{json_of}
 use Rattle.scim_json.specs.declared.values.ValueFault.{ValueFault}
 use Rattle.scim_resource.specs.Emails.{are_few}
 use Rattle.scim_resource.specs.Groups.{GroupRecord, is_among, are_few_members}
-use Rattle.scim_resource.specs.Schemas.{core_user, core_group, source_extension}
+use Rattle.scim_resource.specs.Schemas.{core_user, core_group, enterprise_extension, source_extension}
 use Rattle.scim_resource.specs.Texts.{is_short_text}
-use Rattle.scim_resource.specs.UserTexts.{UserTexts, holder_of, name_of}
+use Rattle.scim_resource.specs.UserTexts.{UserTexts, attribute_of, holder_of, name_of}
 use Rattle.scim_resource.specs.Users.{UserRecord}
 use Rattle.scim_resource.specs.declared.contents.Content.{Content}
 use Rattle.scim_resource.specs.declared.contents.Content.TheVariants.{User, Group}
 use Rattle.scim_resource.specs.declared.emails.Email.{Email}
 use Rattle.scim_resource.specs.declared.faults.ReadFault.{ReadFault}
 use Rattle.scim_resource.specs.declared.faults.ReadFault.TheVariants.{InvalidSyntax, InvalidValue}
-use Rattle.scim_resource.specs.declared.user_texts.Holder.{Holder}
-use Rattle.scim_resource.specs.declared.user_texts.Holder.TheVariants as holder
 use Rattle.scim_resource.specs.declared.user_texts.TheConstants.{USER_TEXTS}
 use Rattle.scim_resource.specs.declared.user_texts.UserText.{UserText}
 
@@ -101,21 +99,25 @@ part_of name (Some ms) = attribute name ms
 
 -- ---- the texts of a user
 
--- the member of this name in the object that has the text
-abbrev pub value_in : Holder → Members → Option Members → List ℕ → Option Data
-value_in holder.User ms name key = attribute key ms
-value_in holder.Name ms name key = part_of key name
+-- the members of the object under this attribute of a user, or those of the user itself; none if it is absent
+abbrev pub object_at : Option (List ℕ) → Members → Result (Option Members) ValueFault
+object_at None ms = Ok (Some ms)
+object_at (Some name) ms = members_in (attribute name ms)
 
--- the value of a text, given the user's members and those of its name
-abbrev pub value_of : Members → Option Members → UserText → Option Data
-value_of ms name which = value_in (holder_of which) ms name (name_of which)
+-- the value of a text, in the object that has it
+abbrev pub value_of : Members → UserText → Result (Option Data) ValueFault
+value_of ms which = object_at (attribute_of (holder_of which)) ms >>= (λ held. Ok (part_of (name_of which) held))
 
-unfoldable pub texts_in : List (Option Data) → Result UserTexts ReadFault
+-- the text that is this value
+abbrev pub text_of : Result (Option Data) ValueFault → Result (Option (List ℕ)) ReadFault
+text_of value = checked value >>= text_in
+
+unfoldable pub texts_in : List (Result (Option Data) ValueFault) → Result UserTexts ReadFault
 texts_in [] = Ok []
-texts_in (d ∷ ds) = text_in d >>= (λ text. texts_in ds >>= (λ texts. Ok (text ∷ texts)))
+texts_in (d ∷ ds) = text_of d >>= (λ text. texts_in ds >>= (λ texts. Ok (text ∷ texts)))
 
-unfoldable pub user_texts_in : Members → Option Members → Result UserTexts ReadFault
-user_texts_in ms name = texts_in (map (value_of ms name) USER_TEXTS)
+unfoldable pub user_texts_in : Members → Result UserTexts ReadFault
+user_texts_in ms = texts_in (map (value_of ms) USER_TEXTS)
 
 -- ---- emails
 
@@ -204,12 +206,11 @@ unfoldable pub user_fields : Members → Result UserRecord ReadFault
 user_fields ms =
     if_listed (lists_schema core_user (attribute (codes "schemas") ms))
     (user_name_in (attribute (codes "userName") ms) >>= (λ user_name.
-    checked (members_in (attribute (codes "name") ms)) >>= (λ name.
-    user_texts_in ms name >>= (λ texts.
+    user_texts_in ms >>= (λ texts.
     emails_in (attribute (codes "emails") ms) >>= (λ emails.
     checked (flag_or true (attribute (codes "active") ms)) >>= (λ active.
     revision_in (attribute source_extension ms) >>= (λ revision.
-    Ok (record { user_name = user_name; texts = texts; emails = emails; active = active; revision = revision }))))))))
+    Ok (record { user_name = user_name; texts = texts; emails = emails; active = active; revision = revision })))))))
 
 unfoldable pub group_fields : Members → Result GroupRecord ReadFault
 group_fields ms =
@@ -225,8 +226,8 @@ group_fields ms =
 -- one of the objects that reading looks into repeats a name
 unfoldable pub user_repeats : Members → Bool
 user_repeats ms =
-    repeats ms || value_repeats (attribute source_extension ms) || value_repeats (attribute (codes "name") ms)
-    || list_repeats (attribute (codes "emails") ms)
+    repeats ms || value_repeats (attribute source_extension ms) || value_repeats (attribute enterprise_extension ms)
+    || value_repeats (attribute (codes "name") ms) || list_repeats (attribute (codes "emails") ms)
 
 abbrev pub unless_repeated : {X : Type 0} → Bool → Result X ReadFault → Result X ReadFault
 unless_repeated true answer = Err InvalidSyntax

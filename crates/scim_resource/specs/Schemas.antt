@@ -9,6 +9,10 @@ core_user = codes "urn:ietf:params:scim:schemas:core:2.0:User"
 unfoldable pub core_group : List ℕ
 core_group = codes "urn:ietf:params:scim:schemas:core:2.0:Group"
 
+-- the enterprise extension of users (RFC 7643 section 4.3)
+unfoldable pub enterprise_extension : List ℕ
+enterprise_extension = codes "urn:ietf:params:scim:schemas:extension:enterprise:2.0:User"
+
 -- the extension with the source's revision
 unfoldable pub source_extension : List ℕ
 source_extension = codes "urn:example:params:scim:schemas:extension:source:1.0"

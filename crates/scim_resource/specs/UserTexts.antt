@@ -1,7 +1,8 @@
 -- The texts that a user may have, each at the place of its `UserText`.
-use Rattle.std.specs.Prelude.{◌≡◌, ℕ, Bool, List, Option, None, codes, get_or, is_some, length, map}
+use Rattle.std.specs.Prelude.{◌≡◌, ℕ, Bool, List, Option, None, Some, codes, get_or, is_some, length, map}
 use Rattle.std.specs.List.{AllByRecursion, list_any}
 use denote.Enum.Declared.{tag_of}
+use Rattle.scim_resource.specs.Schemas.{enterprise_extension}
 use Rattle.scim_resource.specs.Texts.{IsTextIf}
 use Rattle.scim_resource.specs.contracts.user_texts.UserText.{the_type}
 use Rattle.scim_resource.specs.declared.user_texts.Holder.{Holder}
@@ -10,8 +11,15 @@ use Rattle.scim_resource.specs.declared.user_texts.TheConstants.{TEXT_COUNT, USE
 use Rattle.scim_resource.specs.declared.user_texts.UserText.{UserText}
 use Rattle.scim_resource.specs.declared.user_texts.UserText.TheVariants as text
 
+-- the attribute of a user whose value is the object; none for the user itself
+abbrev pub attribute_of : Holder → Option (List ℕ)
+attribute_of holder.User = None
+attribute_of holder.Name = Some (codes "name")
+attribute_of holder.Enterprise = Some enterprise_extension
+
 -- where a text is in JSON: the object that has it as a member, and the member's name
 abbrev pub member_of : UserText → Holder × List ℕ
+member_of text.Department = (holder.Enterprise, codes "department")
 member_of text.ExternalId = (holder.User, codes "externalId")
 member_of text.FamilyName = (holder.Name, codes "familyName")
 member_of text.GivenName = (holder.Name, codes "givenName")

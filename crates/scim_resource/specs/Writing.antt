@@ -1,20 +1,21 @@
 -- Writing a resource as JSON.
-use Rattle.std.specs.Prelude.{ℕ, Bool, true, false, List, [], ◌∷◌, ◌++◌, Option, None, Some, option_map, map, take, drop, codes}
+use Rattle.std.specs.Prelude.{ℕ, Bool, true, false, List, [], ◌∷◌, ◌++◌, Option, None, Some, option_map, is_some, map, take, drop, codes}
 use Rattle.scim_key.specs.Revisions.{RevisionValue, revision_number}
+use Rattle.json.specs.Token.{Token}
 use Rattle.serde_json.specs.Data.{unsigned, Data, boolean, number, string, array, object, Items, no_items, item, Members, no_members, member}
 use Rattle.serde_json.specs.View.{items_of}
-use Rattle.scim_json.specs.Writing.{Part, members_from}
+use Rattle.scim_json.specs.Writing.{Part, data_tokens, members_from}
 use Rattle.scim_resource.specs.Contents.{content_kind}
 use Rattle.scim_resource.specs.Groups.{GroupRecord}
 use Rattle.scim_resource.specs.Locations.{location_text, type_name}
 use Rattle.scim_resource.specs.Rows.{ShownRecord}
-use Rattle.scim_resource.specs.Schemas.{core_user, core_group, source_extension}
-use Rattle.scim_resource.specs.UserTexts.{UserTexts, name_of, text_at}
+use Rattle.scim_resource.specs.Schemas.{core_user, core_group, enterprise_extension, source_extension}
+use Rattle.scim_resource.specs.UserTexts.{UserTexts, has_some, name_of, text_at}
 use Rattle.scim_resource.specs.Users.{UserRecord}
 use Rattle.scim_resource.specs.declared.contents.Content.{Content}
 use Rattle.scim_resource.specs.declared.contents.Content.TheVariants.{User, Group}
 use Rattle.scim_resource.specs.declared.emails.Email.{Email}
-use Rattle.scim_resource.specs.declared.user_texts.TheConstants.{NAME_TEXTS, TOP_TEXTS}
+use Rattle.scim_resource.specs.declared.user_texts.TheConstants.{ENTERPRISE_TEXTS, NAME_TEXTS, TOP_TEXTS}
 use Rattle.scim_resource.specs.declared.user_texts.UserText.{UserText}
 
 -- the source extension, if there is a revision
@@ -22,10 +23,30 @@ abbrev pub source_data : Option RevisionValue → Option Data
 source_data None = None
 source_data (Some r) = Some (object (member (codes "revision") (number (unsigned (revision_number r))) no_members))
 
--- the core URN, then the source URN if there is a revision
-abbrev pub schemas_data : List ℕ → Option RevisionValue → Items
-schemas_data core None = item (string core) no_items
-schemas_data core (Some r) = item (string core) (item (string source_extension) no_items)
+-- the URN of an extension, and whether a resource has the extension
+abbrev pub Extension : Type 0
+Extension = List ℕ × Bool
+
+abbrev pub urn_if : List ℕ → Bool → Items → Items
+urn_if urn true ds = item (string urn) ds
+urn_if urn false ds = ds
+
+abbrev pub urns_of : List Extension → Items
+urns_of [] = no_items
+urns_of (e ∷ es) = urn_if e.0 e.1 (urns_of es)
+
+-- the core URN, then the URN of each extension that a resource has
+abbrev pub schemas_data : List ℕ → List Extension → Items
+schemas_data core es = item (string core) (urns_of es)
+
+-- a resource with a revision has the source extension
+abbrev pub source_if : Option RevisionValue → Extension
+source_if r = (source_extension, is_some r)
+
+-- the tokens of the URN, if it is listed
+abbrev pub urn_tokens : List ℕ → Bool → List Token
+urn_tokens urn true = data_tokens (string urn)
+urn_tokens urn false = []
 
 -- an object, if it has a member
 abbrev pub object_if : Members → Option Data
@@ -39,9 +60,9 @@ text_part texts which = (name_of which, option_map string (text_at which texts))
 abbrev pub text_parts : UserTexts → List UserText → List Part
 text_parts texts ws = map (text_part texts) ws
 
--- a name, if it has a part
-abbrev pub name_data : UserTexts → Option Data
-name_data texts = object_if (members_from (text_parts texts NAME_TEXTS))
+-- an object of these texts, if a user has one of them
+abbrev pub held_data : UserTexts → List UserText → Option Data
+held_data texts ws = object_if (members_from (text_parts texts ws))
 
 -- `primary`, only if it is true
 abbrev pub primary_data : Bool → Option Data
@@ -60,6 +81,10 @@ abbrev pub emails_data : List Email → Option Data
 emails_data [] = None
 emails_data (e ∷ es) = Some (array (items_of (map email_data (e ∷ es))))
 
+-- the extensions of a user, in the order of `schemas`
+abbrev pub user_extensions : UserRecord → List Extension
+user_extensions u = (enterprise_extension, has_some u.texts ENTERPRISE_TEXTS) ∷ source_if u.revision ∷ []
+
 -- a user's attributes in byte order: those before `id`, and those after `meta`
 unfoldable pub user_front : UserRecord → List Part
 user_front u =
@@ -69,9 +94,10 @@ user_front u =
 
 unfoldable pub user_back : UserRecord → List Part
 user_back u =
-    (codes "name", name_data u.texts)
-    ∷ (codes "schemas", Some (array (schemas_data core_user u.revision)))
+    (codes "name", held_data u.texts NAME_TEXTS)
+    ∷ (codes "schemas", Some (array (schemas_data core_user (user_extensions u))))
     ∷ (source_extension, source_data u.revision)
+    ∷ (enterprise_extension, held_data u.texts ENTERPRISE_TEXTS)
     ∷ (codes "userName", Some (string u.user_name))
     ∷ []
 
@@ -90,6 +116,9 @@ abbrev pub group_members_data : List (List ℕ) → Option Data
 group_members_data [] = None
 group_members_data (v ∷ vs) = Some (array (items_of (map member_data (v ∷ vs))))
 
+abbrev pub group_extensions : GroupRecord → List Extension
+group_extensions g = source_if g.revision ∷ []
+
 -- a group's attributes in byte order, with an id and `meta`
 abbrev pub group_parts : Option Data → Option Data → GroupRecord → List Part
 group_parts id meta g =
@@ -98,7 +127,7 @@ group_parts id meta g =
     ∷ (codes "id", id)
     ∷ (codes "members", group_members_data g.members)
     ∷ (codes "meta", meta)
-    ∷ (codes "schemas", Some (array (schemas_data core_group g.revision)))
+    ∷ (codes "schemas", Some (array (schemas_data core_group (group_extensions g))))
     ∷ (source_extension, source_data g.revision)
     ∷ []
 

@@ -9,7 +9,7 @@ ghost use Rattle.scim_resource.specs.Writing as spec;
 
 use crate::groups::Group;
 use crate::rows::Shown;
-use crate::schemas::core_group;
+use crate::schemas::{core_group, source_extension};
 use crate::texts::Text;
 use crate::writing::{write_schemas, write_source, write_text_of};
 use json::Writer;
@@ -63,7 +63,11 @@ fn write_group_back(out: &mut Writer, group: &Group) -> Result<(), AllocError>
     ensures written { OnOk result (WritesParts (spec.group_back group.now) out.old out.new) }
     ensures lawful { OnOk result (IsGroup group.now) }
 {
-    write_schemas(out, core_group(), group.revision())?;
+    write_schemas(
+        out,
+        core_group(),
+        &[(source_extension(), group.revision().is_some())],
+    )?;
     write_source(out, group.revision())
 }
 

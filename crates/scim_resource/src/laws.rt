@@ -44,7 +44,8 @@ pub fn shown_reads_back()
 {}
 
 /// A name that is repeated, in lower case, is refused before any wrong value. This holds for each object
-/// that reading looks into: the body, the source extension, a user's name or emails, a group's members.
+/// that reading looks into: the body, the source extension, a user's enterprise extension, name or emails, a
+/// group's members.
 pub fn repeated_names_come_first()
     ensures { (kind : Kind) (ms inner : Members) → IsLookedInto kind ms inner → repeats inner ≡ true
         → read_content kind (object ms) ≡ Err InvalidSyntax }
@@ -59,7 +60,7 @@ pub fn repeated_members_are_kept_once()
 {}
 
 /// Values that differ only in the case of names and the order of members are read the same: the body, a
-/// name, emails, members or the source extension.
+/// name, emails, members or an extension.
 pub fn alike_values_are_read_the_same()
     ensures same { (kind : Kind) (d e : Data) → Alike d e → read_content kind d ≡ read_content kind e }
     // A name may be spelled in another case.

@@ -1,11 +1,12 @@
 //! Reading a resource from JSON (RFC 7643 section 2).
 ghost use Rattle.std.specs.Prelude.{◌≡◌, IfOk, IfSome, map, option_map};
+ghost use Rattle.std.specs.Result.{result_map_both};
 ghost use Rattle.scim_key.specs.Names.{IsUserName};
 ghost use Rattle.scim_key.specs.Outcome.{Gives, GivesBy};
 ghost use Rattle.serde_json.specs.View.{view, items_view, members_view};
 ghost use Rattle.scim_resource.specs.Emails.{AreEmails, IsEmail, IsEmailList};
 ghost use Rattle.scim_resource.specs.Texts.{IsTextIf};
-ghost use Rattle.scim_resource.specs.UserTexts.{AreUserTexts};
+ghost use Rattle.scim_resource.specs.UserTexts.{AreUserTexts, attribute_of};
 ghost use Rattle.scim_resource.specs.Users.{IsSourceRevision};
 ghost use Rattle.scim_resource.specs.Reading as spec;
 
@@ -13,13 +14,13 @@ use crate::contents::Content;
 use crate::emails::{Email, Emails};
 use crate::faults::ReadFault;
 use crate::group_reading::read_group;
-use crate::schemas::{core_user, source_extension};
+use crate::schemas::{core_user, enterprise_extension, source_extension};
 use crate::texts::{Text, is_short_text};
 use crate::user_texts::{Holder, TEXT_COUNT, USER_TEXTS, UserText};
 use crate::users::User;
 use scim_json::{
-    attribute, flag_or, items_in, json_of, list_repeats, lists_text, members_in, repeats,
-    value_repeats, whole_in,
+    ValueFault, attribute, flag_or, items_in, json_of, list_repeats, lists_text, members_in,
+    repeats, value_repeats, whole_in,
 };
 use scim_key::{Kind, Revision, UserName};
 use serde_json::{Map, Value};
@@ -66,6 +67,7 @@ fn user_repeats(alloc: Global, members: &Map<String, Value>) -> Result<bool, All
     Ok(
         repeats(alloc, members)?
             || value_repeats(alloc, attribute(members, source_extension()))?
+            || value_repeats(alloc, attribute(members, enterprise_extension()))?
             || value_repeats(alloc, attribute(members, "name"))?
             || list_repeats(alloc, attribute(members, "emails"))?,
     )
@@ -80,14 +82,7 @@ fn user_fields(alloc: Global, members: &Map<String, Value>) -> Result<User, Read
         return Err(ReadFault::InvalidValue);
     }
     let user_name = user_name_in(alloc, attribute(members, "userName"))?;
-    let name = members_in(attribute(members, "name"))?;
-    let texts = texts_in(
-        alloc,
-        &Holders {
-            user: members,
-            name,
-        },
-    )?;
+    let texts = texts_in(alloc, members)?;
     let emails = emails_in(alloc, attribute(members, "emails"))?;
     let active = flag_or(attribute(members, "active"), true)?;
     let revision = revision_in(attribute(members, source_extension()))?;
@@ -109,40 +104,63 @@ fn part_of<'v>(members: Option<&'v Map<String, Value>>, name: &str) -> Option<&'
     }
 }
 
-/// The objects of a user's JSON that have its texts as members.
-#[derive(Clone, Copy)]
-struct Holders<'v> {
-    user: &'v Map<String, Value>,
-    name: Option<&'v Map<String, Value>>,
-}
-
-impl<'v> Holders<'v> {
-    fn value_of(&self, which: UserText) -> Option<&'v Value>
-        ensures { option_map (λ v. view v.now) result ≡ spec.value_of (members_view self.now.user.now.entries)
-            (option_map (λ m. members_view m.now.entries) self.now.name) which }
-    {
-        let (holder, key) = which.member();
-        match holder {
-            Holder::User => attribute(self.user, key),
-            Holder::Name => part_of(self.name, key),
-        }
-    }
-
-    fn values(&self) -> [Option<&'v Value>; TEXT_COUNT]
-        ensures { map (option_map (λ v. view v.now)) result ≡ map (spec.value_of (members_view self.now.user.now.entries)
-            (option_map (λ m. members_view m.now.entries) self.now.name)) USER_TEXTS }
-    {
-        USER_TEXTS.map(|which| self.value_of(which))
+/// The members of the object that has a text, if the user has the object.
+fn object_at<'v>(
+    members: &'v Map<String, Value>,
+    holder: Holder,
+) -> Result<Option<&'v Map<String, Value>>, ValueFault>
+    ensures { result_map_both (option_map (λ m. members_view m.now.entries)) (λ e. e) result
+        ≡ spec.object_at (attribute_of holder) (members_view members.now.entries) }
+{
+    match holder.attribute() {
+        None => Ok(Some(members)),
+        Some(name) => members_in(attribute(members, name)),
     }
 }
 
-/// The texts of a user.
-fn texts_in(alloc: Global, holders: &Holders) -> Result<[Option<Text>; TEXT_COUNT], ReadFault>
-    ensures given { Gives ReadFault.Memory result (spec.user_texts_in (members_view holders.now.user.now.entries)
-        (option_map (λ m. members_view m.now.entries) holders.now.name)) }
+/// The value of a text of a user.
+fn value_of<'v>(
+    members: &'v Map<String, Value>,
+    which: UserText,
+) -> Result<Option<&'v Value>, ValueFault>
+    ensures { result_map_both (option_map (λ v. view v.now)) (λ e. e) result
+        ≡ spec.value_of (members_view members.now.entries) which }
+{
+    let (holder, name) = which.member();
+    Ok(part_of(object_at(members, holder)?, name))
+}
+
+/// The values of a user's texts, in the order of `USER_TEXTS`.
+fn values_of<'v>(
+    members: &'v Map<String, Value>,
+) -> [Result<Option<&'v Value>, ValueFault>; TEXT_COUNT]
+    ensures { map (result_map_both (option_map (λ v. view v.now)) (λ e. e)) result
+        ≡ map (spec.value_of (members_view members.now.entries)) USER_TEXTS }
+{
+    USER_TEXTS.map(|which| value_of(members, which))
+}
+
+fn text_of(
+    alloc: Global,
+    value: Result<Option<&Value>, ValueFault>,
+) -> Result<Option<Text>, ReadFault>
+    ensures given { Gives ReadFault.Memory result
+        (spec.text_of (result_map_both (option_map (λ v. view v.now)) (λ e. e) value.entry)) }
+    ensures lawful { IfOk result IsTextIf }
+{
+    text_in(alloc, value?)
+}
+
+/// The texts of a user, in the order of `USER_TEXTS`.
+fn texts_in(
+    alloc: Global,
+    members: &Map<String, Value>,
+) -> Result<[Option<Text>; TEXT_COUNT], ReadFault>
+    ensures given { Gives ReadFault.Memory result
+        (spec.user_texts_in (members_view members.now.entries)) }
     ensures lawful { IfOk result AreUserTexts }
 {
-    holders.values().try_map(|value| text_in(alloc, value))
+    values_of(members).try_map(|value| text_of(alloc, value))
 }
 
 /// A text of 1 to 256 bytes.

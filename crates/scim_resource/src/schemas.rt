@@ -18,6 +18,14 @@ pub(crate) fn core_group() -> &'static str
     "urn:ietf:params:scim:schemas:core:2.0:Group"
 }
 
+/// The enterprise extension of users (RFC 7643 section 4.3).
+#[tactic(auto, unfolding(crate::specs::Schemas::enterprise_extension))]
+pub(crate) fn enterprise_extension() -> &'static str
+    ensures { result.now ≡ spec.enterprise_extension }
+{
+    "urn:ietf:params:scim:schemas:extension:enterprise:2.0:User"
+}
+
 /// The extension with the source's revision.
 #[tactic(auto, unfolding(crate::specs::Schemas::source_extension))]
 pub(crate) fn source_extension() -> &'static str

@@ -1,10 +1,13 @@
 //! The texts that a user may have: which there are, and where each is in JSON.
-ghost use Rattle.std.specs.Prelude.{◌≡◌, ◌<◌};
-ghost use Rattle.scim_resource.specs.UserTexts.{holder_of, name_of, place_of};
+ghost use Rattle.std.specs.Prelude.{◌≡◌, ◌<◌, option_map};
+ghost use Rattle.scim_resource.specs.UserTexts.{attribute_of, holder_of, name_of, place_of};
+
+use crate::schemas::enterprise_extension;
 
 /// A text of a user.
 #[derive(Clone, Copy, Debug, PartialEq, Eq)]
 pub enum UserText {
+    Department,
     ExternalId,
     FamilyName,
     GivenName,
@@ -15,13 +18,15 @@ pub enum UserText {
 pub(crate) enum Holder {
     User,
     Name,
+    Enterprise,
 }
 
 /// How many texts a user may have.
-pub const TEXT_COUNT: usize = 3;
+pub const TEXT_COUNT: usize = 4;
 
 /// The texts in their order in a `User`.
 pub const USER_TEXTS: [UserText; TEXT_COUNT] = [
+    UserText::Department,
     UserText::ExternalId,
     UserText::FamilyName,
     UserText::GivenName,
@@ -32,6 +37,22 @@ pub(crate) const TOP_TEXTS: [UserText; 1] = [UserText::ExternalId];
 
 /// The texts among the members of a user's name, in byte order.
 pub(crate) const NAME_TEXTS: [UserText; 2] = [UserText::FamilyName, UserText::GivenName];
+
+/// The texts among the members of a user's enterprise extension, in byte order.
+pub(crate) const ENTERPRISE_TEXTS: [UserText; 1] = [UserText::Department];
+
+impl Holder {
+    /// The attribute of the user whose value the object is; `None` for the user itself.
+    pub(crate) fn attribute(self) -> Option<&'static str>
+        ensures { option_map (λ name. name.now) result ≡ attribute_of self }
+    {
+        match self {
+            Holder::User => None,
+            Holder::Name => Some("name"),
+            Holder::Enterprise => Some(enterprise_extension()),
+        }
+    }
+}
 
 impl UserText {
     /// The place among the texts of a user.
@@ -48,6 +69,7 @@ impl UserText {
         ensures name { result.1.now ≡ name_of self }
     {
         match self {
+            UserText::Department => (Holder::Enterprise, "department"),
             UserText::ExternalId => (Holder::User, "externalId"),
             UserText::FamilyName => (Holder::Name, "familyName"),
             UserText::GivenName => (Holder::Name, "givenName"),

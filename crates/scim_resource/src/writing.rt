@@ -5,7 +5,7 @@ ghost use Rattle.std.specs.Str.{IsUtf8};
 ghost use Rattle.serde_json.specs.Data.{array, object, string};
 ghost use Rattle.serde_json.specs.View.{items_of};
 ghost use Rattle.serde_json.specs.Written.{compact_text};
-ghost use Rattle.scim_json.specs.Writing.{members_from, Writes, WritesPart, WritesParts};
+ghost use Rattle.scim_json.specs.Writing.{members_from, Adds, Writes, WritesPart, WritesParts};
 ghost use Rattle.scim_resource.specs.Contents.{IsContent};
 ghost use Rattle.scim_resource.specs.Rows.{IsShown};
 ghost use Rattle.scim_resource.specs.Schemas.{source_extension as urn};
@@ -18,9 +18,9 @@ use crate::emails::Email;
 use crate::group_writing::{write_group, write_shown_group};
 use crate::locations::{location, type_name};
 use crate::rows::Shown;
-use crate::schemas::{core_user, source_extension};
+use crate::schemas::{core_user, enterprise_extension, source_extension};
 use crate::texts::Text;
-use crate::user_texts::{NAME_TEXTS, TOP_TEXTS, UserText};
+use crate::user_texts::{ENTERPRISE_TEXTS, NAME_TEXTS, TOP_TEXTS, UserText};
 use crate::users::User;
 use json::Writer;
 use scim_json::{TEXT_ROOM, write_text, write_whole};
@@ -157,9 +157,19 @@ fn write_user_back(out: &mut Writer, user: &User) -> Result<(), AllocError>
     ensures lawful { OnOk result (IsUser user.now) }
 {
     write_held(out, "name", user, &NAME_TEXTS)?;
-    write_schemas(out, core_user(), user.revision())?;
+    write_schemas(out, core_user(), &extensions_of(user))?;
     write_source(out, user.revision())?;
+    write_held(out, enterprise_extension(), user, &ENTERPRISE_TEXTS)?;
     write_text(out, "userName", user.user_name().as_str())
+}
+
+/// The extensions of a user, in the order of `schemas`, and whether the user has each.
+fn extensions_of(user: &User) -> [(&'static str, bool); 2]
+    ensures { map (λ e. (e.0.now, e.1)) result ≡ spec.user_extensions user.now }
+{
+    let enterprise = (enterprise_extension(), has_some(user, &ENTERPRISE_TEXTS));
+    let source = (source_extension(), user.revision().is_some());
+    [enterprise, source]
 }
 
 /// Writes a text of an attribute, if there is one.
@@ -202,7 +212,7 @@ fn write_held(
     texts: &[UserText],
 ) -> Result<(), AllocError>
     ensures { OnOk result (WritesPart name.now
-        (spec.object_if (members_from (spec.text_parts user.now.texts texts.now))) out.old out.new) }
+        (spec.held_data user.now.texts texts.now) out.old out.new) }
 {
     if !has_some(user, texts) {
         return Ok(());
@@ -287,21 +297,27 @@ fn write_revision(out: &mut Writer, revision: Revision) -> Result<(), AllocError
     out.end_object()
 }
 
-/// Writes the core URN, then the source URN if there is a revision.
+/// Writes the core URN, then the URN of each of these extensions that the resource has.
 pub(crate) fn write_schemas(
     out: &mut Writer,
     core: &str,
-    revision: Option<Revision>,
+    extensions: &[(&str, bool)],
 ) -> Result<(), AllocError>
-    ensures { OnOk result
-        (WritesPart (codes "schemas") (Some (array (spec.schemas_data core.now revision))) out.old out.new) }
+    ensures { OnOk result (WritesPart (codes "schemas")
+        (Some (array (spec.schemas_data core.now (map (λ e. (e.0.now, e.1)) extensions.now)))) out.old out.new) }
 {
     out.key("schemas")?;
     out.begin_array()?;
     out.string(core)?;
-    if revision.is_none() {
-        return out.end_array();
+    for extension in extensions {
+        write_urn(out, extension.0, extension.1)?;
     }
-    out.string(source_extension())?;
     out.end_array()
+}
+
+/// Writes the URN of an extension, if the resource has it.
+fn write_urn(out: &mut Writer, urn: &str, is_there: bool) -> Result<(), AllocError>
+    ensures { OnOk result (Adds (spec.urn_tokens urn.now is_there) out.old out.new) }
+{
+    if is_there { out.string(urn) } else { Ok(()) }
 }

@@ -1,10 +1,10 @@
 -- How long the text of an image is at most.
 use Rattle.std.proofs.Common.{◌≡◌, ℕ, zero, suc, ◌+◌, ◌*◌, ◌/◌, ◌%◌, ◌<◌, ◌≤◌, Bool, true, false, not, cond, List, [], ◌∷◌, ◌++◌, length, map, option_map, codes, Option, Some, None, refl, ap, ◌∙◌, subst, arith, length-append, lit<}
 use Rattle.std.specs.Char.{digit_char}
-use Rattle.std.specs.List.{AllByRecursion, filter}
-use Rattle.std.specs.Prelude.{nat_lt, ◌==◌}
+use Rattle.std.specs.List.{AllByRecursion, filter, list_all}
+use Rattle.std.specs.Prelude.{nat_le, nat_lt, ◌&&◌, ◌==◌}
 use Rattle.std.specs.Str.{bytes_eq}
-use Rattle.std.proofs.lemmas.Bool.{agree_below_at, eqb-true, ltb-false}
+use Rattle.std.proofs.lemmas.Bool.{agree_below_at, and_parts, eqb-true, leb-true, ltb-false}
 use Rattle.std.proofs.lemmas.Fmt.{length-decimal-le}
 use Rattle.std.proofs.lemmas.List.Concat.{flat_map-append}
 use Rattle.std.proofs.lemmas.List.Sums.{length-filter, count_by-le-length}
@@ -15,13 +15,15 @@ use Rattle.serde_json.specs.View.{items_of}
 use Rattle.serde_json.specs.Written.{compact_text, comma_if, items_text, members_text}
 use Rattle.scim_json.specs.Writing.{Part, member_if, members_from}
 use Rattle.scim_key.specs.Identifiers.{hex_digit, lower_hex, id_text}
-use Rattle.scim_key.specs.Names.{IsUserName, IsGroupName, user_name_fault, group_name_fault}
+use Rattle.scim_key.specs.Names.{IsUserName, IsGroupName, is_user_name_byte, user_name_fault, group_name_fault}
+use Rattle.scim_key.specs.declared.names.NameFault.TheVariants.{Empty, TooLong, Character}
+use Rattle.scim_key.specs.declared.names.TheConstants.{NAME_LIMIT}
 use Rattle.scim_key.specs.Revisions.{RevisionValue, IsRevision, revision_number}
 use Rattle.scim_key.proofs.RevisionLaws.{are_read_back}
 use Rattle.scim_key.specs.declared.records.RecordName.{RecordName}
 use Rattle.scim_resource.specs.Contents.{content_kind}
 use Rattle.scim_resource.specs.Schemas.{core_user, core_group, source_extension}
-use Rattle.scim_resource.specs.Writing.{source_data, schemas_data, object_if, name_data, email_data, email_parts, emails_data, user_data, user_front, user_back, member_data, group_members_data, group_data, content_data}
+use Rattle.scim_resource.specs.Writing.{Extension, source_data, schemas_data, object_if, email_data, email_parts, emails_data, user_data, user_front, user_back, member_data, group_members_data, group_data, content_data}
 use Rattle.scim_resource.specs.declared.contents.Content.{Content}
 use Rattle.source_csv.specs.Records.{IsRow}
 use Rattle.source_csv.proofs.RowLemmas.{short_text}
@@ -152,6 +154,43 @@ pub group_name_short : (name : List ℕ) → IsGroupName name → length name �
 unfolding group_name_fault
 group_name_short name law = ltb-false 128 (length name) (cond_none _ _ _ (cond_none _ _ _ law).1).0
 
+-- ---- names of users, in which nothing is escaped
+
+if_plain : (b : ℕ) → Bool
+unfolding escape_byte
+if_plain b = cond (is_user_name_byte b) (length (escape_byte b) == 1) true
+
+then_true : (p q : Bool) → cond p q true ≡ true → p ≡ true → q ≡ true
+then_true true q h is = h
+then_true false q h is = absurd (cc)
+
+plain_byte : (b : ℕ) → is_user_name_byte b ≡ true → length (escape_byte b) ≡ 1
+unfolding if_plain
+plain_byte b is =
+    let front = and_parts (nat_le 33 b && nat_le b 126 && not (b == 34)) (not (b == 92)) is in
+    let range = and_parts (nat_le 33 b && nat_le b 126) (not (b == 34)) front.0 in
+    let below = leb-true b 126 (and_parts (nat_le 33 b) (nat_le b 126) range.0).1 in
+    eqb-true (length (escape_byte b)) 1 (then_true (is_user_name_byte b) (length (escape_byte b) == 1) (agree_below_at if_plain (λ k. true) 127 b refl (omega (arith, below))) is)
+
+plain_length : (text : List ℕ) → list_all is_user_name_byte text ≡ true → length (escape text) ≡ length text
+plain_length [] h = refl
+plain_length (b ∷ text) h =
+    let both = and_parts (is_user_name_byte b) (list_all is_user_name_byte text) h in
+    omega (arith, length-append (escape_byte b) (escape text), plain_byte b both.0, plain_length text both.1)
+
+third_false : {X : Type 0} (p q r : Bool) (x y z : X) → cond p (Some x) (cond q (Some y) (cond (not r) (Some z) None)) ≡ None → r ≡ true
+third_false true q r x y z none = absurd (cc)
+third_false false true r x y z none = absurd (cc)
+third_false false false true x y z none = refl
+third_false false false false x y z none = absurd (cc)
+
+plain_name : (name : List ℕ) → IsUserName name → list_all is_user_name_byte name ≡ true
+unfolding user_name_fault
+plain_name name law = third_false (length name == 0) (nat_lt NAME_LIMIT (length name)) (list_all is_user_name_byte name) Empty TooLong Character law
+
+login_most : (name : List ℕ) → IsUserName name → length (compact_text (string name)) ≤ 130
+login_most name law = omega (arith, quoted_length name, plain_length name (plain_name name law), user_name_short name law)
+
 text_most : (text : List ℕ) → length text ≤ 256 → length (compact_text (string text)) ≤ 1538
 text_most text short = omega (arith, quoted_most text, short)
 
@@ -246,13 +285,17 @@ revision_part : (r : RevisionValue) → IsRevision r → (d : Data) → source_d
 revision_part r law d is =
     just (object (member (codes "revision") (number (unsigned (revision_number r))) no_members)) d 34 (object_most (member (codes "revision") (number (unsigned (revision_number r))) no_members) 33 (with_member (codes "revision") (number (unsigned (revision_number r))) no_members 10 20 1 key_revision (revision_most r law) no_more_members)) is
 
-schemas_most : (core : List ℕ) (n : ℕ) (r : RevisionValue) → length (quoted core) ≤ n → length (compact_text (array (schemas_data core (Some r)))) ≤ n + 58
-schemas_most core n r short =
-    let items = with_item (string core) (item (string source_extension) no_items) n 56 short (with_item (string source_extension) no_items 54 1 (omega (arith, extension_length)) no_more_items) in
-    omega (arith, array_most (schemas_data core (Some r)) (1 + n + 56) items)
+-- an image has the source extension
+abbrev sourced : List Extension
+sourced = (source_extension, true) ∷ []
 
-schemas_part : (core : List ℕ) (n : ℕ) (r : RevisionValue) → length (quoted core) ≤ n → (d : Data) → Some (array (schemas_data core (Some r))) ≡ Some d → length (compact_text d) ≤ n + 58
-schemas_part core n r short d is = just (array (schemas_data core (Some r))) d (n + 58) (schemas_most core n r short) is
+schemas_most : (core : List ℕ) (n : ℕ) → length (quoted core) ≤ n → length (compact_text (array (schemas_data core sourced))) ≤ n + 58
+schemas_most core n short =
+    let items = with_item (string core) (item (string source_extension) no_items) n 56 short (with_item (string source_extension) no_items 54 1 (omega (arith, extension_length)) no_more_items) in
+    omega (arith, array_most (schemas_data core sourced) (1 + n + 56) items)
+
+schemas_part : (core : List ℕ) (n : ℕ) → length (quoted core) ≤ n → (d : Data) → Some (array (schemas_data core sourced)) ≡ Some d → length (compact_text d) ≤ n + 58
+schemas_part core n short d is = just (array (schemas_data core sourced)) d (n + 58) (schemas_most core n short) is
 
 -- the parts of a name
 abbrev name_parts : Option (List ℕ) → Option (List ℕ) → List Part
@@ -290,15 +333,15 @@ no_part n d is = absurd (cc)
 user_size : (row : UserFields) → IsUserRow row → length (compact_text (content_data (user_image row))) < 9_000
 unfolding user_data user_front user_back
 user_size row law =
-    let whole : length (compact_text (content_data (user_image row))) ≤ 7259 = object_most _ 7258 (with_part (codes "active") (Some (boolean row.active)) _ 8 5 7243 key_active (λ d is. just (boolean row.active) d 5 (boolean_most row.active) is)
-    (with_part (codes "emails") (emails_data (emails_of (text_of row texts.Mail))) _ 8 1582 5651 key_emails (emails_part (text_of row texts.Mail) (short_text row law texts.Mail))
-    (with_part (codes "externalId") (option_map string (present (text_of row texts.Number))) _ 12 1538 4099 key_external_id (present_most (text_of row texts.Number) (short_text row law texts.Number))
-    (with_part (codes "name") (name_data (image_texts row)) _ 6 3105 986 key_name
+    let whole : length (compact_text (content_data (user_image row))) ≤ 6619 = object_most _ 6618 (with_part (codes "active") (Some (boolean row.active)) _ 8 5 6603 key_active (λ d is. just (boolean row.active) d 5 (boolean_most row.active) is)
+    (with_part (codes "emails") (emails_data (emails_of (text_of row texts.Mail))) _ 8 1582 5011 key_emails (emails_part (text_of row texts.Mail) (short_text row law texts.Mail))
+    (with_part (codes "externalId") (option_map string (present (text_of row texts.Number))) _ 12 1538 3459 key_external_id (present_most (text_of row texts.Number) (short_text row law texts.Number))
+    (with_part (codes "name") (object_if (members_from (name_parts (present (text_of row texts.Given)) (present (text_of row texts.Family))))) _ 6 3105 346 key_name
     (name_part (present (text_of row texts.Given)) (present (text_of row texts.Family)) (present_most (text_of row texts.Given) (short_text row law texts.Given)) (present_most (text_of row texts.Family) (short_text row law texts.Family)))
-    (with_part (codes "schemas") (Some (array (schemas_data core_user (Some row.revision)))) _ 9 102 873 key_schemas (schemas_part core_user 44 row.revision (omega (arith, core_user_length)))
-    (with_part source_extension (source_data (Some row.revision)) _ 54 34 783 extension_length (revision_part row.revision law.revision)
-    (with_part (codes "userName") (Some (string row.login)) no_members 10 770 1 key_user_name
-    (λ d is. just (string row.login) d 770 (omega (arith, quoted_most row.login, user_name_short row.login law.login)) is) no_more_members))))))) in
+    (with_part (codes "schemas") (Some (array (schemas_data core_user sourced))) _ 9 102 233 key_schemas (schemas_part core_user 44 (omega (arith, core_user_length)))
+    (with_part source_extension (source_data (Some row.revision)) _ 54 34 143 extension_length (revision_part row.revision law.revision)
+    (with_part (codes "userName") (Some (string row.login)) no_members 10 130 1 key_user_name
+    (λ d is. just (string row.login) d 130 (login_most row.login law.login) is) no_more_members))))))) in
     omega (arith, whole)
 
 -- ---- a Group
@@ -332,7 +375,7 @@ group_size row ids law all few =
     let whole : length (compact_text (content_data (group_image ids row))) ≤ 20604 = object_most _ 20603 (with_part (codes "displayName") (Some (string row.name)) _ 13 770 19818 key_display_name
     (λ d is. just (string row.name) d 770 (omega (arith, quoted_most row.name, group_name_short row.name law.name)) is)
     (with_part (codes "members") (group_members_data (once ids)) _ 9 19602 205 key_members (members_part (once ids) all few)
-    (with_part (codes "schemas") (Some (array (schemas_data core_group (Some row.revision)))) _ 9 103 91 key_schemas (schemas_part core_group 45 row.revision (omega (arith, core_group_length)))
+    (with_part (codes "schemas") (Some (array (schemas_data core_group sourced))) _ 9 103 91 key_schemas (schemas_part core_group 45 (omega (arith, core_group_length)))
     (with_part source_extension (source_data (Some row.revision)) no_members 54 34 1 extension_length (revision_part row.revision law.revision) no_more_members)))) in
     omega (arith, whole)
 

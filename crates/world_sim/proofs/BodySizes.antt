@@ -14,7 +14,7 @@ use Rattle.scim_resource.specs.Locations.{type_name}
 use Rattle.scim_resource.specs.Rows.{ShownRecord}
 use Rattle.scim_resource.specs.Users.{UserRecord}
 use Rattle.scim_resource.specs.Schemas.{core_group, source_extension}
-use Rattle.scim_resource.specs.Writing.{user_data, user_front, user_back, group_data, schemas_data, source_data, group_members_data, resource_data, content_data, meta_data, meta_parts, shown_location, shown_data}
+use Rattle.scim_resource.specs.Writing.{user_data, user_front, user_back, group_data, group_extensions, schemas_data, source_data, group_members_data, resource_data, content_data, meta_data, meta_parts, shown_location, shown_data}
 use Rattle.scim_resource.specs.declared.contents.Content.{Content}
 use Rattle.scim_resource.specs.declared.contents.Content.TheVariants.{User, Group}
 use Rattle.scim_message.specs.Bodies.{error_message, list_message, error_parts, error_data, list_data, page_data}
@@ -91,7 +91,7 @@ module _ (id meta : Data) (v w : ℕ) (id_short : length (compact_text id) ≤ v
   group_more : (g : GroupRecord) → length (compact_text (group_data (Some id) (Some meta) g)) ≤ length (compact_text (group_data None None g)) + (4 + 2 + v + (6 + 2 + w + 0))
   unfolding group_data
   group_more g =
-      let rest : Members = members_from ((codes "schemas", Some (array (schemas_data core_group g.revision))) ∷ (source_extension, source_data g.revision) ∷ []) in
+      let rest : Members = members_from ((codes "schemas", Some (array (schemas_data core_group (group_extensions g)))) ∷ (source_extension, source_data g.revision) ∷ []) in
       let with_meta : Members = member_if (codes "meta") (Some meta) rest in
       longer_object _ _ _ (with_both (codes "displayName") (Some (string g.display_name)) _ _ _ (with_both (codes "externalId") (option_map string g.external_id) _ _ _
       (with_more (codes "id") id (member_if (codes "members") (group_members_data g.members) with_meta) (member_if (codes "members") (group_members_data g.members) rest) 4 v _ key_id id_short
