@@ -1,5 +1,5 @@
 -- What the journal keeps of the book: when the connector is opened, and when a row is put.
-use Rattle.std.proofs.Common.{◌≡◌, Bool, true, false, cond, T, ◌&&◌, List, [], ◌∷◌, Option, Some, None, IsSome, map, refl, ap, sym, subst, ◌∙◌}
+use Rattle.std.proofs.Common.{◌≡◌, Bool, true, false, cond, T, ◌&&◌, List, [], ◌∷◌, Option, Some, None, IsSome, map, refl, ap, sym, subst, ◌∙◌, inl}
 use Rattle.std.proofs.lemmas.List.Elements.{All-head, All-tail}
 use Rattle.std.specs.BTreeSet.{insert_key}
 use Rattle.std.specs.FinMap.{FinMap, entries, get, insert, keys, remove, entries-insert, entries_sorted, get-entries, get-insert, get-remove, get-from_entries, same_map}
@@ -17,7 +17,7 @@ use Rattle.scim_key.specs.Revisions.{◌≼◌}
 use Rattle.scim_key.specs.declared.records.RecordName.{RecordName}
 use Rattle.source_csv.specs.Records.{row_name, row_revision}
 use Rattle.source_csv.specs.declared.rows.Row.{Row}
-use Rattle.journal_core.specs.Entries.{EntryMap, IsListOf, entry_with, named, with_row}
+use Rattle.journal_core.specs.Entries.{EntryMap, IsListOf, IsUpTo, entry_with, named, with_row}
 use Rattle.journal_core.specs.declared.entries.Entry.{Entry}
 use Rattle.journal_core.proofs.Trees.{listed, name_from_test, names_same, turned}
 use Rattle.connector_core.specs.Book.{put as put_in_book, wanting, wanting_now}
@@ -85,7 +85,7 @@ kept-back None = refl
 kept-back (Some entry) = refl
 
 abbrev IsWithin : Entry → Type 0
-IsWithin entry = entry.confirmed ≼ row_revision entry.row
+IsWithin entry = IsUpTo entry.row entry.confirmed
 
 within-first : (b : Bool) (e entry : Entry) (o : Option Entry) → IsWithin e → (o ≡ Some entry → IsWithin entry) → cond b (Some e) o ≡ Some entry → IsWithin entry
 within-first true e entry o here rest is = let same : e ≡ entry = cc in subst IsWithin same here
@@ -96,9 +96,9 @@ within-found q [] entry lawful found = absurd (cc)
 within-found q (e ∷ list) entry lawful found =
     within-first (is_eq (name_cmp q (row_name e.row))) e entry (find name_cmp q (map named list)) (All-head IsWithin e list lawful) (within-found q list entry (All-tail IsWithin e list lawful)) found
 
-known-within : (o : Option Entry) (known : Known) → ((entry : Entry) → o ≡ Some entry → IsWithin entry) → option_map opened o ≡ Some known → known.confirmed ≼ row_revision known.wanted
+known-within : (o : Option Entry) (known : Known) → ((entry : Entry) → o ≡ Some entry → IsWithin entry) → option_map opened o ≡ Some known → IsUpTo known.wanted known.confirmed
 known-within None known within is = absurd (cc)
-known-within (Some entry) known within is = let same : opened entry ≡ known = cc in subst (λ k. k.confirmed ≼ row_revision k.wanted) same (within entry refl)
+known-within (Some entry) known within is = let same : opened entry ≡ known = cc in subst (λ k. IsUpTo k.wanted k.confirmed) same (within entry refl)
 
 module _ (kept : EntryMap) (list : List Entry) (is : IsListOf kept list) where
   kept-found : (q : RecordName) → get kept q ≡ find name_cmp q (map named list)
@@ -136,16 +136,16 @@ same-cond true entry known x y put rest = ap Some put
 same-cond false entry known x y put rest = rest
 
 abbrev IsKnownWithin : Known → Type 0
-IsKnownWithin known = known.confirmed ≼ row_revision known.wanted
+IsKnownWithin known = IsUpTo known.wanted known.confirmed
 
 -- a property of the new value and of the old one holds for both results
 pub either-holds : (P : Known → Type 0) (b : Bool) (put known : Known) (o : Option Known) → P put → ((k : Known) → o ≡ Some k → P k) → cond b (Some put) o ≡ Some known → P known
 either-holds P true put known o here rest is = let same : put ≡ known = cc in subst P same here
 either-holds P false put known o here rest is = rest known is
 
-within-wanting : (o : Option Known) (row : Row) → ((known : Known) → o ≡ Some known → known.confirmed ≼ row_revision row) → IsKnownWithin (wanting o row)
-within-wanting None row below = none_first (row_revision row)
-within-wanting (Some known) row below = below known refl
+within-wanting : (o : Option Known) (row : Row) → ((known : Known) → o ≡ Some known → IsUpTo row known.confirmed) → IsKnownWithin (wanting o row)
+within-wanting None row up_to = record { known = inl refl; within = none_first (row_revision row) }
+within-wanting (Some known) row up_to = up_to known refl
 
 -- the book and the journal stay kept after putting into both
 pub kept-put : (kept : EntryMap) (book : BookMap) (name : RecordName) (entry : Entry) (known : Known) → IsKept kept book → entry ≡ entry_of known → IsKnownWithin known
@@ -161,7 +161,7 @@ pub kept-row : (kept : EntryMap) (book : BookMap) (row : Row) → IsKept kept bo
 kept-row kept book row is below =
     let put : entry_with row (get kept (row_name row)) ≡ entry_of (wanting (get book (row_name row)) row) =
     ap (entry_with row) (is.same (row_name row)) ∙ entry-wanting (get book (row_name row)) row in
-    kept-put kept book (row_name row) _ _ is put (within-wanting (get book (row_name row)) row below)
+    kept-put kept book (row_name row) _ _ is put (within-wanting (get book (row_name row)) row (λ known there. record { known = (is.within (row_name row) known there).known; within = below known there }))
 
 undone-cond : (b : Bool) (known : Known) (o here : Option Known) → (b ≡ true → o ≡ here) → here ≡ None → cond b None (cond b (Some known) o) ≡ o
 undone-cond true known o here same none = sym (same refl ∙ none)

@@ -10,7 +10,7 @@ use Rattle.scim_key.proofs.RevisionLaws.{irreflexive, none_before, later_above_s
 use Rattle.scim_key.specs.Outcome.{◌>>=◌}
 use Rattle.scim_key.specs.RecordOrder.{names_total, tied}
 use Rattle.scim_key.specs.Records.{name_cmp}
-use Rattle.scim_key.specs.Revisions.{IsRevision, RevisionValue, before, later, no_revision, ◌≺◌, ◌≼◌}
+use Rattle.scim_key.specs.Revisions.{IsNoneOrRevision, IsRevision, RevisionValue, before, later, no_revision, ◌≺◌, ◌≼◌}
 use Rattle.scim_key.specs.declared.records.RecordName.{RecordName}
 use Rattle.scim_message.specs.declared.messages.Answer.{Answer}
 use Rattle.scim_message.specs.declared.messages.Request.{Request}
@@ -40,8 +40,14 @@ before-up-to a b c lt le = elim (cases_Bool (before a c)) [
   | inr not ↦ (let back : before a b ≡ false = transitive_up_to b c a le not in absurd (cc))
 ]
 
-confirms-later : (a b : RevisionValue) → IsRevision b → no_revision ≺ later a b
-confirms-later a b lawful = before-up-to no_revision b (later a b) (none_before b lawful) (later_above_second a b)
+confirms-later : (a b : RevisionValue) → IsRevision b → IsNoneOrRevision a → IsRevision (later a b)
+confirms-later a b lawful known = elim (later_is_one a b) [
+  | inl is ↦ rw is (elim known [
+    | inl none ↦ absurd (irreflexive no_revision (subst (λ r. no_revision ≺ r) (is ∙ none) (before-up-to no_revision b (later a b) (none_before b lawful) (later_above_second a b))))
+    | inr valid ↦ valid
+  ])
+  | inr is ↦ rw is lawful
+]
 
 within-later : (a b w : RevisionValue) → b ≼ w → a ≼ w → later a b ≼ w
 within-later a b w second first = elim (later_is_one a b) [
@@ -90,8 +96,8 @@ module _ (entries : EntryMap) (book : BookMap) (name : RecordName) (known : Know
   can-learn confirmed keeps = record {
     entry = entry_of known;
     there = entry-there;
-    confirms = keeps.confirms;
-    within = keeps.within (is.within name known there);
+    confirms = keeps.confirms (is.within name known there).known;
+    within = keeps.within (is.within name known there).within;
   }
 
   pub entries-learnt : (confirmed : RevisionValue) (id : List ℕ) (seen : Seen) → with_learnt entries name confirmed id ≡ insert entries name (entry_of (learning confirmed id seen known))
@@ -103,7 +109,8 @@ module _ (entries : EntryMap) (book : BookMap) (name : RecordName) (known : Know
       let K : EntryMap → Type 0 = λ es. IsKept es (changed (learning confirmed id seen) book name) in
       let B : BookMap → Type 0 = λ b. IsKept (insert entries name (entry_learnt confirmed id (entry_of known))) b in
       subst K (sym (entries-learnt confirmed id seen)) (subst B (sym (ap (changed_at (learning confirmed id seen) book name) there))
-      (kept-put entries book name (entry_learnt confirmed id (entry_of known)) (learning confirmed id seen known) is refl (keeps.within (is.within name known there))))
+      (kept-put entries book name (entry_learnt confirmed id (entry_of known)) (learning confirmed id seen known) is refl
+      (record { known = inr (keeps.confirms (is.within name known there).known); within = keeps.within (is.within name known there).within })))
 
   pub entries-seen : (seen : Seen) → entries ≡ insert entries name (entry_of (seeing seen known))
   entries-seen seen = sym (entry-again entries name (entry_of known) entry-there)

@@ -115,7 +115,7 @@ some-entry None e = absurd (cc)
 some-entry (Some known) e = refl
 
 pub not-below : (kept : EntryMap) (book : BookMap) (row : Row) → IsKept kept book → IsNew book row → (known : Known) → get book (row_name row) ≡ Some known → known.confirmed ≼ row_revision row
-not-below kept book row is new known here = below-later known.confirmed (row_revision known.wanted) (row_revision row) (is.within (row_name row) known here) (new.above known here)
+not-below kept book row is new known here = below-later known.confirmed (row_revision known.wanted) (row_revision row) (is.within (row_name row) known here).within (new.above known here)
 
 members-there : (kept : EntryMap) (book : BookMap) → IsKept kept book → (ks : List (List ℕ)) → All (λ key. is_none (get book (user key)) ≡ false) ks → All (λ key. IsSome (get kept (user key))) ks
 members-there kept book is ks all = All-weaker (λ key. is_none (get book (user key)) ≡ false) (λ key. IsSome (get kept (user key)))

@@ -3,7 +3,7 @@ use Rattle.std.specs.Prelude.{◌≡◌, ◌≤◌, ◌⊎◌, ℕ, true, Option
 use Rattle.std.specs.FinMap.{get, insert}
 use Rattle.std.specs.Option.{option_map}
 use Rattle.scim_key.specs.Outcome.{◌>>=◌}
-use Rattle.scim_key.specs.Revisions.{IsRevision, RevisionValue, before, no_revision, ◌≺◌, ◌≼◌}
+use Rattle.scim_key.specs.Revisions.{IsNoneOrRevision, IsRevision, RevisionValue, before, ◌≺◌, ◌≼◌}
 use Rattle.scim_key.specs.declared.records.RecordName.{RecordName}
 use Rattle.scim_message.specs.declared.messages.Answer.{Answer}
 use Rattle.scim_message.specs.declared.messages.Request.{Request}
@@ -124,7 +124,7 @@ entries_with entries name Nothing = entries
 
 -- the journal must keep this: a revision that may be confirmed, with an id if none was known, or higher than before
 pub record IsToBeKept (known : Known) (confirmed : RevisionValue) : Type 0 where
-  pub confirms : no_revision ≺ confirmed
+  pub confirms : IsNoneOrRevision known.confirmed → IsRevision confirmed
   pub within : known.confirmed ≼ row_revision known.wanted → confirmed ≼ row_revision known.wanted
   pub changes : (known.id ≡ None) ⊎ (known.confirmed ≺ confirmed)
 

@@ -2,10 +2,9 @@
 use Rattle.std.specs.Prelude.{◌≡◌, ◌⊎◌, ◌≤◌, ℕ, List, Some, Result, Ok, Err, OnErr, OnOk, map}
 use Rattle.std.specs.FinMap.{from_entries, get, keys}
 use Rattle.std.specs.Option.{option_map}
-use Rattle.scim_key.specs.Revisions.{◌≼◌}
 use Rattle.scim_key.specs.declared.records.RecordName.{RecordName}
 use Rattle.source_csv.specs.Records.{row_name, row_revision}
-use Rattle.journal_core.specs.Entries.{EntryMap}
+use Rattle.journal_core.specs.Entries.{EntryMap, IsUpTo}
 use Rattle.journal_core.specs.Stores.{HasRisen}
 use Rattle.journal_core.specs.declared.entries.Entry.{Entry}
 use Rattle.journal_core.specs.declared.journals.Journal.{Ghosts as Journals}
@@ -28,12 +27,11 @@ pub record State (J : Type 0) : Type 0 where
 abbrev pub entry_of : Known → Entry
 entry_of known = record { row = known.wanted; confirmed = known.confirmed; id = known.id }
 
--- the journal has an entry for each record of the book, and for no other; nothing above the wanted revision is
--- confirmed
+-- the journal has an entry for each record of the book, and for no other; what is confirmed may be confirmed
 pub record IsKept (kept : EntryMap) (book : BookMap) : Type 0 where
   pub same : (name : RecordName) → get kept name ≡ option_map entry_of (get book name)
   pub names : keys kept ≡ keys book
-  pub within : (name : RecordName) (known : Known) → get book name ≡ Some known → known.confirmed ≼ row_revision known.wanted
+  pub within : (name : RecordName) (known : Known) → get book name ≡ Some known → IsUpTo known.wanted known.confirmed
 
 -- ---- what a stop leaves of the book
 

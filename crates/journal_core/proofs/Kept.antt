@@ -14,7 +14,7 @@ use Rattle.scim_key.specs.Revisions.{RevisionValue, ◌≼◌}
 use Rattle.scim_key.specs.declared.records.RecordName.{RecordName}
 use Rattle.source_csv.specs.Records.{row_name, row_revision}
 use Rattle.source_csv.specs.declared.rows.Row.{Row}
-use Rattle.journal_core.specs.Entries.{EntryMap, IsEntryOf, IsListOf, CanPutRow, CanPutRows, CanPutLearnt, entry_learnt, entry_with, learnt_at, named, with_learnt, with_row, with_rows}
+use Rattle.journal_core.specs.Entries.{EntryMap, IsEntryOf, IsListOf, CanPutRow, CanPutRows, CanPutLearnt, IsUpTo, entry_learnt, entry_with, learnt_at, named, with_learnt, with_row, with_rows}
 use Rattle.journal_core.specs.Memory.{AreLawful, MemoryRecord, entries_in}
 use Rattle.journal_core.specs.Stores.{CountsFault, WritesOnce}
 use Rattle.journal_core.specs.contracts.memory.MemoryJournalJournal.TheImpl as impl
@@ -40,8 +40,8 @@ list-of tree lawful ordered found =
     All-weaker (λ (e : RecordName × Entry). get_in name_cmp tree e.0 ≡ Some e.1) (λ (e : RecordName × Entry). IsEntryOf e.0 e.1) (λ e is. lawful e.0 e.1 is) tree.entries found in
     record {
       whole = entries-tree tree ordered ∙ renamed tree.entries all;
-      lawful = All-map (λ entry. entry.confirmed ≼ row_revision entry.row) (λ (e : RecordName × Entry). e.1) tree.entries
-          (All-weaker (λ (e : RecordName × Entry). IsEntryOf e.0 e.1) (λ (e : RecordName × Entry). e.1.confirmed ≼ row_revision e.1.row) (λ e is. is.within) tree.entries all);
+      lawful = All-map (λ entry. IsUpTo entry.row entry.confirmed) (λ (e : RecordName × Entry). e.1) tree.entries
+          (All-weaker (λ (e : RecordName × Entry). IsEntryOf e.0 e.1) (λ (e : RecordName × Entry). IsUpTo e.1.row e.1.confirmed) (λ e is. is.confirmed) tree.entries all);
     }
 
 -- ---- an entry is put
@@ -66,9 +66,9 @@ lawful-same old new lawful same name entry gets = lawful name entry (rw (sym sam
 
 -- ---- a row
 
-first-or-later : (name : RecordName) (row : Row) (held : Option Entry) → row_name row ≡ name → ((entry : Entry) → held ≡ Some entry → entry.confirmed ≼ row_revision row) → IsEntryOf name (entry_with row held)
-first-or-later name row None is below = record { named = is; within = none_first (row_revision row) }
-first-or-later name row (Some entry) is below = record { named = is; within = below entry refl }
+first-or-later : (name : RecordName) (row : Row) (held : Option Entry) → row_name row ≡ name → ((entry : Entry) → held ≡ Some entry → IsUpTo row entry.confirmed) → IsEntryOf name (entry_with row held)
+first-or-later name row None is up_to = record { named = is; confirmed = record { known = inl refl; within = none_first (row_revision row) } }
+first-or-later name row (Some entry) is up_to = record { named = is; confirmed = up_to entry refl }
 
 -- the entries after a valid row
 pub row-put : (old new : Tree) (row copy : Row) (name : RecordName) → AreLawful old → CanPutRow (entries_in old) row → name ≡ row_name row → copy ≡ row
@@ -80,7 +80,8 @@ row-put old new row copy name lawful can is same updates =
     (subst (λ r. Updates name_cmp old new (row_name row) (Some (entry_with r (get_in name_cmp old (row_name row))))) same
     (subst (λ n. Updates name_cmp old new n (Some (entry_with copy (get_in name_cmp old n)))) is updates)) in
     let entry : IsEntryOf (row_name row) (entry_with row (get (entries_in old) (row_name row))) =
-    first-or-later (row_name row) row (get (entries_in old) (row_name row)) refl can.not_below in
+    first-or-later (row_name row) row (get (entries_in old) (row_name row)) refl
+    (λ held there. record { known = (lawful (row_name row) held (found ∙ there)).confirmed.known; within = can.not_below held there }) in
     (lawful-put old new (row_name row) _ lawful put entry, insert-tree old new (row_name row) _ put)
 
 -- ---- rows in a copy
@@ -118,7 +119,7 @@ learnt-put old new name confirmed id copy lawful can same updates =
     subst (λ e. Updates name_cmp old new name (option_map (entry_learnt confirmed id) e)) found
     (subst (λ i. Updates name_cmp old new name (option_map (entry_learnt confirmed i) (get_in name_cmp old name))) same updates) in
     let was : IsEntryOf name can.entry = lawful name can.entry found in
-    let entry : IsEntryOf name (entry_learnt confirmed id can.entry) = record { named = was.named; within = can.within } in
+    let entry : IsEntryOf name (entry_learnt confirmed id can.entry) = record { named = was.named; confirmed = record { known = inr can.confirms; within = can.within } } in
     (lawful-put old new name _ lawful put entry, insert-tree old new name _ put ∙ ap (learnt_at (entries_in old) name confirmed id) (sym can.there))
 
 -- ---- a call that wrote

@@ -2,7 +2,7 @@
 use Rattle.std.specs.Prelude.{◌≡◌, ◌<◌, ℕ, List, [], ◌∷◌, Option, Some, None, map, IsSome}
 use Rattle.std.specs.FinMap.{FinMap, entries, get, insert, keys}
 use Rattle.std.specs.List.{All, count_by}
-use Rattle.scim_key.specs.Revisions.{RevisionValue, no_revision, ◌≺◌, ◌≼◌}
+use Rattle.scim_key.specs.Revisions.{RevisionValue, IsNoneOrRevision, IsRevision, no_revision, ◌≼◌}
 use Rattle.scim_key.specs.declared.records.Kind.{Kind}
 use Rattle.scim_key.specs.declared.records.Kind.TheVariants.{User, Group}
 use Rattle.scim_key.specs.Records.{name_cmp}
@@ -45,10 +45,15 @@ with_learnt map name confirmed id = learnt_at map name confirmed id (get map nam
 
 -- ---- what is valid
 
--- the entry belongs to this record, and its confirmed revision isn't above its row's
+-- what may be confirmed of a record with this row: none, or a revision that isn't above the row's
+pub record IsUpTo (row : Row) (confirmed : RevisionValue) : Type 0 where
+  pub known : IsNoneOrRevision confirmed
+  pub within : confirmed ≼ row_revision row
+
+-- the entry belongs to this record, and what it has confirmed may be confirmed
 pub record IsEntryOf (name : RecordName) (entry : Entry) : Type 0 where
   pub named : row_name entry.row ≡ name
-  pub within : entry.confirmed ≼ row_revision entry.row
+  pub confirmed : IsUpTo entry.row entry.confirmed
 
 -- an entry under the name of its record
 abbrev pub named : Entry → RecordName × Entry
@@ -57,7 +62,7 @@ named entry = (row_name entry.row, entry)
 -- the list has all entries in order of their names, and each is valid
 pub record IsListOf (map_ : EntryMap) (list : List Entry) : Type 0 where
   pub whole : entries map_ ≡ map named list
-  pub lawful : All (λ entry. entry.confirmed ≼ row_revision entry.row) list
+  pub lawful : All (λ entry. IsUpTo entry.row entry.confirmed) list
 
 -- the most records of a type
 abbrev pub most_records : Kind → ℕ
@@ -84,5 +89,5 @@ CanPutRows map (row ∷ rows) = CanPutRow map row × CanPutRows (with_row map ro
 pub record CanPutLearnt (map : EntryMap) (name : RecordName) (confirmed : RevisionValue) : Type 0 where
   pub entry : Entry
   pub there : get map name ≡ Some entry
-  pub confirms : no_revision ≺ confirmed
+  pub confirms : IsRevision confirmed
   pub within : confirmed ≼ row_revision entry.row
