@@ -17,7 +17,7 @@ use Rattle.source_csv.specs.Records.{IsRow, row_name}
 use Rattle.source_csv.specs.Rows.{GroupFields, UserFields, text_of}
 use Rattle.source_csv.specs.declared.rows.Row as source
 use Rattle.source_csv.specs.declared.rows.Row.TheVariants.{User, Group}
-use Rattle.source_csv.specs.declared.texts.UserText.TheVariants as text
+use Rattle.source_csv.specs.declared.texts.TextField.TheVariants as text
 use Rattle.journal_core.specs.declared.entries.Entry.{Entry}
 use Rattle.journal_store.specs.Format.{journal_schema, entry_place, entry_tree}
 use Rattle.sql_tables.specs.Statements.{IsEdit, IsEditText, MayLeave, Ran, plain_mode}

@@ -19,7 +19,7 @@ use Rattle.source_csv.specs.Records.{row_name}
 use Rattle.source_csv.specs.Rows.{text_of}
 use Rattle.source_csv.specs.declared.rows.Row as source
 use Rattle.source_csv.specs.declared.rows.Row.TheVariants.{User, Group}
-use Rattle.source_csv.specs.declared.texts.UserText.TheVariants as text
+use Rattle.source_csv.specs.declared.texts.TextField.TheVariants as text
 use Rattle.journal_core.specs.Entries.{EntryMap, named}
 use Rattle.journal_core.specs.declared.entries.Entry.{Entry}
 use Rattle.journal_store.specs.Format.{entry_tree}

@@ -17,7 +17,7 @@ ghost use Rattle.journal_store.specs.Rows.{IsLawfulId, IsReadable, active_in, co
 use crate::statements::TableFault;
 use journal_core::Entry;
 use scim_key::{GroupName, Key, Kind, ResourceId, Revision, UserName};
-use source_csv::{GroupRow, Row as SourceRow, Text as UserValue, UserRow};
+use source_csv::{FieldValue, GroupRow, Row as SourceRow, UserRow};
 use sqlite::Row;
 use sqlite_value::value::ValueRef;
 use std::alloc::Global;
@@ -72,13 +72,13 @@ fn text_at(row: &Row, at: usize) -> Result<&str, TableFault>
     }
 }
 
-fn value_at(alloc: Global, row: &Row, at: usize) -> Result<UserValue, TableFault>
+fn value_at(alloc: Global, row: &Row, at: usize) -> Result<FieldValue, TableFault>
     ensures some { IfOk result (λ value. column row.now at ≡ Text value) }
     ensures utf8 { IfOk result IsUtf8 }
     ensures none { IfErr result (HasCause ((text : List ℕ) → column row.now at ≡ Text text → IsUtf8 text → ⊥)) }
     ensures read { IfErr result IsOfRow }
 {
-    Ok(UserValue::new(String::from_str(alloc, text_at(row, at)?)?))
+    Ok(FieldValue::new(String::from_str(alloc, text_at(row, at)?)?))
 }
 
 fn revision_at(row: &Row, at: usize) -> Result<Revision, TableFault>

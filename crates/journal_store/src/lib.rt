@@ -11,4 +11,4 @@ mod statements;
 mod tables;
 
 pub use journal::SqlJournal;
-pub use opening::OpenFault;
+pub use opening::JournalOpenFault;

@@ -24,7 +24,7 @@ use crate::format::Journal;
 use crate::statements::TableFault;
 use journal_core::Entry;
 use scim_key::{Key, Kind, RecordName, ResourceId, Revision};
-use source_csv::{GroupRow, Row as SourceRow, UserRow, UserText};
+use source_csv::{GroupRow, Row as SourceRow, TextField, UserRow};
 use sql_tables::{ask, write};
 use sqlite::{Alter, Connection, Row};
 use sqlite_value::value::ValueRef;
@@ -193,10 +193,10 @@ pub(crate) fn user_params<'a>(
         text_param(key.as_str()),
         text_param(user.login().as_str()),
         number_param(revision.number()),
-        text_param(user.text(UserText::Number)),
-        text_param(user.text(UserText::Given)),
-        text_param(user.text(UserText::Family)),
-        text_param(user.text(UserText::Mail)),
+        text_param(user.text(TextField::Number)),
+        text_param(user.text(TextField::Given)),
+        text_param(user.text(TextField::Family)),
+        text_param(user.text(TextField::Mail)),
         active_param(user.is_active()),
         number_param(confirmed.number()),
         id_param(id),

@@ -12,7 +12,7 @@ use Rattle.scim_resource.specs.declared.user_texts.TheConstants.{USER_TEXTS}
 use Rattle.scim_resource.specs.declared.user_texts.UserText.{UserText}
 use Rattle.scim_resource.specs.declared.user_texts.UserText.TheVariants as texts
 use Rattle.source_csv.specs.Rows.{GroupFields, UserFields, text_of}
-use Rattle.source_csv.specs.declared.texts.UserText.TheVariants as field
+use Rattle.source_csv.specs.declared.texts.TextField.TheVariants as field
 use Rattle.source_csv.specs.declared.rows.Row.{Row}
 use Rattle.source_csv.specs.declared.rows.Row.TheVariants.{User, Group}
 use Rattle.group_sync.specs.Ready.{ready}

@@ -7,7 +7,7 @@ ghost use Rattle.mapping.specs.Images.{emails_of, image_texts, present, source_t
 use scim_resource::{
     Content, Email, Emails, TEXT_COUNT, TEXT_LIMIT, Text, USER_TEXTS, User, UserText,
 };
-use source_csv::{UserRow, UserText as Field};
+use source_csv::{TextField, UserRow};
 use std::alloc::{AllocError, Global};
 
 /// The content for a user's row. An empty field is an absent attribute.
@@ -16,7 +16,7 @@ pub fn user_content(alloc: Global, row: &UserRow) -> Result<Content, AllocError>
 {
     let login = row.login().clone()?;
     let texts = texts(alloc, row)?;
-    let emails = emails(alloc, row.text(Field::Mail))?;
+    let emails = emails(alloc, row.text(TextField::Mail))?;
     let user = User::new(alloc, login, row.is_active(), Some(row.revision()));
     Ok(Content::User(user.with_texts(texts).with_emails(emails)))
 }
@@ -28,9 +28,9 @@ fn source_text(row: &UserRow, which: UserText) -> &str
 {
     match which {
         UserText::Department => "",
-        UserText::ExternalId => row.text(Field::Number),
-        UserText::FamilyName => row.text(Field::Family),
-        UserText::GivenName => row.text(Field::Given),
+        UserText::ExternalId => row.text(TextField::Number),
+        UserText::FamilyName => row.text(TextField::Family),
+        UserText::GivenName => row.text(TextField::Given),
     }
 }
 

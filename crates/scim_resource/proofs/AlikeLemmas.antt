@@ -13,7 +13,7 @@ use Rattle.scim_resource.specs.Reading.{checked, is_text_or_null, all_texts, lis
 use Rattle.scim_resource.specs.Schemas.{core_user, core_group, enterprise_extension, source_extension}
 use Rattle.scim_resource.specs.UserTexts.{attribute_of, holder_of, name_of}
 use Rattle.scim_resource.specs.declared.contents.Content.TheVariants.{User, Group}
-use Rattle.scim_resource.specs.declared.faults.ReadFault.{ReadFault}
+use Rattle.scim_resource.specs.declared.faults.ContentFault.{ContentFault}
 use Rattle.scim_resource.specs.declared.user_texts.TheConstants.{USER_TEXTS}
 use Rattle.scim_resource.specs.declared.user_texts.UserText.{UserText}
 
@@ -172,7 +172,7 @@ email_alike ms ns m =
         → text_in (attribute (codes "value") ms) >>= email_with ms ≡ text_in (attribute (codes "value") ns) >>= email_with ns
     after v k p = ap (λ r. r >>= email_with ms) v ∙ at (text_in (attribute (codes "value") ns))
       where
-        at : (r : Result (Option (List ℕ)) ReadFault) → r >>= email_with ms ≡ r >>= email_with ns
+        at : (r : Result (Option (List ℕ)) ContentFault) → r >>= email_with ms ≡ r >>= email_with ns
         at (Ok None) = refl
         at (Ok (Some value)) = ap₂ (λ t f. t >>= (λ type_text. checked f >>= (λ primary. Ok (Some (record { value = value; type_text = type_text; primary = primary }))))) k p
         at (Err e) = refl
@@ -201,7 +201,7 @@ member_alike d e (lists ds es h) = refl
 member_alike d e (objects ms ns r f) = text_alike _ _ (attribute_alike (codes "value") ms ns (record { repeat = r; found = f }))
 
 -- steps that go on alike
-then_alike : (f g : List (List ℕ) → Result (List (List ℕ)) ReadFault) → ((ws : List (List ℕ)) → f ws ≡ g ws) → (vs : List (List ℕ)) (r : Result (Option (List ℕ)) ReadFault)
+then_alike : (f g : List (List ℕ) → Result (List (List ℕ)) ContentFault) → ((ws : List (List ℕ)) → f ws ≡ g ws) → (vs : List (List ℕ)) (r : Result (Option (List ℕ)) ContentFault)
     → r >>= (λ v. f (with_member vs v)) ≡ r >>= (λ v. g (with_member vs v))
 then_alike f g h vs (Ok v) = h (with_member vs v)
 then_alike f g h vs (Err e) = refl
