@@ -83,7 +83,7 @@ impl<J: Journal> Connector<J> {
         }
     }
 
-    /// The highest revision of a record that the provider has shown; none if the record doesn't exist.
+    /// The revision of a record that counts as confirmed; none if the record doesn't exist.
     pub fn confirmed(&self, name: &RecordName) -> Revision
         ensures { result ≡ confirmed_of (book_of self.now.book) name.now }
     {

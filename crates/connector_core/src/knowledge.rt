@@ -19,7 +19,7 @@ pub enum Seen {
 pub struct Known {
     /// The last row that the source gave for it.
     pub wanted: Row,
-    /// The highest revision that the provider has shown, or none.
+    /// The revision that the provider's answers have confirmed, or none.
     pub confirmed: Revision,
     /// The id that the provider gave to the record.
     pub id: Option<ResourceId>,

@@ -14,7 +14,7 @@ pub const GROUP_LIMIT: usize = 10_000;
 pub struct Entry {
     /// The last row that the source gave for this record.
     pub row: Row,
-    /// The highest revision that the provider has shown, or none.
+    /// The revision that the provider's answers have confirmed, or none.
     pub confirmed: Revision,
     /// The id that the provider gave to the record.
     pub id: Option<ResourceId>,
