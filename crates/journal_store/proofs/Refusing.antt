@@ -1,13 +1,11 @@
 -- What a fault reports about the rows.
 use Rattle.std.proofs.Common.{◌≡◌, List, [], ◌∷◌, map, filter, refl, arith, IsPermutation, ℕ, Option, Some, None, Result, Ok, Err, IfErr, IsErrAnd, sym, subst}
-use Rattle.std.specs.Str.{IsUtf8}
 use Rattle.std.proofs.lemmas.List.Sorted.{length_permutation}
 use Rattle.sqlite_trees.specs.Tree.{Trees}
 use Rattle.sqlite.proofs.Callers.{one_permutation}
 use Rattle.scim_key.specs.declared.records.RecordName.{RecordName}
 use Rattle.journal_core.specs.declared.entries.Entry.{Entry}
-use Rattle.sqlite_value.specs.declared.value.Value.{Value}
-use Rattle.sqlite_value.specs.declared.value.Value.TheVariants.{Null, Int, Real, Text, Blob}
+use Rattle.sqlite_value.specs.declared.value.Value.TheVariants.{Text}
 use Rattle.sqlite_value.specs.Order.{Row}
 use Rattle.sqlite.specs.State.{State}
 use Rattle.scim_key.specs.declared.records.Kind.{Kind}
@@ -16,7 +14,7 @@ use Rattle.sql_tables.specs.Statements.{Answers}
 use Rattle.journal_store.specs.Faults.{HasCause}
 use Rattle.journal_store.specs.Format.{all_text, entry_tree, find_text, numbers_text}
 use Rattle.journal_store.specs.Opening.{IsUnnumbered}
-use Rattle.journal_store.specs.Rows.{IsLawfulId, id_in, shown_row}
+use Rattle.journal_store.specs.Rows.{shown_row}
 use Rattle.journal_store.proofs.Finding.{all_ordered, numbers_of_all, numbers_ordered, rows_of_all, rows_of_key}
 use Rattle.journal_store.proofs.Repeating.{are_listed, are_numbers}
 use Rattle.journal_store.specs.declared.statements.TableFault.{TableFault}
@@ -33,21 +31,6 @@ cause_by D E h Memory it = tt
 pub cause_of : {T : Type 0} (D E : Type 0) → (D → E) → (r : Result T TableFault) (fault : TableFault) → IsErrAnd r (λ given. given ≡ fault) → HasCause D fault → IfErr r (HasCause E)
 cause_of D E h (Ok x) fault is it = tt
 cause_of D E h (Err given) fault is it = subst (HasCause E) (sym is) (cause_by D E h fault it)
-
-pub cause_so : (D : Type 0) → D → (fault : TableFault) → HasCause D fault
-cause_so D it Store = tt
-cause_so D it Damaged = it
-cause_so D it Memory = tt
-
--- ---- columns
-
-pub no_id : (v : Value) → (v ≡ Null → ⊥) → ((text : List ℕ) → v ≡ Text text → IsUtf8 text → ⊥) → (id : Option (List ℕ)) → id_in v ≡ Some id → IsLawfulId id → ⊥
-no_id Null some none id is lawful = some (cc)
-no_id (Int n) some none id is lawful = cc
-no_id (Real x) some none id is lawful = cc
-no_id (Text t) some none None is lawful = cc
-no_id (Text t) some none (Some id) is lawful = none id (cc) lawful.1
-no_id (Blob b) some none id is lawful = cc
 
 -- ---- tables
 

@@ -1,11 +1,11 @@
 //! The columns of a result row, and the entry that they show.
-ghost use Rattle.std.specs.Prelude.{◌≡◌, ◌≤◌, ◌+◌, ℕ, ℤ, pos, false, List, Option, None, Some, IfErr, IfOk, OnErr, OnOk, IsTrue};
+ghost use Rattle.std.specs.Prelude.{◌≡◌, ◌≤◌, ◌+◌, ℕ, false, List, Option, None, Some, IfErr, IfOk, OnErr, OnOk, IsTrue};
 ghost use Rattle.std.specs.List.{AllByRecursion};
 ghost use Rattle.std.specs.Str.{IsUtf8};
 ghost use Rattle.scim_key.specs.Revisions.{IsRevision};
 ghost use Rattle.scim_key.specs.declared.records.Kind.TheVariants.{User, Group};
 ghost use Rattle.sqlite_value.specs.Order.{column};
-ghost use Rattle.sqlite_value.specs.declared.value.Value.TheVariants.{Int, Text};
+ghost use Rattle.sqlite_value.specs.declared.value.Value.TheVariants.{Text};
 ghost use Rattle.source_csv.specs.Fields.{pieces};
 ghost use Rattle.source_csv.specs.Records.{IsRow, row_name};
 ghost use Rattle.source_csv.specs.Rows.{AreUserKeys, IsUserKey};
@@ -18,47 +18,11 @@ use crate::statements::TableFault;
 use journal_core::Entry;
 use scim_key::{GroupName, Key, Kind, ResourceId, Revision, UserName};
 use source_csv::{GroupRow, Row as SourceRow, Text as UserValue, UserRow};
+use sql_tables::{number_at, text_at as bytes_at};
 use sqlite::Row;
 use sqlite_value::value::ValueRef;
 use std::alloc::Global;
 use std::str;
-
-/// The integer in a column.
-pub(crate) fn integer_at(row: &Row, at: usize) -> Result<i64, TableFault>
-    ensures some { IfOk result (λ n. column row.now at ≡ Int n) }
-    ensures none { OnErr result ((n : ℤ) → column row.now at ≡ Int n → ⊥) }
-    ensures fault { IfErr result (λ fault. fault ≡ Damaged) }
-{
-    match row.get_ref(at) {
-        Ok(ValueRef::Int(number)) => Ok(number),
-        _ => Err(TableFault::Damaged),
-    }
-}
-
-pub(crate) fn number_at(row: &Row, at: usize) -> Result<u64, TableFault>
-    ensures some { IfOk result (λ n. column row.now at ≡ Int (pos n)) }
-    ensures none { OnErr result ((n : ℕ) → column row.now at ≡ Int (pos n) → ⊥) }
-    ensures fault { IfErr result (λ fault. fault ≡ Damaged) }
-{
-    match row.get_ref(at) {
-        Ok(ValueRef::Int(number)) => match u64::try_from(number) {
-            Ok(number) => Ok(number),
-            Err(_) => Err(TableFault::Damaged),
-        },
-        _ => Err(TableFault::Damaged),
-    }
-}
-
-fn bytes_at(row: &Row, at: usize) -> Result<&[u8], TableFault>
-    ensures some { IfOk result (λ text. column row.now at ≡ Text text.now) }
-    ensures none { OnErr result ((text : List ℕ) → column row.now at ≡ Text text → ⊥) }
-    ensures fault { IfErr result (λ fault. fault ≡ Damaged) }
-{
-    match row.get_ref(at) {
-        Ok(ValueRef::Text(text)) => Ok(text),
-        _ => Err(TableFault::Damaged),
-    }
-}
 
 fn text_at(row: &Row, at: usize) -> Result<&str, TableFault>
     ensures some { IfOk result (λ text. column row.now at ≡ Text text.now) }
@@ -66,7 +30,10 @@ fn text_at(row: &Row, at: usize) -> Result<&str, TableFault>
     ensures none { OnErr result ((text : List ℕ) → column row.now at ≡ Text text → IsUtf8 text → ⊥) }
     ensures fault { IfErr result (λ fault. fault ≡ Damaged) }
 {
-    match str::from_utf8(bytes_at(row, at)?) {
+    let Some(bytes) = bytes_at(row, at) else {
+        return Err(TableFault::Damaged);
+    };
+    match str::from_utf8(bytes) {
         Ok(text) => Ok(text),
         Err(_) => Err(TableFault::Damaged),
     }
@@ -87,7 +54,7 @@ fn revision_at(row: &Row, at: usize) -> Result<Revision, TableFault>
     ensures none { OnErr result (revision_in (column row.now at) ≡ None) }
     ensures fault { IfErr result (λ fault. fault ≡ Damaged) }
 {
-    match Revision::of_number(number_at(row, at)?) {
+    match number_at(row, at).and_then(Revision::of_number) {
         Some(revision) => Ok(revision),
         None => Err(TableFault::Damaged),
     }
@@ -99,13 +66,9 @@ fn confirmed_at(row: &Row, at: usize) -> Result<Revision, TableFault>
     ensures none { OnErr result (confirmed_in (column row.now at) ≡ None) }
     ensures fault { IfErr result (λ fault. fault ≡ Damaged) }
 {
-    let number = number_at(row, at)?;
-    if number == 0 {
-        return Ok(Revision::none());
-    }
-    match Revision::of_number(number) {
-        Some(revision) => Ok(revision),
-        None => Err(TableFault::Damaged),
+    match number_at(row, at) {
+        Some(0) => Ok(Revision::none()),
+        _ => revision_at(row, at),
     }
 }
 
@@ -114,9 +77,9 @@ fn active_at(row: &Row, at: usize) -> Result<bool, TableFault>
     ensures none { OnErr result (active_in (column row.now at) ≡ None) }
     ensures fault { IfErr result (λ fault. fault ≡ Damaged) }
 {
-    match number_at(row, at)? {
-        0 => Ok(false),
-        1 => Ok(true),
+    match number_at(row, at) {
+        Some(0) => Ok(false),
+        Some(1) => Ok(true),
         _ => Err(TableFault::Damaged),
     }
 }
@@ -209,7 +172,7 @@ fn has_its_key(alloc: Global, kind: Kind, row: &Row, source: &SourceRow) -> Resu
     ensures read { IfErr result IsOfRow }
 {
     let name = source.record_name(alloc)?;
-    Ok(name.kind == kind && name.key.as_str().as_bytes() == bytes_at(row, 0)?)
+    Ok(name.kind == kind && bytes_at(row, 0) == Some(name.key.as_str().as_bytes()))
 }
 
 /// The entry of a row, given its source row.

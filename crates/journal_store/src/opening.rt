@@ -13,13 +13,12 @@ ghost use Rattle.sql_tables.specs.Statements.{LeavesStore, Looks};
 ghost use Rattle.journal_store.specs.Format.{entry_tree, format_number, numbers_text};
 ghost use Rattle.journal_store.specs.Opening.{AreRising, HoldsEntries, IsCause, IsFor, IsJournal, IsNewer, IsNotLaid, IsOfRows, IsSpoilt, IsStore, IsUnmarked, IsUnnumbered, OpenFailsFor, OpeningFails, ShowsDamage, LeavesNone, Stands};
 
-use crate::columns::integer_at;
 use crate::format::{FORMAT, Journal, is_journal};
 use crate::lawful::check_lists;
 use crate::statements::TableFault;
 use crate::tables::list_entries;
 use scim_key::Kind;
-use sql_tables::{Mark, ask, find_mark, is_blank};
+use sql_tables::{Mark, ask, find_mark, integer_at, is_blank};
 use sqlite::{Alter, Connection, Error, Row};
 use sqlite_value::value::ValueRef;
 use std::alloc::{AllocError, Global};
@@ -154,7 +153,9 @@ fn check_rising(rows: &[Row]) -> Result<(), OpenFault>
 {
     let mut last = None;
     for row in rows {
-        let number = integer_at(row, 0)?;
+        let Some(number) = integer_at(row, 0) else {
+            return Err(OpenFault::Damaged);
+        };
         if !rises(last, number) {
             return Err(OpenFault::Damaged);
         }
