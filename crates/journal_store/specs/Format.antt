@@ -1,5 +1,5 @@
 -- The tables of format 1, as SQLite keeps them.
-use Rattle.std.specs.Prelude.{ℕ, true, false, List, [], ◌∷◌, None, codes}
+use Rattle.std.specs.Prelude.{ℕ, zero, suc, ◌+◌, true, false, List, [], ◌∷◌, None, codes}
 use Rattle.sqlite_value.specs.declared.keys.Order.{Order}
 use Rattle.sqlite_sql.specs.Term.{Term}
 use Rattle.sqlite_schema.specs.declared.schema.Column.{Column}
@@ -8,6 +8,7 @@ use Rattle.sqlite_schema.specs.declared.schema.Index.{Index}
 use Rattle.sqlite_schema.specs.declared.schema.Schema.{Schema}
 use Rattle.sqlite_schema.specs.declared.schema.Kind.TheVariants.{Integer, Text}
 use Rattle.sql_tables.specs.Layouts.{format_table, no_stamps, optional, required}
+use Rattle.source_csv.specs.declared.texts.TheConstants.{TEXT_COUNT}
 use Rattle.scim_key.specs.declared.records.Kind.{Kind}
 use Rattle.scim_key.specs.declared.records.Kind.TheVariants.{User, Group}
 
@@ -48,6 +49,16 @@ entry_columns User =
 entry_columns Group =
     required (codes "name_key") Text ∷ required (codes "name") Text ∷ required (codes "revision") Integer ∷ required (codes "members") Text
     ∷ required (codes "confirmed") Integer ∷ optional (codes "id") Text ∷ []
+
+-- how many columns a type's table has
+abbrev pub column_count : Kind → ℕ
+column_count User = 6 + TEXT_COUNT
+column_count Group = 6
+
+-- so many places, from this one on
+abbrev pub places : ℕ → ℕ → List ℕ
+places at zero = []
+places at (suc count) = at ∷ places (suc at) count
 
 -- the place of the key, by which rows are found
 abbrev pub key_places : List ℕ

@@ -5,11 +5,20 @@ ghost use Rattle.journal_store.specs.Format.{entry_columns, entry_name, entry_tr
 ghost use Rattle.journal_store.specs.Opening.{IsEntryTable, IsJournal};
 
 use scim_key::Kind as RecordKind;
+use source_csv::{TEXT_COUNT, UserText};
 use sql_tables::{Layout, has_order, is_column, is_format, is_plain};
 use sqlite_schema::schema::{Column, Index, Kind, Schema, Table};
 
 /// The number of the format that is written; no other format is read.
 pub(crate) const FORMAT: u64 = 1;
+
+/// The texts of a user, in the order of their columns.
+pub(crate) const TEXT_ORDER: [UserText; TEXT_COUNT] = [
+    UserText::Number,
+    UserText::Given,
+    UserText::Family,
+    UserText::Mail,
+];
 
 /// The tables of the format.
 pub(crate) struct Journal;

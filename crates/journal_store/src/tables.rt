@@ -1,5 +1,5 @@
 //! The statements on the tables of entries.
-ghost use Rattle.std.specs.Prelude.{◌≡◌, pos, true, false, MatchOption, Option, IfErr, IfOk, IsTrue, OnOk, OnErr, string_bytes};
+ghost use Rattle.std.specs.Prelude.{◌≡◌, pos, map, true, false, MatchOption, Option, IfErr, IfOk, IsTrue, OnOk, OnErr, string_bytes};
 ghost use Rattle.sqlite.specs.Held.{state};
 ghost use Rattle.sqlite.specs.State.{HasCleanDisk, Survives};
 ghost use Rattle.sqlite.specs.Values.{bound, bound_value};
@@ -9,7 +9,7 @@ ghost use Rattle.std.specs.Ordering.{is_lt};
 ghost use Rattle.std.specs.declared.cmp.Ordering.TheVariants.{Less};
 ghost use Rattle.scim_key.specs.Records.{name_cmp};
 ghost use Rattle.source_csv.specs.Records.{row_name};
-ghost use Rattle.source_csv.specs.Rows.{IsGroupRow, IsUserRow};
+ghost use Rattle.source_csv.specs.Rows.{IsGroupRow, IsUserRow, text_of};
 ghost use Rattle.source_csv.specs.declared.rows.Row.TheVariants.{User, Group};
 ghost use Rattle.journal_core.specs.Entries.{entry_with};
 ghost use Rattle.journal_store.specs.Connections.{AreShown, Finds, IsDamagedAt, IsEditText, IsLaid, IsOnly, IsThere, IsUnshown, ListsAll, ListsNone, Makes, PutsIn, put_text};
@@ -17,14 +17,15 @@ ghost use Rattle.sql_tables.specs.Statements.{Keeps, MayLeave, Ran};
 ghost use Rattle.sql_tables.specs.Faults.{HasFailed};
 ghost use Rattle.journal_store.specs.Faults.{FailsFor, HasCause, IsOfRow};
 ghost use Rattle.journal_store.specs.Format.{all_text, find_text};
+ghost use Rattle.journal_store.specs.declared.format.TheConstants.{TEXT_ORDER};
 ghost use Rattle.journal_store.specs.Rows.{active_number, id_value, members_text, row_by};
 
 use crate::columns::read_entry;
-use crate::format::Journal;
+use crate::format::{Journal, TEXT_ORDER};
 use crate::statements::TableFault;
 use journal_core::Entry;
 use scim_key::{Key, Kind, RecordName, ResourceId, Revision};
-use source_csv::{GroupRow, Row as SourceRow, UserRow, UserText};
+use source_csv::{GroupRow, Row as SourceRow, TEXT_COUNT, UserRow};
 use sql_tables::{ask, write};
 use sqlite::{Alter, Connection, Row};
 use sqlite_value::value::ValueRef;
@@ -177,30 +178,41 @@ pub(crate) fn kind_of(row: &SourceRow) -> Kind
     }
 }
 
+/// The texts of a user, in the order of their columns.
+fn text_params(user: &UserRow) -> [ValueRef<'_>; TEXT_COUNT]
+    ensures { bound result ≡ map (λ which. Text (text_of user.now which)) TEXT_ORDER }
+{
+    TEXT_ORDER.map(|which| text_param(user.text(which)))
+}
+
 /// The columns of a user's entry, under its key, with its revision.
 pub(crate) fn user_params<'a>(
+    alloc: Global,
     key: &'a Key,
     user: &'a UserRow,
     revision: Revision,
     confirmed: Revision,
     id: &'a Option<ResourceId>,
-) -> [ValueRef<'a>; 10]
+) -> Result<Vec<ValueRef<'a>>, AllocError>
     requires key { key.now ≡ (row_name (User user.now)).key }
     requires revision { revision ≡ user.now.revision }
-    ensures { bound result ≡ row_by (User user.now) confirmed id.now }
+    ensures { IfOk result (λ params. bound params.items ≡ row_by (User user.now) confirmed id.now) }
 {
-    [
+    let front = [
         text_param(key.as_str()),
         text_param(user.login().as_str()),
         number_param(revision.number()),
-        text_param(user.text(UserText::Number)),
-        text_param(user.text(UserText::Given)),
-        text_param(user.text(UserText::Family)),
-        text_param(user.text(UserText::Mail)),
+    ];
+    let back = [
         active_param(user.is_active()),
         number_param(confirmed.number()),
         id_param(id),
-    ]
+    ];
+    let mut params = Vec::new(alloc);
+    params.extend_from_slice(&front)?;
+    params.extend_from_slice(&text_params(user))?;
+    params.extend_from_slice(&back)?;
+    Ok(params)
 }
 
 /// The columns of a group's entry, under its key, with its revision and the text of its
@@ -246,7 +258,8 @@ fn write_user<S: Alter>(
 {
     let revision = user.revision();
     let key = user.login().key(alloc)?;
-    match write::<S, Journal>(conn, sql, &user_params(&key, user, revision, confirmed, id)) {
+    let params = user_params(alloc, &key, user, revision, confirmed, id)?;
+    match write::<S, Journal>(conn, sql, params.as_slice()) {
         Ok(()) => Ok(()),
         Err(error) => Err(TableFault::from(error)),
     }
