@@ -6,16 +6,19 @@ use Rattle.sqlite.proofs.Callers.{one_permutation}
 use Rattle.scim_key.specs.declared.records.RecordName.{RecordName}
 use Rattle.journal_core.specs.declared.entries.Entry.{Entry}
 use Rattle.sqlite_value.specs.declared.value.Value.TheVariants.{Text}
-use Rattle.sqlite_value.specs.Order.{Row}
+use Rattle.sqlite_value.specs.Order.{Row, column}
 use Rattle.sqlite.specs.State.{State}
 use Rattle.scim_key.specs.declared.records.Kind.{Kind}
-use Rattle.journal_store.specs.Connections.{AreNumbered, Finds, IsDamagedAt, IsLaid, IsOnly, IsUnshown, ListsNone, Shows, has_key}
-use Rattle.sql_tables.specs.Statements.{Answers}
+use Rattle.journal_store.specs.Connections.{AreNumbered, Finds, IsDamagedAt, IsLaid, IsOnly, IsUnshownBy, Lists, ListsNoneBy, Shows, has_key}
+use Rattle.sql_tables.specs.Layouts.{IsLaid as IsLaidBy}
+use Rattle.sqlite_schema.specs.declared.schema.Schema.{Schema}
+use Rattle.source_csv.specs.Records.{row_name}
+use Rattle.sql_tables.specs.Statements.{Answers, IsGiven}
 use Rattle.journal_store.specs.Faults.{HasCause}
-use Rattle.journal_store.specs.Format.{all_text, entry_tree, find_text, numbers_text}
+use Rattle.journal_store.specs.Format.{entry_tree, find_text, numbers_text}
 use Rattle.journal_store.specs.Opening.{IsUnnumbered}
 use Rattle.journal_store.specs.Rows.{shown_row}
-use Rattle.journal_store.proofs.Finding.{all_ordered, numbers_of_all, numbers_ordered, rows_of_all, rows_of_key}
+use Rattle.journal_store.proofs.Finding.{numbers_of_all, numbers_ordered, rows_listed, rows_of_key}
 use Rattle.journal_store.proofs.Repeating.{are_listed, are_numbers}
 use Rattle.journal_store.specs.declared.statements.TableFault.{TableFault}
 use Rattle.journal_store.specs.declared.statements.TableFault.TheVariants.{Store, Damaged, Memory}
@@ -43,10 +46,11 @@ finds_shown : (db : Trees) (name : RecordName) (held : Option Entry) → Finds d
 finds_shown db name None finds = finds
 finds_shown db name (Some e) finds = finds
 
-pub unlisted : (s : State) (kind : Kind) (sql : List ℕ) (rows given : List Row) → sql ≡ all_text kind → given ≡ rows → IsLaid s → Answers sql [] s rows → IsUnshown kind given → ListsNone kind s.now.trees
-unlisted s kind sql rows given text same laid answers unshown list lists =
-    let asked : Answers (all_text kind) [] s rows = subst (λ t. Answers t [] s rows) text answers in
-    are_listed kind s.now.trees rows (rows_of_all s kind rows laid asked) list lists (all_ordered s kind rows laid asked) (subst (IsUnshown kind) same unshown)
+pub unlisted : {Form : Type 0} {layout : Form → Schema} (kind : Kind) (Valid : Row → Entry → Type 0) (keyed : (r : Row) (e : Entry) → Valid r e → (column r 0 ≡ Text (row_name e.row).key) × ((row_name e.row).kind ≡ kind))
+    (tree : ℕ) (columns : Row → Row) (s : State) (sql : List ℕ) (rows given : List Row) → Lists layout tree columns sql → IsGiven layout sql [] → given ≡ rows → IsLaidBy layout s → Answers sql [] s rows → IsUnshownBy Valid given → ListsNoneBy Valid columns (s.now.trees tree)
+unlisted kind Valid keyed tree columns s sql rows given means whole same laid answers unshown list lists =
+    let all = rows_listed tree columns s sql rows means whole laid answers in
+    are_listed kind Valid keyed columns (s.now.trees tree) rows all.0 list lists all.1 (subst (IsUnshownBy Valid) same unshown)
 
 none_of : {X : Type 0} (xs : List X) → IsPermutation [] xs → xs ≡ []
 none_of [] same = refl

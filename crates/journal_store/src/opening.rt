@@ -201,8 +201,8 @@ fn check_entries<S: Alter>(alloc: Global, conn: &mut Connection<S>) -> Result<()
     ensures open { HasCleanDisk (state S.Store conn.new) → OnOk result (IsTrue (state S.Store conn.new).is_open) }
     ensures looks { Looks (state S.Store conn.old) (state S.Store conn.new) }
 {
-    let users = list_entries(alloc, conn, Kind::User)?;
-    let groups = list_entries(alloc, conn, Kind::Group)?;
+    let users = list_entries::<S, Journal>(alloc, conn, Kind::User)?;
+    let groups = list_entries::<S, Journal>(alloc, conn, Kind::Group)?;
     check_lists(alloc, users.as_slice(), groups.as_slice())
 }
 
