@@ -1,5 +1,5 @@
 -- What the rows of an answer show.
-use Rattle.std.proofs.Common.{◌≡◌, ℕ, List, [], ◌∷◌, map, filter, Option, Some, None, Result, IfOk, refl, sym, ap, ◌∙◌, subst, IsPermutation}
+use Rattle.std.proofs.Common.{◌≡◌, codes, false, ℕ, List, [], ◌∷◌, map, filter, Option, Some, None, Result, IfOk, refl, sym, ap, ◌∙◌, subst, IsPermutation}
 use Rattle.sqlite_value.specs.declared.value.Value.TheVariants.{Text}
 use Rattle.sqlite_value.specs.Order.{Row, column}
 use Rattle.sqlite_trees.proofs.ListLemmas.{all_of, filter_same}
@@ -15,16 +15,19 @@ use Rattle.sql_tables.specs.Layouts.{IsLaid as IsLaidBy}
 use Rattle.sqlite_schema.specs.declared.schema.Schema.{Schema}
 use Rattle.sql_tables.specs.Statements.{Answers, IsGiven}
 use Rattle.sql_tables.proofs.Selecting.{IsOrdered, ordered_over, passes, selected_over, shows}
-use Rattle.sql_tables.proofs.Queries.{query}
+use Rattle.sql_tables.proofs.Queries.{IsSelect, query}
+use Rattle.sqlite_value.specs.declared.keys.Key.{Key}
+use Rattle.sqlite_value.specs.declared.keys.Collation.TheVariants.{Binary}
+use Rattle.sqlite_sql.specs.Term.{Term}
 use Rattle.sqlite.specs.Effect.{Database, Reads}
 use Rattle.sqlite.specs.Listing.{understood}
 use Rattle.sqlite.proofs.Callers.{command_of}
 use Rattle.sqlite_schema.specs.declared.command.Command.TheVariants.{Select}
 use Rattle.journal_store.specs.Rows.{shown_row}
 use Rattle.journal_store.specs.Connections.{AreShownBy, Finds, IsLaid, IsOnly, Lists, ListsAllBy, Shows, has_key}
-use Rattle.sql_tables.proofs.Answering.{answered_by, empty, every, read_as, single}
+use Rattle.sql_tables.proofs.Answering.{answered_by, empty, every, single}
 use Rattle.sql_tables.proofs.Results.{if_ok}
-use Rattle.journal_store.proofs.Texts.{all_is, all_order, find_is, key_is, names, number_shown, numbers_is, shown_terms}
+use Rattle.journal_store.proofs.Texts.{all_is, find_is, key_is, names, number_shown, numbers_is, shown_terms}
 use Rattle.journal_store.proofs.Selecting.{same_tree, shows_all, key_passes}
 
 map_same : {A B : Type 0} (f g : A → B) → ((x : A) → f x ≡ g x) → (xs : List A) → map f xs ≡ map g xs
@@ -55,25 +58,23 @@ by_key : (kind : Kind) (env : Env) → eval (col 1 1) env ≡ column (eval_all (
 by_key User env = refl
 by_key Group env = refl
 
-pub numbers_ordered : (s : State) (kind : Kind) (rows : List Row) → IsLaid s → Answers (numbers_text kind) [] s rows → IsOrdered rows
-numbers_ordered s kind rows laid answers =
-    ordered_over (entry_tree kind) [] number_shown (col 1 0) [] (λ _. refl) s.now rows
-    (read_as s [] rows (numbers_is kind) laid answers)
-
-pub numbers_of_all : (s : State) (kind : Kind) (rows : List Row) → IsLaid s → Answers (numbers_text kind) [] s rows → IsPermutation (map (λ (r : Row). rowid r ∷ []) (s.now.trees (entry_tree kind))) rows
-numbers_of_all s kind rows laid answers =
-    let all = answered_by s [] rows (numbers_is kind) laid answers (same_tree kind) in
-    subst (λ l. IsPermutation (map (λ (r : Row). rowid r ∷ []) l) rows) (every (s.now.trees (entry_tree kind)) []) all
+lists_by : (kind : Kind) (sql : List ℕ) (shown : List Term) (term : Term) (heads : List (List ℕ)) (columns : Row → Row) → IsSelect journal_schema sql (entry_tree kind) [] shown ((term, record { collation = Binary; descending = false }) ∷ []) heads 0
+    → ((r : Row) → shows shown [] r ≡ columns r) → ((env : Env) → eval term env ≡ column (eval_all shown env) 0) → Lists journal_schema (entry_tree kind) columns sql
+lists_by kind sql shown term heads columns it same first form trees c rows is reads =
+    let db : Database = record { schema = journal_schema form; trees = trees } in
+    let order : List (Term × Key) = (term, record { collation = Binary; descending = false }) ∷ [] in
+    let command : c.command ≡ Select (record { lets = []; body = query (entry_tree kind) [] shown order }) heads = ap command_of (sym is) ∙ it.means form in
+    let asked = subst (λ k. Reads k db [] rows) command reads in (
+      subst (λ l. IsPermutation l rows) (ap (map (shows shown [])) (every (trees (entry_tree kind)) []) ∙ map_same (shows shown []) columns same (trees (entry_tree kind)))
+          (selected_over (entry_tree kind) [] shown order [] (same_tree kind) db rows asked),
+      ordered_over (entry_tree kind) [] shown term [] first db rows asked,
+    )
 
 pub all_listed : (kind : Kind) → Lists journal_schema (entry_tree kind) (shown_row kind) (all_text kind)
-all_listed kind form trees c rows is reads =
-    let db : Database = record { schema = journal_schema form; trees = trees } in
-    let command : c.command ≡ Select (record { lets = []; body = query (entry_tree kind) [] (shown_terms kind) all_order }) (names kind) = ap command_of (sym is) ∙ (all_is kind).means form in
-    let asked = subst (λ k. Reads k db [] rows) command reads in (
-      subst (λ l. IsPermutation l rows) (ap (map (shows (shown_terms kind) [])) (every (trees (entry_tree kind)) []) ∙ map_same (shows (shown_terms kind) []) (shown_row kind) (shows_all kind []) (trees (entry_tree kind)))
-          (selected_over (entry_tree kind) [] (shown_terms kind) all_order [] (same_tree kind) db rows asked),
-      ordered_over (entry_tree kind) [] (shown_terms kind) (col 1 1) [] (by_key kind) db rows asked,
-    )
+all_listed kind = lists_by kind (all_text kind) (shown_terms kind) (col 1 1) (names kind) (shown_row kind) (all_is kind) (shows_all kind []) (by_key kind)
+
+pub numbers_listed : (kind : Kind) → Lists journal_schema (entry_tree kind) (λ (r : Row). rowid r ∷ []) (numbers_text kind)
+numbers_listed kind = lists_by kind (numbers_text kind) number_shown (col 1 0) (codes "rowid" ∷ []) (λ (r : Row). rowid r ∷ []) (numbers_is kind) (λ r. refl) (λ env. refl)
 
 -- ---- what the calls answer
 

@@ -1,7 +1,7 @@
 -- What a fault reports about the rows.
 use Rattle.std.proofs.Common.{◌≡◌, List, [], ◌∷◌, map, filter, refl, arith, IsPermutation, ℕ, Option, Some, None, Result, Ok, Err, IfErr, IsErrAnd, sym, subst}
 use Rattle.std.proofs.lemmas.List.Sorted.{length_permutation}
-use Rattle.sqlite_trees.specs.Tree.{Trees}
+use Rattle.sqlite_trees.specs.Tree.{Trees, rowid}
 use Rattle.sqlite.proofs.Callers.{one_permutation}
 use Rattle.scim_key.specs.declared.records.RecordName.{RecordName}
 use Rattle.journal_core.specs.declared.entries.Entry.{Entry}
@@ -15,10 +15,10 @@ use Rattle.sqlite_schema.specs.declared.schema.Schema.{Schema}
 use Rattle.source_csv.specs.Records.{row_name}
 use Rattle.sql_tables.specs.Statements.{Answers, IsGiven}
 use Rattle.journal_store.specs.Faults.{HasCause}
-use Rattle.journal_store.specs.Format.{entry_tree, find_text, numbers_text}
+use Rattle.journal_store.specs.Format.{entry_tree, find_text}
 use Rattle.journal_store.specs.Opening.{IsUnnumbered}
 use Rattle.journal_store.specs.Rows.{shown_row}
-use Rattle.journal_store.proofs.Finding.{numbers_of_all, numbers_ordered, rows_listed, rows_of_key}
+use Rattle.journal_store.proofs.Finding.{rows_listed, rows_of_key}
 use Rattle.journal_store.proofs.Repeating.{are_listed, are_numbers}
 use Rattle.journal_store.specs.declared.statements.TableFault.{TableFault}
 use Rattle.journal_store.specs.declared.statements.TableFault.TheVariants.{Store, Damaged, Memory}
@@ -68,7 +68,8 @@ unfound s name sql params rows given text bound same laid answers none held find
     let asked : Answers (find_text name.kind) (Text name.key ∷ []) s rows = subst (λ p. Answers (find_text name.kind) p s rows) bound (subst (λ t. Answers t params s rows) text answers) in
     none held (subst (λ l. IsOnly name.kind l held) (sym same) (found_only name.kind rows (filter (has_key name.key) (s.now.trees (entry_tree name.kind))) held (rows_of_key s name.kind name.key rows laid asked) (finds_shown s.now.trees name held finds)))
 
-pub unnumbered : (s : State) (kind : Kind) (sql : List ℕ) (rows given : List Row) → sql ≡ numbers_text kind → given ≡ rows → IsLaid s → Answers sql [] s rows → IsUnnumbered given → AreNumbered (s.now.trees (entry_tree kind)) → ⊥
-unnumbered s kind sql rows given text same laid answers fails are =
-    let asked : Answers (numbers_text kind) [] s rows = subst (λ t. Answers t [] s rows) text answers in
-    are_numbers (s.now.trees (entry_tree kind)) rows (numbers_of_all s kind rows laid asked) are (numbers_ordered s kind rows laid asked) (subst IsUnnumbered same fails)
+pub unnumbered : {Form : Type 0} {layout : Form → Schema} (tree : ℕ) (s : State) (sql : List ℕ) (rows given : List Row) → Lists layout tree (λ (r : Row). rowid r ∷ []) sql → IsGiven layout sql [] → given ≡ rows → IsLaidBy layout s → Answers sql [] s rows
+    → IsUnnumbered given → AreNumbered (s.now.trees tree) → ⊥
+unnumbered tree s sql rows given means whole same laid answers fails are =
+    let all = rows_listed tree (λ (r : Row). rowid r ∷ []) s sql rows means whole laid answers in
+    are_numbers (s.now.trees tree) rows all.0 are all.1 (subst IsUnnumbered same fails)

@@ -150,9 +150,12 @@ ListsNone kind db = ListsNoneBy (Shows kind) (shown_row kind) (db (entry_tree ki
 abbrev pub AreNumbered : List Row → Type 0
 AreNumbered table = (r : Row) → Has table r → (n : ℤ) × (rowid r ≡ Int n) × (filter (has_rowid n) table ≡ r ∷ [])
 
-pub record HasNumbers (db : Trees) : Type 0 where
-  pub users : AreNumbered (db (entry_tree User))
-  pub groups : AreNumbered (db (entry_tree Group))
+pub record HasNumbersBy (tree : Kind → ℕ) (db : Trees) : Type 0 where
+  pub users : AreNumbered (db (tree User))
+  pub groups : AreNumbered (db (tree Group))
+
+abbrev pub HasNumbers : Trees → Type 0
+HasNumbers = HasNumbersBy entry_tree
 
 -- ---- a write
 

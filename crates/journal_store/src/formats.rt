@@ -1,7 +1,8 @@
 //! A format of the journal, and the current one.
-ghost use Rattle.std.specs.Prelude.{◌≡◌, ℕ, [], IfErr, IfOk};
+ghost use Rattle.std.specs.Prelude.{◌≡◌, ℕ, [], ◌∷◌, IfErr, IfOk};
 ghost use Rattle.scim_key.specs.declared.records.Kind.{Kind as KindData};
 ghost use Rattle.sqlite_value.specs.Order.{Row as RowData, column};
+ghost use Rattle.sqlite_trees.specs.Tree.{rowid};
 ghost use Rattle.sqlite_value.specs.declared.value.Value.TheVariants.{Text};
 ghost use Rattle.source_csv.specs.Records.{row_name};
 ghost use Rattle.journal_core.specs.declared.entries.Entry.{Entry as EntryData};
@@ -12,7 +13,7 @@ ghost use Rattle.journal_store.specs.Faults.{HasCause, IsOfRow};
 use crate::columns::read_entry;
 use crate::format::Journal;
 use crate::statements::TableFault;
-use crate::tables::all_statement;
+use crate::tables::{all_statement, numbers_statement};
 use journal_core::Entry;
 use scim_key::Kind;
 use sql_tables::Layout;
@@ -27,6 +28,12 @@ pub(crate) trait Format: Layout {
     ghost columns: { KindData → RowData → RowData };
 
     ghost shows: { KindData → RowData → EntryData → Type 0 };
+
+    /// The query that lists the numbers of the rows of a type.
+    fn numbers_statement(kind: Kind) -> &'static str
+        ensures query { IsQuery Self.layout result.now }
+        ensures given { IsGiven Self.layout result.now [] }
+        ensures lists { Lists Self.layout (tree kind) (λ row. rowid row ∷ []) result.now };
 
     /// The query that lists the entries of a type, in order of their keys.
     fn list_statement(kind: Kind) -> &'static str
@@ -53,6 +60,10 @@ impl Format for Journal {
     ghost columns = { shown_row };
 
     ghost shows = { Shows };
+
+    fn numbers_statement(kind: Kind) -> &'static str {
+        numbers_statement(kind)
+    }
 
     fn list_statement(kind: Kind) -> &'static str {
         all_statement(kind)

@@ -17,7 +17,7 @@ ghost use Rattle.sql_tables.specs.Statements.{Keeps, MayLeave, Ran};
 ghost use Rattle.sql_tables.specs.Faults.{HasFailed};
 ghost use Rattle.sql_tables.specs.Layouts.{IsLaid as IsLaidBy};
 ghost use Rattle.journal_store.specs.Faults.{FailsFor, HasCause, IsOfRow};
-ghost use Rattle.journal_store.specs.Format.{all_text, find_text};
+ghost use Rattle.journal_store.specs.Format.{all_text, find_text, numbers_text};
 ghost use Rattle.journal_store.specs.declared.format.TheConstants.{TEXT_ORDER};
 ghost use Rattle.journal_store.specs.Rows.{active_number, id_value, members_text, row_by};
 
@@ -317,6 +317,15 @@ pub(crate) fn put_entry<S: Alter>(
 }
 
 // ---- all entries
+
+pub(crate) fn numbers_statement(kind: Kind) -> &'static str
+    ensures { result.now ≡ numbers_text kind }
+{
+    match kind {
+        Kind::User => "SELECT rowid FROM user_entry ORDER BY rowid",
+        Kind::Group => "SELECT rowid FROM group_entry ORDER BY rowid",
+    }
+}
 
 pub(crate) fn all_statement(kind: Kind) -> &'static str
     ensures { result.now ≡ all_text kind }
