@@ -3,8 +3,8 @@ use Rattle.std.specs.Prelude.{Option, Some, None, Result, Ok, Err}
 use Rattle.std.specs.declared.io.Error.{Error}
 use Rattle.scim_key.specs.declared.records.Kind.{Kind}
 use Rattle.scim_key.specs.declared.records.Kind.TheVariants as kind
-use Rattle.provider_store.specs.declared.opening.OpenFault.TheVariants as opening
-use Rattle.journal_store.specs.declared.opening.OpenFault.TheVariants as journal
+use Rattle.provider_store.specs.declared.opening.RegistryOpenFault.TheVariants as opening
+use Rattle.journal_store.specs.declared.opening.JournalOpenFault.TheVariants as journal
 use Rattle.provisioning.specs.declared.faults.RunFault.TheVariants as run
 use Rattle.commands.specs.declared.status.CommandFault.{CommandFault}
 use Rattle.commands.specs.declared.status.CommandFault.TheVariants as fault

@@ -2,7 +2,7 @@
 use Rattle.std.specs.Prelude.{◌≡◌, ◌⊎◌, ℕ, List, [], Result, Err}
 use Rattle.scim_resource.specs.Rows.{StoredRecord}
 use Rattle.provider_core.specs.declared.registry.Registry.{Ghosts}
-use Rattle.provider_store.specs.declared.opening.OpenFault.{OpenFault}
+use Rattle.provider_store.specs.declared.opening.RegistryOpenFault.{RegistryOpenFault}
 use Rattle.provider_file.specs.Serving.{AnswersFrom}
 use Rattle.http_text.specs.declared.fault.ReadFault.{ReadFault}
 use Rattle.http_text.specs.Counts.{Reading, Writing}
@@ -27,4 +27,4 @@ pub record AnswersOne (base : List ℕ) (old new : Reading) (before after : Writ
 abbrev pub AnswersStored : {R : Type 0} → Ghosts R → (base : List ℕ) → (old new : Reading) → (before after : Writing) → (ended : Result Status CommandFault) → Type 0
 AnswersStored g base old new before after ended =
     ((served : Served) × AnswersFrom g base old new before after served × (ended ≡ served_status served))
-    ⊎ ((fault : OpenFault) × (ended ≡ Err (store_fault fault)) × (new ≡ old) × (after ≡ before))
+    ⊎ ((fault : RegistryOpenFault) × (ended ≡ Err (store_fault fault)) × (new ≡ old) × (after ≡ before))

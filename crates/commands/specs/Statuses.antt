@@ -12,10 +12,10 @@ use Rattle.scim_key.specs.declared.names.NameFault.TheVariants as name
 use Rattle.scim_server.specs.declared.serving.Served.{Served}
 use Rattle.scim_server.specs.declared.serving.Served.TheVariants.{Answered, NoRequest, Lost}
 use Rattle.connection.specs.declared.serving.ConnectionFault.{ConnectionFault}
-use Rattle.provider_store.specs.declared.opening.OpenFault.{OpenFault}
-use Rattle.provider_store.specs.declared.opening.OpenFault.TheVariants as opening
-use Rattle.journal_store.specs.declared.opening.OpenFault.{OpenFault as JournalOpenFault}
-use Rattle.journal_store.specs.declared.opening.OpenFault.TheVariants as journal
+use Rattle.provider_store.specs.declared.opening.RegistryOpenFault.{RegistryOpenFault}
+use Rattle.provider_store.specs.declared.opening.RegistryOpenFault.TheVariants as opening
+use Rattle.journal_store.specs.declared.opening.JournalOpenFault.{JournalOpenFault}
+use Rattle.journal_store.specs.declared.opening.JournalOpenFault.TheVariants as journal
 use Rattle.journal_file.specs.declared.showing.ShowJournalFault.{ShowJournalFault}
 use Rattle.journal_file.specs.declared.showing.ShowJournalFault.TheVariants as show_journal
 use Rattle.provider_file.specs.declared.showing.ShowStoreFault.{ShowStoreFault}
@@ -110,7 +110,7 @@ served_status (NoRequest why) = Err (fault.Connection (record {}))
 served_status (Lost status) = Err (fault.Connection (record {}))
 
 -- the fault of a file of rows that couldn't be opened, or failed
-abbrev pub store_fault : OpenFault → CommandFault
+abbrev pub store_fault : RegistryOpenFault → CommandFault
 store_fault opening.Memory = fault.Memory
 store_fault why = fault.StoreFile why
 

@@ -10,7 +10,7 @@ use crate::words::MOST_REQUESTS;
 use connection::ConnectionFault;
 use mapping::WriteFault;
 use provider_file::ShowStoreFault;
-use provider_store::OpenFault;
+use provider_store::RegistryOpenFault;
 use provisioning::{LoopFault, RunFault, UnreadFile};
 use scim_key::Kind;
 use source_csv::SourceFault;
@@ -98,10 +98,10 @@ pub enum CommandFault {
     Store,
     /// A file of rows couldn't be opened, or failed.
     #[error("store fault {0}")]
-    StoreFile(OpenFault),
+    StoreFile(RegistryOpenFault),
     /// The file of a journal couldn't be opened, or failed.
     #[error("journal fault {0}")]
-    JournalFile(journal_store::OpenFault),
+    JournalFile(journal_store::JournalOpenFault),
     /// No file is named, or a line couldn't be written.
     #[error("file fault")]
     File,
@@ -154,8 +154,10 @@ impl CommandFault {
             CommandFault::Unread(part, _) => Some(part),
             CommandFault::Output(_) => Some(Part::Output),
             CommandFault::Unopened(_) => Some(Part::Listening),
-            CommandFault::StoreFile(OpenFault::Store) => Some(Part::Store),
-            CommandFault::JournalFile(journal_store::OpenFault::Store) => Some(Part::Journal),
+            CommandFault::StoreFile(RegistryOpenFault::Store) => Some(Part::Store),
+            CommandFault::JournalFile(journal_store::JournalOpenFault::Store) => Some(
+                Part::Journal,
+            ),
             CommandFault::Run(RunFault::Connection(_)) => Some(Part::Provider),
             CommandFault::Run(RunFault::Journal) => Some(Part::Journal),
             _ => None,
@@ -293,28 +295,28 @@ impl From<WorldFault> for CommandFault {
     }
 }
 
-impl From<OpenFault> for CommandFault {
+impl From<RegistryOpenFault> for CommandFault {
     ghost from_gives = { λ opening fault. fault ≡ store_fault opening };
 
-    fn from(fault: OpenFault) -> CommandFault {
+    fn from(fault: RegistryOpenFault) -> CommandFault {
         match fault {
-            OpenFault::Memory => CommandFault::Memory,
-            OpenFault::Store | OpenFault::Damaged(_) | OpenFault::Newer => {
+            RegistryOpenFault::Memory => CommandFault::Memory,
+            RegistryOpenFault::Store | RegistryOpenFault::Damaged(_) | RegistryOpenFault::Newer => {
                 CommandFault::StoreFile(fault)
             }
         }
     }
 }
 
-impl From<journal_store::OpenFault> for CommandFault {
+impl From<journal_store::JournalOpenFault> for CommandFault {
     ghost from_gives = { λ opening fault. fault ≡ journal_fault opening };
 
-    fn from(fault: journal_store::OpenFault) -> CommandFault {
+    fn from(fault: journal_store::JournalOpenFault) -> CommandFault {
         match fault {
-            journal_store::OpenFault::Memory => CommandFault::Memory,
-            journal_store::OpenFault::Store
-            | journal_store::OpenFault::Damaged
-            | journal_store::OpenFault::Newer => CommandFault::JournalFile(fault),
+            journal_store::JournalOpenFault::Memory => CommandFault::Memory,
+            journal_store::JournalOpenFault::Store
+            | journal_store::JournalOpenFault::Damaged
+            | journal_store::JournalOpenFault::Newer => CommandFault::JournalFile(fault),
         }
     }
 }
@@ -346,7 +348,7 @@ impl From<LoopFault> for CommandFault {
     fn from(fault: LoopFault) -> CommandFault {
         match fault {
             LoopFault::Ended(fault) => CommandFault::Run(fault),
-            LoopFault::Store => CommandFault::StoreFile(OpenFault::Store),
+            LoopFault::Store => CommandFault::StoreFile(RegistryOpenFault::Store),
         }
     }
 }

@@ -13,8 +13,8 @@ use Rattle.connector_core.specs.declared.changing.ChangeFault.{ChangeFault}
 use Rattle.connector_core.specs.declared.changing.ChangeFault.TheVariants as change
 use Rattle.connector_core.specs.declared.learning.LearnFault.{LearnFault}
 use Rattle.connector_core.specs.declared.learning.LearnFault.TheVariants as learn
-use Rattle.connector_core.specs.declared.opening.OpenFault.{OpenFault}
-use Rattle.connector_core.specs.declared.opening.OpenFault.TheVariants as opening
+use Rattle.connector_core.specs.declared.opening.ConnectorOpenFault.{ConnectorOpenFault}
+use Rattle.connector_core.specs.declared.opening.ConnectorOpenFault.TheVariants as opening
 use Rattle.connector_core.proofs.Keeping.{maps_are_books}
 
 pub maps_accept : MapsAccept
@@ -27,7 +27,7 @@ never-risen : HasRisen 0 0 → ⊥
 never-risen (inl less) = omega arith
 never-risen (inr full) = omega arith
 
-opening-counts : (fault : OpenFault) → CountsOpen 0 0 fault → fault ≢ opening.Store
+opening-counts : (fault : ConnectorOpenFault) → CountsOpen 0 0 fault → fault ≢ opening.Store
 opening-counts opening.Store counts = λ _. never-risen counts.1
 opening-counts opening.Memory counts = λ e. cc
 

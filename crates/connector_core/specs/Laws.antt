@@ -19,8 +19,8 @@ use Rattle.connector_core.specs.declared.knowledge.Known.{Known}
 use Rattle.connector_core.specs.declared.knowledge.Seen.TheVariants.{At}
 use Rattle.connector_core.specs.declared.learning.LearnFault.{LearnFault}
 use Rattle.connector_core.specs.declared.learning.LearnFault.TheVariants as learn
-use Rattle.connector_core.specs.declared.opening.OpenFault.{OpenFault}
-use Rattle.connector_core.specs.declared.opening.OpenFault.TheVariants as opening
+use Rattle.connector_core.specs.declared.opening.ConnectorOpenFault.{ConnectorOpenFault}
+use Rattle.connector_core.specs.declared.opening.ConnectorOpenFault.TheVariants as opening
 
 -- putting into a map is putting into its book, for every map
 abbrev pub AllMapsAreBooks : Type 0
@@ -28,7 +28,7 @@ AllMapsAreBooks = (map : BookMap) (name : RecordName) (known : Known) → MapsAr
 
 -- over a journal in memory, no call has a store fault
 pub record NoStoreFaults : Type 0 where
-  pub opening : (old new : MemoryRecord) (fault : OpenFault) → CountsOpen (memory_faults old) (memory_faults new) fault → fault ≢ opening.Store
+  pub opening : (old new : MemoryRecord) (fault : ConnectorOpenFault) → CountsOpen (memory_faults old) (memory_faults new) fault → fault ≢ opening.Store
   pub changing : (old new : MemoryRecord) (fault : ChangeFault) → CountsChange (memory_faults old) (memory_faults new) fault → fault ≢ change.Store
   pub learning : (old new : MemoryRecord) (fault : LearnFault) → CountsLearn (memory_faults old) (memory_faults new) fault → fault ≢ learn.Store
 

@@ -15,8 +15,8 @@ use Rattle.connector_core.specs.Book.{Book}
 use Rattle.connector_core.specs.Maps.{BookMap, book_of}
 use Rattle.connector_core.specs.declared.knowledge.Known.{Known}
 use Rattle.connector_core.specs.declared.knowledge.Seen.TheVariants.{Unknown}
-use Rattle.connector_core.specs.declared.opening.OpenFault.{OpenFault}
-use Rattle.connector_core.specs.declared.opening.OpenFault.TheVariants as opening
+use Rattle.connector_core.specs.declared.opening.ConnectorOpenFault.{ConnectorOpenFault}
+use Rattle.connector_core.specs.declared.opening.ConnectorOpenFault.TheVariants as opening
 
 pub record State (J : Type 0) : Type 0 where
   pub journal : J
@@ -75,22 +75,22 @@ pub record IsOpened (kept : EntryMap) (book : BookMap) : Type 0 where
   pub names : keys book ≡ keys kept
 
 -- the journal after opening, whatever the result
-abbrev pub journal_after : {J : Type 0} → Result (State J) (OpenFault × J) → J
+abbrev pub journal_after : {J : Type 0} → Result (State J) (ConnectorOpenFault × J) → J
 journal_after (Ok connector) = connector.journal
 journal_after (Err fault) = fault.1
 
 -- ---- faults
 
 -- the connector's fault for a fault of its journal
-abbrev pub open_fault : JournalFault → OpenFault
+abbrev pub open_fault : JournalFault → ConnectorOpenFault
 open_fault journal.Store = opening.Store
 open_fault journal.Memory = opening.Memory
 
 -- a store fault is counted; out of memory isn't
-abbrev pub CountsOpen : (old new : ℕ) → OpenFault → Type 0
+abbrev pub CountsOpen : (old new : ℕ) → ConnectorOpenFault → Type 0
 CountsOpen old new opening.Store = (old ≤ new) × HasRisen old new
 CountsOpen old new opening.Memory = new ≡ old
 
 -- the same for a fault that comes with the journal
-abbrev pub CountsOpenFault : {J : Type 0} → (old new : ℕ) → OpenFault × J → Type 0
+abbrev pub CountsOpenFault : {J : Type 0} → (old new : ℕ) → ConnectorOpenFault × J → Type 0
 CountsOpenFault old new fault = CountsOpen old new fault.0

@@ -9,7 +9,7 @@ ghost use Rattle.connector_core.specs.State.{CountsOpenFault, IsKept, IsOpened, 
 
 use crate::books::Book;
 use crate::knowledge::Seen;
-use crate::opening::{OpenFault, read_book};
+use crate::opening::{ConnectorOpenFault, read_book};
 use journal_core::Journal;
 use scim_key::{RecordName, Revision};
 use std::alloc::{AllocError, Global};
@@ -44,7 +44,7 @@ impl<J: Journal> Model for Connector<J> {
 impl<J: Journal> Connector<J> {
     /// A connector over the entries of a journal. It has seen nothing yet. If it fails, it hands the
     /// journal back.
-    pub fn open(alloc: Global, mut journal: J) -> Result<Connector<J>, (OpenFault, J)>
+    pub fn open(alloc: Global, mut journal: J) -> Result<Connector<J>, (ConnectorOpenFault, J)>
         ensures opened { IfOk result (λ connector. J.is_faithful connector.journal → IsOpened (J.entries journal) connector.book) }
         ensures kept { IfOk result (λ connector. J.is_faithful connector.journal → IsKept (J.entries connector.journal) connector.book) }
         ensures reads { OnlyReads J.entries J.is_faithful J.is_honest J.may_hold J.faults J.writes CountsOpenFault journal (journal_after result) result }
@@ -52,7 +52,7 @@ impl<J: Journal> Connector<J> {
     {
         let list = match journal.load() {
             Ok(list) => list,
-            Err(fault) => return Err((OpenFault::from(fault), journal)),
+            Err(fault) => return Err((ConnectorOpenFault::from(fault), journal)),
         };
         match read_book(alloc, list) {
             Ok(book) => Ok(Connector {
@@ -60,7 +60,7 @@ impl<J: Journal> Connector<J> {
                 journal,
                 book,
             }),
-            Err(_) => Err((OpenFault::Memory, journal)),
+            Err(_) => Err((ConnectorOpenFault::Memory, journal)),
         }
     }
 

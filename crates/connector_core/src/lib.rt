@@ -23,4 +23,4 @@ pub use laws::{
     what_was_seen_is_replaced,
 };
 pub use learning::{LearnFault, Learnt};
-pub use opening::OpenFault;
+pub use opening::ConnectorOpenFault;

@@ -10,7 +10,7 @@ use thiserror::Error;
 
 /// Why the connector couldn't be opened.
 #[derive(Clone, Copy, Debug, PartialEq, Eq, Error)]
-pub enum OpenFault {
+pub enum ConnectorOpenFault {
     /// The journal's store failed.
     #[error("C5")]
     Store,
@@ -18,15 +18,15 @@ pub enum OpenFault {
     Memory,
 }
 
-impl From<JournalFault> for OpenFault {
+impl From<JournalFault> for ConnectorOpenFault {
     ghost use Rattle.connector_core.specs.State.{open_fault};
 
     ghost from_gives = { λ from fault. fault ≡ open_fault from };
 
-    fn from(fault: JournalFault) -> OpenFault {
+    fn from(fault: JournalFault) -> ConnectorOpenFault {
         match fault {
-            JournalFault::Store => OpenFault::Store,
-            JournalFault::Memory => OpenFault::Memory,
+            JournalFault::Store => ConnectorOpenFault::Store,
+            JournalFault::Memory => ConnectorOpenFault::Memory,
         }
     }
 }

@@ -6,7 +6,7 @@ use Rattle.journal_core.specs.declared.entries.Entry.{Entry}
 use Rattle.journal_core.specs.declared.journals.Journal.{Ghosts}
 use Rattle.journal_core.specs.declared.journals.JournalFault.{JournalFault}
 use Rattle.journal_core.specs.declared.journals.JournalFault.TheVariants as journal
-use Rattle.journal_store.specs.declared.opening.OpenFault.TheVariants as opening
+use Rattle.journal_store.specs.declared.opening.JournalOpenFault.TheVariants as opening
 use Rattle.journal_file.specs.declared.showing.ShowJournalFault.{ShowJournalFault}
 use Rattle.journal_file.specs.declared.showing.ShowJournalFault.TheVariants.{Journal}
 use Rattle.journal_file.specs.Opened.{IsOpened}

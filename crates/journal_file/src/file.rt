@@ -5,7 +5,7 @@ ghost use Rattle.journal_file.specs.Opened.{IsOpened};
 use crate::storage::{EntryStorage, StoredEntries};
 use database_file::{DatabaseFile, DatabaseReason, failure_in, failure_since};
 use journal_core::Journal;
-use journal_store::{OpenFault, SqlJournal};
+use journal_store::{JournalOpenFault, SqlJournal};
 use sqlite::{Alter, Connection, Error, File, FileStore};
 use sqlite_disk::{Disk, Files};
 use std::alloc::Global;
@@ -23,7 +23,7 @@ impl<'a> EntryStorage for JournalFile<'a> {
     type Entries = SqlJournal<FileStore<File>>;
 
     /// If the file is refused, it is closed unchanged.
-    fn open(&self) -> Result<Self::Entries, OpenFault> {
+    fn open(&self) -> Result<Self::Entries, JournalOpenFault> {
         entries_over(self.file.rt.alloc(), self.file.open()?)
     }
 
@@ -56,7 +56,7 @@ impl<D: Disk + Drop> StoredEntries for SqlJournal<FileStore<D>> {
 fn entries_over<S: Alter + Drop>(
     alloc: Global,
     conn: Connection<S>,
-) -> Result<SqlJournal<S>, OpenFault>
+) -> Result<SqlJournal<S>, JournalOpenFault>
     ensures opened { IfOk result (IsOpened ⟦<SqlJournal<S> as Journal>⟧) }
 {
     match SqlJournal::open(alloc, conn) {
@@ -72,7 +72,7 @@ fn refusal<D: Disk + Drop>(
 ) -> Option<DatabaseReason> {
     match SqlJournal::open(alloc, conn) {
         Ok(entries) => failure_in(SqlJournal::close(entries), SAME),
-        Err((OpenFault::Store, conn)) => Some(failure_since(conn)),
+        Err((JournalOpenFault::Store, conn)) => Some(failure_since(conn)),
         Err((_fault, _conn)) => None,
     }
 }

@@ -4,12 +4,12 @@ ghost use Rattle.std.specs.Io.KnownBytes.{Appends};
 ghost use Rattle.journal_file.specs.Lines.{lines_of};
 ghost use Rattle.journal_file.specs.Showing.{ShowsFrom, WritesEntries, journal_fault};
 ghost use Rattle.journal_file.specs.declared.showing.ShowJournalFault.TheVariants.{Output};
-ghost use Rattle.journal_store.specs.declared.opening.OpenFault.TheVariants.{Memory};
+ghost use Rattle.journal_store.specs.declared.opening.JournalOpenFault.TheVariants.{Memory};
 
 use crate::lines::entry_line;
 use crate::storage::{EntryStorage, StoredEntries};
 use journal_core::{Entry, Journal, JournalFault};
-use journal_store::OpenFault;
+use journal_store::JournalOpenFault;
 use std::alloc::{AllocError, Global};
 use std::io;
 use std::io::{ErrorKind, Write};
@@ -20,18 +20,18 @@ use thiserror::Error;
 pub enum ShowJournalFault {
     /// The journal couldn't be opened, it failed, or memory ran out.
     #[error("journal {0}")]
-    Journal(OpenFault),
+    Journal(JournalOpenFault),
     /// A write or the flush failed.
     #[error("output")]
     Output,
 }
 
-impl From<OpenFault> for ShowJournalFault {
+impl From<JournalOpenFault> for ShowJournalFault {
     ghost use Rattle.journal_file.specs.declared.showing.ShowJournalFault.TheVariants.{Journal};
 
     ghost from_gives = { λ opening fault. fault ≡ Journal opening };
 
-    fn from(fault: OpenFault) -> ShowJournalFault {
+    fn from(fault: JournalOpenFault) -> ShowJournalFault {
         ShowJournalFault::Journal(fault)
     }
 }
@@ -41,8 +41,8 @@ impl From<JournalFault> for ShowJournalFault {
 
     fn from(fault: JournalFault) -> ShowJournalFault {
         match fault {
-            JournalFault::Store => ShowJournalFault::Journal(OpenFault::Store),
-            JournalFault::Memory => ShowJournalFault::Journal(OpenFault::Memory),
+            JournalFault::Store => ShowJournalFault::Journal(JournalOpenFault::Store),
+            JournalFault::Memory => ShowJournalFault::Journal(JournalOpenFault::Memory),
         }
     }
 }
@@ -53,7 +53,7 @@ impl From<AllocError> for ShowJournalFault {
     ghost from_gives = { λ _ fault. fault ≡ Journal Memory };
 
     fn from(_: AllocError) -> ShowJournalFault {
-        ShowJournalFault::Journal(OpenFault::Memory)
+        ShowJournalFault::Journal(JournalOpenFault::Memory)
     }
 }
 
@@ -69,7 +69,7 @@ fn output_fault(kind: ErrorKind) -> ShowJournalFault
     ensures output { kind ≢ ErrorKind.OutOfMemory → result ≡ Output }
 {
     match kind {
-        ErrorKind::OutOfMemory => ShowJournalFault::Journal(OpenFault::Memory),
+        ErrorKind::OutOfMemory => ShowJournalFault::Journal(JournalOpenFault::Memory),
         _ => ShowJournalFault::Output,
     }
 }

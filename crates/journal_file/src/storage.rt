@@ -4,7 +4,7 @@ ghost use Rattle.journal_file.specs.Opened.{IsOpened};
 
 use database_file::DatabaseReason;
 use journal_core::Journal;
-use journal_store::OpenFault;
+use journal_store::JournalOpenFault;
 
 /// The entries of a connector, opened where they are kept.
 pub trait StoredEntries: Journal {
@@ -23,7 +23,7 @@ pub trait EntryStorage {
     type Entries: StoredEntries;
 
     /// Opens the entries.
-    fn open(&self) -> Result<Self::Entries, OpenFault>
+    fn open(&self) -> Result<Self::Entries, JournalOpenFault>
         ensures { IfOk result (IsOpened Self.Entries.Journal) };
 
     /// Why they can't be opened now, if the system or the database says it. They must be closed.

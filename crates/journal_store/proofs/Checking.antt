@@ -20,8 +20,8 @@ use Rattle.journal_store.specs.Opening.{AreInOrder, AreLawful, AreRising, HoldsE
 use Rattle.journal_store.specs.Faults.{FailsFor, HasCause}
 use Rattle.journal_store.specs.declared.statements.TableFault.{TableFault}
 use Rattle.journal_store.specs.declared.statements.TableFault.TheVariants as table
-use Rattle.journal_store.specs.declared.opening.OpenFault.{OpenFault}
-use Rattle.journal_store.specs.declared.opening.OpenFault.TheVariants.{Store, Damaged, Newer, Memory}
+use Rattle.journal_store.specs.declared.opening.JournalOpenFault.{JournalOpenFault}
+use Rattle.journal_store.specs.declared.opening.JournalOpenFault.TheVariants.{Store, Damaged, Newer, Memory}
 use Rattle.journal_store.proofs.Finding.{rows_listed}
 use Rattle.sql_tables.proofs.Looking.{laid_on, same_now, was_clean, was_laid}
 use Rattle.sql_tables.proofs.Results.{if_err, on_both, on_ok}
@@ -30,7 +30,7 @@ use Rattle.journal_store.proofs.Holding.{keys_in_order, lawful_lists}
 
 -- ---- results
 
-pub is_for : {P Q D E : Type 0} (f : P → Q) (h : D → E) (fault : OpenFault) → IsFor P D fault → IsFor Q E fault
+pub is_for : {P Q D E : Type 0} (f : P → Q) (h : D → E) (fault : JournalOpenFault) → IsFor P D fault → IsFor Q E fault
 is_for f h Store it = tt
 is_for f h Damaged it = h it
 is_for f h Newer it = f it
@@ -43,35 +43,35 @@ told P D E h table.Damaged it = h it
 told P D E h table.Memory it = tt
 
 -- and a fault that reports neither has every cause
-pub no_damage : (P D : Type 0) (fault : OpenFault) → IsFor ⊥ ⊥ fault → IsFor P D fault
+pub no_damage : (P D : Type 0) (fault : JournalOpenFault) → IsFor ⊥ ⊥ fault → IsFor P D fault
 no_damage P D = is_for {P = ⊥} {Q = P} {D = ⊥} {E = D} (λ none. absurd none) (λ none. absurd none)
 
-pub told_of : {T : Type 0} (P D E : Type 0) → (D → E) → (r : Result T OpenFault) (fault : TableFault) → IsErrAnd r (λ given. given ≡ open_fault fault) → HasCause D fault → IfErr r (IsFor P E)
+pub told_of : {T : Type 0} (P D E : Type 0) → (D → E) → (r : Result T JournalOpenFault) (fault : TableFault) → IsErrAnd r (λ given. given ≡ open_fault fault) → HasCause D fault → IfErr r (IsFor P E)
 told_of P D E h (Ok x) fault is it = tt
 told_of P D E h (Err given) fault is it = subst (IsFor P E) (sym is) (told P D E h fault it)
 
 -- a fault that reports no newer format
-pub damage_on : {T : Type 0} (P D E : Type 0) → (D → E) → (r : Result T OpenFault) → IfErr r (IsFor ⊥ D) → IfErr r (IsFor P E)
+pub damage_on : {T : Type 0} (P D E : Type 0) → (D → E) → (r : Result T JournalOpenFault) → IfErr r (IsFor ⊥ D) → IfErr r (IsFor P E)
 damage_on P D E h r = if_err r (λ fault. is_for {P = ⊥} {Q = P} (λ none. absurd none) h fault)
 
 -- and if it is handed on
-pub damage_of : {T : Type 0} (P D E : Type 0) → (D → E) → (r : Result T OpenFault) (fault : OpenFault) → IsErrAnd r (λ given. given ≡ fault) → IsFor ⊥ D fault → IfErr r (IsFor P E)
+pub damage_of : {T : Type 0} (P D E : Type 0) → (D → E) → (r : Result T JournalOpenFault) (fault : JournalOpenFault) → IsErrAnd r (λ given. given ≡ fault) → IsFor ⊥ D fault → IfErr r (IsFor P E)
 damage_of P D E h (Ok x) fault is it = tt
 damage_of P D E h (Err given) fault is it = subst (IsFor P E) (sym is) (is_for {P = ⊥} {Q = P} (λ none. absurd none) h fault it)
 
-pub handed_on : {T : Type 0} (P D E : Type 0) (h : D → E) (r : Result T OpenFault) (fault : OpenFault) → IsErrAnd r (λ given. given ≡ fault) → IsFor P D fault → IfErr r (IsFor P E)
+pub handed_on : {T : Type 0} (P D E : Type 0) (h : D → E) (r : Result T JournalOpenFault) (fault : JournalOpenFault) → IsErrAnd r (λ given. given ≡ fault) → IsFor P D fault → IfErr r (IsFor P E)
 handed_on P D E h (Ok x) fault is it = tt
 handed_on P D E h (Err given) fault is it = subst (IsFor P E) (sym is) (is_for (λ p. p) h fault it)
 
 -- ---- a store that fails
 
-pub opens_by : (P Q : Type 0) → (P → Q) → (fault : OpenFault) → OpenFailsFor P fault → OpenFailsFor Q fault
+pub opens_by : (P Q : Type 0) → (P → Q) → (fault : JournalOpenFault) → OpenFailsFor P fault → OpenFailsFor Q fault
 opens_by P Q h Store it = h it
 opens_by P Q h Damaged it = tt
 opens_by P Q h Newer it = tt
 opens_by P Q h Memory it = tt
 
-pub opens_so : (P : Type 0) → P → (fault : OpenFault) → OpenFailsFor P fault
+pub opens_so : (P : Type 0) → P → (fault : JournalOpenFault) → OpenFailsFor P fault
 opens_so P it Store = it
 opens_so P it Damaged = tt
 opens_so P it Newer = tt
@@ -84,17 +84,17 @@ told_fails P Q h table.Damaged it = tt
 told_fails P Q h table.Memory it = tt
 
 -- what was read of rows is no fault of the store
-pub rows_fail : (P : Type 0) (fault : OpenFault) → IsOfRows fault → OpenFailsFor P fault
+pub rows_fail : (P : Type 0) (fault : JournalOpenFault) → IsOfRows fault → OpenFailsFor P fault
 rows_fail P Store it = absurd it
 rows_fail P Damaged it = tt
 rows_fail P Newer it = tt
 rows_fail P Memory it = tt
 
-pub opens_of : {T : Type 0} (P Q : Type 0) → (P → Q) → (r : Result T OpenFault) (fault : OpenFault) → IsErrAnd r (λ given. given ≡ fault) → OpenFailsFor P fault → IfErr r (OpenFailsFor Q)
+pub opens_of : {T : Type 0} (P Q : Type 0) → (P → Q) → (r : Result T JournalOpenFault) (fault : JournalOpenFault) → IsErrAnd r (λ given. given ≡ fault) → OpenFailsFor P fault → IfErr r (OpenFailsFor Q)
 opens_of P Q h (Ok x) fault is it = tt
 opens_of P Q h (Err given) fault is it = subst (OpenFailsFor Q) (sym is) (opens_by P Q h fault it)
 
-pub fails_of : {T : Type 0} (P Q : Type 0) → (P → Q) → (r : Result T OpenFault) (fault : TableFault) → IsErrAnd r (λ given. given ≡ open_fault fault) → FailsFor P fault → IfErr r (OpenFailsFor Q)
+pub fails_of : {T : Type 0} (P Q : Type 0) → (P → Q) → (r : Result T JournalOpenFault) (fault : TableFault) → IsErrAnd r (λ given. given ≡ open_fault fault) → FailsFor P fault → IfErr r (OpenFailsFor Q)
 fails_of P Q h (Ok x) fault is it = tt
 fails_of P Q h (Err given) fault is it = subst (OpenFailsFor Q) (sym is) (told_fails P Q h fault it)
 
@@ -157,7 +157,7 @@ store_found old marked numbered new r first laid second third clean format numbe
 -- ---- what is refused
 
 -- if there are tables and no transaction is open, tables that aren't laid out are foreign
-pub opening_cause : {T : Type 0} (s : State) (r : Result T OpenFault) → s.now.schema ≢ no_schema → s.in_transaction ≡ false → IfErr r (IsFor (IsNewer s) (IsNotLaid s ⊎ IsSpoilt s)) → IfErr r (IsCause s)
+pub opening_cause : {T : Type 0} (s : State) (r : Result T JournalOpenFault) → s.now.schema ≢ no_schema → s.in_transaction ≡ false → IfErr r (IsFor (IsNewer s) (IsNotLaid s ⊎ IsSpoilt s)) → IfErr r (IsCause s)
 opening_cause s r stand outside = if_err r (λ fault it. is_for {P = IsNewer s} {Q = IsNewer s} (λ newer. newer) step fault it)
   where
     step : IsNotLaid s ⊎ IsSpoilt s → IsDamaged s

@@ -9,7 +9,7 @@ use Rattle.sqlite_value.specs.declared.value.Value.{Value}
 use Rattle.sqlite_value.specs.declared.value.Value.TheVariants.{Null, Int, Real, Text, Blob}
 use Rattle.sqlite_value.specs.Order.{Row}
 use Rattle.source_csv.specs.Rows.{UserFields, text_of}
-use Rattle.source_csv.specs.declared.texts.TheConstants.{TEXT_COUNT}
+use Rattle.source_csv.specs.declared.texts.TheConstants.{TEXT_FIELD_COUNT}
 use Rattle.journal_store.specs.Format.{places}
 use Rattle.journal_store.specs.declared.format.TheConstants.{TEXT_ORDER}
 use Rattle.journal_store.specs.Rows.{IsReadable, all_texts, text_columns, text_in, texts_in}
@@ -27,8 +27,8 @@ each_place (x ∷ xs) zero is = absurd (omega (arith, is))
 each_place (x ∷ xs) (suc count) is = ap (λ l. x ∷ l) (shifted x xs 0 count ∙ each_place xs count (omega (arith, is)))
 
 -- the texts of a row, one by one, are its texts
-pub row_texts : (u : UserFields) → length u.texts ≡ TEXT_COUNT → map (text_of u) TEXT_ORDER ≡ u.texts
-row_texts u count = each_place u.texts TEXT_COUNT count
+pub row_texts : (u : UserFields) → length u.texts ≡ TEXT_FIELD_COUNT → map (text_of u) TEXT_ORDER ≡ u.texts
+row_texts u count = each_place u.texts TEXT_FIELD_COUNT count
 
 -- ---- columns
 

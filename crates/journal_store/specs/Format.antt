@@ -10,7 +10,7 @@ use Rattle.sqlite_schema.specs.declared.schema.Schema.{Schema}
 use Rattle.sqlite_schema.specs.declared.schema.Kind.{Kind as ColumnKind}
 use Rattle.sqlite_schema.specs.declared.schema.Kind.TheVariants.{Integer, Text}
 use Rattle.sql_tables.specs.Layouts.{format_table, no_stamps, optional, required}
-use Rattle.source_csv.specs.declared.texts.TheConstants.{TEXT_COUNT}
+use Rattle.source_csv.specs.declared.texts.TheConstants.{TEXT_FIELD_COUNT}
 use Rattle.scim_key.specs.declared.records.Kind.{Kind}
 use Rattle.sqlite_value.specs.declared.keys.Collation.TheVariants.{Binary}
 use Rattle.sqlite_value.specs.declared.value.Value.TheVariants.{Null}
@@ -63,7 +63,7 @@ entry_columns Group =
 
 -- how many columns a type's table has
 abbrev pub column_count : Kind → ℕ
-column_count User = 6 + TEXT_COUNT
+column_count User = 6 + TEXT_FIELD_COUNT
 column_count Group = 6
 
 -- so many places, from this one on

@@ -28,8 +28,8 @@ use Rattle.journal_store.specs.Rows.{entries_in}
 use Rattle.journal_store.specs.Connections.{FailsToRise, HasNumbers, IsLaid, ListsAll}
 use Rattle.journal_store.specs.declared.statements.TableFault.{TableFault}
 use Rattle.journal_store.specs.declared.statements.TableFault.TheVariants as table
-use Rattle.journal_store.specs.declared.opening.OpenFault.{OpenFault}
-use Rattle.journal_store.specs.declared.opening.OpenFault.TheVariants.{Store, Damaged, Memory, Newer}
+use Rattle.journal_store.specs.declared.opening.JournalOpenFault.{JournalOpenFault}
+use Rattle.journal_store.specs.declared.opening.JournalOpenFault.TheVariants.{Store, Damaged, Memory, Newer}
 
 -- ---- the tables
 
@@ -50,7 +50,7 @@ IsJournal = IsOne journal_schema
 
 -- ---- faults
 
-abbrev pub open_fault : TableFault → OpenFault
+abbrev pub open_fault : TableFault → JournalOpenFault
 open_fault table.Store = Store
 open_fault table.Damaged = Damaged
 open_fault table.Memory = Memory
@@ -61,23 +61,23 @@ table_fault table.Memory = journal.Memory
 table_fault fault = journal.Store
 
 -- the journal's fault for a fault of an opening
-abbrev pub journal_fault : OpenFault → JournalFault
+abbrev pub journal_fault : JournalOpenFault → JournalFault
 journal_fault Memory = journal.Memory
 journal_fault fault = journal.Store
 
 -- a fault that reports a newer format, or damage, has that cause
-abbrev pub IsFor : (newer damaged : Type 0) → OpenFault → Type 0
+abbrev pub IsFor : (newer damaged : Type 0) → JournalOpenFault → Type 0
 IsFor newer damaged Newer = newer
 IsFor newer damaged Damaged = damaged
 IsFor newer damaged fault = Unit {0}
 
 -- a fault that says that the store failed has this cause
-abbrev pub OpenFailsFor : (failure : Type 0) → OpenFault → Type 0
+abbrev pub OpenFailsFor : (failure : Type 0) → JournalOpenFault → Type 0
 OpenFailsFor failure Store = failure
 OpenFailsFor failure fault = Unit {0}
 
 -- the rows that were read are of another format, or damaged
-abbrev pub IsOfRows : OpenFault → Type 0
+abbrev pub IsOfRows : JournalOpenFault → Type 0
 IsOfRows Newer = Unit {0}
 IsOfRows Damaged = Unit {0}
 IsOfRows fault = ⊥
@@ -184,7 +184,7 @@ abbrev pub IsNewer : State → Type 0
 IsNewer s = (number : ℕ) × (format_number < number) × IsFormat s number
 
 -- why an opening refuses a store
-abbrev pub IsCause : State → OpenFault → Type 0
+abbrev pub IsCause : State → JournalOpenFault → Type 0
 IsCause s = IsFor (IsNewer s) (IsDamaged s)
 
 -- why an opening says that the store failed: a transaction was open, the tables weren't there and couldn't be made, or a

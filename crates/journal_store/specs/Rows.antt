@@ -19,7 +19,7 @@ use Rattle.source_csv.specs.Records.{row_name}
 use Rattle.source_csv.specs.Rows.{text_of}
 use Rattle.source_csv.specs.declared.rows.Row as source
 use Rattle.source_csv.specs.declared.rows.Row.TheVariants.{User, Group}
-use Rattle.source_csv.specs.declared.texts.TheConstants.{TEXT_COUNT}
+use Rattle.source_csv.specs.declared.texts.TheConstants.{TEXT_FIELD_COUNT}
 use Rattle.journal_core.specs.Entries.{EntryMap, named}
 use Rattle.journal_core.specs.declared.entries.Entry.{Entry}
 use Rattle.journal_store.specs.Format.{column_count, entry_tree, places}
@@ -116,7 +116,7 @@ columns_at at r = map (column r) at
 
 -- the columns with the texts of a user
 unfoldable pub text_columns : Row → List Value
-text_columns r = columns_at (places 3 TEXT_COUNT) r
+text_columns r = columns_at (places 3 TEXT_FIELD_COUNT) r
 
 abbrev pub all_texts : List Value → Option (List (List ℕ))
 all_texts [] = Some []
@@ -133,7 +133,7 @@ user_in r = do
   login ← text_in (column r 1)
   revision ← revision_in (column r 2)
   texts ← texts_in r
-  active ← active_in (column r (3 + TEXT_COUNT))
+  active ← active_in (column r (3 + TEXT_FIELD_COUNT))
   Some (User (record { login = login; revision = revision; texts = texts; active = active }))
 
 abbrev pub group_in : Row → Option source.Row
@@ -156,7 +156,7 @@ entry_by row confirmed id = do
   Some (record { row = source; confirmed = revision; id = given })
 
 abbrev pub fields_in : Kind → Row → Option Entry
-fields_in kind.User r = entry_by (user_in r) (confirmed_in (column r (4 + TEXT_COUNT))) (id_in (column r (5 + TEXT_COUNT)))
+fields_in kind.User r = entry_by (user_in r) (confirmed_in (column r (4 + TEXT_FIELD_COUNT))) (id_in (column r (5 + TEXT_FIELD_COUNT)))
 fields_in kind.Group r = entry_by (group_in r) (confirmed_in (column r 4)) (id_in (column r 5))
 
 -- the entry, if it is of the record with this key

@@ -10,7 +10,7 @@ ghost use Rattle.sqlite_value.specs.declared.value.Value.TheVariants.{Text};
 ghost use Rattle.source_csv.specs.Fields.{pieces};
 ghost use Rattle.source_csv.specs.Records.{IsRow, row_name};
 ghost use Rattle.source_csv.specs.Rows.{AreUserKeys, IsUserKey};
-ghost use Rattle.source_csv.specs.declared.texts.TheConstants.{TEXT_COUNT};
+ghost use Rattle.source_csv.specs.declared.texts.TheConstants.{TEXT_FIELD_COUNT};
 ghost use Rattle.journal_store.specs.Connections.{Shows, ShowsNone, ShowsRest, ShowsSource};
 ghost use Rattle.journal_store.specs.Faults.{HasCause, IsOfRow};
 ghost use Rattle.journal_store.specs.declared.statements.TableFault.TheVariants.{Damaged};
@@ -19,7 +19,7 @@ ghost use Rattle.journal_store.specs.Rows.{IsLawfulId, IsReadable, active_in, co
 use crate::statements::TableFault;
 use journal_core::Entry;
 use scim_key::{GroupName, Key, Kind, ResourceId, Revision, UserName};
-use source_csv::{GroupRow, Row as SourceRow, TEXT_COUNT, Text as UserValue, UserRow};
+use source_csv::{FieldValue, GroupRow, Row as SourceRow, TEXT_FIELD_COUNT, UserRow};
 use sql_tables::{number_at, text_at as bytes_at};
 use sqlite::Row;
 use sqlite_value::value::ValueRef;
@@ -51,7 +51,7 @@ fn cell_at(row: &Row, at: usize) -> ValueRef<'_>
     }
 }
 
-fn value_of(alloc: Global, cell: ValueRef<'_>) -> Result<UserValue, TableFault>
+fn value_of(alloc: Global, cell: ValueRef<'_>) -> Result<FieldValue, TableFault>
     ensures some { IfOk result (λ value. owned cell.entry ≡ Text value) }
     ensures utf8 { IfOk result IsUtf8 }
     ensures none { IfErr result (HasCause ((text : List ℕ) → owned cell.entry ≡ Text text → IsUtf8 text → ⊥)) }
@@ -61,7 +61,7 @@ fn value_of(alloc: Global, cell: ValueRef<'_>) -> Result<UserValue, TableFault>
         return Err(TableFault::Damaged);
     };
     match str::from_utf8(bytes) {
-        Ok(text) => Ok(UserValue::new(String::from_str(alloc, text)?)),
+        Ok(text) => Ok(FieldValue::new(String::from_str(alloc, text)?)),
         Err(_) => Err(TableFault::Damaged),
     }
 }
@@ -149,13 +149,13 @@ fn members_of(alloc: Global, text: &str) -> Result<Vec<Key>, TableFault>
 
 /// The values of the texts of a user, whose columns come after the revision.
 #[tactic(auto, unfolding(crate::specs::Rows::text_columns))]
-fn text_cells(row: &Row) -> [ValueRef<'_>; TEXT_COUNT]
+fn text_cells(row: &Row) -> [ValueRef<'_>; TEXT_FIELD_COUNT]
     ensures { map owned result ≡ text_columns row.now }
 {
     array::from_fn(|at| cell_at(row, 3 + at))
 }
 
-fn texts_at(alloc: Global, row: &Row) -> Result<[UserValue; TEXT_COUNT], TableFault>
+fn texts_at(alloc: Global, row: &Row) -> Result<[FieldValue; TEXT_FIELD_COUNT], TableFault>
     ensures some { IfOk result (λ texts. texts_in row.now ≡ Some texts) }
     ensures utf8 { IfOk result (λ _. AllByRecursion IsReadable (text_columns row.now)) }
     ensures none { IfErr result (HasCause ((texts : List (List ℕ)) → texts_in row.now ≡ Some texts → AllByRecursion IsReadable (text_columns row.now) → ⊥)) }
@@ -173,7 +173,7 @@ fn user_at(alloc: Global, row: &Row) -> Result<SourceRow, TableFault>
     let login = UserName::read(alloc, text_at(row, 1)?)?;
     let revision = revision_at(row, 2)?;
     let texts = texts_at(alloc, row)?;
-    let active = active_at(row, 3 + TEXT_COUNT)?;
+    let active = active_at(row, 3 + TEXT_FIELD_COUNT)?;
     match UserRow::new(login, revision, texts, active) {
         Some(user) => Ok(SourceRow::User(user)),
         None => Err(TableFault::Damaged),
@@ -215,7 +215,7 @@ fn entry_of(
     source: SourceRow,
     after: usize,
 ) -> Result<Entry, TableFault>
-    requires { after ≤ 4 + TEXT_COUNT }
+    requires { after ≤ 4 + TEXT_FIELD_COUNT }
     ensures some { IfOk result (ShowsRest kind row.now source after) }
     ensures lawful { OnOk result (IsRow source) }
     ensures none { IfErr result (HasCause ((entry : _) → ShowsRest kind row.now source after entry → ⊥)) }
@@ -240,7 +240,13 @@ pub(crate) fn read_entry(alloc: Global, kind: Kind, row: &Row) -> Result<Entry, 
     ensures read { IfErr result IsOfRow }
 {
     match kind {
-        Kind::User => entry_of(alloc, Kind::User, row, user_at(alloc, row)?, 4 + TEXT_COUNT),
+        Kind::User => entry_of(
+            alloc,
+            Kind::User,
+            row,
+            user_at(alloc, row)?,
+            4 + TEXT_FIELD_COUNT,
+        ),
         Kind::Group => entry_of(alloc, Kind::Group, row, group_at(alloc, row)?, 4),
     }
 }

@@ -4,7 +4,7 @@ ghost use Rattle.journal_store.specs.Format.{column_of, entry_columns, entry_nam
 ghost use Rattle.journal_store.specs.Opening.{IsEntryTable, IsJournal};
 
 use scim_key::Kind as RecordKind;
-use source_csv::{TEXT_COUNT, UserText};
+use source_csv::{TEXT_FIELD_COUNT, TextField};
 use sql_tables::{Layout, has_order, is_column, is_format, is_plain};
 use sqlite_schema::schema::{Column, Index, Kind, Schema, Table};
 
@@ -15,7 +15,7 @@ pub(crate) const FORMAT: u64 = 1;
 type EntryColumn = (&'static str, Kind, bool);
 
 /// The columns of the table of users.
-const USER_COLUMNS: [EntryColumn; 6 + TEXT_COUNT] = [
+const USER_COLUMNS: [EntryColumn; 6 + TEXT_FIELD_COUNT] = [
     ("name_key", Kind::Text, true),
     ("login", Kind::Text, true),
     ("revision", Kind::Integer, true),
@@ -39,11 +39,11 @@ const GROUP_COLUMNS: [EntryColumn; 6] = [
 ];
 
 /// The texts of a user, in the order of their columns.
-pub(crate) const TEXT_ORDER: [UserText; TEXT_COUNT] = [
-    UserText::Number,
-    UserText::Given,
-    UserText::Family,
-    UserText::Mail,
+pub(crate) const TEXT_ORDER: [TextField; TEXT_FIELD_COUNT] = [
+    TextField::Number,
+    TextField::Given,
+    TextField::Family,
+    TextField::Mail,
 ];
 
 /// The tables of the format.

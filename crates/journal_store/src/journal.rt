@@ -17,7 +17,7 @@ ghost use Rattle.journal_store.specs.Rows.{entry_in, row_of};
 
 use crate::batches::put_all;
 use crate::format::Journal as Tables;
-use crate::opening::{OpenFault, check_tables, open_tables};
+use crate::opening::{JournalOpenFault, check_tables, open_tables};
 use crate::statements::TableFault;
 use crate::tables::{find_entry, list_entries, put_entry, with_row};
 use journal_core::{Entry, Journal, JournalFault, ReopenJournal};
@@ -241,12 +241,13 @@ impl<S: Alter> Journal for SqlJournal<S> {
 // ---- opening and closing
 
 /// The journal's fault for a fault of an opening.
-fn journal_fault(fault: OpenFault) -> JournalFault
+fn journal_fault(fault: JournalOpenFault) -> JournalFault
     ensures { result ≡ journal_fault fault }
 {
     match fault {
-        OpenFault::Memory => JournalFault::Memory,
-        OpenFault::Store | OpenFault::Damaged | OpenFault::Newer => JournalFault::Store,
+        JournalOpenFault::Memory => JournalFault::Memory,
+        JournalOpenFault::Store | JournalOpenFault::Damaged | JournalOpenFault::Newer =>
+            JournalFault::Store,
     }
 }
 
@@ -256,7 +257,7 @@ impl<S: Alter> SqlJournal<S> {
     pub fn open(
         alloc: Global,
         mut conn: Connection<S>,
-    ) -> Result<SqlJournal<S>, (OpenFault, Connection<S>)>
+    ) -> Result<SqlJournal<S>, (JournalOpenFault, Connection<S>)>
         ensures faithful { IfOk result (λ j. IsHonest S.Store j → IsFaithful S.Store j) }
         ensures entries { IfOk result (λ j. IsHonest S.Store j → Stands (state S.Store conn) (kept_entries S.Store j)) }
         ensures counts { IfOk result (λ j. (j.faults ≡ 0) × (j.writes ≡ 0)) }

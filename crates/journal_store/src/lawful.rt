@@ -4,7 +4,7 @@ ghost use Rattle.std.specs.List.{AllByRecursion, list_all};
 ghost use Rattle.sqlite_rules.specs.Lists.{Has};
 ghost use Rattle.journal_store.specs.Opening.{AreInOrder, AreLawful, HasMembersOf, IsFor, OpenFailsFor, is_identified, keys_of};
 
-use crate::opening::OpenFault;
+use crate::opening::JournalOpenFault;
 use journal_core::{Entry, GROUP_LIMIT, USER_LIMIT};
 use scim_key::{Key, RecordName, Revision};
 use source_csv::Row as SourceRow;
@@ -79,20 +79,24 @@ fn have_members(keys: &[Key], groups: &[Entry]) -> bool
 }
 
 /// Checks the entries of both types, which are in order of their keys.
-pub(crate) fn check_lists(alloc: Global, users: &[Entry], groups: &[Entry]) -> Result<(), OpenFault>
+pub(crate) fn check_lists(
+    alloc: Global,
+    users: &[Entry],
+    groups: &[Entry],
+) -> Result<(), JournalOpenFault>
     ensures lawful { OnOk result (AreLawful users.now groups.now) }
     ensures cause { IfErr result (IsFor ⊥ (AreInOrder (keys_of users.now) → AreLawful users.now groups.now → ⊥)) }
     ensures failed { IfErr result (OpenFailsFor ⊥) }
 {
     if users.len() > USER_LIMIT || groups.len() > GROUP_LIMIT {
-        return Err(OpenFault::Damaged);
+        return Err(JournalOpenFault::Damaged);
     }
     if !are_identified(users) || !are_identified(groups) {
-        return Err(OpenFault::Damaged);
+        return Err(JournalOpenFault::Damaged);
     }
     let keys = keys_of(alloc, users)?;
     if !have_members(keys.as_slice(), groups) {
-        return Err(OpenFault::Damaged);
+        return Err(JournalOpenFault::Damaged);
     }
     Ok(())
 }

@@ -12,4 +12,4 @@ mod statements;
 mod tables;
 
 pub use journal::SqlJournal;
-pub use opening::OpenFault;
+pub use opening::JournalOpenFault;

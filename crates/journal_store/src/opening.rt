@@ -27,7 +27,7 @@ use thiserror::Error as Fault;
 
 /// Why a journal couldn't be opened. Its contents are unchanged.
 #[derive(Clone, Copy, Debug, PartialEq, Eq, Fault)]
-pub enum OpenFault {
+pub enum JournalOpenFault {
     /// The database failed, or a transaction is open.
     #[error("J1")]
     Store,
@@ -41,39 +41,39 @@ pub enum OpenFault {
     Newer,
 }
 
-impl From<AllocError> for OpenFault {
-    ghost use Rattle.journal_store.specs.declared.opening.OpenFault.TheVariants.{Memory};
+impl From<AllocError> for JournalOpenFault {
+    ghost use Rattle.journal_store.specs.declared.opening.JournalOpenFault.TheVariants.{Memory};
 
     ghost from_gives = { λ _ fault. fault ≡ Memory };
 
-    fn from(_: AllocError) -> OpenFault {
-        OpenFault::Memory
+    fn from(_: AllocError) -> JournalOpenFault {
+        JournalOpenFault::Memory
     }
 }
 
-impl From<TableFault> for OpenFault {
+impl From<TableFault> for JournalOpenFault {
     ghost use Rattle.journal_store.specs.Opening.{open_fault};
 
     ghost from_gives = { λ fault given. given ≡ open_fault fault };
 
-    fn from(fault: TableFault) -> OpenFault {
+    fn from(fault: TableFault) -> JournalOpenFault {
         match fault {
-            TableFault::Store => OpenFault::Store,
-            TableFault::Damaged => OpenFault::Damaged,
-            TableFault::Memory => OpenFault::Memory,
+            TableFault::Store => JournalOpenFault::Store,
+            TableFault::Damaged => JournalOpenFault::Damaged,
+            TableFault::Memory => JournalOpenFault::Memory,
         }
     }
 }
 
 /// A failed statement never means damage or a newer format.
-impl From<Error> for OpenFault {
+impl From<Error> for JournalOpenFault {
     ghost use Rattle.journal_store.specs.Faults.{statement_fault};
     ghost use Rattle.journal_store.specs.Opening.{open_fault};
 
     ghost from_gives = { λ error fault. (fault ≡ open_fault (statement_fault error)) × IsFor ⊥ ⊥ fault };
 
-    fn from(error: Error) -> OpenFault {
-        OpenFault::from(TableFault::from(error))
+    fn from(error: Error) -> JournalOpenFault {
+        JournalOpenFault::from(TableFault::from(error))
     }
 }
 
@@ -108,7 +108,7 @@ fn make_tables<S: Alter>(conn: &mut Connection<S>) -> Result<(), Error>
 }
 
 /// Checks the number of the format.
-fn check_format<S: Alter>(conn: &mut Connection<S>) -> Result<(), OpenFault>
+fn check_format<S: Alter>(conn: &mut Connection<S>) -> Result<(), JournalOpenFault>
     requires laid { HasCleanDisk (state S.Store conn.old) → IsTrue (state S.Store conn.old).is_open → IsLaid (state S.Store conn.old) }
     ensures known { HasCleanDisk (state S.Store conn.new) → OnOk result (IsFormat (state S.Store conn.old) format_number) }
     ensures cause { HasCleanDisk (state S.Store conn.new) → IfErr result (IsFor (IsNewer (state S.Store conn.old)) (IsUnmarked (state S.Store conn.old))) }
@@ -118,9 +118,9 @@ fn check_format<S: Alter>(conn: &mut Connection<S>) -> Result<(), OpenFault>
 {
     match find_mark::<S, Journal>(conn, "SELECT number FROM journal_format", FORMAT) {
         Ok(Mark::Own) => Ok(()),
-        Ok(Mark::Newer) => Err(OpenFault::Newer),
-        Ok(Mark::Unmarked) => Err(OpenFault::Damaged),
-        Err(error) => Err(OpenFault::from(error)),
+        Ok(Mark::Newer) => Err(JournalOpenFault::Newer),
+        Ok(Mark::Unmarked) => Err(JournalOpenFault::Damaged),
+        Err(error) => Err(JournalOpenFault::from(error)),
     }
 }
 
@@ -138,7 +138,7 @@ fn rises(last: Option<i64>, number: i64) -> bool
 }
 
 /// Checks that the rows show rising numbers.
-fn check_rising(rows: &[Row]) -> Result<(), OpenFault>
+fn check_rising(rows: &[Row]) -> Result<(), JournalOpenFault>
     ensures rising { OnOk result (AreRising rows.now) }
     ensures cause { IfErr result (IsFor ⊥ (IsUnnumbered rows.now)) }
     ensures read { IfErr result IsOfRows }
@@ -146,10 +146,10 @@ fn check_rising(rows: &[Row]) -> Result<(), OpenFault>
     let mut last = None;
     for row in rows {
         let Some(number) = integer_at(row, 0) else {
-            return Err(OpenFault::Damaged);
+            return Err(JournalOpenFault::Damaged);
         };
         if !rises(last, number) {
-            return Err(OpenFault::Damaged);
+            return Err(JournalOpenFault::Damaged);
         }
         last = Some(number);
     }
@@ -157,7 +157,10 @@ fn check_rising(rows: &[Row]) -> Result<(), OpenFault>
 }
 
 /// Checks that each row of a table has a number that no other row has.
-fn check_table<S: Alter, F: Format>(conn: &mut Connection<S>, kind: Kind) -> Result<(), OpenFault>
+fn check_table<S: Alter, F: Format>(
+    conn: &mut Connection<S>,
+    kind: Kind,
+) -> Result<(), JournalOpenFault>
     requires laid { HasCleanDisk (state S.Store conn.old) → IsTrue (state S.Store conn.old).is_open → IsLaidBy F.layout (state S.Store conn.old) }
     ensures numbered { HasCleanDisk (state S.Store conn.new) → OnOk result (AreNumbered ((state S.Store conn.old).now.trees (F.tree kind))) }
     ensures cause { HasCleanDisk (state S.Store conn.new) → IfErr result (IsFor ⊥ (IsTrue (state S.Store conn.new).is_open × (AreNumbered ((state S.Store conn.old).now.trees (F.tree kind)) → ⊥))) }
@@ -167,12 +170,12 @@ fn check_table<S: Alter, F: Format>(conn: &mut Connection<S>, kind: Kind) -> Res
 {
     match ask::<S, F>(conn, F::numbers_statement(kind), &[]) {
         Ok(rows) => check_rising(rows.as_slice()),
-        Err(error) => Err(OpenFault::from(error)),
+        Err(error) => Err(JournalOpenFault::from(error)),
     }
 }
 
 /// Checks the numbers of the rows of both tables.
-fn check_numbers<S: Alter, F: Format>(conn: &mut Connection<S>) -> Result<(), OpenFault>
+fn check_numbers<S: Alter, F: Format>(conn: &mut Connection<S>) -> Result<(), JournalOpenFault>
     requires laid { HasCleanDisk (state S.Store conn.old) → IsTrue (state S.Store conn.old).is_open → IsLaidBy F.layout (state S.Store conn.old) }
     ensures numbered { HasCleanDisk (state S.Store conn.new) → OnOk result (HasNumbersBy F.tree (state S.Store conn.old).now.trees) }
     ensures cause { HasCleanDisk (state S.Store conn.new) → IfErr result (IsFor ⊥ (IsTrue (state S.Store conn.new).is_open × (HasNumbersBy F.tree (state S.Store conn.old).now.trees → ⊥))) }
@@ -185,7 +188,7 @@ fn check_numbers<S: Alter, F: Format>(conn: &mut Connection<S>) -> Result<(), Op
 }
 
 /// Checks the entries of both tables.
-fn check_entries<S: Alter>(alloc: Global, conn: &mut Connection<S>) -> Result<(), OpenFault>
+fn check_entries<S: Alter>(alloc: Global, conn: &mut Connection<S>) -> Result<(), JournalOpenFault>
     requires laid { HasCleanDisk (state S.Store conn.old) → IsTrue (state S.Store conn.old).is_open → IsLaid (state S.Store conn.old) }
     ensures holds { HasCleanDisk (state S.Store conn.new) → OnOk result (HoldsEntries (state S.Store conn.old).now.trees) }
     ensures cause { HasCleanDisk (state S.Store conn.new) → IfErr result (IsFor ⊥ (IsTrue (state S.Store conn.new).is_open × (HoldsEntries (state S.Store conn.old).now.trees → ⊥))) }
@@ -201,7 +204,7 @@ fn check_entries<S: Alter>(alloc: Global, conn: &mut Connection<S>) -> Result<()
 // ---- the store
 
 /// Checks the format and each row.
-fn check_laid<S: Alter>(alloc: Global, conn: &mut Connection<S>) -> Result<(), OpenFault>
+fn check_laid<S: Alter>(alloc: Global, conn: &mut Connection<S>) -> Result<(), JournalOpenFault>
     requires laid { HasCleanDisk (state S.Store conn.old) → IsTrue (state S.Store conn.old).is_open → IsLaid (state S.Store conn.old) }
     ensures store { HasCleanDisk (state S.Store conn.new) → OnOk result ((entries : EntryMap) × IsStore (state S.Store conn.old) entries) }
     ensures cause { HasCleanDisk (state S.Store conn.new) → IfErr result (IsFor (IsNewer (state S.Store conn.old)) (ShowsDamage (state S.Store conn.old))) }
@@ -227,7 +230,7 @@ fn is_laid<S: Alter>(conn: &Connection<S>) -> bool
 pub(crate) fn check_tables<S: Alter>(
     alloc: Global,
     conn: &mut Connection<S>,
-) -> Result<(), OpenFault>
+) -> Result<(), JournalOpenFault>
     ensures store { HasCleanDisk (state S.Store conn.new) → OnOk result ((entries : EntryMap) × IsStore (state S.Store conn.old) entries) }
     ensures cause { HasCleanDisk (state S.Store conn.new) → IfErr result (IsFor (IsNewer (state S.Store conn.old)) (IsNotLaid (state S.Store conn.old) ⊎ IsSpoilt (state S.Store conn.old))) }
     ensures failed { HasCleanDisk (state S.Store conn.new) → IfErr result (OpenFailsFor (HasFailed (state S.Store conn.old) (state S.Store conn.new))) }
@@ -238,7 +241,7 @@ pub(crate) fn check_tables<S: Alter>(
     if is_laid(conn) {
         check_laid(alloc, conn)
     } else {
-        Err(OpenFault::Damaged)
+        Err(JournalOpenFault::Damaged)
     }
 }
 
@@ -246,7 +249,7 @@ pub(crate) fn check_tables<S: Alter>(
 pub(crate) fn open_tables<S: Alter>(
     alloc: Global,
     conn: &mut Connection<S>,
-) -> Result<(), OpenFault>
+) -> Result<(), JournalOpenFault>
     ensures stands { HasCleanDisk (state S.Store conn.new) → OnOk result ((entries : EntryMap) × Stands (state S.Store conn.old) entries × IsStore (state S.Store conn.new) entries) }
     ensures cause { HasCleanDisk (state S.Store conn.new) → IfErr result (IsCause (state S.Store conn.old)) }
     ensures failed { HasCleanDisk (state S.Store conn.new) → IfErr result (OpenFailsFor (OpeningFails (state S.Store conn.old) (state S.Store conn.new))) }
@@ -255,13 +258,13 @@ pub(crate) fn open_tables<S: Alter>(
     ensures stop { Survives (state S.Store conn.old) (state S.Store conn.new) LeavesNone }
 {
     if !conn.is_autocommit() {
-        return Err(OpenFault::Store);
+        return Err(JournalOpenFault::Store);
     }
     if !is_blank(conn.schema()) {
         return check_tables(alloc, conn);
     }
     match make_tables(conn) {
         Ok(()) => Ok(()),
-        Err(error) => Err(OpenFault::from(error)),
+        Err(error) => Err(JournalOpenFault::from(error)),
     }
 }

@@ -27,7 +27,7 @@ use crate::formats::Format;
 use crate::statements::TableFault;
 use journal_core::Entry;
 use scim_key::{Key, Kind, RecordName, ResourceId, Revision};
-use source_csv::{GroupRow, Row as SourceRow, TEXT_COUNT, UserRow};
+use source_csv::{GroupRow, Row as SourceRow, TEXT_FIELD_COUNT, UserRow};
 use sql_tables::{ask, write};
 use sqlite::{Alter, Connection, Row};
 use sqlite_value::value::ValueRef;
@@ -181,7 +181,7 @@ pub(crate) fn kind_of(row: &SourceRow) -> Kind
 }
 
 /// The texts of a user, in the order of their columns.
-fn text_params(user: &UserRow) -> [ValueRef<'_>; TEXT_COUNT]
+fn text_params(user: &UserRow) -> [ValueRef<'_>; TEXT_FIELD_COUNT]
     ensures { bound result ≡ map (λ which. Text (text_of user.now which)) TEXT_ORDER }
 {
     TEXT_ORDER.map(|which| text_param(user.text(which)))

@@ -12,8 +12,8 @@ use Rattle.scim_resource.specs.declared.user_texts.TheConstants.{USER_TEXTS}
 use Rattle.scim_resource.specs.declared.user_texts.UserText.{UserText}
 use Rattle.scim_resource.specs.declared.user_texts.UserText.TheVariants as texts
 use Rattle.source_csv.specs.Rows.{GroupFields, UserFields, text_of}
-use Rattle.source_csv.specs.declared.texts.UserText as fields
-use Rattle.source_csv.specs.declared.texts.UserText.TheVariants as field
+use Rattle.source_csv.specs.declared.texts.TextField as fields
+use Rattle.source_csv.specs.declared.texts.TextField.TheVariants as field
 use Rattle.source_csv.specs.declared.rows.Row.{Row}
 use Rattle.source_csv.specs.declared.rows.Row.TheVariants.{User, Group}
 use Rattle.group_sync.specs.Ready.{ready}
@@ -36,7 +36,7 @@ emails_of [] = []
 emails_of (b ∷ mail) = work_email (b ∷ mail) ∷ []
 
 -- the text of a row that gives a text of a user
-abbrev pub source_of : UserText → fields.UserText
+abbrev pub source_of : UserText → fields.TextField
 source_of texts.ExternalId = field.Number
 source_of texts.FamilyName = field.Family
 source_of texts.GivenName = field.Given

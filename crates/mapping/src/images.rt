@@ -8,7 +8,7 @@ ghost use Rattle.mapping.specs.Images.{emails_of, image_texts, present, source_o
 use scim_resource::{
     Content, Email, Emails, TEXT_COUNT, TEXT_LIMIT, Text, USER_TEXTS, User, UserText,
 };
-use source_csv::{UserRow, UserText as Field};
+use source_csv::{TextField, UserRow};
 use std::alloc::{AllocError, Global};
 
 /// The content for a user's row. An empty field is an absent attribute.
@@ -17,19 +17,19 @@ pub fn user_content(alloc: Global, row: &UserRow) -> Result<Content, AllocError>
 {
     let login = row.login().clone()?;
     let texts = texts(alloc, row)?;
-    let emails = emails(alloc, row.text(Field::Mail))?;
+    let emails = emails(alloc, row.text(TextField::Mail))?;
     let user = User::new(alloc, login, row.is_active(), Some(row.revision()));
     Ok(Content::User(user.with_texts(texts).with_emails(emails)))
 }
 
 /// The field of a row that gives a text of a user.
-fn source_of(which: UserText) -> Field
+fn source_of(which: UserText) -> TextField
     ensures { result ≡ source_of which }
 {
     match which {
-        UserText::ExternalId => Field::Number,
-        UserText::FamilyName => Field::Family,
-        UserText::GivenName => Field::Given,
+        UserText::ExternalId => TextField::Number,
+        UserText::FamilyName => TextField::Family,
+        UserText::GivenName => TextField::Given,
     }
 }
 

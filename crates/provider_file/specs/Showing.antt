@@ -4,7 +4,7 @@ use Rattle.std.specs.Io.KnownBytes.{Appends}
 use Rattle.provider_core.specs.declared.registry.Registry.{Ghosts}
 use Rattle.provider_core.specs.declared.registry.RegistryFault.{RegistryFault}
 use Rattle.provider_core.specs.declared.registry.RegistryFault.TheVariants as registry
-use Rattle.provider_store.specs.declared.opening.OpenFault.TheVariants as opening
+use Rattle.provider_store.specs.declared.opening.RegistryOpenFault.TheVariants as opening
 use Rattle.provider_file.specs.declared.showing.ShowStoreFault.{ShowStoreFault}
 use Rattle.provider_file.specs.declared.showing.ShowStoreFault.TheVariants.{Store}
 use Rattle.provider_file.specs.Opened.{IsOpened}

@@ -5,7 +5,7 @@ ghost use Rattle.provider_file.specs.Opened.{IsOpened};
 use crate::storage::{RowStorage, StoredRows};
 use database_file::{DatabaseFile, DatabaseReason, failure_in, failure_since};
 use provider_core::Registry;
-use provider_store::{OpenFault, SqlRegistry};
+use provider_store::{RegistryOpenFault, SqlRegistry};
 use sqlite::{Alter, Connection, Error, File, FileStore};
 use sqlite_disk::{Disk, Files};
 use std::alloc::Global;
@@ -26,7 +26,7 @@ impl<'a> RowStorage for StoreFile<'a> {
     ghost refuses = { λ _ _. Unit {0} };
 
     /// If the file is refused, it is closed unchanged.
-    fn open(&self) -> Result<Self::Rows, OpenFault> {
+    fn open(&self) -> Result<Self::Rows, RegistryOpenFault> {
         rows_over(self.file.rt.alloc(), self.file.open()?)
     }
 
@@ -63,7 +63,7 @@ impl<D: Disk + Drop> StoredRows for SqlRegistry<FileStore<D>> {
 fn rows_over<S: Alter + Drop>(
     alloc: Global,
     conn: Connection<S>,
-) -> Result<SqlRegistry<S>, OpenFault>
+) -> Result<SqlRegistry<S>, RegistryOpenFault>
     ensures opened { IfOk result (IsOpened ⟦<SqlRegistry<S> as Registry>⟧) }
 {
     match SqlRegistry::open(alloc, conn) {
@@ -79,7 +79,7 @@ fn refusal<D: Disk + Drop>(
 ) -> Option<DatabaseReason> {
     match SqlRegistry::open(alloc, conn) {
         Ok(rows) => failure_in(SqlRegistry::close(rows), SAME),
-        Err((OpenFault::Store, conn)) => Some(failure_since(conn)),
+        Err((RegistryOpenFault::Store, conn)) => Some(failure_since(conn)),
         Err((_fault, _conn)) => None,
     }
 }

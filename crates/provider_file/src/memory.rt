@@ -2,7 +2,7 @@
 use crate::storage::{RowStorage, StoredRows};
 use database_file::DatabaseReason;
 use provider_core::MemoryRegistry;
-use provider_store::OpenFault;
+use provider_store::RegistryOpenFault;
 use std::alloc::Global;
 
 /// Rows in memory, which are gone once they are closed.
@@ -17,7 +17,7 @@ impl RowStorage for InMemory {
     /// It refuses nothing.
     ghost refuses = { λ _ _. ⊥ };
 
-    fn open(&self) -> Result<MemoryRegistry, OpenFault> {
+    fn open(&self) -> Result<MemoryRegistry, RegistryOpenFault> {
         Ok(MemoryRegistry::new(self.alloc))
     }
 

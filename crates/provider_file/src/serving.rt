@@ -7,7 +7,7 @@ use crate::storage::{RowStorage, StoredRows};
 use connection::{ConnectionFault, Listen, serve_connections};
 use http_text::{Input, Output};
 use provider_core::Provider;
-use provider_store::OpenFault;
+use provider_store::RegistryOpenFault;
 use scim_key::Base;
 use scim_server::{Served, serve};
 use std::alloc::Global;
@@ -20,7 +20,7 @@ pub fn serve_one<K: RowStorage, I: Read, O: Write>(
     base: &Base,
     reader: &mut Input<I>,
     writer: &mut Output<O>,
-) -> Result<Served, OpenFault>
+) -> Result<Served, RegistryOpenFault>
     ensures answers { IfOk result (AnswersFrom K.Rows.Registry base.now reader.old reader.new writer.old writer.new) }
     ensures refused { OnErr result ((reader.new ≡ reader.old) × (writer.new ≡ writer.old)) }
     ensures cause { IfErr result (K.refuses storage.now) }
@@ -42,7 +42,7 @@ pub fn serve_stored<K: RowStorage, L: Listen>(
     listener: &mut L,
     count: u32,
     base: &Base,
-) -> Result<Result<(), ConnectionFault>, OpenFault>
+) -> Result<Result<(), ConnectionFault>, RegistryOpenFault>
     ensures served { IfOk result (λ outcome. (last : K.Rows) × ServesFrom L.waiting L.Reader.remaining L.Writer.contents
         K.Rows.Registry base.now listener.old listener.new rows last count outcome) }
     ensures refused { OnErr result (IsRefused L.waiting L.Reader.remaining L.Writer.contents
@@ -64,7 +64,7 @@ pub fn serve_stored<K: RowStorage, L: Listen>(
 fn mended<K: RowStorage>(
     storage: &K,
     provider: Provider<K::Rows>,
-) -> Result<Provider<K::Rows>, OpenFault>
+) -> Result<Provider<K::Rows>, RegistryOpenFault>
     ensures mended { IfOk result (IsMended K.Rows.Registry provider) }
     ensures refused { OnErr result (0 < K.Rows.faults provider) }
     ensures cause { IfErr result (K.refuses storage.now) }

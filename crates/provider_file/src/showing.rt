@@ -4,12 +4,12 @@ ghost use Rattle.std.specs.Io.KnownBytes.{Appends};
 ghost use Rattle.provider_file.specs.Lines.{lines_of};
 ghost use Rattle.provider_file.specs.Showing.{ShowsFrom, registry_fault, ReadsOn};
 ghost use Rattle.provider_file.specs.declared.showing.ShowStoreFault.TheVariants.{Output};
-ghost use Rattle.provider_store.specs.declared.opening.OpenFault.TheVariants.{Memory};
+ghost use Rattle.provider_store.specs.declared.opening.RegistryOpenFault.TheVariants.{Memory};
 
 use crate::lines::row_line;
 use crate::storage::{RowStorage, StoredRows};
 use provider_core::{Registry, RegistryFault};
-use provider_store::OpenFault;
+use provider_store::RegistryOpenFault;
 use scim_resource::Stored;
 use std::alloc::{AllocError, Global};
 use std::io;
@@ -24,18 +24,18 @@ const ROWS_AT_ONCE: u32 = 100;
 pub enum ShowStoreFault {
     /// The store couldn't be opened, it failed, or memory ran out.
     #[error("store {0}")]
-    Store(OpenFault),
+    Store(RegistryOpenFault),
     /// A write or the flush failed.
     #[error("output")]
     Output,
 }
 
-impl From<OpenFault> for ShowStoreFault {
+impl From<RegistryOpenFault> for ShowStoreFault {
     ghost use Rattle.provider_file.specs.declared.showing.ShowStoreFault.TheVariants.{Store};
 
     ghost from_gives = { λ opening fault. fault ≡ Store opening };
 
-    fn from(fault: OpenFault) -> ShowStoreFault {
+    fn from(fault: RegistryOpenFault) -> ShowStoreFault {
         ShowStoreFault::Store(fault)
     }
 }
@@ -45,8 +45,8 @@ impl From<RegistryFault> for ShowStoreFault {
 
     fn from(fault: RegistryFault) -> ShowStoreFault {
         match fault {
-            RegistryFault::Store => ShowStoreFault::Store(OpenFault::Store),
-            RegistryFault::Memory => ShowStoreFault::Store(OpenFault::Memory),
+            RegistryFault::Store => ShowStoreFault::Store(RegistryOpenFault::Store),
+            RegistryFault::Memory => ShowStoreFault::Store(RegistryOpenFault::Memory),
         }
     }
 }
@@ -57,7 +57,7 @@ impl From<AllocError> for ShowStoreFault {
     ghost from_gives = { λ _ fault. fault ≡ Store Memory };
 
     fn from(_: AllocError) -> ShowStoreFault {
-        ShowStoreFault::Store(OpenFault::Memory)
+        ShowStoreFault::Store(RegistryOpenFault::Memory)
     }
 }
 
@@ -73,7 +73,7 @@ fn output_fault(kind: ErrorKind) -> ShowStoreFault
     ensures output { kind ≢ ErrorKind.OutOfMemory → result ≡ Output }
 {
     match kind {
-        ErrorKind::OutOfMemory => ShowStoreFault::Store(OpenFault::Memory),
+        ErrorKind::OutOfMemory => ShowStoreFault::Store(RegistryOpenFault::Memory),
         _ => ShowStoreFault::Output,
     }
 }

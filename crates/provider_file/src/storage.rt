@@ -1,11 +1,11 @@
 //! Where the rows of a provider are kept.
 ghost use Rattle.std.specs.Prelude.{◌<◌, ◌↔◌, IfErr, IfOk, IsTrue};
 ghost use Rattle.provider_file.specs.Opened.{IsOpened};
-ghost use Rattle.provider_store.specs.declared.opening.OpenFault.{OpenFault as Refusal};
+ghost use Rattle.provider_store.specs.declared.opening.RegistryOpenFault.{RegistryOpenFault as Refusal};
 
 use database_file::DatabaseReason;
 use provider_core::Registry;
-use provider_store::OpenFault;
+use provider_store::RegistryOpenFault;
 
 /// The rows of a provider, opened where they are kept.
 pub trait StoredRows: Registry {
@@ -31,7 +31,7 @@ pub trait RowStorage {
     ghost refuses: { Self → Refusal → Type 0 };
 
     /// Opens the rows.
-    fn open(&self) -> Result<Self::Rows, OpenFault>
+    fn open(&self) -> Result<Self::Rows, RegistryOpenFault>
         ensures opened { IfOk result (IsOpened Self.Rows.Registry) }
         ensures refused { IfErr result (refuses self.now) };
 

@@ -25,8 +25,8 @@ use Rattle.provider_store.specs.Connections.{IsLaid, FindsName, resources}
 use Rattle.provider_store.specs.Faults.{FailsFor}
 use Rattle.provider_store.specs.Lawful.{IsLawfulAt, is_outside, IsOutside, AreWithin}
 use Rattle.provider_store.specs.Opening.{IsFor, IsAlone, HoldsFirst, IsNewer, IsNotLaid, IsSpoilt, IsDamaged, IsCause, IsOfRows, OpenFailsFor, open_fault}
-use Rattle.provider_store.specs.declared.opening.OpenFault.{OpenFault}
-use Rattle.provider_store.specs.declared.opening.OpenFault.TheVariants.{Store, Damaged, Newer, Memory}
+use Rattle.provider_store.specs.declared.opening.RegistryOpenFault.{RegistryOpenFault}
+use Rattle.provider_store.specs.declared.opening.RegistryOpenFault.TheVariants.{Store, Damaged, Newer, Memory}
 use Rattle.provider_store.specs.declared.tables.Found.TheVariants.{There}
 use Rattle.provider_store.proofs.Texts.{outside_term, outside_shown, outside_is}
 use Rattle.provider_store.proofs.Outside.{outside_passes, none_passes, outside_tests}
@@ -41,35 +41,35 @@ use Rattle.sql_tables.proofs.Answering.{answered_by, empty}
 
 -- ---- results
 
-pub is_for : {P Q : Type 0} {D E : ℕ → Type 0} (f : P → Q) (h : (n : ℕ) → D n → E n) (fault : OpenFault) → IsFor P D fault → IsFor Q E fault
+pub is_for : {P Q : Type 0} {D E : ℕ → Type 0} (f : P → Q) (h : (n : ℕ) → D n → E n) (fault : RegistryOpenFault) → IsFor P D fault → IsFor Q E fault
 is_for f h Store it = tt
 is_for f h (Damaged n) it = h n it
 is_for f h Newer it = f it
 is_for f h Memory it = tt
 
-is_for_both : (P Q : Type 0) (D E F : ℕ → Type 0) (h : (n : ℕ) → D n → E n → F n) (fault : OpenFault) → IsFor P D fault → IsFor Q E fault → IsFor P F fault
+is_for_both : (P Q : Type 0) (D E F : ℕ → Type 0) (h : (n : ℕ) → D n → E n → F n) (fault : RegistryOpenFault) → IsFor P D fault → IsFor Q E fault → IsFor P F fault
 is_for_both P Q D E F h Store it other = tt
 is_for_both P Q D E F h (Damaged n) it other = h n it other
 is_for_both P Q D E F h Newer it other = it
 is_for_both P Q D E F h Memory it other = tt
 
-is_damage : (P : Type 0) (D E : ℕ → Type 0) (h : (n : ℕ) → D n → E n) (fault : OpenFault) → IsFor ⊥ D fault → IsFor P E fault
+is_damage : (P : Type 0) (D E : ℕ → Type 0) (h : (n : ℕ) → D n → E n) (fault : RegistryOpenFault) → IsFor ⊥ D fault → IsFor P E fault
 is_damage P D E h Store it = tt
 is_damage P D E h (Damaged n) it = h n it
 is_damage P D E h Newer it = absurd it
 is_damage P D E h Memory it = tt
 
 -- a fault that is handed on reports both, if both hold
-pub both_of : {T : Type 0} (P Q : Type 0) (D E F : ℕ → Type 0) (h : (n : ℕ) → D n → E n → F n) (r : Result T OpenFault) (fault : OpenFault) → IsErrAnd r (λ given. given ≡ fault) → IsFor P D fault → IsFor Q E fault → IfErr r (IsFor P F)
+pub both_of : {T : Type 0} (P Q : Type 0) (D E F : ℕ → Type 0) (h : (n : ℕ) → D n → E n → F n) (r : Result T RegistryOpenFault) (fault : RegistryOpenFault) → IsErrAnd r (λ given. given ≡ fault) → IsFor P D fault → IsFor Q E fault → IfErr r (IsFor P F)
 both_of P Q D E F h (Ok x) fault is it other = tt
 both_of P Q D E F h (Err given) fault is it other = subst (IsFor P F) (sym is) (is_for_both P Q D E F h fault it other)
 
 -- and a fault that reports no newer format reports this damage
-pub damage_of : {T : Type 0} (P : Type 0) (D E : ℕ → Type 0) (h : (n : ℕ) → D n → E n) (r : Result T OpenFault) (fault : OpenFault) → IsErrAnd r (λ given. given ≡ fault) → IsFor ⊥ D fault → IfErr r (IsFor P E)
+pub damage_of : {T : Type 0} (P : Type 0) (D E : ℕ → Type 0) (h : (n : ℕ) → D n → E n) (r : Result T RegistryOpenFault) (fault : RegistryOpenFault) → IsErrAnd r (λ given. given ≡ fault) → IsFor ⊥ D fault → IfErr r (IsFor P E)
 damage_of P D E h (Ok x) fault is it = tt
 damage_of P D E h (Err given) fault is it = subst (IsFor P E) (sym is) (is_damage P D E h fault it)
 
-pub told_any : {P : Type 0} (p : P) (fault : OpenFault) → IsFor P (λ _. P) fault
+pub told_any : {P : Type 0} (p : P) (fault : RegistryOpenFault) → IsFor P (λ _. P) fault
 told_any p Store = tt
 told_any p (Damaged n) = p
 told_any p Newer = p
@@ -81,13 +81,13 @@ no_cause P D registry.Memory = tt
 
 -- ---- a store that fails
 
-pub opens_by : (P Q : Type 0) → (P → Q) → (fault : OpenFault) → OpenFailsFor P fault → OpenFailsFor Q fault
+pub opens_by : (P Q : Type 0) → (P → Q) → (fault : RegistryOpenFault) → OpenFailsFor P fault → OpenFailsFor Q fault
 opens_by P Q h Store it = h it
 opens_by P Q h (Damaged n) it = tt
 opens_by P Q h Newer it = tt
 opens_by P Q h Memory it = tt
 
-pub opens_so : (P : Type 0) → P → (fault : OpenFault) → OpenFailsFor P fault
+pub opens_so : (P : Type 0) → P → (fault : RegistryOpenFault) → OpenFailsFor P fault
 opens_so P it Store = it
 opens_so P it (Damaged n) = tt
 opens_so P it Newer = tt
@@ -99,17 +99,17 @@ told_fails P registry.Store it = it
 told_fails P registry.Memory it = tt
 
 -- what was read of rows is no fault of the store
-pub rows_fail : (P : Type 0) (fault : OpenFault) → IsOfRows fault → OpenFailsFor P fault
+pub rows_fail : (P : Type 0) (fault : RegistryOpenFault) → IsOfRows fault → OpenFailsFor P fault
 rows_fail P Store it = absurd it
 rows_fail P (Damaged n) it = tt
 rows_fail P Newer it = tt
 rows_fail P Memory it = tt
 
-pub opens_of : {T : Type 0} (P Q : Type 0) → (P → Q) → (r : Result T OpenFault) (fault : OpenFault) → IsErrAnd r (λ given. given ≡ fault) → OpenFailsFor P fault → IfErr r (OpenFailsFor Q)
+pub opens_of : {T : Type 0} (P Q : Type 0) → (P → Q) → (r : Result T RegistryOpenFault) (fault : RegistryOpenFault) → IsErrAnd r (λ given. given ≡ fault) → OpenFailsFor P fault → IfErr r (OpenFailsFor Q)
 opens_of P Q h (Ok x) fault is it = tt
 opens_of P Q h (Err given) fault is it = subst (OpenFailsFor Q) (sym is) (opens_by P Q h fault it)
 
-pub fails_of : {T : Type 0} (P : Type 0) (r : Result T OpenFault) (fault : RegistryFault) → IsErrAnd r (λ given. given ≡ open_fault fault) → FailsFor P fault → IfErr r (OpenFailsFor P)
+pub fails_of : {T : Type 0} (P : Type 0) (r : Result T RegistryOpenFault) (fault : RegistryFault) → IsErrAnd r (λ given. given ≡ open_fault fault) → FailsFor P fault → IfErr r (OpenFailsFor P)
 fails_of P (Ok x) fault is it = tt
 fails_of P (Err given) fault is it = subst (OpenFailsFor P) (sym is) (told_fails P fault it)
 
@@ -220,7 +220,7 @@ first_all table rows first none = record {
 -- ---- the store
 
 -- if there are tables and no transaction is open, tables that aren't laid out are foreign
-pub opening_cause : {T : Type 0} (s : State) (r : Result T OpenFault) → s.now.schema ≢ no_schema → s.in_transaction ≡ false → IfErr r (IsFor (IsNewer s) (λ told. ((told ≡ 0) × IsNotLaid s) ⊎ IsSpoilt s told)) → IfErr r (IsCause s)
+pub opening_cause : {T : Type 0} (s : State) (r : Result T RegistryOpenFault) → s.now.schema ≢ no_schema → s.in_transaction ≡ false → IfErr r (IsFor (IsNewer s) (λ told. ((told ≡ 0) × IsNotLaid s) ⊎ IsSpoilt s told)) → IfErr r (IsCause s)
 opening_cause s r stand outside = if_err r (λ fault it. is_for {P = IsNewer s} {Q = IsNewer s} (λ newer. newer) step fault it)
   where
     step : (told : ℕ) → ((told ≡ 0) × IsNotLaid s) ⊎ IsSpoilt s told → IsDamaged s told

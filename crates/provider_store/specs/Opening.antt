@@ -14,8 +14,8 @@ use Rattle.provider_store.specs.Lawful.{AreAllLawful, IsUnlawfulAt}
 use Rattle.provider_store.specs.Connections.{IsLaid, IsNamed, resources}
 use Rattle.sql_tables.specs.Layouts.{IsBlank, IsFormat, IsOne, IsPlainTable, no_schema}
 use Rattle.sql_tables.specs.Faults.{HasFailed}
-use Rattle.provider_store.specs.declared.opening.OpenFault.{OpenFault}
-use Rattle.provider_store.specs.declared.opening.OpenFault.TheVariants.{Store, Damaged, Newer, Memory}
+use Rattle.provider_store.specs.declared.opening.RegistryOpenFault.{RegistryOpenFault}
+use Rattle.provider_store.specs.declared.opening.RegistryOpenFault.TheVariants.{Store, Damaged, Newer, Memory}
 use Rattle.provider_core.specs.declared.registry.RegistryFault.{RegistryFault}
 use Rattle.provider_core.specs.declared.registry.RegistryFault.TheVariants as registry
 
@@ -37,28 +37,28 @@ IsProvider = IsOne provider_schema
 
 -- ---- faults
 
-abbrev pub open_fault : RegistryFault → OpenFault
+abbrev pub open_fault : RegistryFault → RegistryOpenFault
 open_fault registry.Store = Store
 open_fault registry.Memory = Memory
 
 -- the registry's fault for a fault of an opening
-abbrev pub registry_fault : OpenFault → RegistryFault
+abbrev pub registry_fault : RegistryOpenFault → RegistryFault
 registry_fault Memory = registry.Memory
 registry_fault fault = registry.Store
 
 -- a fault that says that the store failed has this cause
-abbrev pub OpenFailsFor : (failure : Type 0) → OpenFault → Type 0
+abbrev pub OpenFailsFor : (failure : Type 0) → RegistryOpenFault → Type 0
 OpenFailsFor failure Store = failure
 OpenFailsFor failure fault = Unit {0}
 
 -- the rows that were read are of another format, or damaged
-abbrev pub IsOfRows : OpenFault → Type 0
+abbrev pub IsOfRows : RegistryOpenFault → Type 0
 IsOfRows Newer = Unit {0}
 IsOfRows (Damaged number) = Unit {0}
 IsOfRows fault = ⊥
 
 -- a fault that reports a newer format, or damage with its number, has that cause
-abbrev pub IsFor : Type 0 → (ℕ → Type 0) → OpenFault → Type 0
+abbrev pub IsFor : Type 0 → (ℕ → Type 0) → RegistryOpenFault → Type 0
 IsFor newer damaged Newer = newer
 IsFor newer damaged (Damaged number) = damaged number
 IsFor newer damaged fault = Unit {0}
@@ -121,7 +121,7 @@ abbrev pub IsNewer : State → Type 0
 IsNewer s = (number : ℕ) × (format_number < number) × IsFormat s number
 
 -- why an opening refuses a store
-abbrev pub IsCause : State → OpenFault → Type 0
+abbrev pub IsCause : State → RegistryOpenFault → Type 0
 IsCause s = IsFor (IsNewer s) (IsDamaged s)
 
 -- why an opening says that the store failed: a transaction was open, the tables weren't there and couldn't be made, or a

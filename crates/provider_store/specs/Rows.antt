@@ -13,7 +13,7 @@ use Rattle.scim_resource.specs.Contents.{content_kind, content_name}
 use Rattle.scim_resource.specs.Reading.{content_in}
 use Rattle.scim_resource.specs.Rows.{StoredRecord, IsStored}
 use Rattle.scim_resource.specs.declared.contents.Content.{Content}
-use Rattle.scim_resource.specs.declared.faults.ReadFault.{ReadFault}
+use Rattle.scim_resource.specs.declared.faults.ContentFault.{ContentFault}
 use Rattle.provider_core.specs.Rows.{IsNumberedFrom, AreNamedApart}
 
 -- ---- one row
@@ -52,7 +52,7 @@ abbrev pub number_at : Value → ℕ
 number_at (Int (pos n)) = n
 number_at v = 0
 
-abbrev pub record_with : ℕ → ℕ → Result Content ReadFault → Option StoredRecord
+abbrev pub record_with : ℕ → ℕ → Result Content ContentFault → Option StoredRecord
 record_with number version (Ok content) = Some (record { number = number; version = version; content = content })
 record_with number version (Err e) = None
 

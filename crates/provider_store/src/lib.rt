@@ -6,5 +6,5 @@ mod opening;
 mod registry;
 mod tables;
 
-pub use opening::OpenFault;
+pub use opening::RegistryOpenFault;
 pub use registry::SqlRegistry;

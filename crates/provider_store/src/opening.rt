@@ -29,7 +29,7 @@ use thiserror::Error as Fault;
 
 /// Why a store couldn't be opened. Its contents are unchanged.
 #[derive(Clone, Copy, Debug, PartialEq, Eq, Fault)]
-pub enum OpenFault {
+pub enum RegistryOpenFault {
     /// The database failed, or a transaction is open.
     #[error("Y1")]
     Store,
@@ -44,38 +44,38 @@ pub enum OpenFault {
     Memory,
 }
 
-impl From<AllocError> for OpenFault {
-    ghost use Rattle.provider_store.specs.declared.opening.OpenFault.TheVariants.{Memory};
+impl From<AllocError> for RegistryOpenFault {
+    ghost use Rattle.provider_store.specs.declared.opening.RegistryOpenFault.TheVariants.{Memory};
 
     ghost from_gives = { λ _ fault. fault ≡ Memory };
 
-    fn from(_: AllocError) -> OpenFault {
-        OpenFault::Memory
+    fn from(_: AllocError) -> RegistryOpenFault {
+        RegistryOpenFault::Memory
     }
 }
 
-impl From<RegistryFault> for OpenFault {
+impl From<RegistryFault> for RegistryOpenFault {
     ghost use Rattle.provider_store.specs.Opening.{open_fault};
 
     ghost from_gives = { λ fault given. given ≡ open_fault fault };
 
-    fn from(fault: RegistryFault) -> OpenFault {
+    fn from(fault: RegistryFault) -> RegistryOpenFault {
         match fault {
-            RegistryFault::Store => OpenFault::Store,
-            RegistryFault::Memory => OpenFault::Memory,
+            RegistryFault::Store => RegistryOpenFault::Store,
+            RegistryFault::Memory => RegistryOpenFault::Memory,
         }
     }
 }
 
 /// A failed statement never means damage or a newer format.
-impl From<Error> for OpenFault {
+impl From<Error> for RegistryOpenFault {
     ghost use Rattle.provider_store.specs.Faults.{statement_fault};
     ghost use Rattle.provider_store.specs.Opening.{open_fault};
 
     ghost from_gives = { λ error fault. (fault ≡ open_fault (statement_fault error)) × IsFor ⊥ (λ _. ⊥) fault };
 
-    fn from(error: Error) -> OpenFault {
-        OpenFault::from(fault_of(error))
+    fn from(error: Error) -> RegistryOpenFault {
+        RegistryOpenFault::from(fault_of(error))
     }
 }
 
@@ -106,7 +106,7 @@ fn make_tables<S: Alter>(conn: &mut Connection<S>) -> Result<(), Error>
 }
 
 /// Checks the number of the format.
-fn check_format<S: Alter>(conn: &mut Connection<S>) -> Result<(), OpenFault>
+fn check_format<S: Alter>(conn: &mut Connection<S>) -> Result<(), RegistryOpenFault>
     requires laid { HasCleanDisk (state S.Store conn.old) → IsTrue (state S.Store conn.old).is_open → IsLaid (state S.Store conn.old) }
     ensures known { HasCleanDisk (state S.Store conn.new) → OnOk result (IsFormat (state S.Store conn.old) format_number) }
     ensures cause { HasCleanDisk (state S.Store conn.new) → IfErr result (IsFor (IsNewer (state S.Store conn.old)) (λ told. (told ≡ 0) × IsUnmarked (state S.Store conn.old))) }
@@ -117,9 +117,9 @@ fn check_format<S: Alter>(conn: &mut Connection<S>) -> Result<(), OpenFault>
 {
     match find_mark::<S, Provider>(conn, "SELECT number FROM provider_format", FORMAT) {
         Ok(Mark::Own) => Ok(()),
-        Ok(Mark::Newer) => Err(OpenFault::Newer),
-        Ok(Mark::Unmarked) => Err(OpenFault::Damaged(0)),
-        Err(error) => Err(OpenFault::from(error)),
+        Ok(Mark::Newer) => Err(RegistryOpenFault::Newer),
+        Ok(Mark::Unmarked) => Err(RegistryOpenFault::Damaged(0)),
+        Err(error) => Err(RegistryOpenFault::from(error)),
     }
 }
 
@@ -130,7 +130,7 @@ fn check_row<S: Alter>(
     alloc: Global,
     conn: &mut Connection<S>,
     number: u32,
-) -> Result<bool, OpenFault>
+) -> Result<bool, RegistryOpenFault>
     requires laid { HasCleanDisk (state S.Store conn.old) → IsTrue (state S.Store conn.old).is_open → IsLaid (state S.Store conn.old) }
     ensures lawful { HasCleanDisk (state S.Store conn.new) → IfOk result (λ is. IsTrue is → IsLawfulAt (resources (state S.Store conn.old)) number) }
     ensures absent { HasCleanDisk (state S.Store conn.new) → IfOk result (λ is. is ≡ false → filter (has_rowid (pos number)) (resources (state S.Store conn.old)) ≡ []) }
@@ -145,7 +145,7 @@ fn check_row<S: Alter>(
             Ok(true)
         }
         Found::Nothing => Ok(false),
-        Found::Damaged => Err(OpenFault::Damaged(u64::from(number))),
+        Found::Damaged => Err(RegistryOpenFault::Damaged(u64::from(number))),
     }
 }
 
@@ -154,7 +154,7 @@ fn check_name<S: Alter>(
     alloc: Global,
     conn: &mut Connection<S>,
     row: &Stored,
-) -> Result<(), OpenFault>
+) -> Result<(), RegistryOpenFault>
     requires laid { HasCleanDisk (state S.Store conn.old) → IsTrue (state S.Store conn.old).is_open → IsLaid (state S.Store conn.old) }
     ensures alone { HasCleanDisk (state S.Store conn.new) → OnOk result (IsAlone (resources (state S.Store conn.old)) (content_name row.now.content)) }
     ensures named { HasCleanDisk (state S.Store conn.new) → OnOk result ((r : _) × (filter (has_name (content_name row.now.content)) (resources (state S.Store conn.old)) ≡ r ∷ [])) }
@@ -166,12 +166,12 @@ fn check_name<S: Alter>(
     let name = row.content().name(alloc)?;
     match find_named(alloc, conn, &name)? {
         Found::There(_row) => Ok(()),
-        Found::Nothing | Found::Damaged => Err(OpenFault::Damaged(u64::from(row.number()))),
+        Found::Nothing | Found::Damaged => Err(RegistryOpenFault::Damaged(u64::from(row.number()))),
     }
 }
 
 /// Checks the rows in order of their numbers, and returns how many follow each other from 1.
-fn check_rows<S: Alter>(alloc: Global, conn: &mut Connection<S>) -> Result<u32, OpenFault>
+fn check_rows<S: Alter>(alloc: Global, conn: &mut Connection<S>) -> Result<u32, RegistryOpenFault>
     requires laid { HasCleanDisk (state S.Store conn.old) → IsTrue (state S.Store conn.old).is_open → IsLaid (state S.Store conn.old) }
     ensures first { HasCleanDisk (state S.Store conn.new) → IfOk result (λ count. (rows : List StoredRecord) × HoldsFirst (resources (state S.Store conn.old)) rows × (length rows ≡ count)) }
     ensures lawful { HasCleanDisk (state S.Store conn.new) → IfOk result (AreLawfulTo (resources (state S.Store conn.old))) }
@@ -189,7 +189,7 @@ fn check_rows<S: Alter>(alloc: Global, conn: &mut Connection<S>) -> Result<u32, 
 }
 
 /// Checks that there is no row other than the first `count`.
-fn check_rest<S: Alter>(conn: &mut Connection<S>, count: u32) -> Result<(), OpenFault>
+fn check_rest<S: Alter>(conn: &mut Connection<S>, count: u32) -> Result<(), RegistryOpenFault>
     requires laid { HasCleanDisk (state S.Store conn.old) → IsTrue (state S.Store conn.old).is_open → IsLaid (state S.Store conn.old) }
     ensures none { HasCleanDisk (state S.Store conn.new) → OnOk result ((n : ℕ) → count < n → filter (has_rowid (pos n)) (resources (state S.Store conn.old)) ≡ []) }
     ensures within { HasCleanDisk (state S.Store conn.new) → OnOk result (AreWithin (resources (state S.Store conn.old)) count) }
@@ -204,26 +204,26 @@ fn check_rest<S: Alter>(conn: &mut Connection<S>, count: u32) -> Result<(), Open
         &[ValueRef::Int(i64::from(count))],
     ) {
         Ok(rows) => none_in(rows.as_slice()),
-        Err(error) => Err(OpenFault::from(error)),
+        Err(error) => Err(RegistryOpenFault::from(error)),
     }
 }
 
 /// Checks that there is no row; otherwise the fault has the number of the first.
-fn none_in(rows: &[Row]) -> Result<(), OpenFault>
+fn none_in(rows: &[Row]) -> Result<(), RegistryOpenFault>
     ensures none { OnOk result (rows.now ≡ []) }
     ensures cause { IfErr result (IsFor ⊥ (λ told. (r : _) × Has rows.now r × (told ≡ number_at (column r 0)))) }
     ensures read { IfErr result IsOfRows }
 {
     match rows {
         [] => Ok(()),
-        [row, ..] => Err(OpenFault::Damaged(number_at(row, 0).unwrap_or(0))),
+        [row, ..] => Err(RegistryOpenFault::Damaged(number_at(row, 0).unwrap_or(0))),
     }
 }
 
 // ---- the store
 
 /// Checks the format and each row, and returns how many rows there are.
-fn check_laid<S: Alter>(alloc: Global, conn: &mut Connection<S>) -> Result<u32, OpenFault>
+fn check_laid<S: Alter>(alloc: Global, conn: &mut Connection<S>) -> Result<u32, RegistryOpenFault>
     requires laid { HasCleanDisk (state S.Store conn.old) → IsTrue (state S.Store conn.old).is_open → IsLaid (state S.Store conn.old) }
     ensures store { HasCleanDisk (state S.Store conn.new) → IfOk result (λ count. (rows : List StoredRecord) × IsStore (state S.Store conn.old) rows × (length rows ≡ count)) }
     ensures cause { HasCleanDisk (state S.Store conn.new) → IfErr result (IsFor (IsNewer (state S.Store conn.old)) (IsSpoilt (state S.Store conn.old))) }
@@ -249,7 +249,7 @@ fn is_laid<S: Alter>(conn: &Connection<S>) -> bool
 pub(crate) fn check_tables<S: Alter>(
     alloc: Global,
     conn: &mut Connection<S>,
-) -> Result<u32, OpenFault>
+) -> Result<u32, RegistryOpenFault>
     ensures store { HasCleanDisk (state S.Store conn.new) → IfOk result (λ count. (rows : List StoredRecord) × IsStore (state S.Store conn.old) rows × (length rows ≡ count)) }
     ensures cause { HasCleanDisk (state S.Store conn.new) → IfErr result (IsFor (IsNewer (state S.Store conn.old)) (λ told. ((told ≡ 0) × IsNotLaid (state S.Store conn.old)) ⊎ IsSpoilt (state S.Store conn.old) told)) }
     ensures open { HasCleanDisk (state S.Store conn.new) → OnOk result (IsTrue (state S.Store conn.new).is_open) }
@@ -260,7 +260,7 @@ pub(crate) fn check_tables<S: Alter>(
     if is_laid(conn) {
         check_laid(alloc, conn)
     } else {
-        Err(OpenFault::Damaged(0))
+        Err(RegistryOpenFault::Damaged(0))
     }
 }
 
@@ -268,7 +268,7 @@ pub(crate) fn check_tables<S: Alter>(
 pub(crate) fn open_tables<S: Alter>(
     alloc: Global,
     conn: &mut Connection<S>,
-) -> Result<u32, OpenFault>
+) -> Result<u32, RegistryOpenFault>
     ensures stands { HasCleanDisk (state S.Store conn.new) → IfOk result (λ count. (rows : List StoredRecord) × Stands (state S.Store conn.old) rows × IsStore (state S.Store conn.new) rows × (length rows ≡ count)) }
     ensures sound { HasCleanDisk (state S.Store conn.new) → OnOk result ((number : ℕ) → IsDamaged (state S.Store conn.old) number → ⊥) }
     ensures cause { HasCleanDisk (state S.Store conn.new) → IfErr result (IsCause (state S.Store conn.old)) }
@@ -278,13 +278,13 @@ pub(crate) fn open_tables<S: Alter>(
     ensures stop { Survives (state S.Store conn.old) (state S.Store conn.new) LeavesNone }
 {
     if !conn.is_autocommit() {
-        return Err(OpenFault::Store);
+        return Err(RegistryOpenFault::Store);
     }
     if !is_blank(conn.schema()) {
         return check_tables(alloc, conn);
     }
     match make_tables(conn) {
         Ok(()) => Ok(0),
-        Err(error) => Err(OpenFault::from(error)),
+        Err(error) => Err(RegistryOpenFault::from(error)),
     }
 }

@@ -16,7 +16,7 @@ ghost use Rattle.sqlite.specs.State.{HasCleanDisk, Survives};
 ghost use Rattle.sql_tables.specs.Faults.{HasFailed};
 ghost use Rattle.sql_tables.specs.Statements.{LeavesStore};
 
-use crate::opening::{OpenFault, check_tables, open_tables};
+use crate::opening::{RegistryOpenFault, check_tables, open_tables};
 use crate::tables::{Found, find_named, find_numbered, insert_row, update_row};
 use provider_core::{Registry, RegistryFault, Reopen};
 use scim_key::{RecordName, ResourceId};
@@ -67,12 +67,13 @@ fn refusal(faults: &mut u64) -> RegistryFault
 }
 
 /// The registry's fault for a fault of an opening.
-fn registry_fault(fault: OpenFault) -> RegistryFault
+fn registry_fault(fault: RegistryOpenFault) -> RegistryFault
     ensures { result ≡ registry_fault fault }
 {
     match fault {
-        OpenFault::Memory => RegistryFault::Memory,
-        OpenFault::Store | OpenFault::Damaged(_) | OpenFault::Newer => RegistryFault::Store,
+        RegistryOpenFault::Memory => RegistryFault::Memory,
+        RegistryOpenFault::Store | RegistryOpenFault::Damaged(_) | RegistryOpenFault::Newer =>
+            RegistryFault::Store,
     }
 }
 
@@ -99,7 +100,7 @@ impl<S: Alter> SqlRegistry<S> {
     pub fn open(
         alloc: Global,
         mut conn: Connection<S>,
-    ) -> Result<SqlRegistry<S>, (OpenFault, Connection<S>)>
+    ) -> Result<SqlRegistry<S>, (RegistryOpenFault, Connection<S>)>
         ensures faithful { IfOk result (λ r. IsHonest S.Store r → IsFaithful S.Store r) }
         ensures rows { IfOk result (λ r. IsHonest S.Store r → Stands (state S.Store conn) (kept_rows S.Store r)) }
         ensures counts { IfOk result (λ r. (r.faults ≡ 0) × (r.writes ≡ 0)) }

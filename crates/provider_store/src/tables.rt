@@ -17,7 +17,7 @@ ghost use Rattle.sql_tables.specs.Statements.{Keeps};
 use crate::format::Provider;
 use provider_core::RegistryFault;
 use scim_key::{Kind, LAST_NUMBER, RecordName};
-use scim_resource::{Content, LAST_VERSION, ReadFault, Stored};
+use scim_resource::{Content, ContentFault, LAST_VERSION, Stored};
 use sql_tables::{StatementFault, ask, number_at, text_at, write};
 use sqlite::{Alter, Connection, Error, Row};
 use sqlite_value::value::ValueRef;
@@ -72,7 +72,7 @@ fn read_content(alloc: Global, text: &[u8], kind: Kind) -> Result<Option<Content
 {
     match Content::from_slice(alloc, text, kind) {
         Ok(content) => Ok(Some(content)),
-        Err(ReadFault::Memory) => Err(AllocError),
+        Err(ContentFault::Memory) => Err(AllocError),
         Err(_) => Ok(None),
     }
 }

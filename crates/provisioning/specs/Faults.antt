@@ -9,8 +9,8 @@ use Rattle.scim_client.specs.declared.exchange.ExchangeFault.{ExchangeFault}
 use Rattle.scim_client.specs.declared.exchange.ExchangeFault.TheVariants.{Unsent, EndedEarly, ReadFailed, OutOfMemory, TurnsExhausted, NoAnswer}
 use Rattle.connector_core.specs.declared.learning.LearnFault.{LearnFault}
 use Rattle.connector_core.specs.declared.learning.LearnFault.TheVariants as learning
-use Rattle.connector_core.specs.declared.opening.OpenFault.{OpenFault}
-use Rattle.connector_core.specs.declared.opening.OpenFault.TheVariants as opening
+use Rattle.connector_core.specs.declared.opening.ConnectorOpenFault.{ConnectorOpenFault}
+use Rattle.connector_core.specs.declared.opening.ConnectorOpenFault.TheVariants as opening
 use Rattle.provider_core.specs.declared.registry.RegistryFault.{RegistryFault}
 use Rattle.provider_core.specs.declared.registry.RegistryFault.TheVariants as registry
 use Rattle.provisioning.specs.declared.faults.LoopFault.{LoopFault}
@@ -23,7 +23,7 @@ use Rattle.provisioning.specs.declared.faults.RecordFault.{RecordFault}
 use Rattle.provisioning.specs.declared.faults.RecordFault.TheVariants.{Unanswered, Unfit, Unversioned, Refused, NoSuchRecord}
 
 -- the fault of a connector that couldn't be opened
-abbrev pub unopened : OpenFault → RunFault
+abbrev pub unopened : ConnectorOpenFault → RunFault
 unopened opening.Store = Journal
 unopened opening.Memory = Memory
 

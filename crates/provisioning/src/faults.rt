@@ -3,7 +3,7 @@ ghost use Rattle.std.specs.Prelude.{◌≡◌};
 ghost use Rattle.provisioning.specs.Faults.{failed, open_fault, run_fault, unanswered, unheard_fault, unlearnt};
 ghost use Rattle.provisioning.specs.declared.faults.RunFault.TheVariants.{Untold};
 
-use connector_core::{LearnFault, OpenFault};
+use connector_core::{ConnectorOpenFault, LearnFault};
 use provider_core::RegistryFault;
 use scim_client::{AnswerFault, ExchangeFault};
 use std::alloc::AllocError;
@@ -71,15 +71,15 @@ impl From<AllocError> for RunFault {
     }
 }
 
-impl From<OpenFault> for RunFault {
+impl From<ConnectorOpenFault> for RunFault {
     ghost use Rattle.provisioning.specs.Faults.{unopened};
 
     ghost from_gives = { λ opening fault. fault ≡ unopened opening };
 
-    fn from(fault: OpenFault) -> RunFault {
+    fn from(fault: ConnectorOpenFault) -> RunFault {
         match fault {
-            OpenFault::Store => RunFault::Journal,
-            OpenFault::Memory => RunFault::Memory,
+            ConnectorOpenFault::Store => RunFault::Journal,
+            ConnectorOpenFault::Memory => RunFault::Memory,
         }
     }
 }

@@ -17,7 +17,7 @@ use Rattle.scim_resource.specs.Contents.{content_kind}
 use Rattle.scim_resource.specs.Reading.{content_in}
 use Rattle.scim_resource.proofs.RoundTrips as round_trips
 use Rattle.scim_resource.specs.declared.contents.Content.{Content}
-use Rattle.scim_resource.specs.declared.faults.ReadFault.{ReadFault}
+use Rattle.scim_resource.specs.declared.faults.ContentFault.{ContentFault}
 use Rattle.scim_filter.specs.Expressions.{Expression}
 use Rattle.scim_filter.specs.Texts.{filter_text}
 use Rattle.scim_filter.proofs.Spelling.{text_spells}
@@ -148,7 +148,7 @@ at_resource kind id m path answer named is asked =
 abbrev accepted_where : Bool → Result (Unit {0}) Refusal
 accepted_where served = if served then Ok tt else Err MediaType
 
-content_sent_is : (served : Bool) (read : Result Content ReadFault) (content : Content) → served ≡ true → read ≡ Ok content
+content_sent_is : (served : Bool) (read : Result Content ContentFault) (content : Content) → served ≡ true → read ≡ Ok content
     → (accepted_where served >>= (λ _. content_read read)) ≡ Ok content
 content_sent_is served read content is found = rw (is, found) refl
 

@@ -9,8 +9,8 @@ use Rattle.scim_version.specs.declared.conditions.Condition.{Condition}
 use Rattle.scim_version.specs.declared.conditions.Condition.TheVariants.{Always}
 use Rattle.scim_version.specs.Conditions.{condition_of}
 use Rattle.scim_resource.specs.declared.contents.Content.{Content}
-use Rattle.scim_resource.specs.declared.faults.ReadFault.{ReadFault}
-use Rattle.scim_resource.specs.declared.faults.ReadFault.TheVariants.{InvalidSyntax, InvalidValue, Memory}
+use Rattle.scim_resource.specs.declared.faults.ContentFault.{ContentFault}
+use Rattle.scim_resource.specs.declared.faults.ContentFault.TheVariants.{InvalidSyntax, InvalidValue, Memory}
 use Rattle.scim_resource.specs.Reading.{content_in}
 use Rattle.scim_message.specs.declared.messages.Request.{Request}
 use Rattle.scim_message.specs.declared.messages.Request.TheVariants.{Create, Retrieve, Replace}
@@ -26,12 +26,12 @@ use Rattle.scim_http.specs.Media.{is_type_served}
 use Rattle.scim_http.specs.Searches.{IsSearch}
 
 -- the refusal of a value that can't be read as a resource (no definition gives `Memory`)
-abbrev pub refusal_of : ReadFault → Refusal
+abbrev pub refusal_of : ContentFault → Refusal
 refusal_of InvalidSyntax = UnreadableBody
 refusal_of InvalidValue = ValueNotAllowed
 refusal_of Memory = ValueNotAllowed
 
-abbrev pub content_read : Result Content ReadFault → Result Content Refusal
+abbrev pub content_read : Result Content ContentFault → Result Content Refusal
 content_read (Ok content) = Ok content
 content_read (Err fault) = Err (refusal_of fault)
 

@@ -11,7 +11,7 @@ use crate::searches::search;
 use http_text::Incoming;
 use scim_key::{Kind, ResourceId};
 use scim_message::{Refusal, Request};
-use scim_resource::{Content, ReadFault};
+use scim_resource::{Content, ContentFault};
 use std::alloc::{AllocError, Global};
 use thiserror::Error;
 
@@ -148,8 +148,8 @@ fn content_of(alloc: Global, kind: Kind, body: &[u8]) -> Result<Content, Meaning
 {
     match Content::from_slice(alloc, body, kind) {
         Ok(content) => Ok(content),
-        Err(ReadFault::InvalidSyntax) => Err(MeaningFault::Refused(Refusal::UnreadableBody)),
-        Err(ReadFault::InvalidValue) => Err(MeaningFault::Refused(Refusal::ValueNotAllowed)),
-        Err(ReadFault::Memory) => Err(MeaningFault::OutOfMemory),
+        Err(ContentFault::InvalidSyntax) => Err(MeaningFault::Refused(Refusal::UnreadableBody)),
+        Err(ContentFault::InvalidValue) => Err(MeaningFault::Refused(Refusal::ValueNotAllowed)),
+        Err(ContentFault::Memory) => Err(MeaningFault::OutOfMemory),
     }
 }

@@ -7,15 +7,15 @@ use Rattle.serde_json.specs.View.{view, items_view}
 use Rattle.serde_json.specs.declared.value.Value.{Value}
 use Rattle.scim_resource.proofs.EmailLists.{here}
 use Rattle.scim_resource.specs.Rows.{ShownRecord}
-use Rattle.scim_resource.specs.declared.faults.ReadFault.{ReadFault}
-use Rattle.scim_resource.specs.declared.faults.ReadFault.TheVariants as reading
+use Rattle.scim_resource.specs.declared.faults.ContentFault.{ContentFault}
+use Rattle.scim_resource.specs.declared.faults.ContentFault.TheVariants as reading
 use Rattle.scim_message.specs.Answers.{shaped, shown_in, with_shown, page_of}
 use Rattle.scim_message.specs.Faults.{fault_of_reading}
 use Rattle.scim_message.specs.declared.answers.BodyFault.{BodyFault}
 use Rattle.scim_message.specs.declared.answers.BodyFault.TheVariants.{Memory}
 
 -- a fault of a resource as the body's
-pub shaped_fault : {X : Type 0} (r : Result X ReadFault) (e : ReadFault) → (e ≡ reading.Memory) ⊎ (r ≡ Err e) → (fault_of_reading e ≡ Memory) ⊎ (shaped r ≡ Err (fault_of_reading e))
+pub shaped_fault : {X : Type 0} (r : Result X ContentFault) (e : ContentFault) → (e ≡ reading.Memory) ⊎ (r ≡ Err e) → (fault_of_reading e ≡ Memory) ⊎ (shaped r ≡ Err (fault_of_reading e))
 shaped_fault r reading.InvalidSyntax (inl h) = inl (ap fault_of_reading h)
 shaped_fault r reading.InvalidSyntax (inr h) = inr (ap shaped h)
 shaped_fault r reading.InvalidValue (inl h) = inl (ap fault_of_reading h)

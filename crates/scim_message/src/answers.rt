@@ -15,7 +15,7 @@ use scim_json::{
     JsonFault, ValueFault, attribute, items_in, json_of, lists_text, repeats, text_of, whole_in,
 };
 use scim_key::{Kind, ResourceId};
-use scim_resource::{ReadFault, Shown};
+use scim_resource::{ContentFault, Shown};
 use scim_version::{EntityTag, TagFault};
 use serde_json::{Map, Value};
 use std::alloc::{AllocError, AllocFailed, Global};
@@ -69,12 +69,12 @@ impl From<JsonFault> for BodyFault {
     }
 }
 
-impl From<ReadFault> for BodyFault {
+impl From<ContentFault> for BodyFault {
     ghost from_gives = { λ read fault. fault ≡ fault_of_reading read };
 
-    fn from(fault: ReadFault) -> BodyFault {
+    fn from(fault: ContentFault) -> BodyFault {
         match fault {
-            ReadFault::Memory => BodyFault::Memory,
+            ContentFault::Memory => BodyFault::Memory,
             _ => BodyFault::WrongShape,
         }
     }

@@ -13,7 +13,7 @@ use Rattle.scim_resource.specs.Reading.{checked, is_text_or_null, all_texts, lis
 use Rattle.scim_resource.specs.Schemas.{core_user, core_group, source_extension}
 use Rattle.scim_resource.specs.UserTexts.{UserTexts, holder_of, name_of}
 use Rattle.scim_resource.specs.declared.contents.Content.TheVariants.{User, Group}
-use Rattle.scim_resource.specs.declared.faults.ReadFault.{ReadFault}
+use Rattle.scim_resource.specs.declared.faults.ContentFault.{ContentFault}
 use Rattle.scim_resource.specs.declared.user_texts.Holder.{Holder}
 use Rattle.scim_resource.specs.declared.user_texts.Holder.TheVariants as holder
 use Rattle.scim_resource.specs.declared.user_texts.TheConstants.{USER_TEXTS}
@@ -168,12 +168,12 @@ user_texts_alike : (ms ns : Members) (m n : Option Members) → Match ms ns → 
 unfolding user_texts_in
 user_texts_alike ms ns m n whole name = texts_alike ms ns m n whole name USER_TEXTS
 
-after_same : {X Y : Type 0} (f g : X → Result Y ReadFault) (r : Result X ReadFault) → ((x : X) → f x ≡ g x) → r >>= f ≡ r >>= g
+after_same : {X Y : Type 0} (f g : X → Result Y ContentFault) (r : Result X ContentFault) → ((x : X) → f x ≡ g x) → r >>= f ≡ r >>= g
 after_same f g (Ok x) h = h x
 after_same f g (Err e) h = refl
 
 -- the texts, read after the name
-texts_after : {X : Type 0} (f : UserTexts → Result X ReadFault) (ms ns : Members) → Match ms ns → (o p : Option Data) → AlikeIf o p
+texts_after : {X : Type 0} (f : UserTexts → Result X ContentFault) (ms ns : Members) → Match ms ns → (o p : Option Data) → AlikeIf o p
     → checked (members_in o) >>= (λ name. user_texts_in ms name >>= f) ≡ checked (members_in p) >>= (λ name. user_texts_in ns name >>= f)
 texts_after f ms ns whole o p neither = ap (λ r. r >>= f) (user_texts_alike ms ns None None whole tt)
 texts_after f ms ns whole o p (both d e (same x)) =
@@ -197,7 +197,7 @@ email_alike ms ns m =
         → text_in (attribute (codes "value") ms) >>= email_with ms ≡ text_in (attribute (codes "value") ns) >>= email_with ns
     after v k p = ap (λ r. r >>= email_with ms) v ∙ at (text_in (attribute (codes "value") ns))
       where
-        at : (r : Result (Option (List ℕ)) ReadFault) → r >>= email_with ms ≡ r >>= email_with ns
+        at : (r : Result (Option (List ℕ)) ContentFault) → r >>= email_with ms ≡ r >>= email_with ns
         at (Ok None) = refl
         at (Ok (Some value)) = ap₂ (λ t f. t >>= (λ type_text. checked f >>= (λ primary. Ok (Some (record { value = value; type_text = type_text; primary = primary }))))) k p
         at (Err e) = refl
@@ -226,7 +226,7 @@ member_alike d e (lists ds es h) = refl
 member_alike d e (objects ms ns r f) = text_alike _ _ (attribute_alike (codes "value") ms ns (record { repeat = r; found = f }))
 
 -- steps that go on alike
-then_alike : (f g : List (List ℕ) → Result (List (List ℕ)) ReadFault) → ((ws : List (List ℕ)) → f ws ≡ g ws) → (vs : List (List ℕ)) (r : Result (Option (List ℕ)) ReadFault)
+then_alike : (f g : List (List ℕ) → Result (List (List ℕ)) ContentFault) → ((ws : List (List ℕ)) → f ws ≡ g ws) → (vs : List (List ℕ)) (r : Result (Option (List ℕ)) ContentFault)
     → r >>= (λ v. f (with_member vs v)) ≡ r >>= (λ v. g (with_member vs v))
 then_alike f g h vs (Ok v) = h (with_member vs v)
 then_alike f g h vs (Err e) = refl

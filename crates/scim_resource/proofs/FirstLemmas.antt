@@ -13,8 +13,8 @@ use Rattle.scim_resource.specs.Reading.{lists_schema, display_name_in, text_in, 
 use Rattle.scim_resource.specs.Schemas.{core_group, source_extension}
 use Rattle.scim_resource.specs.declared.contents.Content.{Content}
 use Rattle.scim_resource.specs.declared.contents.Content.TheVariants.{Group}
-use Rattle.scim_resource.specs.declared.faults.ReadFault.{ReadFault}
-use Rattle.scim_resource.specs.declared.faults.ReadFault.TheVariants.{InvalidValue}
+use Rattle.scim_resource.specs.declared.faults.ContentFault.{ContentFault}
+use Rattle.scim_resource.specs.declared.faults.ContentFault.TheVariants.{InvalidValue}
 use Rattle.scim_resource.proofs.MemberLists.{are_distinct-with_member}
 
 -- ---- one value after the other
@@ -103,7 +103,7 @@ ok_same r is h = cc
 err_is_not_ok : {X F : Type 0} {e : F} {y : X} → Err e ≡ Ok y → ⊥
 err_is_not_ok h = cc
 
-merges_one : (r : Result (Option (List ℕ)) ReadFault) (kept : List (List ℕ)) (ds : List Data) (vs : List (List ℕ))
+merges_one : (r : Result (Option (List ℕ)) ContentFault) (kept : List (List ℕ)) (ds : List Data) (vs : List (List ℕ))
     → ((more ws : List (List ℕ)) → members_after more (items_of ds) ≡ Ok ws → ws ≡ merged more (member_values ds)) → r >>= (λ o. members_after (with_member kept o) (items_of ds)) ≡ Ok vs
     → vs ≡ merged kept (value_before r (member_values ds))
 merges_one (Ok None) kept ds vs others h = others kept vs h
@@ -120,7 +120,7 @@ went_well : {A B F : Type 0} (m : Result A F) (f : A → Result B F) (y : B) →
 went_well (Ok x) f y h = (x, refl, h)
 went_well (Err e) f y h = absurd (err_is_not_ok h)
 
-few_same : (b : Bool) (vs ws : List (List ℕ)) (r : Result (List (List ℕ)) ReadFault) → r ≡ cond b (Ok vs) (Err InvalidValue) → r ≡ Ok ws → ws ≡ vs
+few_same : (b : Bool) (vs ws : List (List ℕ)) (r : Result (List (List ℕ)) ContentFault) → r ≡ cond b (Ok vs) (Err InvalidValue) → r ≡ Ok ws → ws ≡ vs
 few_same true vs ws r is h = ok_same r is h
 few_same false vs ws r is h = absurd (err_is_not_ok (sym is ∙ h))
 
@@ -129,18 +129,18 @@ values_kept ds vs h =
     let found = went_well (members_after [] (items_of ds)) few_members vs h in
     keeps_firsts (member_values ds) vs (few_same (are_few_members found.0) found.0 vs (few_members found.0) refl found.2 ∙ merges [] ds found.0 found.1)
 
-listed_well : (b : Bool) (r : Result GroupRecord ReadFault) (g : GroupRecord) → if_listed b r ≡ Ok g → r ≡ Ok g
+listed_well : (b : Bool) (r : Result GroupRecord ContentFault) (g : GroupRecord) → if_listed b r ≡ Ok g → r ≡ Ok g
 listed_well true r g h = h
 listed_well false r g h = absurd (err_is_not_ok h)
 
-clear_well : (b : Bool) (r : Result GroupRecord ReadFault) (g : GroupRecord) → unless_repeated b r ≡ Ok g → r ≡ Ok g
+clear_well : (b : Bool) (r : Result GroupRecord ContentFault) (g : GroupRecord) → unless_repeated b r ≡ Ok g → r ≡ Ok g
 clear_well true r g h = absurd (err_is_not_ok h)
 clear_well false r g h = h
 
-group_well : (r : Result GroupRecord ReadFault) (g : GroupRecord) → r >>= (λ g. Ok (Group g)) ≡ Ok (Group g) → r ≡ Ok g
+group_well : (r : Result GroupRecord ContentFault) (g : GroupRecord) → r >>= (λ g. Ok (Group g)) ≡ Ok (Group g) → r ≡ Ok g
 group_well (Ok x) g h = ap Ok (same_group (Ok (Group x)) refl h)
   where
-    same_group : {x y : GroupRecord} (r : Result Content ReadFault) → r ≡ Ok (Group x) → r ≡ Ok (Group y) → x ≡ y
+    same_group : {x y : GroupRecord} (r : Result Content ContentFault) → r ≡ Ok (Group x) → r ≡ Ok (Group y) → x ≡ y
     same_group r is e = cc
 group_well (Err e) g h = absurd (err_is_not_ok h)
 

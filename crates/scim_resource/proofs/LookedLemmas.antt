@@ -10,7 +10,7 @@ use Rattle.scim_resource.specs.Looked.{Lists, IsLookedInto, the_body, the_extens
 use Rattle.scim_resource.specs.Reading.{user_repeats, group_repeats, user_fields, group_fields, unless_repeated, read_content}
 use Rattle.scim_resource.specs.Schemas.{source_extension}
 use Rattle.scim_resource.specs.declared.contents.Content.TheVariants.{User, Group}
-use Rattle.scim_resource.specs.declared.faults.ReadFault.TheVariants.{InvalidSyntax}
+use Rattle.scim_resource.specs.declared.faults.ContentFault.TheVariants.{InvalidSyntax}
 
 first : (a b : Bool) → a ≡ true → (a || b) ≡ true
 first a b h = ap (λ c. c || b) h

@@ -14,8 +14,8 @@ use Rattle.scim_resource.specs.Groups.{AreTexts, IsMemberList, is_among, are_dis
 use Rattle.scim_resource.specs.declared.groups.TheConstants.{MEMBER_LIMIT}
 use Rattle.scim_resource.specs.Reading.{member_in, members_after, with_member, few_members, members_of, text_in}
 use Rattle.scim_resource.specs.Texts.{IsText, IsTextIf, is_short_text}
-use Rattle.scim_resource.specs.declared.faults.ReadFault.{ReadFault}
-use Rattle.scim_resource.specs.declared.faults.ReadFault.TheVariants.{InvalidValue}
+use Rattle.scim_resource.specs.declared.faults.ContentFault.{ContentFault}
+use Rattle.scim_resource.specs.declared.faults.ContentFault.TheVariants.{InvalidValue}
 use Rattle.scim_json.specs.Attributes.{attribute}
 use Rattle.scim_resource.proofs.EmailLists.{here}
 
@@ -86,21 +86,21 @@ are_distinct-with_member vs (Some v) h = distinct_at (is_among v vs) v vs refl h
 
 -- ---- reading a list of members item by item
 
-pub reads_member : (vs : List Value) (i : ℕ) (v : Value) (kept : List (List ℕ)) (o : Option (List ℕ)) (r : Result (List (List ℕ)) ReadFault) → i < length vs → v ≡ get_or vs i v
+pub reads_member : (vs : List Value) (i : ℕ) (v : Value) (kept : List (List ℕ)) (o : Option (List ℕ)) (r : Result (List (List ℕ)) ContentFault) → i < length vs → v ≡ get_or vs i v
     → member_in (view v) ≡ Ok o → members_after kept (items_view (drop i vs)) ≡ r → members_after (with_member kept o) (items_view (drop (i + 1) vs)) ≡ r
 unfolding members_after
 reads_member vs i v kept o r h is read so_far =
     ap (λ p. p >>= (λ v. members_after (with_member kept v) (items_view (drop (i + 1) vs)))) (sym read)
     ∙ ap (members_after kept) (sym (here vs i v h is)) ∙ so_far
 
-pub member_fault : (vs : List Value) (i : ℕ) (v : Value) (kept : List (List ℕ)) (f : ReadFault) (r : Result (List (List ℕ)) ReadFault) → i < length vs → v ≡ get_or vs i v
+pub member_fault : (vs : List Value) (i : ℕ) (v : Value) (kept : List (List ℕ)) (f : ContentFault) (r : Result (List (List ℕ)) ContentFault) → i < length vs → v ≡ get_or vs i v
     → member_in (view v) ≡ Err f → members_after kept (items_view (drop i vs)) ≡ r → r ≡ Err f
 unfolding members_after
 member_fault vs i v kept f r h is read so_far =
     sym so_far ∙ ap (members_after kept) (here vs i v h is)
     ∙ ap (λ p. p >>= (λ v. members_after (with_member kept v) (items_view (drop (i + 1) vs)))) read
 
-pub members_end : (vs : List Value) (i : ℕ) (kept : List (List ℕ)) (r : Result (List (List ℕ)) ReadFault) → length vs ≤ i
+pub members_end : (vs : List Value) (i : ℕ) (kept : List (List ℕ)) (r : Result (List (List ℕ)) ContentFault) → length vs ≤ i
     → members_after kept (items_view (drop i vs)) ≡ r → r ≡ Ok kept
 unfolding members_after
 members_end vs i kept r h so_far = sym so_far ∙ ap (λ ws. members_after kept (items_view ws)) (drop_all i vs h)
@@ -121,11 +121,11 @@ many-with_member vs None h = h
 many-with_member vs (Some v) h = many_at (is_among v vs) v vs h
 
 -- it fails as an invalid value, if it fails
-abbrev IsInvalidAtMost : {X : Type 0} → Result X ReadFault → Type 0
+abbrev IsInvalidAtMost : {X : Type 0} → Result X ContentFault → Type 0
 IsInvalidAtMost (Ok x) = Unit {0}
 IsInvalidAtMost (Err e) = e ≡ InvalidValue
 
-abbrev short : Bool → List ℕ → Result (Option (List ℕ)) ReadFault
+abbrev short : Bool → List ℕ → Result (Option (List ℕ)) ContentFault
 short b s = cond b (Ok (Some s)) (Err InvalidValue)
 
 short_at : (b : Bool) (s : List ℕ) → IsInvalidAtMost (short b s)
@@ -149,7 +149,7 @@ member_at_most (string s) = refl
 member_at_most (array ds) = refl
 member_at_most (object ms) = text_at_most (attribute (codes "value") ms)
 
-refused_either_way : {X Y Z : Type 0} (r : Result X ReadFault) (f : X → Result Y ReadFault) (g : Y → Result Z ReadFault) → IsInvalidAtMost r
+refused_either_way : {X Y Z : Type 0} (r : Result X ContentFault) (f : X → Result Y ContentFault) (g : Y → Result Z ContentFault) → IsInvalidAtMost r
     → ((x : X) → (f x >>= g) ≡ Err InvalidValue) → ((r >>= f) >>= g) ≡ Err InvalidValue
 refused_either_way (Ok x) f g only h = h x
 refused_either_way (Err e) f g only h = ap Err only

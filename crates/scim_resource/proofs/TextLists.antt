@@ -6,8 +6,8 @@ use Rattle.serde_json.specs.Data.{Data, null, boolean, number, string, array, ob
 use Rattle.scim_resource.specs.Reading.{text_in, value_of, texts_in, user_texts_in}
 use Rattle.scim_resource.specs.Texts.{IsTextIf, is_short_text}
 use Rattle.scim_resource.specs.UserTexts.{UserTexts}
-use Rattle.scim_resource.specs.declared.faults.ReadFault.{ReadFault}
-use Rattle.scim_resource.specs.declared.faults.ReadFault.TheVariants.{InvalidValue}
+use Rattle.scim_resource.specs.declared.faults.ContentFault.{ContentFault}
+use Rattle.scim_resource.specs.declared.faults.ContentFault.TheVariants.{InvalidValue}
 use Rattle.scim_resource.specs.declared.user_texts.TheConstants.{USER_TEXTS}
 
 -- these values were read one by one
@@ -24,11 +24,11 @@ texts_made seen (v ∷ values) (t ∷ texts) all read =
     (rw (one.0, rest.0) refl, (one.1, rest.1))
 
 -- there is one fault of a text
-short_fault : (b : Bool) (s : List ℕ) (e : ReadFault) → cond b (Ok (Some s)) (Err InvalidValue) ≡ Err e → e ≡ InvalidValue
+short_fault : (b : Bool) (s : List ℕ) (e : ContentFault) → cond b (Ok (Some s)) (Err InvalidValue) ≡ Err e → e ≡ InvalidValue
 short_fault true s e h = cc
 short_fault false s e h = cc
 
-text_fault : (d : Option Data) (e : ReadFault) → text_in d ≡ Err e → e ≡ InvalidValue
+text_fault : (d : Option Data) (e : ContentFault) → text_in d ≡ Err e → e ≡ InvalidValue
 text_fault None e h = cc
 text_fault (Some null) e h = cc
 text_fault (Some (boolean b)) e h = cc
@@ -38,12 +38,12 @@ text_fault (Some (array ds)) e h = cc
 text_fault (Some (object ms)) e h = cc
 
 -- a fault behind a text that may be one itself
-behind : (r : Result (Option (List ℕ)) ReadFault) (ds : List (Option Data)) (e : ReadFault) → ((f : ReadFault) → r ≡ Err f → f ≡ e) → texts_in ds ≡ Err e
+behind : (r : Result (Option (List ℕ)) ContentFault) (ds : List (Option Data)) (e : ContentFault) → ((f : ContentFault) → r ≡ Err f → f ≡ e) → texts_in ds ≡ Err e
     → r >>= (λ text. texts_in ds >>= (λ texts. Ok (text ∷ texts))) ≡ Err e
 behind (Ok t) ds e same h = rw h refl
 behind (Err f) ds e same h = ap Err (same f refl)
 
-fault_at : {A : Type 0} (seen : A → Option Data) (values : List A) (i : ℕ) (v : A) (e : ReadFault) → i < length values → text_in (seen (get_or values i v)) ≡ Err e
+fault_at : {A : Type 0} (seen : A → Option Data) (values : List A) (i : ℕ) (v : A) (e : ContentFault) → i < length values → text_in (seen (get_or values i v)) ≡ Err e
     → texts_in (map seen values) ≡ Err e
 unfolding texts_in
 fault_at seen [] i v e fits h = absurd (omega arith)
@@ -51,7 +51,7 @@ fault_at seen (x ∷ values) zero v e fits h = rw h refl
 fault_at seen (x ∷ values) (suc i) v e fits h =
     behind (text_in (seen x)) (map seen values) e (λ f is. text_fault (seen x) f is ∙ sym (text_fault (seen (get_or values i v)) e h)) (fault_at seen values i v e (omega (arith, fits)) h)
 
-pub text_refused : {A : Type 0} (seen : A → Option Data) (values : List A) (v : A) (e : ReadFault) → IsAmong values v → text_in (seen v) ≡ Err e → texts_in (map seen values) ≡ Err e
+pub text_refused : {A : Type 0} (seen : A → Option Data) (values : List A) (v : A) (e : ContentFault) → IsAmong values v → text_in (seen v) ≡ Err e → texts_in (map seen values) ≡ Err e
 text_refused seen values v e (i, (fits, at)) h = fault_at seen values i v e fits (ap (λ x. text_in (seen x)) (sym at) ∙ h)
 
 pub gives : {X F : Type 0} (memory : F) (r answer : Result X F) → IfOk r (λ x. answer ≡ Ok x) → IfErr r (λ e. (e ≡ memory) ⊎ (answer ≡ Err e)) → Gives memory r answer
@@ -62,7 +62,7 @@ pub refused_or_memory : {F : Type 0} {P Q : Type 0} (e memory : F) → (P → Q)
 refused_or_memory e memory f (inl is) = inl is
 refused_or_memory e memory f (inr p) = inr (f p)
 
-pub texts_of_user : (ms : Members) (name : Option Members) (ds : List (Option Data)) (answer : Result UserTexts ReadFault) → ds ≡ map (value_of ms name) USER_TEXTS → texts_in ds ≡ answer
+pub texts_of_user : (ms : Members) (name : Option Members) (ds : List (Option Data)) (answer : Result UserTexts ContentFault) → ds ≡ map (value_of ms name) USER_TEXTS → texts_in ds ≡ answer
     → user_texts_in ms name ≡ answer
 unfolding user_texts_in
 texts_of_user ms name ds answer is h = ap texts_in (sym is) ∙ h

@@ -3,10 +3,10 @@ use Rattle.std.specs.Prelude.{◌≡◌, ℕ, true, false, List, [], ◌∷◌, 
 use Rattle.serde_json.specs.Data.{Data}
 use Rattle.scim_resource.specs.Groups.{is_among, are_distinct}
 use Rattle.scim_resource.specs.Reading.{member_in}
-use Rattle.scim_resource.specs.declared.faults.ReadFault.{ReadFault}
+use Rattle.scim_resource.specs.declared.faults.ContentFault.{ContentFault}
 
 -- puts the value of one element, if it has one, in front of these values
-abbrev pub value_before : Result (Option (List ℕ)) ReadFault → List (List ℕ) → List (List ℕ)
+abbrev pub value_before : Result (Option (List ℕ)) ContentFault → List (List ℕ) → List (List ℕ)
 value_before (Ok None) vs = vs
 value_before (Ok (Some v)) vs = v ∷ vs
 value_before (Err fault) vs = vs

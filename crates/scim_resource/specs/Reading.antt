@@ -19,15 +19,15 @@ use Rattle.scim_resource.specs.Users.{UserRecord}
 use Rattle.scim_resource.specs.declared.contents.Content.{Content}
 use Rattle.scim_resource.specs.declared.contents.Content.TheVariants.{User, Group}
 use Rattle.scim_resource.specs.declared.emails.Email.{Email}
-use Rattle.scim_resource.specs.declared.faults.ReadFault.{ReadFault}
-use Rattle.scim_resource.specs.declared.faults.ReadFault.TheVariants.{InvalidSyntax, InvalidValue}
+use Rattle.scim_resource.specs.declared.faults.ContentFault.{ContentFault}
+use Rattle.scim_resource.specs.declared.faults.ContentFault.TheVariants.{InvalidSyntax, InvalidValue}
 use Rattle.scim_resource.specs.declared.user_texts.Holder.{Holder}
 use Rattle.scim_resource.specs.declared.user_texts.Holder.TheVariants as holder
 use Rattle.scim_resource.specs.declared.user_texts.TheConstants.{USER_TEXTS}
 use Rattle.scim_resource.specs.declared.user_texts.UserText.{UserText}
 
 -- a fault of a value is `InvalidValue`
-abbrev pub checked : {X : Type 0} → Result X ValueFault → Result X ReadFault
+abbrev pub checked : {X : Type 0} → Result X ValueFault → Result X ContentFault
 checked (Ok x) = Ok x
 checked (Err e) = Err InvalidValue
 
@@ -59,7 +59,7 @@ lists_schema urn (Some (object ms)) = false
 -- ---- the attributes of a user
 
 -- a valid name
-abbrev pub user_name_in : Option Data → Result (List ℕ) ReadFault
+abbrev pub user_name_in : Option Data → Result (List ℕ) ContentFault
 user_name_in None = Err InvalidValue
 user_name_in (Some null) = Err InvalidValue
 user_name_in (Some (boolean b)) = Err InvalidValue
@@ -68,24 +68,24 @@ user_name_in (Some (string s)) = if is_none (user_name_fault s) then Ok s else E
 user_name_in (Some (array ds)) = Err InvalidValue
 user_name_in (Some (object ms)) = Err InvalidValue
 
-abbrev pub lawful_revision : Option RevisionValue → Result (Option RevisionValue) ReadFault
+abbrev pub lawful_revision : Option RevisionValue → Result (Option RevisionValue) ContentFault
 lawful_revision None = Err InvalidValue
 lawful_revision (Some r) = Ok (Some r)
 
-abbrev pub revision_of : Option ℕ → Result (Option RevisionValue) ReadFault
+abbrev pub revision_of : Option ℕ → Result (Option RevisionValue) ContentFault
 revision_of None = Ok None
 revision_of (Some n) = lawful_revision (revision_of_number n)
 
-abbrev pub source_revision : Option Members → Result (Option RevisionValue) ReadFault
+abbrev pub source_revision : Option Members → Result (Option RevisionValue) ContentFault
 source_revision None = Ok None
 source_revision (Some ms) = checked (whole_in (attribute (codes "revision") ms)) >>= revision_of
 
 -- the revision in the source extension, if there is one
-abbrev pub revision_in : Option Data → Result (Option RevisionValue) ReadFault
+abbrev pub revision_in : Option Data → Result (Option RevisionValue) ContentFault
 revision_in extension = checked (members_in extension) >>= source_revision
 
 -- a text of 1 to 256 bytes
-abbrev pub text_in : Option Data → Result (Option (List ℕ)) ReadFault
+abbrev pub text_in : Option Data → Result (Option (List ℕ)) ContentFault
 text_in None = Ok None
 text_in (Some null) = Err InvalidValue
 text_in (Some (boolean b)) = Err InvalidValue
@@ -110,16 +110,16 @@ value_in holder.Name ms name key = part_of key name
 abbrev pub value_of : Members → Option Members → UserText → Option Data
 value_of ms name which = value_in (holder_of which) ms name (name_of which)
 
-unfoldable pub texts_in : List (Option Data) → Result UserTexts ReadFault
+unfoldable pub texts_in : List (Option Data) → Result UserTexts ContentFault
 texts_in [] = Ok []
 texts_in (d ∷ ds) = text_in d >>= (λ text. texts_in ds >>= (λ texts. Ok (text ∷ texts)))
 
-unfoldable pub user_texts_in : Members → Option Members → Result UserTexts ReadFault
+unfoldable pub user_texts_in : Members → Option Members → Result UserTexts ContentFault
 user_texts_in ms name = texts_in (map (value_of ms name) USER_TEXTS)
 
 -- ---- emails
 
-abbrev pub email_with : Members → Option (List ℕ) → Result (Option Email) ReadFault
+abbrev pub email_with : Members → Option (List ℕ) → Result (Option Email) ContentFault
 email_with ms None = Ok None
 email_with ms (Some value) =
     text_in (attribute (codes "type") ms) >>= (λ type_text.
@@ -127,11 +127,11 @@ email_with ms (Some value) =
     Ok (Some (record { value = value; type_text = type_text; primary = primary }))))
 
 -- an email, or none if it has no value
-unfoldable pub email_of : Members → Result (Option Email) ReadFault
+unfoldable pub email_of : Members → Result (Option Email) ContentFault
 email_of ms = text_in (attribute (codes "value") ms) >>= email_with ms
 
 -- a `null` is ignored
-abbrev pub email_in : Data → Result (Option Email) ReadFault
+abbrev pub email_in : Data → Result (Option Email) ContentFault
 email_in null = Ok None
 email_in (boolean b) = Err InvalidValue
 email_in (number n) = Err InvalidValue
@@ -143,25 +143,25 @@ abbrev pub with_email : Option Email → List Email → List Email
 with_email None es = es
 with_email (Some e) es = e ∷ es
 
-unfoldable pub emails_of : Items → Result (List Email) ReadFault
+unfoldable pub emails_of : Items → Result (List Email) ContentFault
 emails_of no_items = Ok []
 emails_of (item d ds) = email_in d >>= (λ e. emails_of ds >>= (λ es. Ok (with_email e es)))
 
-abbrev pub few_emails : List Email → Result (List Email) ReadFault
+abbrev pub few_emails : List Email → Result (List Email) ContentFault
 few_emails es = if are_few es then Ok es else Err InvalidValue
 
 -- the emails that have a value, in order: at most ten, at most one of them primary
-abbrev pub emails_in : Option Data → Result (List Email) ReadFault
+abbrev pub emails_in : Option Data → Result (List Email) ContentFault
 emails_in value = (checked (items_in value) >>= emails_of) >>= few_emails
 
 -- ---- the whole
 
-abbrev pub if_listed : {X : Type 0} → Bool → Result X ReadFault → Result X ReadFault
+abbrev pub if_listed : {X : Type 0} → Bool → Result X ContentFault → Result X ContentFault
 if_listed true answer = answer
 if_listed false answer = Err InvalidValue
 
 -- a valid name of a group
-abbrev pub display_name_in : Option Data → Result (List ℕ) ReadFault
+abbrev pub display_name_in : Option Data → Result (List ℕ) ContentFault
 display_name_in None = Err InvalidValue
 display_name_in (Some null) = Err InvalidValue
 display_name_in (Some (boolean b)) = Err InvalidValue
@@ -171,7 +171,7 @@ display_name_in (Some (array ds)) = Err InvalidValue
 display_name_in (Some (object ms)) = Err InvalidValue
 
 -- the value of a member, or none; a `null` is ignored
-abbrev pub member_in : Data → Result (Option (List ℕ)) ReadFault
+abbrev pub member_in : Data → Result (Option (List ℕ)) ContentFault
 member_in null = Ok None
 member_in (boolean b) = Err InvalidValue
 member_in (number n) = Err InvalidValue
@@ -185,22 +185,22 @@ with_member vs None = vs
 with_member vs (Some v) = if is_among v vs then vs else vs ++ v ∷ []
 
 -- these values and then the values of a list, each kept once, at its first place
-unfoldable pub members_after : List (List ℕ) → Items → Result (List (List ℕ)) ReadFault
+unfoldable pub members_after : List (List ℕ) → Items → Result (List (List ℕ)) ContentFault
 members_after vs no_items = Ok vs
 members_after vs (item d ds) = member_in d >>= (λ v. members_after (with_member vs v) ds)
 
-abbrev pub few_members : List (List ℕ) → Result (List (List ℕ)) ReadFault
+abbrev pub few_members : List (List ℕ) → Result (List (List ℕ)) ContentFault
 few_members vs = if are_few_members vs then Ok vs else Err InvalidValue
 
 -- the values of a list of members, each kept once, at its first place: at most 400
-abbrev pub members_of : Items → Result (List (List ℕ)) ReadFault
+abbrev pub members_of : Items → Result (List (List ℕ)) ContentFault
 members_of ds = members_after [] ds >>= few_members
 
 -- the values of a group's members
-abbrev pub group_members_in : Option Data → Result (List (List ℕ)) ReadFault
+abbrev pub group_members_in : Option Data → Result (List (List ℕ)) ContentFault
 group_members_in value = checked (items_in value) >>= members_of
 
-unfoldable pub user_fields : Members → Result UserRecord ReadFault
+unfoldable pub user_fields : Members → Result UserRecord ContentFault
 user_fields ms =
     if_listed (lists_schema core_user (attribute (codes "schemas") ms))
     (user_name_in (attribute (codes "userName") ms) >>= (λ user_name.
@@ -211,7 +211,7 @@ user_fields ms =
     revision_in (attribute source_extension ms) >>= (λ revision.
     Ok (record { user_name = user_name; texts = texts; emails = emails; active = active; revision = revision }))))))))
 
-unfoldable pub group_fields : Members → Result GroupRecord ReadFault
+unfoldable pub group_fields : Members → Result GroupRecord ContentFault
 group_fields ms =
     if_listed (lists_schema core_group (attribute (codes "schemas") ms))
     (display_name_in (attribute (codes "displayName") ms) >>= (λ display_name.
@@ -228,11 +228,11 @@ user_repeats ms =
     repeats ms || value_repeats (attribute source_extension ms) || value_repeats (attribute (codes "name") ms)
     || list_repeats (attribute (codes "emails") ms)
 
-abbrev pub unless_repeated : {X : Type 0} → Bool → Result X ReadFault → Result X ReadFault
+abbrev pub unless_repeated : {X : Type 0} → Bool → Result X ContentFault → Result X ContentFault
 unless_repeated true answer = Err InvalidSyntax
 unless_repeated false answer = answer
 
-abbrev pub read_user : Data → Result UserRecord ReadFault
+abbrev pub read_user : Data → Result UserRecord ContentFault
 read_user null = Err InvalidSyntax
 read_user (boolean b) = Err InvalidSyntax
 read_user (number n) = Err InvalidSyntax
@@ -243,7 +243,7 @@ read_user (object ms) = unless_repeated (user_repeats ms) (user_fields ms)
 unfoldable pub group_repeats : Members → Bool
 group_repeats ms = repeats ms || value_repeats (attribute source_extension ms) || list_repeats (attribute (codes "members") ms)
 
-abbrev pub read_group : Data → Result GroupRecord ReadFault
+abbrev pub read_group : Data → Result GroupRecord ContentFault
 read_group null = Err InvalidSyntax
 read_group (boolean b) = Err InvalidSyntax
 read_group (number n) = Err InvalidSyntax
@@ -251,15 +251,15 @@ read_group (string s) = Err InvalidSyntax
 read_group (array ds) = Err InvalidSyntax
 read_group (object ms) = unless_repeated (group_repeats ms) (group_fields ms)
 
-unfoldable pub read_content : Kind → Data → Result Content ReadFault
+unfoldable pub read_content : Kind → Data → Result Content ContentFault
 read_content kinds.User d = read_user d >>= (λ u. Ok (User u))
 read_content kinds.Group d = read_group d >>= (λ g. Ok (Group g))
 
 -- a text that isn't JSON is `InvalidSyntax`
-abbrev pub content_from : Kind → Option Data → Result Content ReadFault
+abbrev pub content_from : Kind → Option Data → Result Content ContentFault
 content_from kind None = Err InvalidSyntax
 content_from kind (Some json) = read_content kind json
 
 -- The content that bytes spell: the bytes must be JSON in UTF-8, and their value is read
-abbrev pub content_in : Kind → List ℕ → Result Content ReadFault
+abbrev pub content_in : Kind → List ℕ → Result Content ContentFault
 content_in kind bytes = content_from kind (json_of bytes)

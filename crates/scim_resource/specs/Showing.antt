@@ -10,11 +10,11 @@ use Rattle.scim_resource.specs.Reading.{read_content, unless_repeated}
 use Rattle.scim_resource.specs.Rows.{ShownRecord}
 use Rattle.scim_resource.specs.declared.rows.TheConstants.{TAG_LIMIT}
 use Rattle.scim_resource.specs.declared.contents.Content.{Content}
-use Rattle.scim_resource.specs.declared.faults.ReadFault.{ReadFault}
-use Rattle.scim_resource.specs.declared.faults.ReadFault.TheVariants.{InvalidSyntax, InvalidValue}
+use Rattle.scim_resource.specs.declared.faults.ContentFault.{ContentFault}
+use Rattle.scim_resource.specs.declared.faults.ContentFault.TheVariants.{InvalidSyntax, InvalidValue}
 
 -- a valid id, which is required
-abbrev pub id_in : Option Data → Result (List ℕ) ReadFault
+abbrev pub id_in : Option Data → Result (List ℕ) ContentFault
 id_in None = Err InvalidValue
 id_in (Some null) = Err InvalidValue
 id_in (Some (boolean b)) = Err InvalidValue
@@ -48,14 +48,14 @@ version_in (Some (array ds)) = None
 version_in (Some (object ms)) = tag_in (attribute (codes "version") ms)
 
 -- this content, with the id and the version of an object; the id is required
-abbrev pub shown_with : Content → Members → Result ShownRecord ReadFault
+abbrev pub shown_with : Content → Members → Result ShownRecord ContentFault
 shown_with content ms =
     id_in (attribute (codes "id") ms) >>= (λ id.
     Ok (record { id = id; version = version_in (attribute (codes "meta") ms); content = content }))
 
 -- A resource of this type as an answer shows it: its content, its id, and its version if that is known. Reading looks
 -- into `meta` too
-abbrev pub read_shown : Kind → Data → Result ShownRecord ReadFault
+abbrev pub read_shown : Kind → Data → Result ShownRecord ContentFault
 read_shown kind null = Err InvalidSyntax
 read_shown kind (boolean b) = Err InvalidSyntax
 read_shown kind (number n) = Err InvalidSyntax

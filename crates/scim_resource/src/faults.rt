@@ -1,6 +1,6 @@
 //! Why a value can't be read as a resource.
 ghost use Rattle.std.specs.Prelude.{◌≡◌};
-ghost use Rattle.scim_resource.specs.declared.faults.ReadFault.TheVariants.{InvalidValue, Memory};
+ghost use Rattle.scim_resource.specs.declared.faults.ContentFault.TheVariants.{InvalidValue, Memory};
 ghost use Rattle.scim_resource.specs.Faults.{fault_of_json, fault_of_name};
 
 use scim_json::{JsonFault, ValueFault};
@@ -10,7 +10,7 @@ use thiserror::Error;
 
 /// Why a value can't be read as a resource. `InvalidSyntax` comes before `InvalidValue`.
 #[derive(Clone, Copy, Debug, PartialEq, Eq, Error)]
-pub enum ReadFault {
+pub enum ContentFault {
     /// The value isn't an object, or an object that reading looks into repeats a name.
     #[error("P1")]
     InvalidSyntax,
@@ -21,48 +21,48 @@ pub enum ReadFault {
     Memory,
 }
 
-impl From<AllocError> for ReadFault {
+impl From<AllocError> for ContentFault {
     ghost from_gives = { λ _ fault. fault ≡ Memory };
 
-    fn from(_: AllocError) -> ReadFault {
-        ReadFault::Memory
+    fn from(_: AllocError) -> ContentFault {
+        ContentFault::Memory
     }
 }
 
-impl<T: Drop> From<AllocFailed<T>> for ReadFault {
+impl<T: Drop> From<AllocFailed<T>> for ContentFault {
     ghost from_gives = { λ _ fault. fault ≡ Memory };
 
-    fn from(_: AllocFailed<T>) -> ReadFault {
-        ReadFault::Memory
+    fn from(_: AllocFailed<T>) -> ContentFault {
+        ContentFault::Memory
     }
 }
 
-impl From<ValueFault> for ReadFault {
+impl From<ValueFault> for ContentFault {
     ghost from_gives = { λ _ fault. fault ≡ InvalidValue };
 
-    fn from(_: ValueFault) -> ReadFault {
-        ReadFault::InvalidValue
+    fn from(_: ValueFault) -> ContentFault {
+        ContentFault::InvalidValue
     }
 }
 
-impl From<JsonFault> for ReadFault {
+impl From<JsonFault> for ContentFault {
     ghost from_gives = { λ json fault. fault ≡ fault_of_json json };
 
-    fn from(fault: JsonFault) -> ReadFault {
+    fn from(fault: JsonFault) -> ContentFault {
         match fault {
-            JsonFault::NotJson => ReadFault::InvalidSyntax,
-            JsonFault::Memory => ReadFault::Memory,
+            JsonFault::NotJson => ContentFault::InvalidSyntax,
+            JsonFault::Memory => ContentFault::Memory,
         }
     }
 }
 
-impl From<NameFault> for ReadFault {
+impl From<NameFault> for ContentFault {
     ghost from_gives = { λ name fault. fault ≡ fault_of_name name };
 
-    fn from(fault: NameFault) -> ReadFault {
+    fn from(fault: NameFault) -> ContentFault {
         match fault {
-            NameFault::Memory => ReadFault::Memory,
-            _ => ReadFault::InvalidValue,
+            NameFault::Memory => ContentFault::Memory,
+            _ => ContentFault::InvalidValue,
         }
     }
 }

@@ -7,7 +7,7 @@ ghost use Rattle.scim_resource.specs.Groups.{AreTexts, IsMemberList, are_distinc
 ghost use Rattle.scim_resource.specs.Texts.{IsTextIf};
 ghost use Rattle.scim_resource.specs.Reading as spec;
 
-use crate::faults::ReadFault;
+use crate::faults::ContentFault;
 use crate::groups::{Group, MEMBER_LIMIT, Members, is_among};
 use crate::reading::{lists_schema, revision_in, text_in};
 use crate::schemas::{core_group, source_extension};
@@ -17,14 +17,14 @@ use scim_key::GroupName;
 use serde_json::{Map, Value};
 use std::alloc::{AllocError, Global};
 
-pub(crate) fn read_group(alloc: Global, value: &Value) -> Result<Group, ReadFault>
-    ensures { Gives ReadFault.Memory result (spec.read_group (view value.now)) }
+pub(crate) fn read_group(alloc: Global, value: &Value) -> Result<Group, ContentFault>
+    ensures { Gives ContentFault.Memory result (spec.read_group (view value.now)) }
 {
     let Value::Object(members) = value else {
-        return Err(ReadFault::InvalidSyntax);
+        return Err(ContentFault::InvalidSyntax);
     };
     if group_repeats(alloc, members)? {
-        return Err(ReadFault::InvalidSyntax);
+        return Err(ContentFault::InvalidSyntax);
     }
     group_fields(alloc, members)
 }
@@ -42,12 +42,12 @@ fn group_repeats(alloc: Global, members: &Map<String, Value>) -> Result<bool, Al
 }
 
 #[tactic(auto, unfolding(crate::specs::Reading::group_fields))]
-fn group_fields(alloc: Global, members: &Map<String, Value>) -> Result<Group, ReadFault>
-    ensures { Gives ReadFault.Memory result
+fn group_fields(alloc: Global, members: &Map<String, Value>) -> Result<Group, ContentFault>
+    ensures { Gives ContentFault.Memory result
         (spec.group_fields (members_view members.now.entries)) }
 {
     if !lists_schema(attribute(members, "schemas"), core_group()) {
-        return Err(ReadFault::InvalidValue);
+        return Err(ContentFault::InvalidValue);
     }
     let display_name = display_name_in(alloc, attribute(members, "displayName"))?;
     let external_id = text_in(alloc, attribute(members, "externalId"))?;
@@ -56,34 +56,34 @@ fn group_fields(alloc: Global, members: &Map<String, Value>) -> Result<Group, Re
     Ok(Group::new(display_name, values, revision).with_external_id(external_id))
 }
 
-fn display_name_in(alloc: Global, value: Option<&Value>) -> Result<GroupName, ReadFault>
-    ensures given { Gives ReadFault.Memory result
+fn display_name_in(alloc: Global, value: Option<&Value>) -> Result<GroupName, ContentFault>
+    ensures given { Gives ContentFault.Memory result
         (spec.display_name_in (option_map (λ v. view v.now) value.entry)) }
     ensures lawful { IfOk result IsGroupName }
 {
     match value {
         Some(Value::String(text)) => Ok(GroupName::read(alloc, text.as_str())?),
-        _ => Err(ReadFault::InvalidValue),
+        _ => Err(ContentFault::InvalidValue),
     }
 }
 
 /// The values of the members; a repeated value is kept once, at its first place.
-fn group_members_in(alloc: Global, value: Option<&Value>) -> Result<Members, ReadFault>
-    ensures given { Gives ReadFault.Memory result
+fn group_members_in(alloc: Global, value: Option<&Value>) -> Result<Members, ContentFault>
+    ensures given { Gives ContentFault.Memory result
         (spec.group_members_in (option_map (λ v. view v.now) value.entry)) }
     ensures lawful { IfOk result IsMemberList }
 {
     let values = members_of(alloc, items_in(value)?)?;
     match Members::from_vec(values) {
         Some(members) => Ok(members),
-        None => Err(ReadFault::InvalidValue),
+        None => Err(ContentFault::InvalidValue),
     }
 }
 
 /// Reading stops as soon as there are more values than a group may have.
 #[tactic(auto, unfolding(crate::specs::Reading::members_after))]
-fn members_of(alloc: Global, items: &[Value]) -> Result<Vec<Text>, ReadFault>
-    ensures given { GivesBy (λ values. values.items) ReadFault.Memory result
+fn members_of(alloc: Global, items: &[Value]) -> Result<Vec<Text>, ContentFault>
+    ensures given { GivesBy (λ values. values.items) ContentFault.Memory result
         (spec.members_of (items_view items.now)) }
     ensures lawful { IfOk result (λ values. AreTexts values.items) }
     ensures distinct { IfOk result (λ values. are_distinct values.items ≡ true) }
@@ -93,7 +93,7 @@ fn members_of(alloc: Global, items: &[Value]) -> Result<Vec<Text>, ReadFault>
         let value = member_in(alloc, item)?;
         keep(&mut values, value)?;
         if values.len() > MEMBER_LIMIT {
-            return Err(ReadFault::InvalidValue);
+            return Err(ContentFault::InvalidValue);
         }
     }
     Ok(values)
@@ -111,13 +111,13 @@ fn keep(values: &mut Vec<Text>, value: Option<Text>) -> Result<(), AllocError>
 }
 
 /// The value of a member, or none.
-fn member_in(alloc: Global, item: &Value) -> Result<Option<Text>, ReadFault>
-    ensures given { Gives ReadFault.Memory result (spec.member_in (view item.now)) }
+fn member_in(alloc: Global, item: &Value) -> Result<Option<Text>, ContentFault>
+    ensures given { Gives ContentFault.Memory result (spec.member_in (view item.now)) }
     ensures lawful { IfOk result IsTextIf }
 {
     match item {
         Value::Null => Ok(None),
         Value::Object(members) => text_in(alloc, attribute(members, "value")),
-        _ => Err(ReadFault::InvalidValue),
+        _ => Err(ContentFault::InvalidValue),
     }
 }

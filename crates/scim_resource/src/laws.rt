@@ -19,7 +19,7 @@ ghost use Rattle.scim_resource.specs.Showing.{read_shown};
 ghost use Rattle.scim_resource.specs.Writing.{content_data, shown_data};
 ghost use Rattle.scim_resource.specs.declared.contents.Content.{Content};
 ghost use Rattle.scim_resource.specs.declared.contents.Content.TheVariants.{Group};
-ghost use Rattle.scim_resource.specs.declared.faults.ReadFault.TheVariants.{InvalidSyntax};
+ghost use Rattle.scim_resource.specs.declared.faults.ContentFault.TheVariants.{InvalidSyntax};
 
 /// A content that was read, once written, is read back as itself: from its value, and from its text as a
 /// body.

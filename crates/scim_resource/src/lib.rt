@@ -20,7 +20,7 @@ mod writing;
 
 pub use contents::Content;
 pub use emails::{EMAIL_LIMIT, Email, Emails};
-pub use faults::ReadFault;
+pub use faults::ContentFault;
 pub use groups::{Group, MEMBER_LIMIT, Members};
 pub use laws::{
     alike_values_are_read_the_same, repeated_members_are_kept_once, repeated_names_come_first,

@@ -11,7 +11,7 @@ ghost use Rattle.scim_resource.specs.Reading as spec;
 
 use crate::contents::Content;
 use crate::emails::{Email, Emails};
-use crate::faults::ReadFault;
+use crate::faults::ContentFault;
 use crate::group_reading::read_group;
 use crate::schemas::{core_user, source_extension};
 use crate::texts::{Text, is_short_text};
@@ -28,8 +28,8 @@ use std::alloc::{AllocError, Global};
 impl Content {
     /// Reads what a resource of this type contains. Unknown attributes, `id` and `meta` are ignored.
     #[tactic(auto, unfolding(crate::specs::Reading::read_content))]
-    pub fn read(alloc: Global, value: &Value, kind: Kind) -> Result<Content, ReadFault>
-        ensures { Gives ReadFault.Memory result (spec.read_content kind (view value.now)) }
+    pub fn read(alloc: Global, value: &Value, kind: Kind) -> Result<Content, ContentFault>
+        ensures { Gives ContentFault.Memory result (spec.read_content kind (view value.now)) }
     {
         match kind {
             Kind::User => Ok(Content::User(read_user(alloc, value)?)),
@@ -39,21 +39,21 @@ impl Content {
 
     /// Reads a body as the content of a resource of this type. Bytes that aren't JSON in UTF-8 are
     /// `InvalidSyntax`.
-    pub fn from_slice(alloc: Global, bytes: &[u8], kind: Kind) -> Result<Content, ReadFault>
-        ensures { Gives ReadFault.Memory result (spec.content_in kind bytes.now) }
+    pub fn from_slice(alloc: Global, bytes: &[u8], kind: Kind) -> Result<Content, ContentFault>
+        ensures { Gives ContentFault.Memory result (spec.content_in kind bytes.now) }
     {
         Content::read(alloc, &json_of(alloc, bytes)?, kind)
     }
 }
 
-fn read_user(alloc: Global, value: &Value) -> Result<User, ReadFault>
-    ensures { Gives ReadFault.Memory result (spec.read_user (view value.now)) }
+fn read_user(alloc: Global, value: &Value) -> Result<User, ContentFault>
+    ensures { Gives ContentFault.Memory result (spec.read_user (view value.now)) }
 {
     let Value::Object(members) = value else {
-        return Err(ReadFault::InvalidSyntax);
+        return Err(ContentFault::InvalidSyntax);
     };
     if user_repeats(alloc, members)? {
-        return Err(ReadFault::InvalidSyntax);
+        return Err(ContentFault::InvalidSyntax);
     }
     user_fields(alloc, members)
 }
@@ -72,12 +72,12 @@ fn user_repeats(alloc: Global, members: &Map<String, Value>) -> Result<bool, All
 }
 
 #[tactic(auto, unfolding(crate::specs::Reading::user_fields))]
-fn user_fields(alloc: Global, members: &Map<String, Value>) -> Result<User, ReadFault>
-    ensures { Gives ReadFault.Memory result
+fn user_fields(alloc: Global, members: &Map<String, Value>) -> Result<User, ContentFault>
+    ensures { Gives ContentFault.Memory result
         (spec.user_fields (members_view members.now.entries)) }
 {
     if !lists_schema(attribute(members, "schemas"), core_user()) {
-        return Err(ReadFault::InvalidValue);
+        return Err(ContentFault::InvalidValue);
     }
     let user_name = user_name_in(alloc, attribute(members, "userName"))?;
     let name = members_in(attribute(members, "name"))?;
@@ -137,8 +137,8 @@ impl<'v> Holders<'v> {
 }
 
 /// The texts of a user.
-fn texts_in(alloc: Global, holders: &Holders) -> Result<[Option<Text>; TEXT_COUNT], ReadFault>
-    ensures given { Gives ReadFault.Memory result (spec.user_texts_in (members_view holders.now.user.now.entries)
+fn texts_in(alloc: Global, holders: &Holders) -> Result<[Option<Text>; TEXT_COUNT], ContentFault>
+    ensures given { Gives ContentFault.Memory result (spec.user_texts_in (members_view holders.now.user.now.entries)
         (option_map (λ m. members_view m.now.entries) holders.now.name)) }
     ensures lawful { IfOk result AreUserTexts }
 {
@@ -146,8 +146,8 @@ fn texts_in(alloc: Global, holders: &Holders) -> Result<[Option<Text>; TEXT_COUN
 }
 
 /// A text of 1 to 256 bytes.
-pub(crate) fn text_in(alloc: Global, value: Option<&Value>) -> Result<Option<Text>, ReadFault>
-    ensures given { Gives ReadFault.Memory result
+pub(crate) fn text_in(alloc: Global, value: Option<&Value>) -> Result<Option<Text>, ContentFault>
+    ensures given { Gives ContentFault.Memory result
         (spec.text_in (option_map (λ v. view v.now) value.entry)) }
     ensures lawful { IfOk result IsTextIf }
 {
@@ -156,28 +156,28 @@ pub(crate) fn text_in(alloc: Global, value: Option<&Value>) -> Result<Option<Tex
         Some(Value::String(text)) => if is_short_text(text.as_str()) {
             Ok(Text::from_string(text.clone()?))
         } else {
-            Err(ReadFault::InvalidValue)
+            Err(ContentFault::InvalidValue)
         },
-        Some(_) => Err(ReadFault::InvalidValue),
+        Some(_) => Err(ContentFault::InvalidValue),
     }
 }
 
 /// The emails that have a value, in their order.
-fn emails_in(alloc: Global, value: Option<&Value>) -> Result<Emails, ReadFault>
-    ensures given { Gives ReadFault.Memory result
+fn emails_in(alloc: Global, value: Option<&Value>) -> Result<Emails, ContentFault>
+    ensures given { Gives ContentFault.Memory result
         (spec.emails_in (option_map (λ v. view v.now) value.entry)) }
     ensures lawful { IfOk result IsEmailList }
 {
     let emails = emails_of(alloc, items_in(value)?)?;
     match Emails::from_vec(emails) {
         Some(emails) => Ok(emails),
-        None => Err(ReadFault::InvalidValue),
+        None => Err(ContentFault::InvalidValue),
     }
 }
 
 #[tactic(auto, unfolding(crate::specs::Reading::emails_of))]
-fn emails_of(alloc: Global, items: &[Value]) -> Result<Vec<Email>, ReadFault>
-    ensures given { GivesBy (λ emails. emails.items) ReadFault.Memory result
+fn emails_of(alloc: Global, items: &[Value]) -> Result<Vec<Email>, ContentFault>
+    ensures given { GivesBy (λ emails. emails.items) ContentFault.Memory result
         (spec.emails_of (items_view items.now)) }
     ensures lawful { IfOk result (λ emails. AreEmails emails.items) }
 {
@@ -190,21 +190,21 @@ fn emails_of(alloc: Global, items: &[Value]) -> Result<Vec<Email>, ReadFault>
     Ok(emails)
 }
 
-fn email_in(alloc: Global, item: &Value) -> Result<Option<Email>, ReadFault>
-    ensures given { Gives ReadFault.Memory result (spec.email_in (view item.now)) }
+fn email_in(alloc: Global, item: &Value) -> Result<Option<Email>, ContentFault>
+    ensures given { Gives ContentFault.Memory result (spec.email_in (view item.now)) }
     ensures lawful { IfOk result (λ email. IfSome email IsEmail) }
 {
     match item {
         Value::Null => Ok(None),
         Value::Object(members) => email_of(alloc, members),
-        _ => Err(ReadFault::InvalidValue),
+        _ => Err(ContentFault::InvalidValue),
     }
 }
 
 /// An email, or none if it has no value.
 #[tactic(auto, unfolding(crate::specs::Reading::email_of))]
-fn email_of(alloc: Global, members: &Map<String, Value>) -> Result<Option<Email>, ReadFault>
-    ensures given { Gives ReadFault.Memory result
+fn email_of(alloc: Global, members: &Map<String, Value>) -> Result<Option<Email>, ContentFault>
+    ensures given { Gives ContentFault.Memory result
         (spec.email_of (members_view members.now.entries)) }
     ensures lawful { IfOk result (λ email. IfSome email IsEmail) }
 {
@@ -242,19 +242,19 @@ fn is_text_or_null(value: &Value) -> bool
     matches!(value, Value::Null | Value::String(_))
 }
 
-fn user_name_in(alloc: Global, value: Option<&Value>) -> Result<UserName, ReadFault>
-    ensures given { Gives ReadFault.Memory result
+fn user_name_in(alloc: Global, value: Option<&Value>) -> Result<UserName, ContentFault>
+    ensures given { Gives ContentFault.Memory result
         (spec.user_name_in (option_map (λ v. view v.now) value.entry)) }
     ensures lawful { IfOk result IsUserName }
 {
     match value {
         Some(Value::String(text)) => Ok(UserName::read(alloc, text.as_str())?),
-        _ => Err(ReadFault::InvalidValue),
+        _ => Err(ContentFault::InvalidValue),
     }
 }
 
 /// The revision in the source extension, if there is one.
-pub(crate) fn revision_in(extension: Option<&Value>) -> Result<Option<Revision>, ReadFault>
+pub(crate) fn revision_in(extension: Option<&Value>) -> Result<Option<Revision>, ContentFault>
     ensures given { result
         ≡ spec.revision_in (option_map (λ v. view v.now) extension.entry) }
     ensures lawful { IfOk result IsSourceRevision }
@@ -265,7 +265,7 @@ pub(crate) fn revision_in(extension: Option<&Value>) -> Result<Option<Revision>,
     }
 }
 
-fn revision_of(number: Option<u64>) -> Result<Option<Revision>, ReadFault>
+fn revision_of(number: Option<u64>) -> Result<Option<Revision>, ContentFault>
     ensures given { result ≡ spec.revision_of number }
     ensures lawful { IfOk result IsSourceRevision }
 {
@@ -273,7 +273,7 @@ fn revision_of(number: Option<u64>) -> Result<Option<Revision>, ReadFault>
         None => Ok(None),
         Some(number) => match Revision::of_number(number) {
             Some(revision) => Ok(Some(revision)),
-            None => Err(ReadFault::InvalidValue),
+            None => Err(ContentFault::InvalidValue),
         },
     }
 }

@@ -9,7 +9,7 @@ ghost use Rattle.scim_resource.specs.Rows.{IsShort};
 ghost use Rattle.scim_resource.specs.Showing as spec;
 
 use crate::contents::Content;
-use crate::faults::ReadFault;
+use crate::faults::ContentFault;
 use crate::rows::{Shown, TAG_LIMIT};
 use scim_json::{attribute, value_repeats};
 use scim_key::{Kind, ResourceId};
@@ -20,14 +20,14 @@ use std::alloc::Global;
 impl Shown {
     /// Reads a resource of this type as an answer shows it. The content is read as by `Content::read`; an
     /// `id` is required. If `meta.version` isn't an entity tag of at most 256 bytes, the version is `None`.
-    pub fn read(alloc: Global, value: &Value, kind: Kind) -> Result<Shown, ReadFault>
-        ensures { Gives ReadFault.Memory result (spec.read_shown kind (view value.now)) }
+    pub fn read(alloc: Global, value: &Value, kind: Kind) -> Result<Shown, ContentFault>
+        ensures { Gives ContentFault.Memory result (spec.read_shown kind (view value.now)) }
     {
         let Value::Object(members) = value else {
-            return Err(ReadFault::InvalidSyntax);
+            return Err(ContentFault::InvalidSyntax);
         };
         if value_repeats(alloc, attribute(members, "meta"))? {
-            return Err(ReadFault::InvalidSyntax);
+            return Err(ContentFault::InvalidSyntax);
         }
         let content = Content::read(alloc, value, kind)?;
         shown_with(alloc, content, members)
@@ -39,8 +39,8 @@ fn shown_with(
     alloc: Global,
     content: Content,
     members: &Map<String, Value>,
-) -> Result<Shown, ReadFault>
-    ensures { Gives ReadFault.Memory result
+) -> Result<Shown, ContentFault>
+    ensures { Gives ContentFault.Memory result
         (spec.shown_with content (members_view members.now.entries)) }
 {
     let id = id_in(alloc, attribute(members, "id"))?;
@@ -48,21 +48,21 @@ fn shown_with(
     Ok(Shown::from_parts(id, version, content))
 }
 
-fn id_in(alloc: Global, value: Option<&Value>) -> Result<ResourceId, ReadFault>
-    ensures given { Gives ReadFault.Memory result
+fn id_in(alloc: Global, value: Option<&Value>) -> Result<ResourceId, ContentFault>
+    ensures given { Gives ContentFault.Memory result
         (spec.id_in (option_map (λ v. view v.now) value.entry)) }
     ensures lawful { IfOk result IsId }
     ensures utf8 { IfOk result IsUtf8 }
 {
     match value {
         Some(Value::String(text)) => Ok(ResourceId::read(alloc, text.as_str())?),
-        _ => Err(ReadFault::InvalidValue),
+        _ => Err(ContentFault::InvalidValue),
     }
 }
 
 /// The version in `meta`, if it is an entity tag of at most 256 bytes.
-fn version_in(alloc: Global, meta: Option<&Value>) -> Result<Option<EntityTag>, ReadFault>
-    ensures given { Gives ReadFault.Memory result
+fn version_in(alloc: Global, meta: Option<&Value>) -> Result<Option<EntityTag>, ContentFault>
+    ensures given { Gives ContentFault.Memory result
         (Ok (spec.version_in (option_map (λ v. view v.now) meta.entry))) }
     ensures tag { IfOk result (λ version. IfSome version IsEntityTag) }
     ensures short { IfOk result (λ version. IfSome version IsShort) }
@@ -74,8 +74,8 @@ fn version_in(alloc: Global, meta: Option<&Value>) -> Result<Option<EntityTag>, 
     }
 }
 
-fn tag_in(alloc: Global, value: Option<&Value>) -> Result<Option<EntityTag>, ReadFault>
-    ensures given { Gives ReadFault.Memory result
+fn tag_in(alloc: Global, value: Option<&Value>) -> Result<Option<EntityTag>, ContentFault>
+    ensures given { Gives ContentFault.Memory result
         (Ok (spec.tag_in (option_map (λ v. view v.now) value.entry))) }
     ensures tag { IfOk result (λ version. IfSome version IsEntityTag) }
     ensures short { IfOk result (λ version. IfSome version IsShort) }
@@ -87,8 +87,8 @@ fn tag_in(alloc: Global, value: Option<&Value>) -> Result<Option<EntityTag>, Rea
     }
 }
 
-fn tag_of(alloc: Global, text: &str) -> Result<Option<EntityTag>, ReadFault>
-    ensures given { Gives ReadFault.Memory result (Ok (spec.tag_of text.now)) }
+fn tag_of(alloc: Global, text: &str) -> Result<Option<EntityTag>, ContentFault>
+    ensures given { Gives ContentFault.Memory result (Ok (spec.tag_of text.now)) }
     ensures tag { IfOk result (λ version. IfSome version IsEntityTag) }
     ensures short { IfOk result (λ version. IfSome version IsShort) }
     ensures utf8 { IfOk result (λ version. IfSome version IsUtf8) }
@@ -99,6 +99,6 @@ fn tag_of(alloc: Global, text: &str) -> Result<Option<EntityTag>, ReadFault>
     match EntityTag::read(alloc, text.as_bytes()) {
         Ok(tag) => Ok(Some(tag)),
         Err(TagFault::Malformed) => Ok(None),
-        Err(TagFault::Memory) => Err(ReadFault::Memory),
+        Err(TagFault::Memory) => Err(ContentFault::Memory),
     }
 }

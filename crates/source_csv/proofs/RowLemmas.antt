@@ -12,7 +12,7 @@ use Rattle.source_csv.specs.Rows.{GroupFields, IsUserRow, UserFields, same_group
 use Rattle.source_csv.specs.Texts.{is_short, place_of}
 use Rattle.std.specs.List.{list_all}
 use Rattle.source_csv.specs.declared.texts.TheConstants.{VALUE_LIMIT}
-use Rattle.source_csv.specs.declared.texts.UserText.{UserText}
+use Rattle.source_csv.specs.declared.texts.TextField.{TextField}
 use Rattle.source_csv.specs.declared.rows.Row.{Row}
 use Rattle.source_csv.specs.declared.rows.Row.TheVariants.{User, Group}
 
@@ -86,5 +86,5 @@ short_at [] i all = omega arith
 short_at (t ∷ texts) zero all = leb-true (length t) VALUE_LIMIT (and_parts (is_short t) (list_all is_short texts) all).0
 short_at (t ∷ texts) (suc i) all = short_at texts i (and_parts (is_short t) (list_all is_short texts) all).1
 
-pub short_text : (row : UserFields) → IsUserRow row → (text : UserText) → length (text_of row text) ≤ VALUE_LIMIT
+pub short_text : (row : UserFields) → IsUserRow row → (text : TextField) → length (text_of row text) ≤ VALUE_LIMIT
 short_text row lawful text = short_at row.texts (place_of text) lawful.short

@@ -12,7 +12,7 @@ use Rattle.scim_key.specs.Revisions.{RevisionValue}
 use Rattle.source_csv.specs.Rows.{GroupFields, UserFields, precedes}
 use Rattle.source_csv.specs.Texts.{is_short}
 use Rattle.source_csv.specs.declared.groups.TheConstants.{MEMBER_LIMIT}
-use Rattle.source_csv.specs.declared.texts.TheConstants.{USER_TEXTS}
+use Rattle.source_csv.specs.declared.texts.TheConstants.{TEXT_FIELDS}
 use Rattle.source_csv.specs.declared.faults.RowCode.{RowCode}
 use Rattle.source_csv.specs.declared.faults.RowCode.TheVariants as code
 use Rattle.source_csv.specs.declared.faults.Refusal.{Refusal}
@@ -56,7 +56,7 @@ column columns fields name = field fields (unwrap_or (position (λ c. bytes_eq c
 
 -- the columns of the texts of a user
 abbrev pub text_columns : Record
-text_columns = map (λ column. column.now) USER_TEXTS
+text_columns = map (λ column. column.now) TEXT_FIELDS
 
 -- a text of a user in its column is too long
 unfoldable pub SomeIsLong : (List ℕ → List ℕ) → Type 0

@@ -9,10 +9,10 @@ use Rattle.scim_key.specs.Names.{IsGroupName, IsKey, IsUserName}
 use Rattle.scim_key.specs.Revisions.{RevisionValue, IsRevision, same_revision}
 use Rattle.source_csv.specs.declared.groups.TheConstants.{MEMBER_LIMIT}
 use Rattle.source_csv.specs.Texts.{is_short, place_of}
-use Rattle.source_csv.specs.declared.texts.TheConstants.{TEXT_COUNT}
-use Rattle.source_csv.specs.declared.texts.UserText.{UserText}
+use Rattle.source_csv.specs.declared.texts.TheConstants.{TEXT_FIELD_COUNT}
+use Rattle.source_csv.specs.declared.texts.TextField.{TextField}
 
--- a row of a user, with its texts in the order of `UserText`. An empty text means none
+-- a row of a user, with its texts in the order of `TextField`. An empty text means none
 pub record UserFields : Type 0 where
   pub login : List ℕ
   pub revision : RevisionValue
@@ -23,11 +23,11 @@ pub record UserFields : Type 0 where
 pub record IsUserRow (row : UserFields) : Type 0 where
   pub login : IsUserName row.login
   pub revision : IsRevision row.revision
-  pub count : length row.texts ≡ TEXT_COUNT
+  pub count : length row.texts ≡ TEXT_FIELD_COUNT
   pub short : list_all is_short row.texts ≡ true
 
 -- a text of a user
-abbrev pub text_of : UserFields → UserText → List ℕ
+abbrev pub text_of : UserFields → TextField → List ℕ
 text_of row text = get_or row.texts (place_of text) []
 
 -- whether all fields of two rows of users are equal, byte for byte: a login in another spelling is another field

@@ -10,7 +10,7 @@ ghost use Rattle.source_csv.specs.Texts.{is_short};
 ghost use Rattle.source_csv.specs.declared.faults.RowCode.TheVariants as code;
 
 use crate::faults::{Refusal, RowCode};
-use crate::texts::{TEXT_COUNT, Text, USER_TEXTS, VALUE_LIMIT};
+use crate::texts::{FieldValue, TEXT_FIELD_COUNT, TEXT_FIELDS, VALUE_LIMIT};
 use csv::{ByteRecord, StringRecord};
 use scim_key::{GroupName, NameFault, Revision, UserName};
 use std::alloc::Global;
@@ -69,14 +69,14 @@ pub(crate) fn revision_of(text: &str) -> Result<Revision, RowCode>
 }
 
 /// A text of at most `VALUE_LIMIT` bytes.
-fn value_of(alloc: Global, text: &str) -> Result<Text, Refusal>
+fn value_of(alloc: Global, text: &str) -> Result<FieldValue, Refusal>
     ensures ok { IfOk result (λ value. (value ≡ text.now) × (is_short value ≡ true)) }
     ensures err { IfErr result (RefusedFor code.Value (is_short text.now ≡ false)) }
 {
     if text.len() > VALUE_LIMIT {
         return Err(Refusal::Refused(RowCode::Value));
     }
-    Ok(Text::new(String::from_str(alloc, text)?))
+    Ok(FieldValue::new(String::from_str(alloc, text)?))
 }
 
 /// The place of the column of this name.
@@ -94,10 +94,10 @@ pub(crate) fn column<'a>(columns: &[&str], texts: &'a StringRecord, name: &str) 
 }
 
 /// The fields in the columns of the texts of a user.
-fn fields_in<'a>(columns: &[&str], texts: &'a StringRecord) -> [&'a str; TEXT_COUNT]
+fn fields_in<'a>(columns: &[&str], texts: &'a StringRecord) -> [&'a str; TEXT_FIELD_COUNT]
     ensures { map (λ f. f.now) result ≡ map (column (named columns.now) (fields_of texts.now)) text_columns }
 {
-    USER_TEXTS.map(|name| column(columns, texts, name))
+    TEXT_FIELDS.map(|name| column(columns, texts, name))
 }
 
 /// The texts of a user, each from its column.
@@ -105,7 +105,7 @@ pub(crate) fn values_of(
     alloc: Global,
     columns: &[&str],
     texts: &StringRecord,
-) -> Result<[Text; TEXT_COUNT], Refusal>
+) -> Result<[FieldValue; TEXT_FIELD_COUNT], Refusal>
     ensures ok { IfOk result (λ values. (values ≡ map (column (named columns.now) (fields_of texts.now)) text_columns) × (list_all is_short values ≡ true)) }
     ensures err { IfErr result (RefusedFor code.Value (SomeIsLong (column (named columns.now) (fields_of texts.now)))) }
 {

@@ -16,5 +16,5 @@ pub use files::{
 };
 pub use groups::{GroupRow, MEMBER_LIMIT};
 pub use rows::{Row, keys_are_of_names};
-pub use texts::{TEXT_COUNT, Text, USER_TEXTS, UserText, VALUE_LIMIT};
+pub use texts::{FieldValue, TEXT_FIELD_COUNT, TEXT_FIELDS, TextField, VALUE_LIMIT};
 pub use users::UserRow;

@@ -14,7 +14,7 @@ pub const VALUE_LIMIT: usize = 256;
 
 /// A text that the source gives for a user. An empty text means none.
 #[derive(Clone, Copy, Debug, PartialEq, Eq)]
-pub enum UserText {
+pub enum TextField {
     Number,
     Given,
     Family,
@@ -22,16 +22,16 @@ pub enum UserText {
 }
 
 /// How many texts a user has.
-pub const TEXT_COUNT: usize = 4;
+pub const TEXT_FIELD_COUNT: usize = 4;
 
-/// The column of each text of a user, in the order of `UserText`.
-pub const USER_TEXTS: [&str; TEXT_COUNT] = ["number", "given", "family", "mail"];
+/// The column of each text of a user, in the order of `TextField`.
+pub const TEXT_FIELDS: [&str; TEXT_FIELD_COUNT] = ["number", "given", "family", "mail"];
 
-impl UserText {
+impl TextField {
     /// Its place among the texts of a user.
     pub(crate) fn place(self) -> usize
         ensures value { result ≡ place_of self }
-        ensures within { result < TEXT_COUNT }
+        ensures within { result < TEXT_FIELD_COUNT }
     {
         self as usize
     }
@@ -40,17 +40,17 @@ impl UserText {
     pub fn column(self) -> &'static str
         ensures { result.now ≡ column_of self }
     {
-        USER_TEXTS[self.place()]
+        TEXT_FIELDS[self.place()]
     }
 }
 
 /// A text of a user. Contracts see its bytes.
 #[derive(Debug, Drop)]
-pub struct Text {
+pub struct FieldValue {
     text: String,
 }
 
-impl Model for Text {
+impl Model for FieldValue {
     ghost use Rattle.std.specs.Prelude.{List, ℕ, string_bytes};
 
     ghost Value = { List ℕ };
@@ -58,12 +58,12 @@ impl Model for Text {
     ghost view = { λ t. string_bytes t.text };
 }
 
-impl Text {
+impl FieldValue {
     /// The text of a string.
-    pub fn new(text: String) -> Text
+    pub fn new(text: String) -> FieldValue
         ensures { result ≡ string_bytes text }
     {
-        Text { text }
+        FieldValue { text }
     }
 
     /// The text as a string.
@@ -82,28 +82,28 @@ impl Text {
 }
 
 /// Whether each of these texts has at most `VALUE_LIMIT` bytes.
-pub(crate) fn are_short(texts: &[Text]) -> bool
+pub(crate) fn are_short(texts: &[FieldValue]) -> bool
     ensures { result ≡ list_all is_short texts.now }
 {
     texts.iter().all(|text| text.is_short())
 }
 
-impl Clone for Text {
+impl Clone for FieldValue {
     ghost is_clone = { λ a b. b ≡ a };
 
-    fn clone(&self) -> Result<Text, AllocError> {
-        Ok(Text {
+    fn clone(&self) -> Result<FieldValue, AllocError> {
+        Ok(FieldValue {
             text: self.text.clone()?,
         })
     }
 }
 
-impl PartialEq for Text {
+impl PartialEq for FieldValue {
     ghost eq = { pointwise ◌==◌ };
 
     ghost laws = { Prim.search (comparing, rules) };
 
-    fn eq(&self, other: &Text) -> bool {
+    fn eq(&self, other: &FieldValue) -> bool {
         self.text.as_str() == other.text.as_str()
     }
 }

@@ -9,7 +9,7 @@ ghost use Rattle.source_csv.specs.declared.texts.TheConstants.{VALUE_LIMIT};
 
 use crate::faults::{Refusal, RowCode};
 use crate::fields::{column, login_of, revision_of, status_of, texts_of, values_of};
-use crate::texts::{TEXT_COUNT, Text, UserText, are_short};
+use crate::texts::{FieldValue, TEXT_FIELD_COUNT, TextField, are_short};
 use csv::{ByteRecord, StringRecord};
 use scim_key::{Revision, UserName};
 use std::alloc::{AllocError, Global};
@@ -20,7 +20,7 @@ use std::marker::Model;
 pub struct UserRow {
     login: UserName,
     revision: Revision,
-    texts: [Text; TEXT_COUNT],
+    texts: [FieldValue; TEXT_FIELD_COUNT],
     active: bool,
 }
 
@@ -80,7 +80,7 @@ impl UserRow {
     pub fn new(
         login: UserName,
         revision: Revision,
-        texts: [Text; TEXT_COUNT],
+        texts: [FieldValue; TEXT_FIELD_COUNT],
         active: bool,
     ) -> Option<UserRow>
         requires { IsRevision revision }
@@ -116,7 +116,7 @@ impl UserRow {
     }
 
     /// A text of the user; empty if there is none.
-    pub fn text(&self, text: UserText) -> &str
+    pub fn text(&self, text: TextField) -> &str
         ensures value { result.now ≡ text_of self.now text }
         ensures short { length result.now ≤ VALUE_LIMIT }
     {

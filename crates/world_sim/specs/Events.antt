@@ -2,8 +2,8 @@
 use Rattle.std.specs.Prelude.{List, map}
 use Rattle.provider_core.specs.declared.provider.ProviderFault.{ProviderFault}
 use Rattle.provider_core.specs.declared.provider.ProviderFault.TheVariants as provider
-use Rattle.connector_core.specs.declared.opening.OpenFault.{OpenFault}
-use Rattle.connector_core.specs.declared.opening.OpenFault.TheVariants as opening
+use Rattle.connector_core.specs.declared.opening.ConnectorOpenFault.{ConnectorOpenFault}
+use Rattle.connector_core.specs.declared.opening.ConnectorOpenFault.TheVariants as opening
 use Rattle.journal_core.specs.declared.journals.JournalFault.{JournalFault}
 use Rattle.journal_core.specs.declared.journals.JournalFault.TheVariants as journal
 use Rattle.world_model.specs.World.{Event, Changes, Sends, Delivers, Cuts, Restarts_provider, Restarts_connector}
@@ -51,6 +51,6 @@ journal_fault journal.Store = worlds.Store
 journal_fault journal.Memory = worlds.Memory
 
 -- the world's fault for a fault of opening its connector
-abbrev pub opening_fault : OpenFault → WorldFault
+abbrev pub opening_fault : ConnectorOpenFault → WorldFault
 opening_fault opening.Store = worlds.Store
 opening_fault opening.Memory = worlds.Memory

@@ -1,7 +1,7 @@
 //! What an event reports.
 ghost use Rattle.std.specs.Prelude.{◌≡◌};
 
-use connector_core::{ChangeFault, LearnFault, Learnt, OpenFault};
+use connector_core::{ChangeFault, ConnectorOpenFault, LearnFault, Learnt};
 use journal_core::JournalFault;
 use provider_core::ProviderFault;
 use scim_key::Key;
@@ -127,15 +127,15 @@ impl From<JournalFault> for WorldFault {
     }
 }
 
-impl From<OpenFault> for WorldFault {
+impl From<ConnectorOpenFault> for WorldFault {
     ghost use Rattle.world_sim.specs.Events.{opening_fault};
 
     ghost from_gives = { λ from fault. fault ≡ opening_fault from };
 
-    fn from(fault: OpenFault) -> WorldFault {
+    fn from(fault: ConnectorOpenFault) -> WorldFault {
         match fault {
-            OpenFault::Store => WorldFault::Store,
-            OpenFault::Memory => WorldFault::Memory,
+            ConnectorOpenFault::Store => WorldFault::Store,
+            ConnectorOpenFault::Memory => WorldFault::Memory,
         }
     }
 }

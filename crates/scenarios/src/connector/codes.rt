@@ -1,6 +1,6 @@
 //! The codes that faults of the connector and its journal are printed as.
 use crate::support::{are_printed, assert_same};
-use connector_core::{AskFault, ChangeFault, LearnFault, OpenFault};
+use connector_core::{AskFault, ChangeFault, ConnectorOpenFault, LearnFault};
 use journal_core::JournalFault;
 
 static JOURNAL_FAULTS: &[(JournalFault, &str)] = &[
@@ -8,7 +8,10 @@ static JOURNAL_FAULTS: &[(JournalFault, &str)] = &[
     (JournalFault::Memory, "J3"),
 ];
 
-static OPEN_FAULTS: &[(OpenFault, &str)] = &[(OpenFault::Store, "C5"), (OpenFault::Memory, "C6")];
+static OPEN_FAULTS: &[(ConnectorOpenFault, &str)] = &[
+    (ConnectorOpenFault::Store, "C5"),
+    (ConnectorOpenFault::Memory, "C6"),
+];
 
 static ASK_FAULTS: &[(AskFault, &str)] = &[
     (AskFault::NoSuchRecord, "C7"),

@@ -4,7 +4,7 @@ use mapping::{ImageFault, WriteFault};
 use scim_filter::FilterFault;
 use scim_key::NameFault;
 use scim_message::BodyFault;
-use scim_resource::ReadFault;
+use scim_resource::ContentFault;
 use scim_version::TagFault;
 use source_book::BookFault;
 use source_csv::{RowCode, RowFault, SourceFault};
@@ -19,10 +19,10 @@ static NAME_FAULTS: &[(NameFault, &str)] = &[
 
 static TAG_FAULTS: &[(TagFault, &str)] = &[(TagFault::Malformed, "V1"), (TagFault::Memory, "V2")];
 
-static READ_FAULTS: &[(ReadFault, &str)] = &[
-    (ReadFault::InvalidSyntax, "P1"),
-    (ReadFault::InvalidValue, "P2"),
-    (ReadFault::Memory, "memory"),
+static READ_FAULTS: &[(ContentFault, &str)] = &[
+    (ContentFault::InvalidSyntax, "P1"),
+    (ContentFault::InvalidValue, "P2"),
+    (ContentFault::Memory, "memory"),
 ];
 
 static FILTER_FAULTS: &[(FilterFault, &str)] = &[

@@ -3,7 +3,7 @@ use crate::readings::copies::{ANN, ANN_SHOWN, CREW, CREW_SHOWN, is_shown, is_wri
 use crate::support::assert_same;
 use scim_json::{JsonFault, json_of};
 use scim_key::{Kind, NUMBERED_ID_LENGTH, ResourceId, Revision};
-use scim_resource::{Content, ReadFault, Shown};
+use scim_resource::{Content, ContentFault, Shown};
 use std::alloc::Global;
 use std::process::Abort;
 
@@ -86,5 +86,5 @@ fn nothing_is_read_of_a_broken_text(rt: HostRuntime) {
     let alloc = rt.alloc();
     assert_same(&rt, json_of(alloc, b"{").err(), Some(JsonFault::NotJson));
     let fault = Content::from_slice(alloc, b"{", Kind::User).err();
-    assert_same(&rt, fault, Some(ReadFault::InvalidSyntax));
+    assert_same(&rt, fault, Some(ContentFault::InvalidSyntax));
 }

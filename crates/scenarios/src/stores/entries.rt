@@ -4,7 +4,7 @@ use crate::stores::exchanges::{Run, entries, runs};
 use crate::support::assert_same;
 use connector_core::Connector;
 use journal_core::{Journal, MemoryJournal, ReopenJournal};
-use journal_store::{OpenFault, SqlJournal};
+use journal_store::{JournalOpenFault, SqlJournal};
 use provider_core::{MemoryRegistry, Provider};
 use sqlite::{Alter, Connection, MemStore};
 use std::alloc::Global;
@@ -47,7 +47,7 @@ fn rows<S: Alter>(rt: &impl Abort, alloc: Global, conn: &mut Connection<S>) -> S
 fn open<S: Alter>(
     alloc: Global,
     conn: Connection<S>,
-) -> Result<SqlJournal<S>, (OpenFault, Connection<S>)> {
+) -> Result<SqlJournal<S>, (JournalOpenFault, Connection<S>)> {
     SqlJournal::open(alloc, conn)
 }
 
@@ -153,18 +153,21 @@ fn entries_are_kept_where_a_journal_is_reopened(rt: HostRuntime) {
 }
 
 /// What damages the journal with those entries, and the fault of its opening.
-static SPOILS: &[(&str, OpenFault)] = &[
+static SPOILS: &[(&str, JournalOpenFault)] = &[
     (
         "UPDATE user_entry SET confirmed = 4 WHERE name_key = 'ann'",
-        OpenFault::Damaged,
+        JournalOpenFault::Damaged,
     ),
     (
         "UPDATE group_entry SET members = 'zoe ann' WHERE name_key = 'band'",
-        OpenFault::Damaged,
+        JournalOpenFault::Damaged,
     ),
-    ("DELETE FROM journal_format", OpenFault::Damaged),
-    ("UPDATE journal_format SET number = 2", OpenFault::Newer),
-    ("BEGIN", OpenFault::Store),
+    ("DELETE FROM journal_format", JournalOpenFault::Damaged),
+    (
+        "UPDATE journal_format SET number = 2",
+        JournalOpenFault::Newer,
+    ),
+    ("BEGIN", JournalOpenFault::Store),
 ];
 
 /// Asserts that an opening is refused with this fault.
@@ -172,7 +175,7 @@ fn refused(
     rt: &impl Abort,
     alloc: Global,
     conn: Connection<MemStore>,
-    expected: OpenFault,
+    expected: JournalOpenFault,
 ) -> Connection<MemStore> {
     match open(alloc, conn) {
         Ok(journal) => {
@@ -187,7 +190,7 @@ fn refused(
 }
 
 /// Asserts that the damaged journal is refused, and that its rows stay.
-fn refuses(rt: &impl Abort, alloc: Global, spoils: &str, expected: OpenFault) {
+fn refuses(rt: &impl Abort, alloc: Global, spoils: &str, expected: JournalOpenFault) {
     let mut conn = with_entries(rt, alloc);
     run(&mut conn, spoils).expect(rt, "a run");
     let before = rows(rt, alloc, &mut conn);
@@ -207,7 +210,7 @@ fn a_refused_journal_is_handed_back(rt: HostRuntime) {
 fn a_journal_that_failed_once_is_opened(rt: HostRuntime) {
     let mut conn = with_entries(&rt, rt.alloc());
     limit(&mut conn, Some(1));
-    let mut conn = refused(&rt, rt.alloc(), conn, OpenFault::Store);
+    let mut conn = refused(&rt, rt.alloc(), conn, JournalOpenFault::Store);
     limit(&mut conn, None);
     let mut conn = close(opened(&rt, rt.alloc(), conn));
     let rows = rows(&rt, rt.alloc(), &mut conn);

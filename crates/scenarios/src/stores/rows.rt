@@ -5,7 +5,7 @@ use crate::stores::requests::{
 };
 use crate::support::assert_same;
 use provider_core::{Provider, Reopen};
-use provider_store::{OpenFault, SqlRegistry};
+use provider_store::{RegistryOpenFault, SqlRegistry};
 use sqlite::{Alter, Connection, MemStore};
 use std::alloc::Global;
 use std::process::Abort;
@@ -42,7 +42,7 @@ static KEPT: &str =
 fn open<S: Alter>(
     alloc: Global,
     conn: Connection<S>,
-) -> Result<SqlRegistry<S>, (OpenFault, Connection<S>)> {
+) -> Result<SqlRegistry<S>, (RegistryOpenFault, Connection<S>)> {
     SqlRegistry::open(alloc, conn)
 }
 
@@ -110,22 +110,25 @@ fn rows_are_kept_where_a_store_is_reopened(rt: HostRuntime) {
 }
 
 /// What damages the store with those rows, and the fault of its opening, with the number of a row.
-static SPOILS: &[(&str, OpenFault)] = &[
+static SPOILS: &[(&str, RegistryOpenFault)] = &[
     (
         "UPDATE resource SET number = 4 WHERE number = 2",
-        OpenFault::Damaged(4),
+        RegistryOpenFault::Damaged(4),
     ),
     (
         "UPDATE resource SET name_key = 'Bob' WHERE number = 1",
-        OpenFault::Damaged(1),
+        RegistryOpenFault::Damaged(1),
     ),
     (
         "UPDATE resource SET content = '{}' WHERE number = 2",
-        OpenFault::Damaged(2),
+        RegistryOpenFault::Damaged(2),
     ),
-    ("DELETE FROM provider_format", OpenFault::Damaged(0)),
-    ("UPDATE provider_format SET number = 2", OpenFault::Newer),
-    ("BEGIN", OpenFault::Store),
+    ("DELETE FROM provider_format", RegistryOpenFault::Damaged(0)),
+    (
+        "UPDATE provider_format SET number = 2",
+        RegistryOpenFault::Newer,
+    ),
+    ("BEGIN", RegistryOpenFault::Store),
 ];
 
 /// A connection to a store with those rows.
@@ -142,7 +145,7 @@ fn refused(
     rt: &impl Abort,
     alloc: Global,
     conn: Connection<MemStore>,
-    expected: OpenFault,
+    expected: RegistryOpenFault,
 ) -> Connection<MemStore> {
     match open(alloc, conn) {
         Ok(registry) => {
@@ -157,7 +160,7 @@ fn refused(
 }
 
 /// Asserts that the damaged store is refused, and that its rows stay.
-fn refuses(rt: &impl Abort, alloc: Global, spoils: &str, expected: OpenFault) {
+fn refuses(rt: &impl Abort, alloc: Global, spoils: &str, expected: RegistryOpenFault) {
     let mut conn = with_rows(rt, alloc);
     run(&mut conn, spoils).expect(rt, "a run");
     let before = rows(rt, alloc, &mut conn);
@@ -177,7 +180,7 @@ fn a_refused_store_is_handed_back(rt: HostRuntime) {
 fn a_store_that_failed_once_is_opened(rt: HostRuntime) {
     let mut conn = with_rows(&rt, rt.alloc());
     limit(&mut conn, Some(1));
-    let mut conn = refused(&rt, rt.alloc(), conn, OpenFault::Store);
+    let mut conn = refused(&rt, rt.alloc(), conn, RegistryOpenFault::Store);
     limit(&mut conn, None);
     let mut conn = close(opened(&rt, rt.alloc(), conn));
     let rows = rows(&rt, rt.alloc(), &mut conn);

@@ -4,7 +4,7 @@ use Rattle.serde_json.specs.Data.{Data, Members}
 use Rattle.serde_json.specs.View.{view, members_view}
 use Rattle.serde_json.specs.declared.value.Value.{Value}
 use Rattle.scim_resource.specs.Reading.{text_in, user_texts_in}
-use Rattle.scim_resource.specs.declared.faults.ReadFault.TheVariants.{Memory}
+use Rattle.scim_resource.specs.declared.faults.ContentFault.TheVariants.{Memory}
 use Rattle.scim_resource.proofs.TextLists.{gives, refused_or_memory, text_refused, texts_made, texts_of_user}
 use Rattle.scim_resource.proofs.reading.texts_in.Goals as goal
 
