@@ -1,5 +1,5 @@
 -- What the checks of an opening show, and what they leave.
-use Rattle.std.proofs.Common.{◌≡◌, ◌≢◌, ◌⊎◌, ◌≤◌, false, List, [], ◌∷◌, map, Result, Ok, Err, IsTrue, OnOk, IfErr, IsErrAnd, refl, sym, ◌∙◌, subst, inl, inr, IsPermutation}
+use Rattle.std.proofs.Common.{ℕ, ◌≡◌, ◌≢◌, ◌⊎◌, ◌≤◌, false, List, [], ◌∷◌, map, Result, Ok, Err, IsTrue, OnOk, IfErr, IsErrAnd, refl, sym, ◌∙◌, subst, inl, inr, IsPermutation}
 use Rattle.sqlite_value.specs.Order.{Row}
 use Rattle.sqlite_trees.specs.Tree.{rowid}
 use Rattle.sqlite.specs.Effect.{Database}
@@ -8,12 +8,13 @@ use Rattle.scim_key.specs.declared.records.Kind.{Kind}
 use Rattle.scim_key.specs.declared.records.Kind.TheVariants.{User, Group}
 use Rattle.journal_core.specs.Entries.{EntryMap}
 use Rattle.journal_core.specs.declared.entries.Entry.{Entry}
-use Rattle.journal_store.specs.Format.{format_number, entry_tree, numbers_text}
-use Rattle.sql_tables.specs.Layouts.{no_schema, IsFormat}
-use Rattle.sql_tables.specs.Statements.{Answers, Looks}
+use Rattle.journal_store.specs.Format.{format_number}
+use Rattle.sql_tables.specs.Layouts.{no_schema, IsFormat, IsLaid as IsLaidBy}
+use Rattle.sqlite_schema.specs.declared.schema.Schema.{Schema}
+use Rattle.sql_tables.specs.Statements.{Answers, IsGiven, Looks}
 use Rattle.sql_tables.specs.Faults.{HasFailed}
 use Rattle.sql_tables.proofs.Failing.{failed_since}
-use Rattle.journal_store.specs.Connections.{AreNumbered, HasNumbers, IsLaid, ListsAll}
+use Rattle.journal_store.specs.Connections.{AreNumbered, HasNumbers, HasNumbersBy, IsLaid, Lists, ListsAll}
 use Rattle.journal_store.specs.Rows.{entries_in}
 use Rattle.journal_store.specs.Opening.{AreInOrder, AreLawful, AreRising, HoldsEntries, IsCause, IsDamaged, IsFor, IsNewer, IsNotLaid, IsOfRows, IsSpoilt, keys_of, open_fault, IsStore, OpenFailsFor}
 use Rattle.journal_store.specs.Faults.{FailsFor, HasCause}
@@ -21,7 +22,7 @@ use Rattle.journal_store.specs.declared.statements.TableFault.{TableFault}
 use Rattle.journal_store.specs.declared.statements.TableFault.TheVariants as table
 use Rattle.journal_store.specs.declared.opening.JournalOpenFault.{JournalOpenFault}
 use Rattle.journal_store.specs.declared.opening.JournalOpenFault.TheVariants.{Store, Damaged, Newer, Memory}
-use Rattle.journal_store.proofs.Finding.{numbers_of_all}
+use Rattle.journal_store.proofs.Finding.{rows_listed}
 use Rattle.sql_tables.proofs.Looking.{laid_on, same_now, was_clean, was_laid}
 use Rattle.sql_tables.proofs.Results.{if_err, on_both, on_ok}
 use Rattle.journal_store.proofs.Numbering.{numbered}
@@ -103,22 +104,23 @@ failed_after old mid new looks = failed_since old mid new looks.quiet
 
 -- ---- the numbers of the rows
 
-pub numbers_found : (s : State) (kind : Kind) (rows given : List Row) → given ≡ rows → IsLaid s → Answers (numbers_text kind) [] s rows → AreRising given → AreNumbered (s.now.trees (entry_tree kind))
-numbers_found s kind rows given same laid answers rising =
-    let table = s.now.trees (entry_tree kind) in
-    numbered table given (subst (IsPermutation (map (λ (r : Row). rowid r ∷ []) table)) (sym same) (numbers_of_all s kind rows laid answers)) rising
+pub numbers_found : {Form : Type 0} {layout : Form → Schema} (tree : ℕ) (s : State) (sql : List ℕ) (rows given : List Row) → Lists layout tree (λ (r : Row). rowid r ∷ []) sql → IsGiven layout sql [] → given ≡ rows → IsLaidBy layout s → Answers sql [] s rows
+    → AreRising given → AreNumbered (s.now.trees tree)
+numbers_found tree s sql rows given means whole same laid answers rising =
+    let table = s.now.trees tree in
+    numbered table given (subst (IsPermutation (map (λ (r : Row). rowid r ∷ []) table)) (sym same) (rows_listed tree (λ (r : Row). rowid r ∷ []) s sql rows means whole laid answers).0) rising
 
 -- ---- one check after the other
 
-module _ (old mid new : State) (first : Looks old mid) (laid : HasCleanDisk old → IsTrue old.is_open → IsLaid old) (second : Looks mid new) (clean : HasCleanDisk new) where
+module _ {Form : Type 0} {layout : Form → Schema} (old mid new : State) (first : Looks old mid) (laid : HasCleanDisk old → IsTrue old.is_open → IsLaidBy layout old) (second : Looks mid new) (clean : HasCleanDisk new) where
   abbrev mid_clean : HasCleanDisk mid
   mid_clean = was_clean mid new second (laid_on old mid first laid) clean
 
   pub mid_same : IsTrue new.is_open → mid.now ≡ old.now
   mid_same still = same_now old mid first laid mid_clean ((second.keeps clean).was_open still)
 
-  pub numbers_both : {T F : Type 0} (r : Result T F) → (HasCleanDisk mid → AreNumbered (old.now.trees (entry_tree User))) → OnOk r (AreNumbered (mid.now.trees (entry_tree Group))) → OnOk r (IsTrue new.is_open) → OnOk r (HasNumbers old.now.trees)
-  numbers_both r users = on_both r (λ groups still. record { users = users mid_clean; groups = subst (λ (d : Database). AreNumbered (d.trees (entry_tree Group))) (mid_same still) groups })
+  pub numbers_both : {T F : Type 0} (tree : Kind → ℕ) (r : Result T F) → (HasCleanDisk mid → AreNumbered (old.now.trees (tree User))) → OnOk r (AreNumbered (mid.now.trees (tree Group))) → OnOk r (IsTrue new.is_open) → OnOk r (HasNumbersBy tree old.now.trees)
+  numbers_both tree r users = on_both r (λ groups still. record { users = users mid_clean; groups = subst (λ (d : Database). AreNumbered (d.trees (tree Group))) (mid_same still) groups })
 
   pub groups_listed : (groups : List Entry) → ListsAll Group mid.now.trees groups → IsTrue new.is_open → ListsAll Group old.now.trees groups
   groups_listed groups all still = subst (λ (d : Database). ListsAll Group d.trees groups) (mid_same still) all

@@ -8,8 +8,7 @@ use Rattle.std.proofs.lemmas.Bool.Decides.{nat_tests}
 use Rattle.std.proofs.lemmas.List.Splits.{slice_split_none, slice_split_at}
 use Rattle.std.specs.List.{list_all, slice_split}
 use Rattle.std.specs.Option.{option_and_then}
-use Rattle.sqlite_value.specs.declared.value.Value.{Value}
-use Rattle.sqlite_value.specs.declared.value.Value.TheVariants.{Null, Int, Real, Text, Blob}
+use Rattle.sqlite_value.specs.declared.value.Value.TheVariants.{Int, Text}
 use Rattle.sqlite_value.specs.Order.{Row, column}
 use Rattle.scim_key.proofs.RecordLaws.{same as same_names}
 use Rattle.scim_key.proofs.RevisionLaws.{are_read_back}
@@ -27,7 +26,8 @@ use Rattle.source_csv.specs.declared.rows.Row as source
 use Rattle.source_csv.specs.declared.rows.Row.TheVariants.{User, Group}
 use Rattle.journal_core.proofs.Trees.{name_from_test}
 use Rattle.journal_core.specs.declared.entries.Entry.{Entry}
-use Rattle.journal_store.specs.Rows.{id_value, id_in, active_number, active_of, members_text, row_by, confirmed_of, entry_in, fields_in, keyed, text_in, shown_row}
+use Rattle.journal_store.specs.Rows.{id_value, id_in, active_number, active_of, members_text, row_by, confirmed_of, entry_in, fields_in, keyed, text_columns, text_in, texts_in, shown_row}
+use Rattle.journal_store.proofs.UserTexts.{row_texts, text_from}
 use Rattle.journal_store.specs.Connections.{stored_row}
 
 -- ---- columns
@@ -92,15 +92,11 @@ members_back (key ∷ keys) are = pieces-some (members_text (key ∷ keys)) (not
 same_self : (name : RecordName) → same_name name name ≡ true
 same_self name = (same_names name name).1 refl
 
--- the texts of a row, one by one, are its texts
-each_text : (texts : List (List ℕ)) → length texts ≡ 4 → get_or texts 0 [] ∷ get_or texts 1 [] ∷ get_or texts 2 [] ∷ get_or texts 3 [] ∷ [] ≡ texts
-each_text (number ∷ given ∷ family ∷ mail ∷ []) four = refl
-each_text texts four = absurd (omega arith)
-
 pub reads_back : (row : source.Row) (confirmed : RevisionValue) (id : Option (List ℕ)) → IsRow row → confirmed_of (revision_number confirmed) ≡ Some confirmed
     → entry_in (row_name row).kind (row_by row confirmed id) ≡ Some (record { row = row; confirmed = confirmed; id = id })
+unfolding texts_in text_columns
 reads_back (User u) confirmed id lawful confirms =
-    rw (each_text u.texts lawful.count, are_read_back.from_number u.revision lawful.revision, active_back u.active, confirms, id_back id, same_self (row_name (User u))) refl
+    rw (row_texts u lawful.count, are_read_back.from_number u.revision lawful.revision, active_back u.active, confirms, id_back id, same_self (row_name (User u))) refl
 reads_back (Group g) confirmed id lawful confirms =
     rw (are_read_back.from_number g.revision lawful.revision, members_back g.members lawful.keys, confirms, id_back id, same_self (row_name (Group g))) refl
 
@@ -116,13 +112,6 @@ stored_key n entry = by_row entry.row entry.confirmed entry.id
     by_row (Group g) confirmed id = refl
 
 -- ---- what a row that shows an entry has
-
-text_from : (v : Value) (text : List ℕ) → text_in v ≡ Some text → v ≡ Text text
-text_from Null text is = absurd (cc)
-text_from (Int n) text is = absurd (cc)
-text_from (Real x) text is = absurd (cc)
-text_from (Text t) text is = cc
-text_from (Blob b) text is = absurd (cc)
 
 keyed_from : (type : Kind) (key : List ℕ) (o : Option Entry) (e : Entry) → keyed type key o ≡ Some e → row_name e.row ≡ record { kind = type; key = key }
 keyed_from type key None e is = absurd (cc)

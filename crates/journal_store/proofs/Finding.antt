@@ -1,5 +1,5 @@
 -- What the rows of an answer show.
-use Rattle.std.proofs.Common.{◌≡◌, ℕ, List, [], ◌∷◌, map, filter, Option, Some, None, Result, IfOk, refl, ap, ◌∙◌, subst, IsPermutation}
+use Rattle.std.proofs.Common.{◌≡◌, codes, false, ℕ, List, [], ◌∷◌, map, filter, Option, Some, None, Result, IfOk, refl, sym, ap, ◌∙◌, subst, IsPermutation}
 use Rattle.sqlite_value.specs.declared.value.Value.TheVariants.{Text}
 use Rattle.sqlite_value.specs.Order.{Row, column}
 use Rattle.sqlite_trees.proofs.ListLemmas.{all_of, filter_same}
@@ -10,14 +10,24 @@ use Rattle.scim_key.specs.declared.records.Kind.{Kind}
 use Rattle.scim_key.specs.declared.records.Kind.TheVariants.{User, Group}
 use Rattle.scim_key.specs.declared.records.RecordName.{RecordName}
 use Rattle.journal_core.specs.declared.entries.Entry.{Entry}
-use Rattle.journal_store.specs.Format.{entry_tree, find_text, all_text, numbers_text}
-use Rattle.sql_tables.specs.Statements.{Answers}
-use Rattle.sql_tables.proofs.Selecting.{IsOrdered, ordered_over, passes, shows}
+use Rattle.journal_store.specs.Format.{journal_schema, entry_tree, find_text, all_text, numbers_text}
+use Rattle.sql_tables.specs.Layouts.{IsLaid as IsLaidBy}
+use Rattle.sqlite_schema.specs.declared.schema.Schema.{Schema}
+use Rattle.sql_tables.specs.Statements.{Answers, IsGiven}
+use Rattle.sql_tables.proofs.Selecting.{IsOrdered, ordered_over, passes, selected_over, shows}
+use Rattle.sql_tables.proofs.Queries.{IsSelect, query}
+use Rattle.sqlite_value.specs.declared.keys.Key.{Key}
+use Rattle.sqlite_value.specs.declared.keys.Collation.TheVariants.{Binary}
+use Rattle.sqlite_sql.specs.Term.{Term}
+use Rattle.sqlite.specs.Effect.{Database, Reads}
+use Rattle.sqlite.specs.Listing.{understood}
+use Rattle.sqlite.proofs.Callers.{command_of}
+use Rattle.sqlite_schema.specs.declared.command.Command.TheVariants.{Select}
 use Rattle.journal_store.specs.Rows.{shown_row}
-use Rattle.journal_store.specs.Connections.{AreShown, Finds, IsLaid, IsOnly, ListsAll, Shows, has_key}
-use Rattle.sql_tables.proofs.Answering.{answered_by, empty, every, read_as, single}
+use Rattle.journal_store.specs.Connections.{AreShownBy, Finds, IsLaid, IsOnly, Lists, ListsAllBy, Shows, has_key}
+use Rattle.sql_tables.proofs.Answering.{answered_by, empty, every, single}
 use Rattle.sql_tables.proofs.Results.{if_ok}
-use Rattle.journal_store.proofs.Texts.{all_is, find_is, key_is, number_shown, numbers_is, shown_terms}
+use Rattle.journal_store.proofs.Texts.{all_is, find_is, key_is, names, number_shown, numbers_is, shown_terms}
 use Rattle.journal_store.proofs.Selecting.{same_tree, shows_all, key_passes}
 
 map_same : {A B : Type 0} (f g : A → B) → ((x : A) → f x ≡ g x) → (xs : List A) → map f xs ≡ map g xs
@@ -42,34 +52,29 @@ finds s name rows (Some e) laid answers only =
     let one = single (shown_row name.kind) _ only.0 (subst (IsPermutation (map (shown_row name.kind) (filter (has_key name.key) (s.now.trees (entry_tree name.kind))))) only.1 (rows_of_key s name.kind name.key rows laid answers)) in
     (one.0, one.1, subst (λ r. Shows name.kind r e) one.2 only.2)
 
--- ---- all rows
-
-pub rows_of_all : (s : State) (kind : Kind) (rows : List Row) → IsLaid s → Answers (all_text kind) [] s rows → IsPermutation (map (shown_row kind) (s.now.trees (entry_tree kind))) rows
-rows_of_all s kind rows laid answers =
-    let table = s.now.trees (entry_tree kind) in
-    subst (λ l. IsPermutation l rows) (ap (map (shows (shown_terms kind) [])) (every table []) ∙ map_same (shows (shown_terms kind) []) (shown_row kind) (shows_all kind []) table)
-    (answered_by s [] rows (all_is kind) laid answers (same_tree kind))
-
 -- ---- their order
 
 by_key : (kind : Kind) (env : Env) → eval (col 1 1) env ≡ column (eval_all (shown_terms kind) env) 0
 by_key User env = refl
 by_key Group env = refl
 
-pub all_ordered : (s : State) (kind : Kind) (rows : List Row) → IsLaid s → Answers (all_text kind) [] s rows → IsOrdered rows
-all_ordered s kind rows laid answers =
-    ordered_over (entry_tree kind) [] (shown_terms kind) (col 1 1) [] (by_key kind) s.now rows
-    (read_as s [] rows (all_is kind) laid answers)
+lists_by : (kind : Kind) (sql : List ℕ) (shown : List Term) (term : Term) (heads : List (List ℕ)) (columns : Row → Row) → IsSelect journal_schema sql (entry_tree kind) [] shown ((term, record { collation = Binary; descending = false }) ∷ []) heads 0
+    → ((r : Row) → shows shown [] r ≡ columns r) → ((env : Env) → eval term env ≡ column (eval_all shown env) 0) → Lists journal_schema (entry_tree kind) columns sql
+lists_by kind sql shown term heads columns it same first form trees c rows is reads =
+    let db : Database = record { schema = journal_schema form; trees = trees } in
+    let order : List (Term × Key) = (term, record { collation = Binary; descending = false }) ∷ [] in
+    let command : c.command ≡ Select (record { lets = []; body = query (entry_tree kind) [] shown order }) heads = ap command_of (sym is) ∙ it.means form in
+    let asked = subst (λ k. Reads k db [] rows) command reads in (
+      subst (λ l. IsPermutation l rows) (ap (map (shows shown [])) (every (trees (entry_tree kind)) []) ∙ map_same (shows shown []) columns same (trees (entry_tree kind)))
+          (selected_over (entry_tree kind) [] shown order [] (same_tree kind) db rows asked),
+      ordered_over (entry_tree kind) [] shown term [] first db rows asked,
+    )
 
-pub numbers_ordered : (s : State) (kind : Kind) (rows : List Row) → IsLaid s → Answers (numbers_text kind) [] s rows → IsOrdered rows
-numbers_ordered s kind rows laid answers =
-    ordered_over (entry_tree kind) [] number_shown (col 1 0) [] (λ _. refl) s.now rows
-    (read_as s [] rows (numbers_is kind) laid answers)
+pub all_listed : (kind : Kind) → Lists journal_schema (entry_tree kind) (shown_row kind) (all_text kind)
+all_listed kind = lists_by kind (all_text kind) (shown_terms kind) (col 1 1) (names kind) (shown_row kind) (all_is kind) (shows_all kind []) (by_key kind)
 
-pub numbers_of_all : (s : State) (kind : Kind) (rows : List Row) → IsLaid s → Answers (numbers_text kind) [] s rows → IsPermutation (map (λ (r : Row). rowid r ∷ []) (s.now.trees (entry_tree kind))) rows
-numbers_of_all s kind rows laid answers =
-    let all = answered_by s [] rows (numbers_is kind) laid answers (same_tree kind) in
-    subst (λ l. IsPermutation (map (λ (r : Row). rowid r ∷ []) l) rows) (every (s.now.trees (entry_tree kind)) []) all
+pub numbers_listed : (kind : Kind) → Lists journal_schema (entry_tree kind) (λ (r : Row). rowid r ∷ []) (numbers_text kind)
+numbers_listed kind = lists_by kind (numbers_text kind) number_shown (col 1 0) (codes "rowid" ∷ []) (λ (r : Row). rowid r ∷ []) (numbers_is kind) (λ r. refl) (λ env. refl)
 
 -- ---- what the calls answer
 
@@ -80,8 +85,14 @@ found_by s name sql params rows given r text key same laid answers only =
     subst (λ p. Answers (find_text name.kind) p s rows) key (subst (λ t. Answers t params s rows) text answers) in
     if_ok r (λ held is. finds s name rows held laid asked (subst (λ l. IsOnly name.kind l held) same is)) only
 
-pub listed_by : {X F : Type 0} (items : X → List Entry) (s : State) (kind : Kind) (sql : List ℕ) (rows given : List Row) (r : Result X F) → sql ≡ all_text kind → given ≡ rows → IsLaid s → Answers sql [] s rows
-    → IfOk r (λ x. AreShown kind given (items x)) → IfOk r (λ x. ListsAll kind s.now.trees (items x))
-listed_by items s kind sql rows given r text same laid answers shown =
-    let asked : Answers (all_text kind) [] s rows = subst (λ t. Answers t [] s rows) text answers in
-    if_ok r (λ x are. record { rows = rows; all = rows_of_all s kind rows laid asked; shown = subst (λ l. AreShown kind l (items x)) same are }) shown
+pub rows_listed : {Form : Type 0} {layout : Form → Schema} (tree : ℕ) (columns : Row → Row) (s : State) (sql : List ℕ) (rows : List Row) → Lists layout tree columns sql → IsGiven layout sql [] → IsLaidBy layout s → Answers sql [] s rows
+    → IsPermutation (map columns (s.now.trees tree)) rows × IsOrdered rows
+rows_listed {layout = layout} tree columns s sql rows means given laid answers =
+    let known = given.0 laid.form in
+    let tables : s.now ≡ record { schema = layout laid.form; trees = s.now.trees } = λ i. record { schema = laid.schema i; trees = s.now.trees } in
+    means laid.form s.now.trees known.0 rows known.1 (subst (λ (d : Database). Reads known.0.command d [] rows) tables (answers known.0 (ap (λ schema. understood schema sql) laid.schema ∙ known.1)))
+
+pub listed_by : {Form : Type 0} {layout : Form → Schema} {X F : Type 0} (Valid : Row → Entry → Type 0) (tree : ℕ) (columns : Row → Row) (items : X → List Entry) (s : State) (sql : List ℕ) (rows given : List Row) (r : Result X F) → Lists layout tree columns sql → IsGiven layout sql []
+    → given ≡ rows → IsLaidBy layout s → Answers sql [] s rows → IfOk r (λ x. AreShownBy Valid given (items x)) → IfOk r (λ x. ListsAllBy Valid columns (s.now.trees tree) (items x))
+listed_by Valid tree columns items s sql rows given r means whole same laid answers shown =
+    if_ok r (λ x are. record { rows = rows; all = (rows_listed tree columns s sql rows means whole laid answers).0; shown = subst (λ l. AreShownBy Valid l (items x)) same are }) shown

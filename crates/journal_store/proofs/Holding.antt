@@ -44,8 +44,8 @@ module _ (kind : Kind) (db : Trees) (list other : List Entry) (lists : ListsAll 
 
   on_both_lists : (e : Entry) → Has list e → Has other e
   on_both_lists e there =
-      let row = zip_right kind lists.rows list e lists.shown.each there in
-      let found = zip_left kind others.rows other row.0 others.shown.each (permuted others.rows table row.0 (IsPermutation-sym table others.rows others.all) (permuted table lists.rows row.0 lists.all row.1)) in
+      let row = zip_right (Shows kind) lists.rows list e lists.shown.each there in
+      let found = zip_left (Shows kind) others.rows other row.0 others.shown.each (permuted others.rows table row.0 (IsPermutation-sym table others.rows others.all) (permuted table lists.rows row.0 lists.all row.1)) in
       subst (Has other) (one_entry kind row.0 found.0 e found.2 row.2) found.1
 
 -- ---- valid entries

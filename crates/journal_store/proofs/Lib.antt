@@ -24,3 +24,4 @@ pub mod Fields
 pub mod Refusing
 pub mod Repeating
 pub mod Holding
+pub mod UserTexts

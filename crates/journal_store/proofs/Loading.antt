@@ -24,7 +24,7 @@ use Rattle.journal_core.specs.declared.entries.Entry.{Entry}
 use Rattle.journal_core.proofs.Trees.{listed, names_same}
 use Rattle.journal_store.specs.Format.{entry_tree}
 use Rattle.journal_store.specs.Rows.{entries_in, entry_in, named_in, shown_row}
-use Rattle.journal_store.specs.Connections.{AreShown, ListsAll, Shows, last_name}
+use Rattle.journal_store.specs.Connections.{AreShownBy, ListsAll, Shows, last_name}
 use Rattle.journal_store.proofs.Decoding.{key_from}
 use Rattle.journal_store.proofs.Standing.{all_named, find_has, has_find, has_named, named_has, tied_self}
 
@@ -65,47 +65,47 @@ zip_push R (a ∷ xs) [] x y zip is = absurd zip
 zip_push R (a ∷ xs) (b ∷ ys) x y zip is = (zip.0, zip_push R xs ys x y zip.1 is)
 
 -- one more row, whose name comes after the last
-pub shown_push : (kind : Kind) (rows : List Row) (list : List Entry) (row : Row) (entry : Entry) → AreShown kind rows list → Shows kind row entry
+pub shown_push : (Valid : Row → Entry → Type 0) (rows : List Row) (list : List Entry) (row : Row) (entry : Entry) → AreShownBy Valid rows list → Valid row entry
     → MatchOption (last_name (names_of list)) (Unit {0}) (λ p. name_cmp p (row_name entry.row) ≡ Less)
-    → AreShown kind (rows ++ row ∷ []) (list ++ entry ∷ []) × (last_name (names_of (list ++ entry ∷ [])) ≡ Some (row_name entry.row))
-shown_push kind rows list row entry are shows after =
+    → AreShownBy Valid (rows ++ row ∷ []) (list ++ entry ∷ []) × (last_name (names_of (list ++ entry ∷ [])) ≡ Some (row_name entry.row))
+shown_push Valid rows list row entry are shows after =
     let names : names_of (list ++ entry ∷ []) ≡ names_of list ++ row_name entry.row ∷ [] = map-append (λ (e : Entry). row_name e.row) list (entry ∷ []) in (
       record {
-        each = zip_push (Shows kind) rows list row entry are.each shows;
+        each = zip_push Valid rows list row entry are.each shows;
         rising = subst Sorted (sym names) (sorted_push (names_of list) (row_name entry.row) are.rising (below_last (names_of list) (row_name entry.row) are.rising after));
       },
       ap last_name names ∙ last_push (names_of list) (row_name entry.row),
     )
 
-pub none_shown : (kind : Kind) (list : List Entry) → list ≡ [] → AreShown kind [] list × (None ≡ last_name (names_of list))
+pub none_shown : (Valid : Row → Entry → Type 0) (list : List Entry) → list ≡ [] → AreShownBy Valid [] list × (None ≡ last_name (names_of list))
 unfolding IsStrictlySortedBy
-none_shown kind list none = (subst (AreShown kind []) (sym none) (record { each = tt; rising = tt }), ap (λ l. last_name (names_of l)) (sym none))
+none_shown Valid list none = (subst (AreShownBy Valid []) (sym none) (record { each = tt; rising = tt }), ap (λ l. last_name (names_of l)) (sym none))
 
 -- the same, of what a turn of the loop gave
-pub next_shown : (kind : Kind) (rows : List Row) (list : List Entry) (row : Row) (entry : Entry) (previous : Option RecordName) (name : RecordName) (rows_now : List Row) (list_now : List Entry)
-    → rows_now ≡ rows ++ row ∷ [] → list_now ≡ list ++ entry ∷ [] → name ≡ row_name entry.row → AreShown kind rows list → previous ≡ last_name (names_of list) → Shows kind row entry
-    → MatchOption previous (Unit {0}) (λ p. name_cmp p (row_name entry.row) ≡ Less) → AreShown kind rows_now list_now × (Some name ≡ last_name (names_of list_now))
-next_shown kind rows list row entry previous name rows_now list_now more pushed name_is are last shows after =
-    let next = shown_push kind rows list row entry are shows (subst (λ (o : Option RecordName). MatchOption o (Unit {0}) (λ p. name_cmp p (row_name entry.row) ≡ Less)) last after) in (
-      subst (λ l. AreShown kind rows_now l) (sym pushed) (subst (λ r. AreShown kind r (list ++ entry ∷ [])) (sym more) next.0),
+pub next_shown : (Valid : Row → Entry → Type 0) (rows : List Row) (list : List Entry) (row : Row) (entry : Entry) (previous : Option RecordName) (name : RecordName) (rows_now : List Row) (list_now : List Entry)
+    → rows_now ≡ rows ++ row ∷ [] → list_now ≡ list ++ entry ∷ [] → name ≡ row_name entry.row → AreShownBy Valid rows list → previous ≡ last_name (names_of list) → Valid row entry
+    → MatchOption previous (Unit {0}) (λ p. name_cmp p (row_name entry.row) ≡ Less) → AreShownBy Valid rows_now list_now × (Some name ≡ last_name (names_of list_now))
+next_shown Valid rows list row entry previous name rows_now list_now more pushed name_is are last shows after =
+    let next = shown_push Valid rows list row entry are shows (subst (λ (o : Option RecordName). MatchOption o (Unit {0}) (λ p. name_cmp p (row_name entry.row) ≡ Less)) last after) in (
+      subst (λ l. AreShownBy Valid rows_now l) (sym pushed) (subst (λ r. AreShownBy Valid r (list ++ entry ∷ [])) (sym more) next.0),
       ap Some name_is ∙ sym next.1 ∙ ap (λ l. last_name (names_of l)) (sym pushed),
     )
 
 -- ---- entries and rows
 
-pub zip_right : (kind : Kind) (rows : List Row) (list : List Entry) (e : Entry) → AllZip (Shows kind) rows list → Has list e → (r : Row) × Has rows r × Shows kind r e
-zip_right kind [] [] e zip there = absurd there
-zip_right kind [] (b ∷ list) e zip there = absurd zip
-zip_right kind (r ∷ rows) [] e zip there = absurd zip
-zip_right kind (r ∷ rows) (b ∷ list) e zip (inl same) = (r, inl refl, subst (Shows kind r) (sym same) zip.0)
-zip_right kind (r ∷ rows) (b ∷ list) e zip (inr later) = let it = zip_right kind rows list e zip.1 later in (it.0, inr it.1, it.2)
+pub zip_right : (Valid : Row → Entry → Type 0) (rows : List Row) (list : List Entry) (e : Entry) → AllZip Valid rows list → Has list e → (r : Row) × Has rows r × Valid r e
+zip_right Valid [] [] e zip there = absurd there
+zip_right Valid [] (b ∷ list) e zip there = absurd zip
+zip_right Valid (r ∷ rows) [] e zip there = absurd zip
+zip_right Valid (r ∷ rows) (b ∷ list) e zip (inl same) = (r, inl refl, subst (Valid r) (sym same) zip.0)
+zip_right Valid (r ∷ rows) (b ∷ list) e zip (inr later) = let it = zip_right Valid rows list e zip.1 later in (it.0, inr it.1, it.2)
 
-pub zip_left : (kind : Kind) (rows : List Row) (list : List Entry) (r : Row) → AllZip (Shows kind) rows list → Has rows r → (e : Entry) × Has list e × Shows kind r e
-zip_left kind [] [] r zip there = absurd there
-zip_left kind [] (b ∷ list) r zip there = absurd zip
-zip_left kind (q ∷ rows) [] r zip there = absurd zip
-zip_left kind (q ∷ rows) (b ∷ list) r zip (inl same) = (b, inl refl, subst (λ x. Shows kind x b) (sym same) zip.0)
-zip_left kind (q ∷ rows) (b ∷ list) r zip (inr later) = let it = zip_left kind rows list r zip.1 later in (it.0, inr it.1, it.2)
+pub zip_left : (Valid : Row → Entry → Type 0) (rows : List Row) (list : List Entry) (r : Row) → AllZip Valid rows list → Has rows r → (e : Entry) × Has list e × Valid r e
+zip_left Valid [] [] r zip there = absurd there
+zip_left Valid [] (b ∷ list) r zip there = absurd zip
+zip_left Valid (q ∷ rows) [] r zip there = absurd zip
+zip_left Valid (q ∷ rows) (b ∷ list) r zip (inl same) = (b, inl refl, subst (λ x. Valid x b) (sym same) zip.0)
+zip_left Valid (q ∷ rows) (b ∷ list) r zip (inr later) = let it = zip_left Valid rows list r zip.1 later in (it.0, inr it.1, it.2)
 
 pub permuted : {X : Type 0} (xs ys : List X) (x : X) → IsPermutation xs ys → Has ys x → Has xs x
 permuted xs ys x same = all_has (Has xs) ys x (all-permutation (Has xs) xs ys same (all_from (Has xs) xs (λ e h. h)))
@@ -125,7 +125,7 @@ listed_there : (kind : Kind) (db : Trees) (list : List Entry) (p : RecordName ×
 listed_there kind db list p lists there =
     let it = has_named kind (db (entry_tree kind)) p there in
     let row = permuted_there kind db list lists it.0 it.1 in
-    let held = zip_left kind lists.rows list (shown_row kind it.0) lists.shown.each row in
+    let held = zip_left (Shows kind) lists.rows list (shown_row kind it.0) lists.shown.each row in
     let same : held.0 ≡ p.1 = (let both : Some held.0 ≡ Some p.1 = sym held.2.entry_is ∙ it.2 in cc) in
     subst (Has (map named list)) (λ i. (sym it.3 i, same i)) (subst (λ e. Has (map named list) (row_name e.row, held.0)) same (map_has named list held.0 held.1))
   where
@@ -138,7 +138,7 @@ listed_there kind db list p lists there =
 there_listed : (kind : Kind) (db : Trees) (list : List Entry) (p : RecordName × Entry) → ListsAll kind db list → Has (map named list) p → Has (named_in kind (db (entry_tree kind))) p
 there_listed kind db list p lists there =
     let it = has_map named list p there in
-    let shown = zip_right kind lists.rows list it.0 lists.shown.each it.1 in
+    let shown = zip_right (Shows kind) lists.rows list it.0 lists.shown.each it.1 in
     let back = has_map (shown_row kind) (db (entry_tree kind)) shown.0 (permuted (map (shown_row kind) (db (entry_tree kind))) lists.rows shown.0 lists.all shown.1) in
     subst (Has (named_in kind (db (entry_tree kind)))) (sym it.2) (named_has kind (db (entry_tree kind)) back.0 it.0 back.1 (ap (entry_in kind) (sym back.2) ∙ shown.2.entry_is))
 
@@ -167,7 +167,7 @@ first_names (e ∷ list) = ap (λ l. row_name e.row ∷ l) (first_names list)
 kind_at : (kind : Kind) (db : Trees) (list : List Entry) (name : RecordName) → ListsAll kind db list → Has (names_of list) name → name.kind ≡ kind
 kind_at kind db list name lists there =
     let it = has_map (λ (e : Entry). row_name e.row) list name there in
-    let shown = zip_right kind lists.rows list it.0 lists.shown.each it.1 in
+    let shown = zip_right (Shows kind) lists.rows list it.0 lists.shown.each it.1 in
     ap (λ (n : RecordName). n.kind) it.2 ∙ (key_from kind shown.0 it.0 shown.2.entry_is).1
 
 users_first : (a b : RecordName) → a.kind ≡ User → b.kind ≡ Group → name_cmp a b ≡ Less

@@ -1,23 +1,24 @@
 -- What a fault reports about the rows.
 use Rattle.std.proofs.Common.{◌≡◌, List, [], ◌∷◌, map, filter, refl, arith, IsPermutation, ℕ, Option, Some, None, Result, Ok, Err, IfErr, IsErrAnd, sym, subst}
-use Rattle.std.specs.Str.{IsUtf8}
 use Rattle.std.proofs.lemmas.List.Sorted.{length_permutation}
-use Rattle.sqlite_trees.specs.Tree.{Trees}
+use Rattle.sqlite_trees.specs.Tree.{Trees, rowid}
 use Rattle.sqlite.proofs.Callers.{one_permutation}
 use Rattle.scim_key.specs.declared.records.RecordName.{RecordName}
 use Rattle.journal_core.specs.declared.entries.Entry.{Entry}
-use Rattle.sqlite_value.specs.declared.value.Value.{Value}
-use Rattle.sqlite_value.specs.declared.value.Value.TheVariants.{Null, Int, Real, Text, Blob}
-use Rattle.sqlite_value.specs.Order.{Row}
+use Rattle.sqlite_value.specs.declared.value.Value.TheVariants.{Text}
+use Rattle.sqlite_value.specs.Order.{Row, column}
 use Rattle.sqlite.specs.State.{State}
 use Rattle.scim_key.specs.declared.records.Kind.{Kind}
-use Rattle.journal_store.specs.Connections.{AreNumbered, Finds, IsDamagedAt, IsLaid, IsOnly, IsUnshown, ListsNone, Shows, has_key}
-use Rattle.sql_tables.specs.Statements.{Answers}
+use Rattle.journal_store.specs.Connections.{AreNumbered, Finds, IsDamagedAt, IsLaid, IsOnly, IsUnshownBy, Lists, ListsNoneBy, Shows, has_key}
+use Rattle.sql_tables.specs.Layouts.{IsLaid as IsLaidBy}
+use Rattle.sqlite_schema.specs.declared.schema.Schema.{Schema}
+use Rattle.source_csv.specs.Records.{row_name}
+use Rattle.sql_tables.specs.Statements.{Answers, IsGiven}
 use Rattle.journal_store.specs.Faults.{HasCause}
-use Rattle.journal_store.specs.Format.{all_text, entry_tree, find_text, numbers_text}
+use Rattle.journal_store.specs.Format.{entry_tree, find_text}
 use Rattle.journal_store.specs.Opening.{IsUnnumbered}
-use Rattle.journal_store.specs.Rows.{IsLawfulId, id_in, shown_row}
-use Rattle.journal_store.proofs.Finding.{all_ordered, numbers_of_all, numbers_ordered, rows_of_all, rows_of_key}
+use Rattle.journal_store.specs.Rows.{shown_row}
+use Rattle.journal_store.proofs.Finding.{rows_listed, rows_of_key}
 use Rattle.journal_store.proofs.Repeating.{are_listed, are_numbers}
 use Rattle.journal_store.specs.declared.statements.TableFault.{TableFault}
 use Rattle.journal_store.specs.declared.statements.TableFault.TheVariants.{Store, Damaged, Memory}
@@ -34,21 +35,6 @@ pub cause_of : {T : Type 0} (D E : Type 0) → (D → E) → (r : Result T Table
 cause_of D E h (Ok x) fault is it = tt
 cause_of D E h (Err given) fault is it = subst (HasCause E) (sym is) (cause_by D E h fault it)
 
-pub cause_so : (D : Type 0) → D → (fault : TableFault) → HasCause D fault
-cause_so D it Store = tt
-cause_so D it Damaged = it
-cause_so D it Memory = tt
-
--- ---- columns
-
-pub no_id : (v : Value) → (v ≡ Null → ⊥) → ((text : List ℕ) → v ≡ Text text → IsUtf8 text → ⊥) → (id : Option (List ℕ)) → id_in v ≡ Some id → IsLawfulId id → ⊥
-no_id Null some none id is lawful = some (cc)
-no_id (Int n) some none id is lawful = cc
-no_id (Real x) some none id is lawful = cc
-no_id (Text t) some none None is lawful = cc
-no_id (Text t) some none (Some id) is lawful = none id (cc) lawful.1
-no_id (Blob b) some none id is lawful = cc
-
 -- ---- tables
 
 -- what is found among these rows
@@ -60,10 +46,11 @@ finds_shown : (db : Trees) (name : RecordName) (held : Option Entry) → Finds d
 finds_shown db name None finds = finds
 finds_shown db name (Some e) finds = finds
 
-pub unlisted : (s : State) (kind : Kind) (sql : List ℕ) (rows given : List Row) → sql ≡ all_text kind → given ≡ rows → IsLaid s → Answers sql [] s rows → IsUnshown kind given → ListsNone kind s.now.trees
-unlisted s kind sql rows given text same laid answers unshown list lists =
-    let asked : Answers (all_text kind) [] s rows = subst (λ t. Answers t [] s rows) text answers in
-    are_listed kind s.now.trees rows (rows_of_all s kind rows laid asked) list lists (all_ordered s kind rows laid asked) (subst (IsUnshown kind) same unshown)
+pub unlisted : {Form : Type 0} {layout : Form → Schema} (kind : Kind) (Valid : Row → Entry → Type 0) (keyed : (r : Row) (e : Entry) → Valid r e → (column r 0 ≡ Text (row_name e.row).key) × ((row_name e.row).kind ≡ kind))
+    (tree : ℕ) (columns : Row → Row) (s : State) (sql : List ℕ) (rows given : List Row) → Lists layout tree columns sql → IsGiven layout sql [] → given ≡ rows → IsLaidBy layout s → Answers sql [] s rows → IsUnshownBy Valid given → ListsNoneBy Valid columns (s.now.trees tree)
+unlisted kind Valid keyed tree columns s sql rows given means whole same laid answers unshown list lists =
+    let all = rows_listed tree columns s sql rows means whole laid answers in
+    are_listed kind Valid keyed columns (s.now.trees tree) rows all.0 list lists all.1 (subst (IsUnshownBy Valid) same unshown)
 
 none_of : {X : Type 0} (xs : List X) → IsPermutation [] xs → xs ≡ []
 none_of [] same = refl
@@ -81,7 +68,8 @@ unfound s name sql params rows given text bound same laid answers none held find
     let asked : Answers (find_text name.kind) (Text name.key ∷ []) s rows = subst (λ p. Answers (find_text name.kind) p s rows) bound (subst (λ t. Answers t params s rows) text answers) in
     none held (subst (λ l. IsOnly name.kind l held) (sym same) (found_only name.kind rows (filter (has_key name.key) (s.now.trees (entry_tree name.kind))) held (rows_of_key s name.kind name.key rows laid asked) (finds_shown s.now.trees name held finds)))
 
-pub unnumbered : (s : State) (kind : Kind) (sql : List ℕ) (rows given : List Row) → sql ≡ numbers_text kind → given ≡ rows → IsLaid s → Answers sql [] s rows → IsUnnumbered given → AreNumbered (s.now.trees (entry_tree kind)) → ⊥
-unnumbered s kind sql rows given text same laid answers fails are =
-    let asked : Answers (numbers_text kind) [] s rows = subst (λ t. Answers t [] s rows) text answers in
-    are_numbers (s.now.trees (entry_tree kind)) rows (numbers_of_all s kind rows laid asked) are (numbers_ordered s kind rows laid asked) (subst IsUnnumbered same fails)
+pub unnumbered : {Form : Type 0} {layout : Form → Schema} (tree : ℕ) (s : State) (sql : List ℕ) (rows given : List Row) → Lists layout tree (λ (r : Row). rowid r ∷ []) sql → IsGiven layout sql [] → given ≡ rows → IsLaidBy layout s → Answers sql [] s rows
+    → IsUnnumbered given → AreNumbered (s.now.trees tree) → ⊥
+unnumbered tree s sql rows given means whole same laid answers fails are =
+    let all = rows_listed tree (λ (r : Row). rowid r ∷ []) s sql rows means whole laid answers in
+    are_numbers (s.now.trees tree) rows all.0 are all.1 (subst IsUnnumbered same fails)

@@ -18,7 +18,7 @@ use Rattle.sqlite_value.specs.declared.value.Value.{Value}
 use Rattle.sqlite_value.specs.declared.value.Value.TheVariants.{Int, Text}
 use Rattle.sqlite_value.specs.Order.{Row, column, value_cmp}
 use Rattle.sqlite_value.proofs.OrderLemmas.{value_cmp_total, value_cmp-Int, value_cmp-Text}
-use Rattle.sqlite_trees.specs.Tree.{Trees, rowid, has_rowid}
+use Rattle.sqlite_trees.specs.Tree.{rowid, has_rowid}
 use Rattle.sqlite_trees.proofs.ListLemmas.{filter-map, filter_none, IsPermutation-filter}
 use Rattle.sqlite_rules.specs.Lists.{Has}
 use Rattle.sqlite_rules.proofs.ListLemmas.{has_right}
@@ -29,12 +29,9 @@ use Rattle.scim_key.specs.declared.records.Kind.TheVariants.{User, Group}
 use Rattle.scim_key.specs.declared.records.RecordName.{RecordName}
 use Rattle.source_csv.specs.Records.{row_name}
 use Rattle.journal_core.specs.declared.entries.Entry.{Entry}
-use Rattle.journal_store.specs.Format.{entry_tree}
 use Rattle.sql_tables.proofs.Selecting.{IsOrdered}
-use Rattle.journal_store.specs.Rows.{shown_row}
-use Rattle.journal_store.specs.Connections.{AreNumbered, FailsToRise, IsUnshown, ListsAll, Shows, last_name}
+use Rattle.journal_store.specs.Connections.{AreNumbered, FailsToRise, IsUnshownBy, ListsAllBy, last_name}
 use Rattle.journal_store.specs.Opening.{IsUnnumbered}
-use Rattle.journal_store.proofs.Decoding.{key_from}
 use Rattle.journal_store.proofs.Loading.{Sorted, has_map, names_of, permuted, zip_left}
 use Rattle.journal_store.proofs.Numbering.{last_of}
 
@@ -138,88 +135,90 @@ pub compare_names : (kind : Kind) (a b : RecordName) → a.kind ≡ kind → b.k
 compare_names User a b first second = rw (first, second) refl
 compare_names Group a b first second = rw (first, second) refl
 
--- a row that begins with a key shows the record with this key
-named_by : (kind : Kind) (r : Row) (e : Entry) (key : List ℕ) → Shows kind r e → begins (Text key) r ≡ true → row_name e.row ≡ record { kind = kind; key = key }
-named_by kind r e key shows begun =
-    let has = key_from kind r e shows.entry_is in
-    let same : bytes_eq (row_name e.row).key key ≡ true =
-    sym (is_eq-slice_cmp (row_name e.row).key key) ∙ ap is_eq (sym (value_cmp-Text (row_name e.row).key key)) ∙ ap (λ v. is_eq (value_cmp v (Text key))) (sym has.0) ∙ begun in
-    let key_is = (bytes_eq-Decides (row_name e.row).key key).0 same in
-    λ i. record { kind = has.1 i; key = key_is i }
+-- given which valid entry a row shows
+module _ (kind : Kind) (Valid : Row → Entry → Type 0) (keyed : (r : Row) (e : Entry) → Valid r e → (column r 0 ≡ Text (row_name e.row).key) × ((row_name e.row).kind ≡ kind)) where
+  -- a row that begins with a key shows the record with this key
+  named_by : (r : Row) (e : Entry) (key : List ℕ) → Valid r e → begins (Text key) r ≡ true → row_name e.row ≡ record { kind = kind; key = key }
+  named_by r e key shows begun =
+      let has = keyed r e shows in
+      let same : bytes_eq (row_name e.row).key key ≡ true =
+      sym (is_eq-slice_cmp (row_name e.row).key key) ∙ ap is_eq (sym (value_cmp-Text (row_name e.row).key key)) ∙ ap (λ v. is_eq (value_cmp v (Text key))) (sym has.0) ∙ begun in
+      let key_is = (bytes_eq-Decides (row_name e.row).key key).0 same in
+      λ i. record { kind = has.1 i; key = key_is i }
 
-not_below_itself : (name : RecordName) → name_cmp name name ≡ Less → ⊥
-not_below_itself name below = let clash : Equal ≡ Less = sym (tied_itself names_total name) ∙ below in cc
+  not_below_itself : (name : RecordName) → name_cmp name name ≡ Less → ⊥
+  not_below_itself name below = let clash : Equal ≡ Less = sym (tied_itself names_total name) ∙ below in cc
 
-keys_once : (kind : Kind) (key : List ℕ) (rows : List Row) (list : List Entry) → AllZip (Shows kind) rows list → Sorted (names_of list) → length (filter (begins (Text key)) rows) ≤ 1
-unfolding IsStrictlySortedBy
-keys_once kind key [] [] zip rising = omega arith
-keys_once kind key [] (e ∷ list) zip rising = absurd zip
-keys_once kind key (r ∷ rows) [] zip rising = absurd zip
-keys_once kind key (r ∷ rows) (e ∷ list) zip rising = go (begins (Text key) r) refl (keys_once kind key rows list zip.1 rising.1)
-  where
-    other : begins (Text key) r ≡ true → (q : Row) (f : Entry) → Shows kind q f → name_cmp (row_name e.row) (row_name f.row) ≡ Less → begins (Text key) q ≡ false
-    other here q f shows below = elim (cases_Bool (begins (Text key) q)) [
-      | inl there ↦ absurd (not_below_itself (row_name e.row) (ap (name_cmp (row_name e.row)) (named_by kind r e key zip.0 here ∙ sym (named_by kind q f key shows there)) ∙ below))
-      | inr none ↦ none
-    ]
+  keys_once : (key : List ℕ) (rows : List Row) (list : List Entry) → AllZip Valid rows list → Sorted (names_of list) → length (filter (begins (Text key)) rows) ≤ 1
+  unfolding IsStrictlySortedBy
+  keys_once key [] [] zip rising = omega arith
+  keys_once key [] (e ∷ list) zip rising = absurd zip
+  keys_once key (r ∷ rows) [] zip rising = absurd zip
+  keys_once key (r ∷ rows) (e ∷ list) zip rising = go (begins (Text key) r) refl (keys_once key rows list zip.1 rising.1)
+    where
+      other : begins (Text key) r ≡ true → (q : Row) (f : Entry) → Valid q f → name_cmp (row_name e.row) (row_name f.row) ≡ Less → begins (Text key) q ≡ false
+      other here q f shows below = elim (cases_Bool (begins (Text key) q)) [
+        | inl there ↦ absurd (not_below_itself (row_name e.row) (ap (name_cmp (row_name e.row)) (named_by r e key zip.0 here ∙ sym (named_by q f key shows there)) ∙ below))
+        | inr none ↦ none
+      ]
 
-    others : begins (Text key) r ≡ true → (qs : List Row) (fs : List Entry) → AllZip (Shows kind) qs fs → AllByRecursion (λ n. name_cmp (row_name e.row) n ≡ Less) (names_of fs) → AllByRecursion (λ q. begins (Text key) q ≡ false) qs
-    others here [] [] shown below = tt
-    others here [] (f ∷ fs) shown below = tt
-    others here (q ∷ qs) [] shown below = absurd shown
-    others here (q ∷ qs) (f ∷ fs) shown below = (other here q f shown.0 below.0, others here qs fs shown.1 below.1)
+      others : begins (Text key) r ≡ true → (qs : List Row) (fs : List Entry) → AllZip Valid qs fs → AllByRecursion (λ n. name_cmp (row_name e.row) n ≡ Less) (names_of fs) → AllByRecursion (λ q. begins (Text key) q ≡ false) qs
+      others here [] [] shown below = tt
+      others here [] (f ∷ fs) shown below = tt
+      others here (q ∷ qs) [] shown below = absurd shown
+      others here (q ∷ qs) (f ∷ fs) shown below = (other here q f shown.0 below.0, others here qs fs shown.1 below.1)
 
-    go : (b : Bool) → begins (Text key) r ≡ b → length (filter (begins (Text key)) rows) ≤ 1 → length (cond b (r ∷ filter (begins (Text key)) rows) (filter (begins (Text key)) rows)) ≤ 1
-    go true here later =
-        let none : filter (begins (Text key)) rows ≡ [] = filter_none (begins (Text key)) rows (others here rows list zip.1 rising.0) in
-        omega (arith, ap length none)
-    go false here later = later
+      go : (b : Bool) → begins (Text key) r ≡ b → length (filter (begins (Text key)) rows) ≤ 1 → length (cond b (r ∷ filter (begins (Text key)) rows) (filter (begins (Text key)) rows)) ≤ 1
+      go true here later =
+          let none : filter (begins (Text key)) rows ≡ [] = filter_none (begins (Text key)) rows (others here rows list zip.1 rising.0) in
+          omega (arith, ap length none)
+      go false here later = later
 
-module _ (kind : Kind) (db : Trees) (rows : List Row) (same : IsPermutation (map (shown_row kind) (db (entry_tree kind))) rows) (list : List Entry) (lists : ListsAll kind db list) where
-  listed_row : (r : Row) → Has rows r → (e : Entry) × Has list e × Shows kind r e
-  listed_row r there =
-      let table = map (shown_row kind) (db (entry_tree kind)) in
-      zip_left kind lists.rows list r lists.shown.each (permuted lists.rows table r (IsPermutation-sym table lists.rows lists.all) (permuted table rows r same there))
+  module _ (columns : Row → Row) (table rows : List Row) (same : IsPermutation (map columns table) rows) (list : List Entry) (lists : ListsAllBy Valid columns table list) where
+    listed_row : (r : Row) → Has rows r → (e : Entry) × Has list e × Valid r e
+    listed_row r there =
+        let all = map columns table in
+        zip_left Valid lists.rows list r lists.shown.each (permuted lists.rows all r (IsPermutation-sym all lists.rows lists.all) (permuted all rows r same there))
 
-  as_often : (v : Value) → length (filter (begins v) rows) ≡ length (filter (begins v) lists.rows)
-  as_often v =
-      let table = map (shown_row kind) (db (entry_tree kind)) in
-      length_permutation (filter (begins v) table) (filter (begins v) rows) (IsPermutation-filter (begins v) table rows same)
-      ∙ sym (length_permutation (filter (begins v) table) (filter (begins v) lists.rows) (IsPermutation-filter (begins v) table lists.rows lists.all))
+    as_often : (v : Value) → length (filter (begins v) rows) ≡ length (filter (begins v) lists.rows)
+    as_often v =
+        let all = map columns table in
+        length_permutation (filter (begins v) all) (filter (begins v) rows) (IsPermutation-filter (begins v) all rows same)
+        ∙ sym (length_permutation (filter (begins v) all) (filter (begins v) lists.rows) (IsPermutation-filter (begins v) all lists.rows lists.all))
 
-  pub are_listed : IsOrdered rows → IsUnshown kind rows → ⊥
-  are_listed ordered (inl (r, there, none)) = let it = listed_row r there in none it.0 it.2
-  are_listed ordered (inr fails) =
-      let it = listed_row fails.first (stands rows fails) in
-      let key = (row_name it.0.row).key in
-      let is : column fails.first 0 ≡ Text key = (key_from kind fails.first it.0 it.2.entry_is).0 in
-      let twice = subst (λ v. 2 ≤ length (filter (begins v) rows)) is (stands_twice rows fails ordered) in
-      absurd (omega (arith, twice, as_often (Text key), keys_once kind key lists.rows list lists.shown.each lists.shown.rising))
+    pub are_listed : IsOrdered rows → IsUnshownBy Valid rows → ⊥
+    are_listed ordered (inl (r, there, none)) = let it = listed_row r there in none it.0 it.2
+    are_listed ordered (inr fails) =
+        let it = listed_row fails.first (stands rows fails) in
+        let key = (row_name it.0.row).key in
+        let is : column fails.first 0 ≡ Text key = (keyed fails.first it.0 it.2).0 in
+        let twice = subst (λ v. 2 ≤ length (filter (begins v) rows)) is (stands_twice rows fails ordered) in
+        absurd (omega (arith, twice, as_often (Text key), keys_once key lists.rows list lists.shown.each lists.shown.rising))
 
-last_shown : (kind : Kind) (rows : List Row) (list : List Entry) (p : RecordName) → AllZip (Shows kind) rows list → Some p ≡ last_name (names_of list)
-    → (front : List Row) × (q : Row) × (e : Entry) × (rows ≡ front ++ q ∷ []) × Shows kind q e × (row_name e.row ≡ p)
-last_shown kind [] [] p zip is = absurd (cc)
-last_shown kind [] (e ∷ list) p zip is = absurd zip
-last_shown kind (r ∷ rows) [] p zip is = absurd zip
-last_shown kind (r ∷ []) (e ∷ []) p zip is = ([], r, e, refl, zip.0, cc)
-last_shown kind (r ∷ []) (e ∷ f ∷ list) p zip is = absurd zip.1
-last_shown kind (r ∷ q ∷ rows) (e ∷ []) p zip is = absurd zip.1
-last_shown kind (r ∷ q ∷ rows) (e ∷ f ∷ list) p zip is =
-    let later = last_shown kind (q ∷ rows) (f ∷ list) p zip.1 is in (r ∷ later.0, later.1, later.2, λ i. r ∷ later.3 i, later.4, later.5)
+  last_shown : (rows : List Row) (list : List Entry) (p : RecordName) → AllZip Valid rows list → Some p ≡ last_name (names_of list)
+      → (front : List Row) × (q : Row) × (e : Entry) × (rows ≡ front ++ q ∷ []) × Valid q e × (row_name e.row ≡ p)
+  last_shown [] [] p zip is = absurd (cc)
+  last_shown [] (e ∷ list) p zip is = absurd zip
+  last_shown (r ∷ rows) [] p zip is = absurd zip
+  last_shown (r ∷ []) (e ∷ []) p zip is = ([], r, e, refl, zip.0, cc)
+  last_shown (r ∷ []) (e ∷ f ∷ list) p zip is = absurd zip.1
+  last_shown (r ∷ q ∷ rows) (e ∷ []) p zip is = absurd zip.1
+  last_shown (r ∷ q ∷ rows) (e ∷ f ∷ list) p zip is =
+      let later = last_shown (q ∷ rows) (f ∷ list) p zip.1 is in (r ∷ later.0, later.1, later.2, λ i. r ∷ later.3 i, later.4, later.5)
 
-pub key_fails : (kind : Kind) (rows : List Row) (at : ℕ) (row : Row) (entry : Entry) (list : List Entry) (previous : Option RecordName) (name : RecordName) → at < length rows → row ≡ get_or rows at row → AllZip (Shows kind) (take at rows) list
-    → previous ≡ last_name (names_of list) → Shows kind row entry → name ≡ row_name entry.row → MatchOption previous ⊥ (λ p. is_lt (name_cmp p name) ≡ false) → FailsToRise rows
-key_fails kind rows at row entry list None name low is zip last shows name_is above = absurd above
-key_fails kind rows at row entry list (Some p) name low is zip last shows name_is above =
-    let it = last_shown kind (take at rows) list p zip last in
-    let first = key_from kind it.1 it.2 it.4.entry_is in
-    let second = key_from kind row entry shows.entry_is in
-    let names : is_lt (name_cmp (row_name it.2.row) (row_name entry.row)) ≡ false = (λ i. is_lt (name_cmp (it.5 i) (sym name_is i))) ∙ above in record {
-      front = it.0;
-      first = it.1;
-      second = row;
-      back = drop (suc at) rows;
-      is = parts rows at row it.0 it.1 low is it.3;
-      not_below = (λ i. is_lt (value_cmp (first.0 i) (second.0 i))) ∙ ap is_lt (value_cmp-Text (row_name it.2.row).key (row_name entry.row).key)
-          ∙ ap is_lt (sym (compare_names kind (row_name it.2.row) (row_name entry.row) first.1 second.1)) ∙ names;
-    }
+  pub key_fails : (rows : List Row) (at : ℕ) (row : Row) (entry : Entry) (list : List Entry) (previous : Option RecordName) (name : RecordName) → at < length rows → row ≡ get_or rows at row → AllZip Valid (take at rows) list
+      → previous ≡ last_name (names_of list) → Valid row entry → name ≡ row_name entry.row → MatchOption previous ⊥ (λ p. is_lt (name_cmp p name) ≡ false) → FailsToRise rows
+  key_fails rows at row entry list None name low is zip last shows name_is above = absurd above
+  key_fails rows at row entry list (Some p) name low is zip last shows name_is above =
+      let it = last_shown (take at rows) list p zip last in
+      let first = keyed it.1 it.2 it.4 in
+      let second = keyed row entry shows in
+      let names : is_lt (name_cmp (row_name it.2.row) (row_name entry.row)) ≡ false = (λ i. is_lt (name_cmp (it.5 i) (sym name_is i))) ∙ above in record {
+        front = it.0;
+        first = it.1;
+        second = row;
+        back = drop (suc at) rows;
+        is = parts rows at row it.0 it.1 low is it.3;
+        not_below = (λ i. is_lt (value_cmp (first.0 i) (second.0 i))) ∙ ap is_lt (value_cmp-Text (row_name it.2.row).key (row_name entry.row).key)
+            ∙ ap is_lt (sym (compare_names kind (row_name it.2.row) (row_name entry.row) first.1 second.1)) ∙ names;
+      }

@@ -1,5 +1,5 @@
 -- What the two writes make of the table of a type.
-use Rattle.std.proofs.Common.{◌≡◌, ℕ, ℤ, Bool, true, false, not, ◌&&◌, List, [], ◌∷◌, map, filter, None, Ok, Option, refl, ap, ◌∙◌, subst, IsPermutation, arith}
+use Rattle.std.proofs.Common.{◌≡◌, ℕ, ℤ, pos, drop, Bool, true, false, not, ◌&&◌, List, [], ◌∷◌, map, filter, None, Ok, Option, refl, ap, ◌∙◌, subst, IsPermutation, arith}
 use Rattle.sqlite_value.specs.declared.value.Value.TheVariants.{Int, Text}
 use Rattle.sqlite_value.specs.Order.{Row, column}
 use Rattle.sqlite_trees.specs.Tree.{Trees, rowid, put_row, without_rowid}
@@ -16,12 +16,17 @@ use Rattle.sqlite.specs.Does.{Tally, Does}
 use Rattle.sqlite.specs.Rows.{Written}
 use Rattle.sqlite.proofs.Callers.{one_step, one_permutation}
 use Rattle.scim_key.specs.declared.records.Kind.TheVariants.{User, Group}
-use Rattle.journal_store.specs.Format.{Form, journal_schema, entry_table}
+use Rattle.scim_key.specs.Revisions.{RevisionValue, revision_number}
+use Rattle.source_csv.specs.Records.{row_name}
+use Rattle.source_csv.specs.Rows.{GroupFields, UserFields}
+use Rattle.source_csv.specs.declared.rows.Row.TheVariants as source
+use Rattle.sqlite_rules.specs.Cast.{cast_all}
+use Rattle.journal_store.specs.Format.{Form, journal_schema, entry_columns, entry_table}
 use Rattle.sql_tables.specs.Statements.{plain_mode}
 use Rattle.sql_tables.proofs.Queries.{query}
 use Rattle.sql_tables.proofs.Values.{cast_int, cast_null}
 use Rattle.sql_tables.proofs.Selecting.{passes, shows}
-use Rattle.journal_store.specs.Rows.{id_value}
+use Rattle.journal_store.specs.Rows.{active_number, row_by}
 use Rattle.journal_store.specs.Connections.{has_key}
 use Rattle.sql_tables.proofs.Editing.{same_value, went}
 use Rattle.journal_store.proofs.Texts.{key_is, insert_terms, insert_width, update_terms}
@@ -40,12 +45,15 @@ module _ (limit : Option ℕ) (f : Form) (db after : Database) (tally : Tally) (
   abbrev schema : Schema
   schema = journal_schema f
 
-  module _ (key login number given family mail : List ℕ) (revision active confirmed : ℤ) (id : Option (List ℕ)) where
-    abbrev user_rest : Row
-    user_rest = Text login ∷ Int revision ∷ Text number ∷ Text given ∷ Text family ∷ Text mail ∷ Int active ∷ Int confirmed ∷ id_value id ∷ []
-
+  module _ (u : UserFields) (confirmed : RevisionValue) (id : Option (List ℕ)) where
     abbrev user_row : Row
-    user_row = Text key ∷ user_rest
+    user_row = row_by (source.User u) confirmed id
+
+    abbrev user_key : List ℕ
+    user_key = (row_name (source.User u)).key
+
+    user_cast : cast_all (entry_columns User) user_row ≡ user_row
+    user_cast = rw (cast_int (pos (revision_number u.revision)), cast_int (pos (active_number u.active)), cast_int (pos (revision_number confirmed)), cast_id id) refl
 
     pub inserts_user : Does limit plain_mode user_row db sql None (Insert 1 (Values (insert_terms User) (insert_width User))) (Ok (tally, after))
         → (n : ℤ) × (after.schema ≡ schema) × (is_taken (db.trees 1) (Int n ∷ user_row) ≡ false) × (after.trees 1 ≡ put_row (Int n ∷ user_row) (db.trees 1)) × (after.trees 3 ≡ db.trees 3)
@@ -58,7 +66,7 @@ module _ (limit : Option ℕ) (f : Form) (db after : Database) (tally : Tally) (
         let trees : done.0.trees ≡ written.0 = ap (λ (it : Written). it.trees) (same_value counted.2) ∙ same_value counted.1 in
         let applied = one_step schema Enforced db.trees written.0 (edit_of db.trees (entry_table User f.users) [] Chosen 0 rows_given.0) refl written.1 in
         let news : (edit_of db.trees (entry_table User f.users) [] Chosen 0 rows_given.0).news ≡ (Int (next_rowid (db.trees 1)) ∷ user_row) ∷ [] =
-        ap (λ all. (edit_of db.trees (entry_table User f.users) [] Chosen 0 all).news) rows_given.1.1 ∙ rw (cast_null, cast_int revision, cast_int active, cast_int confirmed, cast_id id) refl in (
+        ap (λ all. (edit_of db.trees (entry_table User f.users) [] Chosen 0 all).news) rows_given.1.1 ∙ rw (cast_null, user_cast) refl in (
           next_rowid (db.trees 1),
           ap (λ (d : Database). d.schema) now,
           fresh_one (is_taken (db.trees 1) (Int (next_rowid (db.trees 1)) ∷ user_row)) (subst (λ (l : List Row). are_fresh (db.trees 1) l ≡ true) news applied.fresh),
@@ -66,7 +74,7 @@ module _ (limit : Option ℕ) (f : Form) (db after : Database) (tally : Tally) (
           ap (λ (d : Database). d.trees 3) now ∙ ap (λ (t : Trees). t 3) trees ∙ applied.tables.1.1.0 (λ (e : 3 ≡ 1). omega (arith, e)),
         )
 
-    pub updates_user : (r : Row) (n : ℤ) → filter (has_key key) (db.trees 1) ≡ r ∷ [] → rowid r ≡ Int n → column r 1 ≡ Text key
+    pub updates_user : (r : Row) (n : ℤ) → filter (has_key user_key) (db.trees 1) ≡ r ∷ [] → rowid r ≡ Int n → column r 1 ≡ Text user_key
         → Does limit plain_mode user_row db sql None (Update 1 (record { lets = []; body = query 1 (key_is ∷ []) (update_terms User) [] })) (Ok (tally, after))
         → (after.schema ≡ schema) × (after.trees 1 ≡ put_row (Int n ∷ user_row) (without_rowid n (db.trees 1))) × (after.trees 3 ≡ db.trees 3)
     updates_user r n only number_is key_at does =
@@ -76,23 +84,26 @@ module _ (limit : Option ℕ) (f : Form) (db after : Database) (tally : Tally) (
         let rows_given = went done.1 in
         let all = selected User (key_is ∷ []) (update_terms User) [] user_row (record { schema = schema; trees = db.trees }) rows_given.0 rows_given.1 in
         let one : rows_given.0 ≡ (Int n ∷ Int n ∷ user_row) ∷ [] =
-        one_permutation _ rows_given.0 (subst (λ l. IsPermutation l rows_given.0) (ap (map (shows (update_terms User) user_row)) (found_one key user_rest (db.trees 1) r only) ∙ rw (number_is, key_at) refl) all) in
+        one_permutation _ rows_given.0 (subst (λ l. IsPermutation l rows_given.0) (ap (map (shows (update_terms User) user_row)) (found_one user_key (drop 1 user_row) (db.trees 1) r only) ∙ rw (number_is, key_at) refl) all) in
         let written = went rows_given.2 in
         let trees : done.0.trees ≡ written.0 = ap (λ (it : Written). it.trees) (same_value written.2) in
         let applied = one_step schema Enforced db.trees written.0 (edit_of db.trees (entry_table User f.users) (ids_of rows_given.0) Given 1 rows_given.0) refl written.1 in
         let edit : edited db.trees (edit_of db.trees (entry_table User f.users) (ids_of rows_given.0) Given 1 rows_given.0) ≡ put_row (Int n ∷ user_row) (without_rowid n (db.trees 1)) =
-        ap (λ all. edited db.trees (edit_of db.trees (entry_table User f.users) (ids_of all) Given 1 all)) one ∙ rw (cast_int n, cast_int revision, cast_int active, cast_int confirmed, cast_id id) refl in (
+        ap (λ all. edited db.trees (edit_of db.trees (entry_table User f.users) (ids_of all) Given 1 all)) one ∙ rw (cast_int n, user_cast) refl in (
           ap (λ (d : Database). d.schema) now,
           ap (λ (d : Database). d.trees 1) now ∙ ap (λ (t : Trees). t 1) trees ∙ applied.rows ∙ edit,
           ap (λ (d : Database). d.trees 3) now ∙ ap (λ (t : Trees). t 3) trees ∙ applied.tables.1.1.0 (λ (e : 3 ≡ 1). omega (arith, e)),
         )
 
-  module _ (key name members : List ℕ) (revision confirmed : ℤ) (id : Option (List ℕ)) where
-    abbrev group_rest : Row
-    group_rest = Text name ∷ Int revision ∷ Text members ∷ Int confirmed ∷ id_value id ∷ []
-
+  module _ (g : GroupFields) (confirmed : RevisionValue) (id : Option (List ℕ)) where
     abbrev group_row : Row
-    group_row = Text key ∷ group_rest
+    group_row = row_by (source.Group g) confirmed id
+
+    abbrev group_key : List ℕ
+    group_key = (row_name (source.Group g)).key
+
+    group_cast : cast_all (entry_columns Group) group_row ≡ group_row
+    group_cast = rw (cast_int (pos (revision_number g.revision)), cast_int (pos (revision_number confirmed)), cast_id id) refl
 
     pub inserts_group : Does limit plain_mode group_row db sql None (Insert 2 (Values (insert_terms Group) (insert_width Group))) (Ok (tally, after))
         → (n : ℤ) × (after.schema ≡ schema) × (is_taken (db.trees 3) (Int n ∷ group_row) ≡ false) × (after.trees 3 ≡ put_row (Int n ∷ group_row) (db.trees 3)) × (after.trees 1 ≡ db.trees 1)
@@ -105,7 +116,7 @@ module _ (limit : Option ℕ) (f : Form) (db after : Database) (tally : Tally) (
         let trees : done.0.trees ≡ written.0 = ap (λ (it : Written). it.trees) (same_value counted.2) ∙ same_value counted.1 in
         let applied = one_step schema Enforced db.trees written.0 (edit_of db.trees (entry_table Group f.groups) [] Chosen 0 rows_given.0) refl written.1 in
         let news : (edit_of db.trees (entry_table Group f.groups) [] Chosen 0 rows_given.0).news ≡ (Int (next_rowid (db.trees 3)) ∷ group_row) ∷ [] =
-        ap (λ all. (edit_of db.trees (entry_table Group f.groups) [] Chosen 0 all).news) rows_given.1.1 ∙ rw (cast_null, cast_int revision, cast_int confirmed, cast_id id) refl in (
+        ap (λ all. (edit_of db.trees (entry_table Group f.groups) [] Chosen 0 all).news) rows_given.1.1 ∙ rw (cast_null, group_cast) refl in (
           next_rowid (db.trees 3),
           ap (λ (d : Database). d.schema) now,
           fresh_one (is_taken (db.trees 3) (Int (next_rowid (db.trees 3)) ∷ group_row)) (subst (λ (l : List Row). are_fresh (db.trees 3) l ≡ true) news applied.fresh),
@@ -113,7 +124,7 @@ module _ (limit : Option ℕ) (f : Form) (db after : Database) (tally : Tally) (
           ap (λ (d : Database). d.trees 1) now ∙ ap (λ (t : Trees). t 1) trees ∙ applied.tables.1.0 (λ (e : 1 ≡ 3). omega (arith, e)),
         )
 
-    pub updates_group : (r : Row) (n : ℤ) → filter (has_key key) (db.trees 3) ≡ r ∷ [] → rowid r ≡ Int n → column r 1 ≡ Text key
+    pub updates_group : (r : Row) (n : ℤ) → filter (has_key group_key) (db.trees 3) ≡ r ∷ [] → rowid r ≡ Int n → column r 1 ≡ Text group_key
         → Does limit plain_mode group_row db sql None (Update 2 (record { lets = []; body = query 3 (key_is ∷ []) (update_terms Group) [] })) (Ok (tally, after))
         → (after.schema ≡ schema) × (after.trees 3 ≡ put_row (Int n ∷ group_row) (without_rowid n (db.trees 3))) × (after.trees 1 ≡ db.trees 1)
     updates_group r n only number_is key_at does =
@@ -123,12 +134,12 @@ module _ (limit : Option ℕ) (f : Form) (db after : Database) (tally : Tally) (
         let rows_given = went done.1 in
         let all = selected Group (key_is ∷ []) (update_terms Group) [] group_row (record { schema = schema; trees = db.trees }) rows_given.0 rows_given.1 in
         let one : rows_given.0 ≡ (Int n ∷ Int n ∷ group_row) ∷ [] =
-        one_permutation _ rows_given.0 (subst (λ l. IsPermutation l rows_given.0) (ap (map (shows (update_terms Group) group_row)) (found_one key group_rest (db.trees 3) r only) ∙ rw (number_is, key_at) refl) all) in
+        one_permutation _ rows_given.0 (subst (λ l. IsPermutation l rows_given.0) (ap (map (shows (update_terms Group) group_row)) (found_one group_key (drop 1 group_row) (db.trees 3) r only) ∙ rw (number_is, key_at) refl) all) in
         let written = went rows_given.2 in
         let trees : done.0.trees ≡ written.0 = ap (λ (it : Written). it.trees) (same_value written.2) in
         let applied = one_step schema Enforced db.trees written.0 (edit_of db.trees (entry_table Group f.groups) (ids_of rows_given.0) Given 1 rows_given.0) refl written.1 in
         let edit : edited db.trees (edit_of db.trees (entry_table Group f.groups) (ids_of rows_given.0) Given 1 rows_given.0) ≡ put_row (Int n ∷ group_row) (without_rowid n (db.trees 3)) =
-        ap (λ all. edited db.trees (edit_of db.trees (entry_table Group f.groups) (ids_of all) Given 1 all)) one ∙ rw (cast_int n, cast_int revision, cast_int confirmed, cast_id id) refl in (
+        ap (λ all. edited db.trees (edit_of db.trees (entry_table Group f.groups) (ids_of all) Given 1 all)) one ∙ rw (cast_int n, group_cast) refl in (
           ap (λ (d : Database). d.schema) now,
           ap (λ (d : Database). d.trees 3) now ∙ ap (λ (t : Trees). t 3) trees ∙ applied.rows ∙ edit,
           ap (λ (d : Database). d.trees 1) now ∙ ap (λ (t : Trees). t 1) trees ∙ applied.tables.1.0 (λ (e : 1 ≡ 3). omega (arith, e)),

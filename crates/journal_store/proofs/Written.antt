@@ -1,7 +1,7 @@
 -- What the two writes leave, as rows of entries.
-use Rattle.std.proofs.Common.{◌≡◌, ℕ, pos, Bool, true, false, List, [], ◌∷◌, None, Option, Ok, Err, Result, OnOk, IsTrue, refl, sym, ap, ◌∙◌, subst, arith}
+use Rattle.std.proofs.Common.{◌≡◌, ℕ, Bool, true, false, List, [], ◌∷◌, None, Option, Ok, Err, Result, OnOk, IsTrue, refl, sym, ap, ◌∙◌, subst, arith}
 use Rattle.sqlite_value.specs.declared.value.Value.{Value}
-use Rattle.sqlite_value.specs.declared.value.Value.TheVariants.{Int, Text}
+use Rattle.sqlite_value.specs.declared.value.Value.TheVariants.{Text}
 use Rattle.sqlite_value.specs.Order.{Row}
 use Rattle.sqlite_trees.specs.Tree.{Trees}
 use Rattle.sqlite_schema.specs.declared.command.Command.{Command}
@@ -11,18 +11,17 @@ use Rattle.sqlite.specs.Does.{Tally, Does}
 use Rattle.sqlite.specs.Effect.{Database}
 use Rattle.sqlite.specs.State.{State, HasCleanDisk, Survives}
 use Rattle.sqlite.proofs.StateLemmas.{survives_weaker}
-use Rattle.scim_key.specs.Revisions.{RevisionValue, revision_number}
+use Rattle.scim_key.specs.Revisions.{RevisionValue}
 use Rattle.scim_key.specs.declared.records.Kind.{Kind}
 use Rattle.source_csv.specs.Records.{IsRow, row_name}
-use Rattle.source_csv.specs.Rows.{GroupFields, UserFields, text_of}
+use Rattle.source_csv.specs.Rows.{GroupFields}
 use Rattle.source_csv.specs.declared.rows.Row as source
 use Rattle.source_csv.specs.declared.rows.Row.TheVariants.{User, Group}
-use Rattle.source_csv.specs.declared.texts.TextField.TheVariants as text
 use Rattle.journal_core.specs.declared.entries.Entry.{Entry}
 use Rattle.journal_store.specs.Format.{journal_schema, entry_place, entry_tree}
 use Rattle.sql_tables.specs.Statements.{IsEdit, IsEditText, MayLeave, Ran, plain_mode}
 use Rattle.sql_tables.proofs.Queries.{query}
-use Rattle.journal_store.specs.Rows.{active_number, id_value, members_text, revision_value, row_by, row_of}
+use Rattle.journal_store.specs.Rows.{id_value, members_text, revision_value, row_by, row_of}
 use Rattle.journal_store.specs.Connections.{IsLaid, IsThere, Makes, PutsIn, put_text}
 use Rattle.journal_store.proofs.Texts.{key_is, insert_terms, insert_width, insert_is, update_terms, update_is}
 use Rattle.sql_tables.proofs.Editing.{IsWrite, command_is, edits_by}
@@ -55,24 +54,20 @@ module _ (limit : Option ℕ) (old : State) (after : Database) (tally : Tally) (
   adds : (row : source.Row) (confirmed : RevisionValue) (id : Option (List ℕ)) → IsRow row → Does limit plain_mode (row_by row confirmed id) old.now sql None (put_command false (row_name row).kind) (Ok (tally, after))
       → same_schema × PutsIn false (record { row = row; confirmed = confirmed; id = id }) old.now.trees after.trees
   adds (User u) confirmed id lawful does =
-      let made = inserts_user limit laid.form old.now after tally sql laid.schema (row_name (User u)).key u.login (text_of u text.Number) (text_of u text.Given) (text_of u text.Family) (text_of u text.Mail)
-      (pos (revision_number u.revision)) (pos (active_number u.active)) (pos (revision_number confirmed)) id does in
+      let made = inserts_user limit laid.form old.now after tally sql laid.schema u confirmed id does in
       (made.1, record { lawful = lawful; puts = (made.0, made.2, made.3); users = λ e. absurd (cc); groups = λ _. made.4 })
   adds (Group g) confirmed id lawful does =
-      let made = inserts_group limit laid.form old.now after tally sql laid.schema (row_name (Group g)).key g.name (members_text g.members)
-      (pos (revision_number g.revision)) (pos (revision_number confirmed)) id does in
+      let made = inserts_group limit laid.form old.now after tally sql laid.schema g confirmed id does in
       (made.1, record { lawful = lawful; puts = (made.0, made.2, made.3); users = λ _. made.4; groups = λ e. absurd (cc) })
 
   renews : (row : source.Row) (confirmed : RevisionValue) (id : Option (List ℕ)) → IsRow row → IsThere old.now.trees (row_name row)
       → Does limit plain_mode (row_by row confirmed id) old.now sql None (put_command true (row_name row).kind) (Ok (tally, after))
       → same_schema × PutsIn true (record { row = row; confirmed = confirmed; id = id }) old.now.trees after.trees
   renews (User u) confirmed id lawful there does =
-      let made = updates_user limit laid.form old.now after tally sql laid.schema (row_name (User u)).key u.login (text_of u text.Number) (text_of u text.Given) (text_of u text.Family) (text_of u text.Mail)
-      (pos (revision_number u.revision)) (pos (active_number u.active)) (pos (revision_number confirmed)) id there.row there.number there.only there.numbered there.keyed does in
+      let made = updates_user limit laid.form old.now after tally sql laid.schema u confirmed id there.row there.number there.only there.numbered there.keyed does in
       (made.0, record { lawful = lawful; puts = (there.row, there.number, there.numbered, there.only, made.1); users = λ e. absurd (cc); groups = λ _. made.2 })
   renews (Group g) confirmed id lawful there does =
-      let made = updates_group limit laid.form old.now after tally sql laid.schema (row_name (Group g)).key g.name (members_text g.members)
-      (pos (revision_number g.revision)) (pos (revision_number confirmed)) id there.row there.number there.only there.numbered there.keyed does in
+      let made = updates_group limit laid.form old.now after tally sql laid.schema g confirmed id there.row there.number there.only there.numbered there.keyed does in
       (made.0, record { lawful = lawful; puts = (there.row, there.number, there.numbered, there.only, made.1); users = λ _. made.2; groups = λ e. absurd (cc) })
 
   puts_it : (is_there : Bool) (entry : Entry) → IsRow entry.row → (is_there ≡ true → IsThere old.now.trees (row_name entry.row))
@@ -112,11 +107,6 @@ put_stops old new is_there entry lawful laid there it =
     (may.was_open, put_leaves old is_there entry db lawful (laid early may.was_open) (there early may.was_open) may)) it
 
 -- ---- what is bound is the row
-
-pub user_bound : (u : UserFields) (confirmed : RevisionValue) (id : Option (List ℕ)) {k l r n g f m a c i : Value} → k ≡ Text (row_name (User u)).key → l ≡ Text u.login → r ≡ revision_value u.revision → n ≡ Text (text_of u text.Number)
-    → g ≡ Text (text_of u text.Given) → f ≡ Text (text_of u text.Family) → m ≡ Text (text_of u text.Mail) → a ≡ Int (pos (active_number u.active)) → c ≡ revision_value confirmed → i ≡ id_value id
-    → ◌≡◌ {A = Row} (k ∷ l ∷ r ∷ n ∷ g ∷ f ∷ m ∷ a ∷ c ∷ i ∷ []) (row_by (User u) confirmed id)
-user_bound u confirmed id k l r n g f m a c i = λ j. k j ∷ l j ∷ r j ∷ n j ∷ g j ∷ f j ∷ m j ∷ a j ∷ c j ∷ i j ∷ []
 
 pub group_bound : (g : GroupFields) (confirmed : RevisionValue) (id : Option (List ℕ)) {k l r m c i : Value} → k ≡ Text (row_name (Group g)).key → l ≡ Text g.name → r ≡ revision_value g.revision → m ≡ Text (members_text g.members)
     → c ≡ revision_value confirmed → i ≡ id_value id → ◌≡◌ {A = Row} (k ∷ l ∷ r ∷ m ∷ c ∷ i ∷ []) (row_by (Group g) confirmed id)

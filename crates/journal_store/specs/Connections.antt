@@ -1,7 +1,7 @@
 -- What the statements require of a connection, and what they leave of it.
-use Rattle.std.specs.Prelude.{◌≡◌, ◌⊎◌, ◌+◌, ℕ, ℤ, Bool, true, false, List, [], ◌∷◌, ◌++◌, Option, Some, None, IsTrue, IsPermutation, filter, is_some, map}
+use Rattle.std.specs.Prelude.{◌≡◌, ◌⊎◌, ◌+◌, ℕ, ℤ, Bool, true, false, List, [], ◌∷◌, ◌++◌, Option, Some, None, Ok, IsTrue, IsPermutation, filter, is_some, map}
 use Rattle.std.specs.List.{AllByRecursion, AllZip}
-use Rattle.std.specs.List.Sorted.{IsStrictlySortedBy}
+use Rattle.std.specs.List.Sorted.{IsSorted, IsStrictlySortedBy}
 use Rattle.scim_key.specs.Records.{name_cmp}
 use Rattle.std.specs.Ordering.{is_eq, is_lt}
 use Rattle.sqlite_value.specs.declared.value.Value.TheVariants.{Int, Text}
@@ -10,6 +10,9 @@ use Rattle.sqlite_trees.specs.Tree.{Trees, rowid, has_rowid, put_row, without_ro
 use Rattle.sqlite_rules.specs.Edit.{is_taken}
 use Rattle.sqlite_rules.specs.Lists.{Has}
 use Rattle.sqlite.specs.State.{State}
+use Rattle.sqlite.specs.Effect.{Reads}
+use Rattle.sqlite.specs.Listing.{understood}
+use Rattle.sqlite_resolve.specs.declared.compiled.Compiled.{Compiled}
 use Rattle.scim_key.specs.Revisions.{◌≼◌}
 use Rattle.scim_key.specs.declared.records.Kind.{Kind}
 use Rattle.scim_key.specs.declared.records.Kind.TheVariants.{User, Group}
@@ -18,6 +21,7 @@ use Rattle.source_csv.specs.Records.{IsRow, row_name, row_revision}
 use Rattle.source_csv.specs.declared.rows.Row as source
 use Rattle.journal_core.specs.declared.entries.Entry.{Entry}
 use Rattle.sql_tables.specs.Layouts.{IsLaid as IsLaidBy}
+use Rattle.sqlite_schema.specs.declared.schema.Schema.{Schema}
 use Rattle.sql_tables.specs.Statements.{IsEditText as IsEditOf}
 use Rattle.journal_store.specs.Format.{journal_schema, entry_tree, insert_text, update_text}
 use Rattle.journal_store.specs.Rows.{IsLawfulId, IsReadable, confirmed_in, entry_in, id_in, row_of, shown_row, source_in, texts_of}
@@ -55,6 +59,8 @@ pub record ShowsRest (kind : Kind) (shown : Row) (row : source.Row) (after : ℕ
 -- source row's
 pub record Shows (kind : Kind) (shown : Row) (entry : Entry) : Type 0 where
   pub entry_is : entry_in kind shown ≡ Some entry
+  pub key : column shown 0 ≡ Text (row_name entry.row).key
+  pub kind_is : (row_name entry.row).kind ≡ kind
   pub lawful : IsRow entry.row
   pub texts : AllByRecursion IsReadable (texts_of kind shown)
   pub id : IsLawfulId entry.id
@@ -93,11 +99,6 @@ last_name [] = None
 last_name (name ∷ []) = Some name
 last_name (name ∷ next ∷ names) = last_name (next ∷ names)
 
--- the rows show these entries, one after the other, in order of their names
-pub record AreShown (kind : Kind) (rows : List Row) (list : List Entry) : Type 0 where
-  pub each : AllZip (Shows kind) rows list
-  pub rising : IsStrictlySortedBy name_cmp (map (λ (entry : Entry). row_name entry.row) list)
-
 -- a row comes right after another whose first column isn't below its own
 pub record FailsToRise (rows : List Row) : Type 0 where
   pub front : List Row
@@ -107,27 +108,54 @@ pub record FailsToRise (rows : List Row) : Type 0 where
   pub is : rows ≡ front ++ first ∷ second ∷ back
   pub not_below : is_lt (value_cmp (column first 0) (column second 0)) ≡ false
 
--- a row shows no valid entry, or the keys don't rise
+-- given which valid entry a row shows
+module _ (Valid : Row → Entry → Type 0) where
+  -- the rows show these entries, one after the other, in order of their names
+  pub record AreShownBy (rows : List Row) (list : List Entry) : Type 0 where
+    pub each : AllZip Valid rows list
+    pub rising : IsStrictlySortedBy name_cmp (map (λ (entry : Entry). row_name entry.row) list)
+
+  -- a row shows no valid entry, or the keys don't rise
+  abbrev pub IsUnshownBy : List Row → Type 0
+  IsUnshownBy rows = ((r : Row) × Has rows r × ((entry : Entry) → Valid r entry → ⊥)) ⊎ FailsToRise rows
+
+  -- the entries are those of all rows of a table, of which a query shows these columns
+  pub record ListsAllBy (columns : Row → Row) (table : List Row) (list : List Entry) : Type 0 where
+    pub rows : List Row
+    pub all : IsPermutation (map columns table) rows
+    pub shown : AreShownBy rows list
+
+  -- no list has the entries of all rows of the table
+  abbrev pub ListsNoneBy : (Row → Row) → List Row → Type 0
+  ListsNoneBy columns table = (list : List Entry) → ListsAllBy columns table list → ⊥
+
+-- the query shows these columns of each row of a table, in order of the first
+abbrev pub Lists : {Form : Type 0} → (Form → Schema) → (tree : ℕ) → (columns : Row → Row) → List ℕ → Type 0
+Lists {Form} layout tree columns sql = (form : Form) (trees : Trees) (c : Compiled) (rows : List Row) → understood (layout form) sql ≡ Ok c → Reads c.command (record { schema = layout form; trees = trees }) [] rows
+    → IsPermutation (map columns (trees tree)) rows × IsSorted (λ (a b : Row). value_cmp (column a 0) (column b 0)) rows
+
+abbrev pub AreShown : Kind → List Row → List Entry → Type 0
+AreShown kind = AreShownBy (Shows kind)
+
 abbrev pub IsUnshown : Kind → List Row → Type 0
-IsUnshown kind rows = ((r : Row) × Has rows r × ShowsNone kind r) ⊎ FailsToRise rows
+IsUnshown kind = IsUnshownBy (Shows kind)
 
--- the entries are those of all rows of the table
-pub record ListsAll (kind : Kind) (db : Trees) (list : List Entry) : Type 0 where
-  pub rows : List Row
-  pub all : IsPermutation (map (shown_row kind) (db (entry_tree kind))) rows
-  pub shown : AreShown kind rows list
+abbrev pub ListsAll : Kind → Trees → List Entry → Type 0
+ListsAll kind db = ListsAllBy (Shows kind) (shown_row kind) (db (entry_tree kind))
 
--- no list has the entries of all rows of the table
 abbrev pub ListsNone : Kind → Trees → Type 0
-ListsNone kind db = (list : List Entry) → ListsAll kind db list → ⊥
+ListsNone kind db = ListsNoneBy (Shows kind) (shown_row kind) (db (entry_tree kind))
 
 -- each row has a number that no other row has
 abbrev pub AreNumbered : List Row → Type 0
 AreNumbered table = (r : Row) → Has table r → (n : ℤ) × (rowid r ≡ Int n) × (filter (has_rowid n) table ≡ r ∷ [])
 
-pub record HasNumbers (db : Trees) : Type 0 where
-  pub users : AreNumbered (db (entry_tree User))
-  pub groups : AreNumbered (db (entry_tree Group))
+pub record HasNumbersBy (tree : Kind → ℕ) (db : Trees) : Type 0 where
+  pub users : AreNumbered (db (tree User))
+  pub groups : AreNumbered (db (tree Group))
+
+abbrev pub HasNumbers : Trees → Type 0
+HasNumbers = HasNumbersBy entry_tree
 
 -- ---- a write
 

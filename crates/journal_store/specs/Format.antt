@@ -1,14 +1,19 @@
 -- The tables of format 1, as SQLite keeps them.
-use Rattle.std.specs.Prelude.{ℕ, true, false, List, [], ◌∷◌, None, codes}
+use denote.Ref.{Bor}
+use Rattle.std.specs.Prelude.{ℕ, zero, suc, ◌+◌, Bool, true, false, List, [], ◌∷◌, None, codes}
 use Rattle.sqlite_value.specs.declared.keys.Order.{Order}
 use Rattle.sqlite_sql.specs.Term.{Term}
 use Rattle.sqlite_schema.specs.declared.schema.Column.{Column}
 use Rattle.sqlite_schema.specs.declared.schema.Table.{Table}
 use Rattle.sqlite_schema.specs.declared.schema.Index.{Index}
 use Rattle.sqlite_schema.specs.declared.schema.Schema.{Schema}
+use Rattle.sqlite_schema.specs.declared.schema.Kind.{Kind as ColumnKind}
 use Rattle.sqlite_schema.specs.declared.schema.Kind.TheVariants.{Integer, Text}
 use Rattle.sql_tables.specs.Layouts.{format_table, no_stamps, optional, required}
+use Rattle.source_csv.specs.declared.texts.TheConstants.{TEXT_FIELD_COUNT}
 use Rattle.scim_key.specs.declared.records.Kind.{Kind}
+use Rattle.sqlite_value.specs.declared.keys.Collation.TheVariants.{Binary}
+use Rattle.sqlite_value.specs.declared.value.Value.TheVariants.{Null}
 use Rattle.scim_key.specs.declared.records.Kind.TheVariants.{User, Group}
 
 -- the number of the format
@@ -40,6 +45,13 @@ abbrev pub entry_name : Kind → List ℕ
 entry_name User = codes "user_entry"
 entry_name Group = codes "group_entry"
 
+-- a column of a table, as SQLite keeps it
+abbrev pub EntryColumn : Type 0
+EntryColumn = Bor (List ℕ) × ColumnKind × Bool
+
+abbrev pub column_of : EntryColumn → Column
+column_of c = record { name = c.0.now; kind = c.1; is_strict = false; not_null = c.2; default = Null; collation = Binary }
+
 abbrev pub entry_columns : Kind → List Column
 entry_columns User =
     required (codes "name_key") Text ∷ required (codes "login") Text ∷ required (codes "revision") Integer ∷ required (codes "number") Text
@@ -48,6 +60,16 @@ entry_columns User =
 entry_columns Group =
     required (codes "name_key") Text ∷ required (codes "name") Text ∷ required (codes "revision") Integer ∷ required (codes "members") Text
     ∷ required (codes "confirmed") Integer ∷ optional (codes "id") Text ∷ []
+
+-- how many columns a type's table has
+abbrev pub column_count : Kind → ℕ
+column_count User = 6 + TEXT_FIELD_COUNT
+column_count Group = 6
+
+-- so many places, from this one on
+abbrev pub places : ℕ → ℕ → List ℕ
+places at zero = []
+places at (suc count) = at ∷ places (suc at) count
 
 -- the place of the key, by which rows are found
 abbrev pub key_places : List ℕ

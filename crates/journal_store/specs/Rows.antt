@@ -1,5 +1,5 @@
 -- The rows of the tables of entries, and the entries that they show.
-use Rattle.std.specs.Prelude.{ℕ, zero, suc, ℤ, pos, Bool, true, false, if◌then◌else◌, List, [], ◌∷◌, ◌++◌, flat_map, Option, Some, None}
+use Rattle.std.specs.Prelude.{ℕ, zero, suc, ◌+◌, ℤ, pos, Bool, true, false, if◌then◌else◌, List, [], ◌∷◌, ◌++◌, map, flat_map, Option, Some, None}
 use Rattle.std.specs.FinMap.{from_entries}
 use Rattle.std.specs.List.{join_with_byte}
 use Rattle.std.specs.Option.{option_and_then, option_map}
@@ -19,10 +19,11 @@ use Rattle.source_csv.specs.Records.{row_name}
 use Rattle.source_csv.specs.Rows.{text_of}
 use Rattle.source_csv.specs.declared.rows.Row as source
 use Rattle.source_csv.specs.declared.rows.Row.TheVariants.{User, Group}
-use Rattle.source_csv.specs.declared.texts.TextField.TheVariants as text
+use Rattle.source_csv.specs.declared.texts.TheConstants.{TEXT_FIELD_COUNT}
 use Rattle.journal_core.specs.Entries.{EntryMap, named}
 use Rattle.journal_core.specs.declared.entries.Entry.{Entry}
-use Rattle.journal_store.specs.Format.{entry_tree}
+use Rattle.journal_store.specs.Format.{column_count, entry_tree, places}
+use Rattle.journal_store.specs.declared.format.TheConstants.{TEXT_ORDER}
 
 -- ---- how an entry is written
 
@@ -47,8 +48,7 @@ members_text keys = join_with_byte 32 keys
 abbrev pub row_by : source.Row → RevisionValue → Option (List ℕ) → Row
 row_by (User u) confirmed id =
     Text (row_name (User u)).key ∷ Text u.login ∷ revision_value u.revision
-    ∷ Text (text_of u text.Number) ∷ Text (text_of u text.Given) ∷ Text (text_of u text.Family) ∷ Text (text_of u text.Mail)
-    ∷ Int (pos (active_number u.active)) ∷ revision_value confirmed ∷ id_value id ∷ []
+    ∷ (map (λ which. Text (text_of u which)) TEXT_ORDER ++ Int (pos (active_number u.active)) ∷ revision_value confirmed ∷ id_value id ∷ [])
 row_by (Group g) confirmed id =
     Text (row_name (Group g)).key ∷ Text g.name ∷ revision_value g.revision ∷ Text (members_text g.members) ∷ revision_value confirmed ∷ id_value id ∷ []
 
@@ -110,16 +110,31 @@ infixl 10 ◌>>=◌
 abbrev ◌>>=◌ : {A B : Type 0} → Option A → (A → Option B) → Option B
 o >>= f = option_and_then f o
 
+-- the columns at these places
+abbrev pub columns_at : List ℕ → Row → Row
+columns_at at r = map (column r) at
+
+-- the columns with the texts of a user
+unfoldable pub text_columns : Row → List Value
+text_columns r = columns_at (places 3 TEXT_FIELD_COUNT) r
+
+abbrev pub all_texts : List Value → Option (List (List ℕ))
+all_texts [] = Some []
+all_texts (v ∷ vs) = do
+  text ← text_in v
+  texts ← all_texts vs
+  Some (text ∷ texts)
+
+unfoldable pub texts_in : Row → Option (List (List ℕ))
+texts_in r = all_texts (text_columns r)
+
 abbrev pub user_in : Row → Option source.Row
 user_in r = do
   login ← text_in (column r 1)
   revision ← revision_in (column r 2)
-  number ← text_in (column r 3)
-  given ← text_in (column r 4)
-  family ← text_in (column r 5)
-  mail ← text_in (column r 6)
-  active ← active_in (column r 7)
-  Some (User (record { login = login; revision = revision; texts = number ∷ given ∷ family ∷ mail ∷ []; active = active }))
+  texts ← texts_in r
+  active ← active_in (column r (3 + TEXT_FIELD_COUNT))
+  Some (User (record { login = login; revision = revision; texts = texts; active = active }))
 
 abbrev pub group_in : Row → Option source.Row
 group_in r = do
@@ -141,7 +156,7 @@ entry_by row confirmed id = do
   Some (record { row = source; confirmed = revision; id = given })
 
 abbrev pub fields_in : Kind → Row → Option Entry
-fields_in kind.User r = entry_by (user_in r) (confirmed_in (column r 8)) (id_in (column r 9))
+fields_in kind.User r = entry_by (user_in r) (confirmed_in (column r (4 + TEXT_FIELD_COUNT))) (id_in (column r (5 + TEXT_FIELD_COUNT)))
 fields_in kind.Group r = entry_by (group_in r) (confirmed_in (column r 4)) (id_in (column r 5))
 
 -- the entry, if it is of the record with this key
@@ -165,7 +180,7 @@ IsReadable (Blob b) = Unit {0}
 
 -- the texts of the row of the source
 abbrev pub texts_of : Kind → Row → List Value
-texts_of kind.User r = column r 1 ∷ column r 3 ∷ column r 4 ∷ column r 5 ∷ column r 6 ∷ []
+texts_of kind.User r = column r 1 ∷ text_columns r
 texts_of kind.Group r = column r 1 ∷ column r 3 ∷ []
 
 -- a valid id, or none
@@ -177,9 +192,7 @@ IsLawfulId (Some id) = IsId id × IsUtf8 id
 
 -- the columns of a row that the queries show: all but its number
 abbrev pub shown_row : Kind → Row → Row
-shown_row kind.User r =
-    column r 1 ∷ column r 2 ∷ column r 3 ∷ column r 4 ∷ column r 5 ∷ column r 6 ∷ column r 7 ∷ column r 8 ∷ column r 9 ∷ column r 10 ∷ []
-shown_row kind.Group r = column r 1 ∷ column r 2 ∷ column r 3 ∷ column r 4 ∷ column r 5 ∷ column r 6 ∷ []
+shown_row type r = columns_at (places 1 (column_count type)) r
 
 abbrev pub named_if : Option Entry → List (RecordName × Entry)
 named_if None = []

@@ -98,11 +98,8 @@ fn write_user_in<S: Alter>(
 {
     let revision = user.revision();
     let key = user.login().key(alloc)?;
-    write_in(
-        tables,
-        sql,
-        &user_params(&key, user, revision, confirmed, id),
-    )
+    let params = user_params(alloc, &key, user, revision, confirmed, id)?;
+    write_in(tables, sql, params.as_slice())
 }
 
 /// Runs a write with the columns of a group's entry.

@@ -1,64 +1,30 @@
 //! The columns of a result row, and the entry that they show.
-ghost use Rattle.std.specs.Prelude.{◌≡◌, ◌≤◌, ◌+◌, ℕ, ℤ, pos, false, List, Option, None, Some, IfErr, IfOk, OnErr, OnOk, IsTrue};
+ghost use Rattle.std.specs.Prelude.{◌≡◌, ◌≤◌, ◌+◌, ℕ, false, List, map, Option, None, Some, IfErr, IfOk, OnErr, OnOk, IsTrue};
 ghost use Rattle.std.specs.List.{AllByRecursion};
 ghost use Rattle.std.specs.Str.{IsUtf8};
 ghost use Rattle.scim_key.specs.Revisions.{IsRevision};
 ghost use Rattle.scim_key.specs.declared.records.Kind.TheVariants.{User, Group};
 ghost use Rattle.sqlite_value.specs.Order.{column};
-ghost use Rattle.sqlite_value.specs.declared.value.Value.TheVariants.{Int, Text};
+ghost use Rattle.sqlite_value.specs.Value.{owned};
+ghost use Rattle.sqlite_value.specs.declared.value.Value.TheVariants.{Text};
 ghost use Rattle.source_csv.specs.Fields.{pieces};
 ghost use Rattle.source_csv.specs.Records.{IsRow, row_name};
 ghost use Rattle.source_csv.specs.Rows.{AreUserKeys, IsUserKey};
+ghost use Rattle.source_csv.specs.declared.texts.TheConstants.{TEXT_FIELD_COUNT};
 ghost use Rattle.journal_store.specs.Connections.{Shows, ShowsNone, ShowsRest, ShowsSource};
 ghost use Rattle.journal_store.specs.Faults.{HasCause, IsOfRow};
 ghost use Rattle.journal_store.specs.declared.statements.TableFault.TheVariants.{Damaged};
-ghost use Rattle.journal_store.specs.Rows.{IsLawfulId, IsReadable, active_in, confirmed_in, group_in, id_in, revision_in, texts_of, user_in};
+ghost use Rattle.journal_store.specs.Rows.{IsLawfulId, IsReadable, active_in, confirmed_in, group_in, id_in, revision_in, text_columns, texts_in, texts_of, user_in};
 
 use crate::statements::TableFault;
 use journal_core::Entry;
 use scim_key::{GroupName, Key, Kind, ResourceId, Revision, UserName};
-use source_csv::{FieldValue, GroupRow, Row as SourceRow, UserRow};
+use source_csv::{FieldValue, GroupRow, Row as SourceRow, TEXT_FIELD_COUNT, UserRow};
+use sql_tables::{number_at, text_at as bytes_at};
 use sqlite::Row;
 use sqlite_value::value::ValueRef;
 use std::alloc::Global;
-use std::str;
-
-/// The integer in a column.
-pub(crate) fn integer_at(row: &Row, at: usize) -> Result<i64, TableFault>
-    ensures some { IfOk result (λ n. column row.now at ≡ Int n) }
-    ensures none { OnErr result ((n : ℤ) → column row.now at ≡ Int n → ⊥) }
-    ensures fault { IfErr result (λ fault. fault ≡ Damaged) }
-{
-    match row.get_ref(at) {
-        Ok(ValueRef::Int(number)) => Ok(number),
-        _ => Err(TableFault::Damaged),
-    }
-}
-
-pub(crate) fn number_at(row: &Row, at: usize) -> Result<u64, TableFault>
-    ensures some { IfOk result (λ n. column row.now at ≡ Int (pos n)) }
-    ensures none { OnErr result ((n : ℕ) → column row.now at ≡ Int (pos n) → ⊥) }
-    ensures fault { IfErr result (λ fault. fault ≡ Damaged) }
-{
-    match row.get_ref(at) {
-        Ok(ValueRef::Int(number)) => match u64::try_from(number) {
-            Ok(number) => Ok(number),
-            Err(_) => Err(TableFault::Damaged),
-        },
-        _ => Err(TableFault::Damaged),
-    }
-}
-
-fn bytes_at(row: &Row, at: usize) -> Result<&[u8], TableFault>
-    ensures some { IfOk result (λ text. column row.now at ≡ Text text.now) }
-    ensures none { OnErr result ((text : List ℕ) → column row.now at ≡ Text text → ⊥) }
-    ensures fault { IfErr result (λ fault. fault ≡ Damaged) }
-{
-    match row.get_ref(at) {
-        Ok(ValueRef::Text(text)) => Ok(text),
-        _ => Err(TableFault::Damaged),
-    }
-}
+use std::{array, str};
 
 fn text_at(row: &Row, at: usize) -> Result<&str, TableFault>
     ensures some { IfOk result (λ text. column row.now at ≡ Text text.now) }
@@ -66,19 +32,38 @@ fn text_at(row: &Row, at: usize) -> Result<&str, TableFault>
     ensures none { OnErr result ((text : List ℕ) → column row.now at ≡ Text text → IsUtf8 text → ⊥) }
     ensures fault { IfErr result (λ fault. fault ≡ Damaged) }
 {
-    match str::from_utf8(bytes_at(row, at)?) {
+    let Some(bytes) = bytes_at(row, at) else {
+        return Err(TableFault::Damaged);
+    };
+    match str::from_utf8(bytes) {
         Ok(text) => Ok(text),
         Err(_) => Err(TableFault::Damaged),
     }
 }
 
-fn value_at(alloc: Global, row: &Row, at: usize) -> Result<FieldValue, TableFault>
-    ensures some { IfOk result (λ value. column row.now at ≡ Text value) }
+/// The value in a column. A column beyond the end is NULL.
+fn cell_at(row: &Row, at: usize) -> ValueRef<'_>
+    ensures { owned result ≡ column row.now at }
+{
+    match row.get_ref(at) {
+        Ok(cell) => cell,
+        Err(_) => ValueRef::Null,
+    }
+}
+
+fn value_of(alloc: Global, cell: ValueRef<'_>) -> Result<FieldValue, TableFault>
+    ensures some { IfOk result (λ value. owned cell.entry ≡ Text value) }
     ensures utf8 { IfOk result IsUtf8 }
-    ensures none { IfErr result (HasCause ((text : List ℕ) → column row.now at ≡ Text text → IsUtf8 text → ⊥)) }
+    ensures none { IfErr result (HasCause ((text : List ℕ) → owned cell.entry ≡ Text text → IsUtf8 text → ⊥)) }
     ensures read { IfErr result IsOfRow }
 {
-    Ok(FieldValue::new(String::from_str(alloc, text_at(row, at)?)?))
+    let ValueRef::Text(bytes) = cell else {
+        return Err(TableFault::Damaged);
+    };
+    match str::from_utf8(bytes) {
+        Ok(text) => Ok(FieldValue::new(String::from_str(alloc, text)?)),
+        Err(_) => Err(TableFault::Damaged),
+    }
 }
 
 fn revision_at(row: &Row, at: usize) -> Result<Revision, TableFault>
@@ -87,7 +72,7 @@ fn revision_at(row: &Row, at: usize) -> Result<Revision, TableFault>
     ensures none { OnErr result (revision_in (column row.now at) ≡ None) }
     ensures fault { IfErr result (λ fault. fault ≡ Damaged) }
 {
-    match Revision::of_number(number_at(row, at)?) {
+    match number_at(row, at).and_then(Revision::of_number) {
         Some(revision) => Ok(revision),
         None => Err(TableFault::Damaged),
     }
@@ -99,13 +84,9 @@ fn confirmed_at(row: &Row, at: usize) -> Result<Revision, TableFault>
     ensures none { OnErr result (confirmed_in (column row.now at) ≡ None) }
     ensures fault { IfErr result (λ fault. fault ≡ Damaged) }
 {
-    let number = number_at(row, at)?;
-    if number == 0 {
-        return Ok(Revision::none());
-    }
-    match Revision::of_number(number) {
-        Some(revision) => Ok(revision),
-        None => Err(TableFault::Damaged),
+    match number_at(row, at) {
+        Some(0) => Ok(Revision::none()),
+        _ => revision_at(row, at),
     }
 }
 
@@ -114,9 +95,9 @@ fn active_at(row: &Row, at: usize) -> Result<bool, TableFault>
     ensures none { OnErr result (active_in (column row.now at) ≡ None) }
     ensures fault { IfErr result (λ fault. fault ≡ Damaged) }
 {
-    match number_at(row, at)? {
-        0 => Ok(false),
-        1 => Ok(true),
+    match number_at(row, at) {
+        Some(0) => Ok(false),
+        Some(1) => Ok(true),
         _ => Err(TableFault::Damaged),
     }
 }
@@ -166,6 +147,23 @@ fn members_of(alloc: Global, text: &str) -> Result<Vec<Key>, TableFault>
     Ok(keys)
 }
 
+/// The values of the texts of a user, whose columns come after the revision.
+#[tactic(auto, unfolding(crate::specs::Rows::text_columns))]
+fn text_cells(row: &Row) -> [ValueRef<'_>; TEXT_FIELD_COUNT]
+    ensures { map owned result ≡ text_columns row.now }
+{
+    array::from_fn(|at| cell_at(row, 3 + at))
+}
+
+fn texts_at(alloc: Global, row: &Row) -> Result<[FieldValue; TEXT_FIELD_COUNT], TableFault>
+    ensures some { IfOk result (λ texts. texts_in row.now ≡ Some texts) }
+    ensures utf8 { IfOk result (λ _. AllByRecursion IsReadable (text_columns row.now)) }
+    ensures none { IfErr result (HasCause ((texts : List (List ℕ)) → texts_in row.now ≡ Some texts → AllByRecursion IsReadable (text_columns row.now) → ⊥)) }
+    ensures read { IfErr result IsOfRow }
+{
+    text_cells(row).try_map(|cell| value_of(alloc, cell))
+}
+
 fn user_at(alloc: Global, row: &Row) -> Result<SourceRow, TableFault>
     ensures some { IfOk result (λ user. user_in row.now ≡ Some user) }
     ensures texts { OnOk result (AllByRecursion IsReadable (texts_of User row.now)) }
@@ -174,12 +172,9 @@ fn user_at(alloc: Global, row: &Row) -> Result<SourceRow, TableFault>
 {
     let login = UserName::read(alloc, text_at(row, 1)?)?;
     let revision = revision_at(row, 2)?;
-    let number = value_at(alloc, row, 3)?;
-    let given = value_at(alloc, row, 4)?;
-    let family = value_at(alloc, row, 5)?;
-    let mail = value_at(alloc, row, 6)?;
-    let active = active_at(row, 7)?;
-    match UserRow::new(login, revision, [number, given, family, mail], active) {
+    let texts = texts_at(alloc, row)?;
+    let active = active_at(row, 3 + TEXT_FIELD_COUNT)?;
+    match UserRow::new(login, revision, texts, active) {
         Some(user) => Ok(SourceRow::User(user)),
         None => Err(TableFault::Damaged),
     }
@@ -209,7 +204,7 @@ fn has_its_key(alloc: Global, kind: Kind, row: &Row, source: &SourceRow) -> Resu
     ensures read { IfErr result IsOfRow }
 {
     let name = source.record_name(alloc)?;
-    Ok(name.kind == kind && name.key.as_str().as_bytes() == bytes_at(row, 0)?)
+    Ok(name.kind == kind && bytes_at(row, 0) == Some(name.key.as_str().as_bytes()))
 }
 
 /// The entry of a row, given its source row.
@@ -220,7 +215,7 @@ fn entry_of(
     source: SourceRow,
     after: usize,
 ) -> Result<Entry, TableFault>
-    requires { after ≤ 8 }
+    requires { after ≤ 4 + TEXT_FIELD_COUNT }
     ensures some { IfOk result (ShowsRest kind row.now source after) }
     ensures lawful { OnOk result (IsRow source) }
     ensures none { IfErr result (HasCause ((entry : _) → ShowsRest kind row.now source after entry → ⊥)) }
@@ -245,7 +240,13 @@ pub(crate) fn read_entry(alloc: Global, kind: Kind, row: &Row) -> Result<Entry, 
     ensures read { IfErr result IsOfRow }
 {
     match kind {
-        Kind::User => entry_of(alloc, Kind::User, row, user_at(alloc, row)?, 8),
+        Kind::User => entry_of(
+            alloc,
+            Kind::User,
+            row,
+            user_at(alloc, row)?,
+            4 + TEXT_FIELD_COUNT,
+        ),
         Kind::Group => entry_of(alloc, Kind::Group, row, group_at(alloc, row)?, 4),
     }
 }

@@ -1,15 +1,50 @@
 //! The format of a store: its number, and the check of a schema at run time.
-ghost use Rattle.std.specs.Prelude.{◌≡◌, [], ◌∷◌, IsTrue};
-ghost use Rattle.scim_key.specs.declared.records.Kind.TheVariants.{User, Group};
-ghost use Rattle.journal_store.specs.Format.{entry_columns, entry_name, entry_tree, index_name, key_index, key_places, key_tree};
+ghost use Rattle.std.specs.Prelude.{◌≡◌, [], ◌∷◌, IsTrue, map};
+ghost use Rattle.journal_store.specs.Format.{column_of, entry_columns, entry_name, entry_tree, index_name, key_index, key_places, key_tree};
 ghost use Rattle.journal_store.specs.Opening.{IsEntryTable, IsJournal};
 
 use scim_key::Kind as RecordKind;
+use source_csv::{TEXT_FIELD_COUNT, TextField};
 use sql_tables::{Layout, has_order, is_column, is_format, is_plain};
 use sqlite_schema::schema::{Column, Index, Kind, Schema, Table};
 
 /// The number of the format that is written; no other format is read.
 pub(crate) const FORMAT: u64 = 1;
+
+/// A column of a table of entries: its name, its type, and whether it may not be NULL.
+type EntryColumn = (&'static str, Kind, bool);
+
+/// The columns of the table of users.
+const USER_COLUMNS: [EntryColumn; 6 + TEXT_FIELD_COUNT] = [
+    ("name_key", Kind::Text, true),
+    ("login", Kind::Text, true),
+    ("revision", Kind::Integer, true),
+    ("number", Kind::Text, true),
+    ("given", Kind::Text, true),
+    ("family", Kind::Text, true),
+    ("mail", Kind::Text, true),
+    ("active", Kind::Integer, true),
+    ("confirmed", Kind::Integer, true),
+    ("id", Kind::Text, false),
+];
+
+/// The columns of the table of groups.
+const GROUP_COLUMNS: [EntryColumn; 6] = [
+    ("name_key", Kind::Text, true),
+    ("name", Kind::Text, true),
+    ("revision", Kind::Integer, true),
+    ("members", Kind::Text, true),
+    ("confirmed", Kind::Integer, true),
+    ("id", Kind::Text, false),
+];
+
+/// The texts of a user, in the order of their columns.
+pub(crate) const TEXT_ORDER: [TextField; TEXT_FIELD_COUNT] = [
+    TextField::Number,
+    TextField::Given,
+    TextField::Family,
+    TextField::Mail,
+];
 
 /// The tables of the format.
 pub(crate) struct Journal;
@@ -50,7 +85,7 @@ fn is_entries(kind: RecordKind, table: &Table) -> bool
 {
     table.name.as_slice() == entry_name(kind)
         && table.tree == entry_tree(kind)
-        && has_columns(kind, table.columns.as_slice())
+        && has_columns(table.columns.as_slice(), entry_columns(kind))
         && table.key.is_none()
         && table.primary.as_slice() == [1].as_slice()
         && has_unique(table)
@@ -76,63 +111,30 @@ fn entry_tree(kind: RecordKind) -> u32
     }
 }
 
-fn has_columns(kind: RecordKind, columns: &[Column]) -> bool
-    ensures is { IsTrue result → columns.now ≡ entry_columns kind }
-    ensures known { columns.now ≡ entry_columns kind → IsTrue result }
+fn entry_columns(kind: RecordKind) -> &'static [EntryColumn]
+    ensures { map column_of result.now ≡ entry_columns kind }
 {
     match kind {
-        RecordKind::User => has_user_columns(columns),
-        RecordKind::Group => has_group_columns(columns),
+        RecordKind::User => &USER_COLUMNS,
+        RecordKind::Group => &GROUP_COLUMNS,
     }
 }
 
-fn has_user_columns(columns: &[Column]) -> bool
-    ensures is { IsTrue result → columns.now ≡ entry_columns User }
-    ensures known { columns.now ≡ entry_columns User → IsTrue result }
+/// Whether the columns of a table are these.
+fn has_columns(columns: &[Column], wanted: &[EntryColumn]) -> bool
+    ensures is { IsTrue result → columns.now ≡ map column_of wanted.now }
+    ensures known { columns.now ≡ map column_of wanted.now → IsTrue result }
 {
-    match columns {
-        [
-            name_key,
-            login,
-            revision,
-            number,
-            given,
-            family,
-            mail,
-            active,
-            confirmed,
-            id,
-        ] => is_column(name_key, b"name_key", Kind::Text, true)
-            && is_column(login, b"login", Kind::Text, true)
-            && is_column(revision, b"revision", Kind::Integer, true)
-            && is_column(number, b"number", Kind::Text, true)
-            && is_column(given, b"given", Kind::Text, true)
-            && is_column(family, b"family", Kind::Text, true)
-            && is_column(mail, b"mail", Kind::Text, true)
-            && is_column(active, b"active", Kind::Integer, true)
-            && is_column(confirmed, b"confirmed", Kind::Integer, true)
-            && is_column(id, b"id", Kind::Text, false),
-        _ => false,
+    if columns.len() != wanted.len() {
+        return false;
     }
-}
-
-fn has_group_columns(columns: &[Column]) -> bool
-    ensures is { IsTrue result → columns.now ≡ entry_columns Group }
-    ensures known { columns.now ≡ entry_columns Group → IsTrue result }
-{
-    match columns {
-        [name_key, name, revision, members, confirmed, id] => is_column(
-            name_key,
-            b"name_key",
-            Kind::Text,
-            true,
-        ) && is_column(name, b"name", Kind::Text, true)
-            && is_column(revision, b"revision", Kind::Integer, true)
-            && is_column(members, b"members", Kind::Text, true)
-            && is_column(confirmed, b"confirmed", Kind::Integer, true)
-            && is_column(id, b"id", Kind::Text, false),
-        _ => false,
+    for at in 0..columns.len() {
+        let (name, kind, not_null) = wanted[at];
+        if !is_column(&columns[at], name.as_bytes(), kind, not_null) {
+            return false;
+        }
     }
+    true
 }
 
 /// Whether the table's only UNIQUE is over the key.

@@ -16,6 +16,7 @@ ghost use Rattle.journal_store.specs.Opening.{IsCause, LeavesNone, OpenFailsFor,
 ghost use Rattle.journal_store.specs.Rows.{entry_in, row_of};
 
 use crate::batches::put_all;
+use crate::format::Journal as Tables;
 use crate::opening::{JournalOpenFault, check_tables, open_tables};
 use crate::statements::TableFault;
 use crate::tables::{find_entry, list_entries, put_entry, with_row};
@@ -107,7 +108,7 @@ impl<S: Alter> SqlJournal<S> {
         if !self.is_usable {
             return Err(refusal(&mut self.faults));
         }
-        match list_entries(self.alloc, &mut self.conn, kind) {
+        match list_entries::<S, Tables>(self.alloc, &mut self.conn, kind) {
             Ok(list) => Ok(list),
             Err(fault) => Err(counted(&mut self.faults, fault_of(fault))),
         }

@@ -4,6 +4,7 @@
 mod batches;
 mod columns;
 mod format;
+mod formats;
 mod journal;
 mod lawful;
 mod opening;

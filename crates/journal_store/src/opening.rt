@@ -6,20 +6,20 @@ ghost use Rattle.std.specs.FinMap.{empty};
 ghost use Rattle.journal_core.specs.Entries.{EntryMap};
 ghost use Rattle.sqlite.specs.Held.{state};
 ghost use Rattle.sqlite.specs.State.{HasCleanDisk, Survives};
-ghost use Rattle.journal_store.specs.Connections.{AreNumbered, HasNumbers, IsLaid};
+ghost use Rattle.journal_store.specs.Connections.{AreNumbered, HasNumbersBy, IsLaid};
 ghost use Rattle.sql_tables.specs.Faults.{HasFailed};
-ghost use Rattle.sql_tables.specs.Layouts.{IsBlank, IsFormat};
+ghost use Rattle.sql_tables.specs.Layouts.{IsBlank, IsFormat, IsLaid as IsLaidBy};
 ghost use Rattle.sql_tables.specs.Statements.{LeavesStore, Looks};
-ghost use Rattle.journal_store.specs.Format.{entry_tree, format_number, numbers_text};
+ghost use Rattle.journal_store.specs.Format.{format_number};
 ghost use Rattle.journal_store.specs.Opening.{AreRising, HoldsEntries, IsCause, IsFor, IsJournal, IsNewer, IsNotLaid, IsOfRows, IsSpoilt, IsStore, IsUnmarked, IsUnnumbered, OpenFailsFor, OpeningFails, ShowsDamage, LeavesNone, Stands};
 
-use crate::columns::integer_at;
 use crate::format::{FORMAT, Journal, is_journal};
+use crate::formats::Format;
 use crate::lawful::check_lists;
 use crate::statements::TableFault;
 use crate::tables::list_entries;
 use scim_key::Kind;
-use sql_tables::{Mark, ask, find_mark, is_blank};
+use sql_tables::{Mark, ask, find_mark, integer_at, is_blank};
 use sqlite::{Alter, Connection, Error, Row};
 use sqlite_value::value::ValueRef;
 use std::alloc::{AllocError, Global};
@@ -126,15 +126,6 @@ fn check_format<S: Alter>(conn: &mut Connection<S>) -> Result<(), JournalOpenFau
 
 // ---- the rows
 
-fn numbers_statement(kind: Kind) -> &'static str
-    ensures { result.now ≡ numbers_text kind }
-{
-    match kind {
-        Kind::User => "SELECT rowid FROM user_entry ORDER BY rowid",
-        Kind::Group => "SELECT rowid FROM group_entry ORDER BY rowid",
-    }
-}
-
 /// Whether the number is above the last one, if there is one.
 fn rises(last: Option<i64>, number: i64) -> bool
     ensures is { IsTrue result → MatchOption last (Unit {0}) (λ n. int_cmp n number ≡ Less) }
@@ -154,7 +145,9 @@ fn check_rising(rows: &[Row]) -> Result<(), JournalOpenFault>
 {
     let mut last = None;
     for row in rows {
-        let number = integer_at(row, 0)?;
+        let Some(number) = integer_at(row, 0) else {
+            return Err(JournalOpenFault::Damaged);
+        };
         if !rises(last, number) {
             return Err(JournalOpenFault::Damaged);
         }
@@ -164,31 +157,34 @@ fn check_rising(rows: &[Row]) -> Result<(), JournalOpenFault>
 }
 
 /// Checks that each row of a table has a number that no other row has.
-fn check_table<S: Alter>(conn: &mut Connection<S>, kind: Kind) -> Result<(), JournalOpenFault>
-    requires laid { HasCleanDisk (state S.Store conn.old) → IsTrue (state S.Store conn.old).is_open → IsLaid (state S.Store conn.old) }
-    ensures numbered { HasCleanDisk (state S.Store conn.new) → OnOk result (AreNumbered ((state S.Store conn.old).now.trees (entry_tree kind))) }
-    ensures cause { HasCleanDisk (state S.Store conn.new) → IfErr result (IsFor ⊥ (IsTrue (state S.Store conn.new).is_open × (AreNumbered ((state S.Store conn.old).now.trees (entry_tree kind)) → ⊥))) }
+fn check_table<S: Alter, F: Format>(
+    conn: &mut Connection<S>,
+    kind: Kind,
+) -> Result<(), JournalOpenFault>
+    requires laid { HasCleanDisk (state S.Store conn.old) → IsTrue (state S.Store conn.old).is_open → IsLaidBy F.layout (state S.Store conn.old) }
+    ensures numbered { HasCleanDisk (state S.Store conn.new) → OnOk result (AreNumbered ((state S.Store conn.old).now.trees (F.tree kind))) }
+    ensures cause { HasCleanDisk (state S.Store conn.new) → IfErr result (IsFor ⊥ (IsTrue (state S.Store conn.new).is_open × (AreNumbered ((state S.Store conn.old).now.trees (F.tree kind)) → ⊥))) }
     ensures failed { HasCleanDisk (state S.Store conn.new) → IfErr result (OpenFailsFor (HasFailed (state S.Store conn.old) (state S.Store conn.new))) }
     ensures open { HasCleanDisk (state S.Store conn.new) → OnOk result (IsTrue (state S.Store conn.new).is_open) }
     ensures looks { Looks (state S.Store conn.old) (state S.Store conn.new) }
 {
-    match ask::<S, Journal>(conn, numbers_statement(kind), &[]) {
+    match ask::<S, F>(conn, F::numbers_statement(kind), &[]) {
         Ok(rows) => check_rising(rows.as_slice()),
         Err(error) => Err(JournalOpenFault::from(error)),
     }
 }
 
 /// Checks the numbers of the rows of both tables.
-fn check_numbers<S: Alter>(conn: &mut Connection<S>) -> Result<(), JournalOpenFault>
-    requires laid { HasCleanDisk (state S.Store conn.old) → IsTrue (state S.Store conn.old).is_open → IsLaid (state S.Store conn.old) }
-    ensures numbered { HasCleanDisk (state S.Store conn.new) → OnOk result (HasNumbers (state S.Store conn.old).now.trees) }
-    ensures cause { HasCleanDisk (state S.Store conn.new) → IfErr result (IsFor ⊥ (IsTrue (state S.Store conn.new).is_open × (HasNumbers (state S.Store conn.old).now.trees → ⊥))) }
+fn check_numbers<S: Alter, F: Format>(conn: &mut Connection<S>) -> Result<(), JournalOpenFault>
+    requires laid { HasCleanDisk (state S.Store conn.old) → IsTrue (state S.Store conn.old).is_open → IsLaidBy F.layout (state S.Store conn.old) }
+    ensures numbered { HasCleanDisk (state S.Store conn.new) → OnOk result (HasNumbersBy F.tree (state S.Store conn.old).now.trees) }
+    ensures cause { HasCleanDisk (state S.Store conn.new) → IfErr result (IsFor ⊥ (IsTrue (state S.Store conn.new).is_open × (HasNumbersBy F.tree (state S.Store conn.old).now.trees → ⊥))) }
     ensures failed { HasCleanDisk (state S.Store conn.new) → IfErr result (OpenFailsFor (HasFailed (state S.Store conn.old) (state S.Store conn.new))) }
     ensures open { HasCleanDisk (state S.Store conn.new) → OnOk result (IsTrue (state S.Store conn.new).is_open) }
     ensures looks { Looks (state S.Store conn.old) (state S.Store conn.new) }
 {
-    check_table(conn, Kind::User)?;
-    check_table(conn, Kind::Group)
+    check_table::<S, F>(conn, Kind::User)?;
+    check_table::<S, F>(conn, Kind::Group)
 }
 
 /// Checks the entries of both tables.
@@ -200,8 +196,8 @@ fn check_entries<S: Alter>(alloc: Global, conn: &mut Connection<S>) -> Result<()
     ensures open { HasCleanDisk (state S.Store conn.new) → OnOk result (IsTrue (state S.Store conn.new).is_open) }
     ensures looks { Looks (state S.Store conn.old) (state S.Store conn.new) }
 {
-    let users = list_entries(alloc, conn, Kind::User)?;
-    let groups = list_entries(alloc, conn, Kind::Group)?;
+    let users = list_entries::<S, Journal>(alloc, conn, Kind::User)?;
+    let groups = list_entries::<S, Journal>(alloc, conn, Kind::Group)?;
     check_lists(alloc, users.as_slice(), groups.as_slice())
 }
 
@@ -217,7 +213,7 @@ fn check_laid<S: Alter>(alloc: Global, conn: &mut Connection<S>) -> Result<(), J
     ensures looks { Looks (state S.Store conn.old) (state S.Store conn.new) }
 {
     check_format(conn)?;
-    check_numbers(conn)?;
+    check_numbers::<S, Journal>(conn)?;
     check_entries(alloc, conn)
 }
 

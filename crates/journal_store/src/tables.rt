@@ -1,5 +1,5 @@
 //! The statements on the tables of entries.
-ghost use Rattle.std.specs.Prelude.{◌≡◌, pos, true, false, MatchOption, Option, IfErr, IfOk, IsTrue, OnOk, OnErr, string_bytes};
+ghost use Rattle.std.specs.Prelude.{◌≡◌, pos, map, true, false, MatchOption, Option, IfErr, IfOk, IsTrue, OnOk, OnErr, string_bytes};
 ghost use Rattle.sqlite.specs.Held.{state};
 ghost use Rattle.sqlite.specs.State.{HasCleanDisk, Survives};
 ghost use Rattle.sqlite.specs.Values.{bound, bound_value};
@@ -9,22 +9,25 @@ ghost use Rattle.std.specs.Ordering.{is_lt};
 ghost use Rattle.std.specs.declared.cmp.Ordering.TheVariants.{Less};
 ghost use Rattle.scim_key.specs.Records.{name_cmp};
 ghost use Rattle.source_csv.specs.Records.{row_name};
-ghost use Rattle.source_csv.specs.Rows.{IsGroupRow, IsUserRow};
+ghost use Rattle.source_csv.specs.Rows.{IsGroupRow, IsUserRow, text_of};
 ghost use Rattle.source_csv.specs.declared.rows.Row.TheVariants.{User, Group};
 ghost use Rattle.journal_core.specs.Entries.{entry_with};
-ghost use Rattle.journal_store.specs.Connections.{AreShown, Finds, IsDamagedAt, IsEditText, IsLaid, IsOnly, IsThere, IsUnshown, ListsAll, ListsNone, Makes, PutsIn, put_text};
+ghost use Rattle.journal_store.specs.Connections.{AreShownBy, Finds, IsDamagedAt, IsEditText, IsLaid, IsOnly, IsThere, IsUnshownBy, ListsAllBy, ListsNoneBy, Makes, PutsIn, put_text};
 ghost use Rattle.sql_tables.specs.Statements.{Keeps, MayLeave, Ran};
 ghost use Rattle.sql_tables.specs.Faults.{HasFailed};
+ghost use Rattle.sql_tables.specs.Layouts.{IsLaid as IsLaidBy};
 ghost use Rattle.journal_store.specs.Faults.{FailsFor, HasCause, IsOfRow};
-ghost use Rattle.journal_store.specs.Format.{all_text, find_text};
+ghost use Rattle.journal_store.specs.Format.{all_text, find_text, numbers_text};
+ghost use Rattle.journal_store.specs.declared.format.TheConstants.{TEXT_ORDER};
 ghost use Rattle.journal_store.specs.Rows.{active_number, id_value, members_text, row_by};
 
 use crate::columns::read_entry;
-use crate::format::Journal;
+use crate::format::{Journal, TEXT_ORDER};
+use crate::formats::Format;
 use crate::statements::TableFault;
 use journal_core::Entry;
 use scim_key::{Key, Kind, RecordName, ResourceId, Revision};
-use source_csv::{GroupRow, Row as SourceRow, TextField, UserRow};
+use source_csv::{GroupRow, Row as SourceRow, TEXT_FIELD_COUNT, UserRow};
 use sql_tables::{ask, write};
 use sqlite::{Alter, Connection, Row};
 use sqlite_value::value::ValueRef;
@@ -177,30 +180,41 @@ pub(crate) fn kind_of(row: &SourceRow) -> Kind
     }
 }
 
+/// The texts of a user, in the order of their columns.
+fn text_params(user: &UserRow) -> [ValueRef<'_>; TEXT_FIELD_COUNT]
+    ensures { bound result ≡ map (λ which. Text (text_of user.now which)) TEXT_ORDER }
+{
+    TEXT_ORDER.map(|which| text_param(user.text(which)))
+}
+
 /// The columns of a user's entry, under its key, with its revision.
 pub(crate) fn user_params<'a>(
+    alloc: Global,
     key: &'a Key,
     user: &'a UserRow,
     revision: Revision,
     confirmed: Revision,
     id: &'a Option<ResourceId>,
-) -> [ValueRef<'a>; 10]
+) -> Result<Vec<ValueRef<'a>>, AllocError>
     requires key { key.now ≡ (row_name (User user.now)).key }
     requires revision { revision ≡ user.now.revision }
-    ensures { bound result ≡ row_by (User user.now) confirmed id.now }
+    ensures { IfOk result (λ params. bound params.items ≡ row_by (User user.now) confirmed id.now) }
 {
-    [
+    let front = [
         text_param(key.as_str()),
         text_param(user.login().as_str()),
         number_param(revision.number()),
-        text_param(user.text(TextField::Number)),
-        text_param(user.text(TextField::Given)),
-        text_param(user.text(TextField::Family)),
-        text_param(user.text(TextField::Mail)),
+    ];
+    let back = [
         active_param(user.is_active()),
         number_param(confirmed.number()),
         id_param(id),
-    ]
+    ];
+    let mut params = Vec::new(alloc);
+    params.extend_from_slice(&front)?;
+    params.extend_from_slice(&text_params(user))?;
+    params.extend_from_slice(&back)?;
+    Ok(params)
 }
 
 /// The columns of a group's entry, under its key, with its revision and the text of its
@@ -246,7 +260,8 @@ fn write_user<S: Alter>(
 {
     let revision = user.revision();
     let key = user.login().key(alloc)?;
-    match write::<S, Journal>(conn, sql, &user_params(&key, user, revision, confirmed, id)) {
+    let params = user_params(alloc, &key, user, revision, confirmed, id)?;
+    match write::<S, Journal>(conn, sql, params.as_slice()) {
         Ok(()) => Ok(()),
         Err(error) => Err(TableFault::from(error)),
     }
@@ -303,7 +318,16 @@ pub(crate) fn put_entry<S: Alter>(
 
 // ---- all entries
 
-fn all_statement(kind: Kind) -> &'static str
+pub(crate) fn numbers_statement(kind: Kind) -> &'static str
+    ensures { result.now ≡ numbers_text kind }
+{
+    match kind {
+        Kind::User => "SELECT rowid FROM user_entry ORDER BY rowid",
+        Kind::Group => "SELECT rowid FROM group_entry ORDER BY rowid",
+    }
+}
+
+pub(crate) fn all_statement(kind: Kind) -> &'static str
     ensures { result.now ≡ all_text kind }
 {
     match kind {
@@ -328,15 +352,15 @@ fn comes_after(previous: &Option<RecordName>, name: &RecordName) -> bool
 }
 
 /// The entries that the rows show, which must be in order of their names.
-fn read_all(alloc: Global, kind: Kind, rows: &[Row]) -> Result<Vec<Entry>, TableFault>
-    ensures some { IfOk result (λ list. AreShown kind rows.now list.items) }
-    ensures none { IfErr result (HasCause (IsUnshown kind rows.now)) }
+fn read_all<F: Format>(alloc: Global, kind: Kind, rows: &[Row]) -> Result<Vec<Entry>, TableFault>
+    ensures some { IfOk result (λ list. AreShownBy (F.shows kind) rows.now list.items) }
+    ensures none { IfErr result (HasCause (IsUnshownBy (F.shows kind) rows.now)) }
     ensures read { IfErr result IsOfRow }
 {
     let mut list = Vec::new(alloc);
     let mut previous = None;
     for row in rows {
-        let entry = read_entry(alloc, kind, row)?;
+        let entry = F::entry_at(alloc, kind, row)?;
         let name = entry.row.record_name(alloc)?;
         if !comes_after(&previous, &name) {
             return Err(TableFault::Damaged);
@@ -348,21 +372,21 @@ fn read_all(alloc: Global, kind: Kind, rows: &[Row]) -> Result<Vec<Entry>, Table
 }
 
 /// The entries of one type, in order of their keys.
-pub(crate) fn list_entries<S: Alter>(
+pub(crate) fn list_entries<S: Alter, F: Format>(
     alloc: Global,
     conn: &mut Connection<S>,
     kind: Kind,
 ) -> Result<Vec<Entry>, TableFault>
-    requires laid { HasCleanDisk (state S.Store conn.old) → IsTrue (state S.Store conn.old).is_open → IsLaid (state S.Store conn.old) }
-    ensures all { HasCleanDisk (state S.Store conn.new) → IfOk result (λ list. ListsAll kind (state S.Store conn.old).now.trees list.items) }
-    ensures none { HasCleanDisk (state S.Store conn.new) → IfErr result (HasCause (IsTrue (state S.Store conn.new).is_open × ListsNone kind (state S.Store conn.old).now.trees)) }
+    requires laid { HasCleanDisk (state S.Store conn.old) → IsTrue (state S.Store conn.old).is_open → IsLaidBy F.layout (state S.Store conn.old) }
+    ensures all { HasCleanDisk (state S.Store conn.new) → IfOk result (λ list. ListsAllBy (F.shows kind) (F.columns kind) ((state S.Store conn.old).now.trees (F.tree kind)) list.items) }
+    ensures none { HasCleanDisk (state S.Store conn.new) → IfErr result (HasCause (IsTrue (state S.Store conn.new).is_open × ListsNoneBy (F.shows kind) (F.columns kind) ((state S.Store conn.old).now.trees (F.tree kind)))) }
     ensures failed { HasCleanDisk (state S.Store conn.new) → IfErr result (FailsFor (HasFailed (state S.Store conn.old) (state S.Store conn.new))) }
     ensures keeps { HasCleanDisk (state S.Store conn.new) → Keeps (state S.Store conn.old) (state S.Store conn.new) }
     ensures open { HasCleanDisk (state S.Store conn.new) → OnOk result (IsTrue (state S.Store conn.new).is_open) }
     ensures quiet { Survives (state S.Store conn.old) (state S.Store conn.new) (λ _. ⊥) }
 {
-    match ask::<S, Journal>(conn, all_statement(kind), &[]) {
-        Ok(rows) => read_all(alloc, kind, rows.as_slice()),
+    match ask::<S, F>(conn, F::list_statement(kind), &[]) {
+        Ok(rows) => read_all::<F>(alloc, kind, rows.as_slice()),
         Err(error) => Err(TableFault::from(error)),
     }
 }

@@ -1,31 +1,26 @@
-use Rattle.std.proofs.Common.{[], IsTrue, arith, subst, sym}
+use Rattle.std.proofs.Common.{IsTrue, arith, subst, sym}
 use Rattle.sqlite.specs.Held.{state}
 use Rattle.sqlite.specs.State.{HasCleanDisk}
 use Rattle.journal_store.specs.Connections.{AreNumbered}
-use Rattle.sql_tables.specs.Statements.{Answers}
 use Rattle.sql_tables.proofs.Results.{if_err, on_ok}
 use Rattle.sql_tables.specs.Faults.{HasFailed}
-use Rattle.journal_store.specs.Format.{entry_tree}
 use Rattle.journal_store.specs.Opening.{IsUnnumbered}
 use Rattle.sql_tables.specs.Faults.{statement_fault as fault_of}
 use Rattle.journal_store.proofs.Failing.{fails_as}
-use Rattle.journal_store.proofs.Texts.{numbers_is}
 use Rattle.journal_store.proofs.Checking.{damage_on, no_damage, numbers_found, rows_fail, told_fails}
 use Rattle.journal_store.proofs.Refusing.{unnumbered}
 use Rattle.journal_store.specs.Faults.{statement_fault}
 use Rattle.journal_store.specs.Opening.{OpenFailsFor}
-use Rattle.journal_store.proofs.Giving.{numbers_given}
 use Rattle.journal_store.proofs.opening.check_table.Goals as goal
 
 pub ask-requires-clause-query : goal.ask-requires-clause-query
-ask-requires-clause-query g c = rw c.numbers_statement.ensures (numbers_is c.args.kind).reads
+ask-requires-clause-query g c = c.numbers_statement.ensures.query
 
 pub returns-in-Ok-clause-numbered : goal.returns-in-Ok-clause-numbered
 returns-in-Ok-clause-numbered g c clean =
     let early : HasCleanDisk (state g.S.Store c.args.conn.now) = omega (arith, clean, c.in-Ok.ensures.quiet.clean) in
     let laid = c.requires.laid early ((c.in-Ok.ensures.keeps clean).was_open (c.in-Ok.ensures.open clean)) in
-    let answers = subst (λ sql. Answers sql [] (state g.S.Store c.args.conn.now) c.in-Ok.rows.items) c.numbers_statement.ensures (c.in-Ok.ensures.rows clean) in
-    on_ok c.check_rising.result (numbers_found (state g.S.Store c.args.conn.now) c.args.kind c.in-Ok.rows.items c.as_slice.result.now c.as_slice.ensures.value laid answers) c.check_rising.ensures.rising
+    on_ok c.check_rising.result (numbers_found (g.F.Format.tree c.args.kind) (state g.S.Store c.args.conn.now) c.numbers_statement.result.now c.in-Ok.rows.items c.as_slice.result.now c.numbers_statement.ensures.lists c.numbers_statement.ensures.given c.as_slice.ensures.value laid (c.in-Ok.ensures.rows clean)) c.check_rising.ensures.rising
 
 pub returns-in-Ok-clause-cause : goal.returns-in-Ok-clause-cause
 returns-in-Ok-clause-cause g c clean =
@@ -33,17 +28,17 @@ returns-in-Ok-clause-cause g c clean =
     let early : HasCleanDisk old = omega (arith, clean, c.in-Ok.ensures.quiet.clean) in
     let still = c.in-Ok.ensures.open clean in
     let laid = c.requires.laid early ((c.in-Ok.ensures.keeps clean).was_open still) in
-    damage_on ⊥ (IsUnnumbered c.as_slice.result.now) (IsTrue (state g.S.Store c.ask.new.conn).is_open × (AreNumbered (old.now.trees (entry_tree c.args.kind)) → ⊥))
-    (λ fails. (still, unnumbered old c.args.kind c.numbers_statement.result.now c.in-Ok.rows.items c.as_slice.result.now c.numbers_statement.ensures c.as_slice.ensures.value laid (c.in-Ok.ensures.rows clean) fails))
+    damage_on ⊥ (IsUnnumbered c.as_slice.result.now) (IsTrue (state g.S.Store c.ask.new.conn).is_open × (AreNumbered (old.now.trees (g.F.Format.tree c.args.kind)) → ⊥))
+    (λ fails. (still, unnumbered (g.F.Format.tree c.args.kind) old c.numbers_statement.result.now c.in-Ok.rows.items c.as_slice.result.now c.numbers_statement.ensures.lists c.numbers_statement.ensures.given c.as_slice.ensures.value laid (c.in-Ok.ensures.rows clean) fails))
     c.check_rising.result c.check_rising.ensures.cause
 
 pub returns-in-Err-clause-cause : goal.returns-in-Err-clause-cause
 returns-in-Err-clause-cause g c clean =
-    let refused = IsTrue (state g.S.Store c.ask.new.conn).is_open × (AreNumbered ((state g.S.Store c.args.conn.now).now.trees (entry_tree c.args.kind)) → ⊥) in
+    let refused = IsTrue (state g.S.Store c.ask.new.conn).is_open × (AreNumbered ((state g.S.Store c.args.conn.now).now.trees (g.F.Format.tree c.args.kind)) → ⊥) in
     no_damage ⊥ refused c.from.result c.from.ensures.1
 
 pub ask-requires-clause-given : goal.ask-requires-clause-given
-ask-requires-clause-given g c = rw c.numbers_statement.ensures (numbers_given c.args.kind)
+ask-requires-clause-given g c = c.numbers_statement.ensures.given
 
 pub returns-in-Ok-clause-failed : goal.returns-in-Ok-clause-failed
 returns-in-Ok-clause-failed g c clean = if_err c.check_rising.result (rows_fail (HasFailed (state g.S.Store c.args.conn.now) (state g.S.Store c.ask.new.conn))) c.check_rising.ensures.read

@@ -3,42 +3,40 @@ use Rattle.sqlite.specs.Held.{state}
 use Rattle.sqlite.specs.State.{HasCleanDisk}
 use Rattle.sql_tables.specs.Faults.{statement_fault as fault_of}
 use Rattle.journal_store.proofs.Failing.{fails_as}
-use Rattle.journal_store.proofs.Texts.{all_is}
 use Rattle.sql_tables.proofs.Results.{if_err}
 use Rattle.sql_tables.specs.Faults.{HasFailed}
-use Rattle.journal_store.specs.Connections.{IsUnshown, ListsNone}
+use Rattle.journal_store.specs.Connections.{IsUnshownBy, ListsNoneBy}
 use Rattle.journal_store.proofs.Finding.{listed_by}
 use Rattle.journal_store.proofs.Refusing.{cause_by, unlisted}
 use Rattle.journal_store.specs.Faults.{FailsFor}
 use Rattle.journal_store.proofs.Failing.{row_fails}
-use Rattle.journal_store.proofs.Giving.{all_given}
 use Rattle.journal_store.proofs.tables.list_entries.Goals as goal
 
 pub ask-requires-clause-query : goal.ask-requires-clause-query
-ask-requires-clause-query g c = rw c.all_statement.ensures (all_is c.args.kind).reads
+ask-requires-clause-query g c = c.list_statement.ensures.query
 
 pub returns-in-Ok-clause-all : goal.returns-in-Ok-clause-all
 returns-in-Ok-clause-all g c clean =
     let early : HasCleanDisk (state g.S.Store c.args.conn.now) = omega (arith, clean, c.in-Ok.ensures.quiet.clean) in
     let laid = c.requires.laid early ((c.in-Ok.ensures.keeps clean).was_open (c.in-Ok.ensures.open clean)) in
-    listed_by (λ list. list.items) (state g.S.Store c.args.conn.now) c.args.kind c.all_statement.result.now c.in-Ok.rows.items c.as_slice.result.now c.read_all.result
-    c.all_statement.ensures c.as_slice.ensures.value laid (c.in-Ok.ensures.rows clean) c.read_all.ensures.some
+    listed_by (g.F.Format.shows c.args.kind) (g.F.Format.tree c.args.kind) (g.F.Format.columns c.args.kind) (λ list. list.items) (state g.S.Store c.args.conn.now) c.list_statement.result.now c.in-Ok.rows.items c.as_slice.result.now c.read_all.result
+    c.list_statement.ensures.lists c.list_statement.ensures.given c.as_slice.ensures.value laid (c.in-Ok.ensures.rows clean) c.read_all.ensures.some
 
 pub returns-in-Ok-clause-none : goal.returns-in-Ok-clause-none
 returns-in-Ok-clause-none g c clean =
     let early : HasCleanDisk (state g.S.Store c.args.conn.now) = omega (arith, clean, c.in-Ok.ensures.quiet.clean) in
     let still = c.in-Ok.ensures.open clean in
     let laid = c.requires.laid early ((c.in-Ok.ensures.keeps clean).was_open still) in
-    if_err c.read_all.result (λ fault. cause_by (IsUnshown c.args.kind c.as_slice.result.now) (IsTrue (state g.S.Store c.ask.new.conn).is_open × ListsNone c.args.kind (state g.S.Store c.args.conn.now).now.trees)
-    (λ unshown. (still, unlisted (state g.S.Store c.args.conn.now) c.args.kind c.all_statement.result.now c.in-Ok.rows.items c.as_slice.result.now c.all_statement.ensures c.as_slice.ensures.value laid (c.in-Ok.ensures.rows clean) unshown)) fault)
+    if_err c.read_all.result (λ fault. cause_by (IsUnshownBy (g.F.Format.shows c.args.kind) c.as_slice.result.now) (IsTrue (state g.S.Store c.ask.new.conn).is_open × ListsNoneBy (g.F.Format.shows c.args.kind) (g.F.Format.columns c.args.kind) ((state g.S.Store c.args.conn.now).now.trees (g.F.Format.tree c.args.kind)))
+    (λ unshown. (still, unlisted c.args.kind (g.F.Format.shows c.args.kind) (g.met.F.Format.keyed c.args.kind) (g.F.Format.tree c.args.kind) (g.F.Format.columns c.args.kind) (state g.S.Store c.args.conn.now) c.list_statement.result.now c.in-Ok.rows.items c.as_slice.result.now c.list_statement.ensures.lists c.list_statement.ensures.given c.as_slice.ensures.value laid (c.in-Ok.ensures.rows clean) unshown)) fault)
     c.read_all.ensures.none
 
 pub returns-in-Err-clause-none : goal.returns-in-Err-clause-none
 returns-in-Err-clause-none g c clean =
-    cause_by ⊥ (IsTrue (state g.S.Store c.ask.new.conn).is_open × ListsNone c.args.kind (state g.S.Store c.args.conn.now).now.trees) (λ none. absurd none) c.from.result c.from.ensures.1
+    cause_by ⊥ (IsTrue (state g.S.Store c.ask.new.conn).is_open × ListsNoneBy (g.F.Format.shows c.args.kind) (g.F.Format.columns c.args.kind) ((state g.S.Store c.args.conn.now).now.trees (g.F.Format.tree c.args.kind))) (λ none. absurd none) c.from.result c.from.ensures.1
 
 pub ask-requires-clause-given : goal.ask-requires-clause-given
-ask-requires-clause-given g c = rw c.all_statement.ensures (all_given c.args.kind)
+ask-requires-clause-given g c = c.list_statement.ensures.given
 
 pub returns-in-Ok-clause-failed : goal.returns-in-Ok-clause-failed
 returns-in-Ok-clause-failed g c clean = if_err c.read_all.result (row_fails (HasFailed (state g.S.Store c.args.conn.now) (state g.S.Store c.ask.new.conn))) c.read_all.ensures.read
