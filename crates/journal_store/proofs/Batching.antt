@@ -31,7 +31,7 @@ use Rattle.journal_store.specs.Format.{journal_schema}
 use Rattle.journal_store.specs.Batches.{IsUnderWay, MakesRows, PutsRow, PutsRows, settled}
 use Rattle.journal_store.specs.Connections.{Finds, HasNumbers, IsLaid, IsThere, Makes, PutsIn}
 use Rattle.journal_store.specs.Kept.{Kept, IsFaithful, kept_entries}
-use Rattle.journal_store.proofs.Changing.{spelled, wanted}
+use Rattle.journal_store.proofs.Changing.{known_found, spelled, wanted}
 use Rattle.journal_store.proofs.Putting.{entry_put, found_entry, numbers_still, there_of}
 
 -- ---- statements
@@ -119,7 +119,7 @@ module _ (row : source.Row) (old new : Trees) (numbers : HasNumbers old) (can : 
   found = subst (λ n. Finds old n puts.0) (sym (name_kept row puts.0)) puts.1
 
   back : entry_in (row_name entry_now.row).kind (row_of entry_now) ≡ Some entry_now
-  back = spelled (entries_in old) row puts.0 held_is can puts.2.lawful
+  back = spelled row puts.0 (known_found old (row_name row) puts.0 puts.1) puts.2.lawful
 
   pub row_numbers : HasNumbers new
   row_numbers = numbers_still puts.0 entry_now old new numbers found puts.2 back

@@ -1,39 +1,39 @@
 -- What the calls of a journal make of its entries.
-use Rattle.std.proofs.Common.{◌≡◌, ◌++◌, ℕ, Bool, true, List, Option, Some, None, Ok, refl, sym, ap, ◌∙◌, subst}
+use Rattle.std.proofs.Common.{◌≡◌, ◌++◌, ℕ, Bool, true, List, Option, Some, None, Ok, refl, sym, ap, ◌∙◌, subst, inl, inr}
 use Rattle.std.specs.Prelude.{is_some}
 use Rattle.std.specs.FinMap.{get, insert}
+use Rattle.sqlite_trees.specs.Tree.{Trees}
 use Rattle.sqlite_trees.specs.declared.store.Store.{Ghosts}
 use Rattle.sqlite.specs.Effect.{Database}
 use Rattle.sqlite.specs.Held.{state}
 use Rattle.sqlite.specs.State.{State}
-use Rattle.scim_key.proofs.RevisionLaws.{none_first}
-use Rattle.scim_key.specs.Revisions.{RevisionValue, IsRevision, no_revision, ◌≼◌}
+use Rattle.scim_key.specs.Revisions.{RevisionValue, IsNoneOrRevision, no_revision}
 use Rattle.scim_key.specs.declared.records.Kind.TheVariants as kind
 use Rattle.scim_key.specs.declared.records.RecordName.{RecordName}
-use Rattle.source_csv.specs.Records.{IsRow, row_name, row_revision}
+use Rattle.source_csv.specs.Records.{IsRow, row_name}
 use Rattle.source_csv.specs.declared.rows.Row as source
-use Rattle.source_csv.specs.declared.rows.Row.TheVariants.{User, Group}
 use Rattle.journal_core.specs.Entries.{CanPutLearnt, CanPutRow, EntryMap, IsListOf, entry_learnt, entry_with, learnt_at, with_learnt, with_row}
 use Rattle.journal_core.specs.Stores.{CountsFault, OnlyReads}
 use Rattle.journal_core.specs.declared.entries.Entry.{Entry}
 use Rattle.journal_core.specs.declared.journals.JournalFault.{JournalFault}
-use Rattle.journal_store.specs.Rows.{entries_in, entry_in, row_of}
+use Rattle.journal_store.specs.Rows.{entries_in, entry_in, row_of, shown_row}
 use Rattle.journal_store.specs.Connections.{Finds, FindsIf, ListsAll}
 use Rattle.journal_store.specs.Kept.{Kept, IsFaithful, IsHonest, MayHold, kept_entries}
 use Rattle.journal_store.proofs.Calls.{fault_as}
-use Rattle.journal_store.proofs.Decoding.{confirmed_back, reads_back}
+use Rattle.journal_store.proofs.Decoding.{confirmed_back, known_from, reads_back}
 use Rattle.journal_store.proofs.Loading.{lists_both}
 use Rattle.journal_store.proofs.Putting.{found_entry, found_some}
 
-row_lawful : (row : source.Row) → IsRow row → IsRevision (row_revision row)
-row_lawful (User u) lawful = lawful.revision
-row_lawful (Group g) lawful = lawful.revision
+-- what an entry that is found has confirmed is none or a valid revision
+pub known_found : (db : Trees) (name : RecordName) (held : Option Entry) → Finds db name held → (e : Entry) → held ≡ Some e → IsNoneOrRevision e.confirmed
+known_found db name None finds e is = absurd (cc)
+known_found db name (Some x) finds e is = let same : x ≡ e = cc in subst (λ (y : Entry). IsNoneOrRevision y.confirmed) same (known_from name.kind (shown_row name.kind finds.0) x finds.2.entry_is)
 
 -- an entry that is put reads back from its columns
-pub spelled : (m : EntryMap) (row : source.Row) (held : Option Entry) → get m (row_name row) ≡ held → CanPutRow m row → IsRow (entry_with row held).row
+pub spelled : (row : source.Row) (held : Option Entry) → ((e : Entry) → held ≡ Some e → IsNoneOrRevision e.confirmed) → IsRow (entry_with row held).row
     → entry_in (row_name (entry_with row held).row).kind (row_of (entry_with row held)) ≡ Some (entry_with row held)
-spelled m row None is can lawful = reads_back row no_revision None lawful (confirmed_back no_revision (row_revision row) (none_first (row_revision row)) (row_lawful row lawful))
-spelled m row (Some e) is can lawful = reads_back row e.confirmed e.id lawful (confirmed_back e.confirmed (row_revision row) (can.not_below e is) (row_lawful row lawful))
+spelled row None known lawful = reads_back row no_revision None lawful (confirmed_back no_revision (inl refl))
+spelled row (Some e) known lawful = reads_back row e.confirmed e.id lawful (confirmed_back e.confirmed (known e refl))
 
 -- and is that of the entries with its row
 pub wanted : (m : EntryMap) (row : source.Row) (held : Option Entry) → get m (row_name row) ≡ held → insert m (row_name (entry_with row held).row) (entry_with row held) ≡ with_row m row
@@ -63,9 +63,9 @@ module _ {S : Type 0} (g : Ghosts S) where
     row_found None finds = (None, refl, finds)
     row_found (Some e) finds = (Some e, refl, finds)
 
-    pub row_spelled : (held : Option Entry) → Finds (at mid).now.trees (row_name row) held → CanPutRow (kept_entries g old) row → IsRow (entry_with row held).row
+    pub row_spelled : (held : Option Entry) → Finds (at mid).now.trees (row_name row) held → IsRow (entry_with row held).row
         → entry_in (row_name (entry_with row held).row).kind (row_of (entry_with row held)) ≡ Some (entry_with row held)
-    row_spelled held finds can lawful = spelled (kept_entries g old) row held (held_is held finds) can lawful
+    row_spelled held finds lawful = spelled row held (known_found (at mid).now.trees (row_name row) held finds) lawful
 
     pub row_wanted : (held : Option Entry) → Finds (at mid).now.trees (row_name row) held
         → insert (kept_entries g mid) (row_name (entry_with row held).row) (entry_with row held) ≡ with_row (kept_entries g old) row
@@ -83,9 +83,7 @@ module _ {S : Type 0} (g : Ghosts S) where
 
     pub learnt_spelled : CanPutLearnt (kept_entries g old) name confirmed → IsRow e.row
         → entry_in (row_name e.row).kind (row_of (record { row = e.row; confirmed = confirmed; id = Some id })) ≡ Some (record { row = e.row; confirmed = confirmed; id = Some id })
-    learnt_spelled can lawful =
-        let one : can.entry ≡ e = (let both : Some can.entry ≡ Some e = sym can.there ∙ entry_is in cc) in
-        reads_back e.row confirmed (Some id) lawful (confirmed_back confirmed (row_revision e.row) (subst (λ (x : Entry). confirmed ≼ row_revision x.row) one can.within) (row_lawful e.row lawful))
+    learnt_spelled can lawful = reads_back e.row confirmed (Some id) lawful (confirmed_back confirmed (inr can.confirms))
 
     pub learnt_wanted : insert (kept_entries g mid) (row_name e.row) (record { row = e.row; confirmed = confirmed; id = Some id }) ≡ with_learnt (kept_entries g old) name confirmed id
     learnt_wanted =
@@ -111,7 +109,7 @@ module _ {S : Type 0} (g : Ghosts S) where
     pub put_spelled : IsFaithful g mid → IsRow entry.row → entry_in (row_name entry.row).kind (row_of entry) ≡ Some entry
     put_spelled it lawful =
         subst (λ (e : Entry). entry_in (row_name e.row).kind (row_of e) ≡ Some e) (sym its_entry)
-        (row_spelled old mid row it (same it) held (its_row it) (can (was it)) (subst (λ (e : Entry). IsRow e.row) its_entry lawful))
+        (row_spelled old mid row it (same it) held (its_row it) (subst (λ (e : Entry). IsRow e.row) its_entry lawful))
 
     pub put_wanted : IsFaithful g mid → insert (kept_entries g mid) (row_name entry.row) entry ≡ with_row (kept_entries g old) row
     put_wanted it = ap (λ (e : Entry). insert (kept_entries g mid) (row_name e.row) e) its_entry ∙ row_wanted old mid row it (same it) held (its_row it)

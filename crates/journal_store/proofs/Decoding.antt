@@ -1,5 +1,5 @@
 -- What is written of an entry is read as that entry.
-use Rattle.std.proofs.Common.{◌≡◌, ◌==◌, ◌<◌, ℕ, zero, suc, ℤ, Bool, true, false, List, [], ◌∷◌, ◌++◌, ◌+◌, get_or, length, take, nat_lt, nat_le, All, Option, Some, None, refl, sym, ap, ◌∙◌, inl, inr, arith}
+use Rattle.std.proofs.Common.{◌≡◌, ◌==◌, ◌<◌, ℕ, zero, suc, ℤ, Bool, true, false, List, [], ◌∷◌, ◌++◌, ◌+◌, get_or, length, take, nat_lt, nat_le, All, Option, Some, None, refl, sym, ap, ◌∙◌, subst, inl, inr, arith}
 use Rattle.std.proofs.lemmas.Bool.{cases_Bool, eqb-true, false_from_ne_true}
 use Rattle.std.proofs.lemmas.List.{append_assoc, take_more}
 use Rattle.std.proofs.lemmas.List.Folds.{list_all_at}
@@ -14,7 +14,7 @@ use Rattle.scim_key.proofs.RecordLaws.{same as same_names}
 use Rattle.scim_key.proofs.RevisionLaws.{are_read_back}
 use Rattle.scim_key.specs.Names.{IsUserName, is_user_name_byte, user_name_fault}
 use Rattle.scim_key.specs.Records.{same_name}
-use Rattle.scim_key.specs.Revisions.{RevisionValue, IsRevision, ◌≼◌, before, is_revision, revision_number, revision_of_number}
+use Rattle.scim_key.specs.Revisions.{RevisionValue, IsNoneOrRevision, IsRevision, is_revision, no_revision, revision_number, revision_of_number}
 use Rattle.scim_key.specs.declared.records.Kind.{Kind}
 use Rattle.scim_key.specs.declared.records.Kind.TheVariants as kind
 use Rattle.scim_key.specs.declared.records.RecordName.{RecordName}
@@ -23,10 +23,11 @@ use Rattle.source_csv.specs.Fields.{pieces}
 use Rattle.source_csv.specs.Records.{IsRow, row_name}
 use Rattle.source_csv.specs.Rows.{AreUserKeys, IsUserKey}
 use Rattle.source_csv.specs.declared.rows.Row as source
+use Rattle.source_csv.specs.declared.texts.TheConstants.{TEXT_FIELD_COUNT}
 use Rattle.source_csv.specs.declared.rows.Row.TheVariants.{User, Group}
 use Rattle.journal_core.proofs.Trees.{name_from_test}
 use Rattle.journal_core.specs.declared.entries.Entry.{Entry}
-use Rattle.journal_store.specs.Rows.{id_value, id_in, active_number, active_of, members_text, row_by, confirmed_of, entry_in, fields_in, keyed, text_columns, text_in, texts_in, shown_row}
+use Rattle.journal_store.specs.Rows.{id_value, id_in, active_number, active_of, members_text, row_by, confirmed_in, confirmed_of, entry_by, entry_in, fields_in, group_in, keyed, number_in, text_columns, text_in, texts_in, shown_row, user_in}
 use Rattle.journal_store.proofs.UserTexts.{row_texts, text_from}
 use Rattle.journal_store.specs.Connections.{stored_row}
 
@@ -40,14 +41,25 @@ id_back : (id : Option (List ℕ)) → id_in (id_value id) ≡ Some id
 id_back None = refl
 id_back (Some id) = refl
 
--- a revision that isn't above a valid one is none or valid
-pub confirmed_back : (r s : RevisionValue) → r ≼ s → IsRevision s → confirmed_of (revision_number r) ≡ Some r
-unfolding before is_revision revision_number revision_of_number
-confirmed_back zero s below lawful = refl
-confirmed_back (suc n) s below lawful =
-    let low : nat_le 1 (suc n) ≡ true = grind (arith, nat_tests) in
-    let high : nat_le (suc n) 2000000000 ≡ true = grind (arith, nat_tests) in
-    rw (low, high) refl
+-- none and a valid revision are read back from the column of what is confirmed
+pub confirmed_back : (r : RevisionValue) → IsNoneOrRevision r → confirmed_of (revision_number r) ≡ Some r
+unfolding revision_number
+confirmed_back zero known = refl
+confirmed_back (suc n) (inl none) = absurd (cc)
+confirmed_back (suc n) (inr lawful) = are_read_back.from_number (suc n) lawful
+
+-- the column shows none or a valid revision
+said_known : (n : ℕ) (r : RevisionValue) → confirmed_of n ≡ Some r → IsNoneOrRevision r
+unfolding revision_of_number
+said_known zero r is = inl (let none : r ≡ no_revision = cc in none)
+said_known (suc n) r is = elim (cases_Bool (is_revision (suc n))) [
+  | inl lawful ↦ inr (let same : suc n ≡ r = cc (rw lawful at is) in subst IsRevision same lawful)
+  | inr other ↦ absurd (cc (rw other at is))
+]
+
+column_known : (o : Option ℕ) (r : RevisionValue) → option_and_then confirmed_of o ≡ Some r → IsNoneOrRevision r
+column_known None r is = absurd (cc)
+column_known (Some n) r is = said_known n r is
 
 -- ---- members
 
@@ -131,6 +143,31 @@ key_from type shown e is = go (text_in (column shown 0)) refl is
     go (Some key) at found =
         let name = keyed_from type key (fields_in type shown) e found in
         (text_from (column shown 0) key at ∙ ap (λ (n : RecordName). Text n.key) (sym name), ap (λ (n : RecordName). n.kind) name)
+
+-- an entry that a row shows has confirmed none or a valid revision
+confirmed_from : (row : Option source.Row) (o : Option RevisionValue) (id : Option (Option (List ℕ))) (e : Entry) → entry_by row o id ≡ Some e → o ≡ Some e.confirmed
+confirmed_from None o id e is = absurd (cc)
+confirmed_from (Some s) None id e is = absurd (cc)
+confirmed_from (Some s) (Some r) None e is = absurd (cc)
+confirmed_from (Some s) (Some r) (Some given) e is = let same : record { row = s; confirmed = r; id = given } ≡ e = cc in ap (λ (x : Entry). Some x.confirmed) same
+
+fields_known : (type : Kind) (shown : Row) (e : Entry) → fields_in type shown ≡ Some e → IsNoneOrRevision e.confirmed
+fields_known kind.User shown e is = column_known (number_in (column shown (4 + TEXT_FIELD_COUNT))) e.confirmed (confirmed_from (user_in shown) (confirmed_in (column shown (4 + TEXT_FIELD_COUNT))) (id_in (column shown (5 + TEXT_FIELD_COUNT))) e is)
+fields_known kind.Group shown e is = column_known (number_in (column shown 4)) e.confirmed (confirmed_from (group_in shown) (confirmed_in (column shown 4)) (id_in (column shown 5)) e is)
+
+keyed_same : (type : Kind) (key : List ℕ) (o : Option Entry) (e : Entry) → keyed type key o ≡ Some e → o ≡ Some e
+keyed_same type key None e is = absurd (cc)
+keyed_same type key (Some x) e is = elim (cases_Bool (same_name (row_name x.row) (record { kind = type; key = key }))) [
+  | inl same ↦ (let found : x ≡ e = cc (rw same at is) in ap Some found)
+  | inr other ↦ absurd (cc (rw other at is))
+]
+
+pub known_from : (type : Kind) (shown : Row) (e : Entry) → entry_in type shown ≡ Some e → IsNoneOrRevision e.confirmed
+known_from type shown e is = go (text_in (column shown 0)) is
+  where
+    go : (o : Option (List ℕ)) → option_and_then (λ key. keyed type key (fields_in type shown)) o ≡ Some e → IsNoneOrRevision e.confirmed
+    go None found = absurd (cc)
+    go (Some key) found = fields_known type shown e (keyed_same type key (fields_in type shown) e found)
 
 pub shown_key : (type : Kind) (r : Row) → column (shown_row type r) 0 ≡ column r 1
 shown_key kind.User r = refl

@@ -14,18 +14,17 @@ use Rattle.sqlite_trees.specs.Tree.{Trees}
 use Rattle.sqlite_value.specs.Order.{Row}
 use Rattle.scim_key.specs.RecordOrder.{names_total}
 use Rattle.scim_key.specs.Records.{name_cmp}
-use Rattle.scim_key.specs.Revisions.{◌≼◌}
 use Rattle.scim_key.specs.declared.records.Kind.{Kind}
 use Rattle.scim_key.specs.declared.records.Kind.TheVariants.{User, Group}
 use Rattle.scim_key.specs.declared.records.RecordName.{RecordName}
-use Rattle.source_csv.specs.Records.{row_name, row_revision}
-use Rattle.journal_core.specs.Entries.{IsListOf, named}
+use Rattle.source_csv.specs.Records.{row_name}
+use Rattle.journal_core.specs.Entries.{IsListOf, IsUpTo, named}
 use Rattle.journal_core.specs.declared.entries.Entry.{Entry}
 use Rattle.journal_core.proofs.Trees.{listed, names_same}
 use Rattle.journal_store.specs.Format.{entry_tree}
 use Rattle.journal_store.specs.Rows.{entries_in, entry_in, named_in, shown_row}
 use Rattle.journal_store.specs.Connections.{AreShownBy, ListsAll, Shows, last_name}
-use Rattle.journal_store.proofs.Decoding.{key_from}
+use Rattle.journal_store.proofs.Decoding.{key_from, known_from}
 use Rattle.journal_store.proofs.Standing.{all_named, find_has, has_find, has_named, named_has, tied_self}
 
 -- ---- names in order
@@ -173,11 +172,11 @@ kind_at kind db list name lists there =
 users_first : (a b : RecordName) → a.kind ≡ User → b.kind ≡ Group → name_cmp a b ≡ Less
 users_first a b users groups = rw (users, groups) refl
 
-zip_within : (kind : Kind) (rows : List Row) (list : List Entry) → AllZip (Shows kind) rows list → AllByRecursion (λ (e : Entry). e.confirmed ≼ row_revision e.row) list
-zip_within kind [] [] zip = tt
-zip_within kind [] (e ∷ list) zip = absurd zip
-zip_within kind (r ∷ rows) [] zip = tt
-zip_within kind (r ∷ rows) (e ∷ list) zip = (zip.0.within, zip_within kind rows list zip.1)
+zip_up_to : (kind : Kind) (rows : List Row) (list : List Entry) → AllZip (Shows kind) rows list → AllByRecursion (λ (e : Entry). IsUpTo e.row e.confirmed) list
+zip_up_to kind [] [] zip = tt
+zip_up_to kind [] (e ∷ list) zip = absurd zip
+zip_up_to kind (r ∷ rows) [] zip = tt
+zip_up_to kind (r ∷ rows) (e ∷ list) zip = (record { known = known_from kind r e zip.0.entry_is; within = zip.0.within }, zip_up_to kind rows list zip.1)
 
 all_by : {X : Type 0} (P : X → Type 0) (xs : List X) → AllByRecursion P xs → All P xs
 all_by P [] all k d low = absurd (omega arith)
@@ -227,6 +226,6 @@ module _ (db : Trees) (users groups : List Entry) (lists_users : ListsAll User d
   pub lists_both : IsListOf (entries_in db) both
   lists_both = record {
     whole = ap entries same_entries ∙ listed (map named both) sorted_pairs;
-    lawful = all_by (λ (e : Entry). e.confirmed ≼ row_revision e.row) both
-        (all-append (λ (e : Entry). e.confirmed ≼ row_revision e.row) users groups (zip_within User lists_users.rows users lists_users.shown.each) (zip_within Group lists_groups.rows groups lists_groups.shown.each));
+    lawful = all_by (λ (e : Entry). IsUpTo e.row e.confirmed) both
+        (all-append (λ (e : Entry). IsUpTo e.row e.confirmed) users groups (zip_up_to User lists_users.rows users lists_users.shown.each) (zip_up_to Group lists_groups.rows groups lists_groups.shown.each));
   }
