@@ -303,6 +303,9 @@ class Site:
     def show_store(self):
         return scimlink("show", "--store", self.store)
 
+    def reset(self, **options):
+        return scimlink("reset", "--journal", self.journal, **options)
+
     def show_journal(self):
         return scimlink("show", "--journal", self.journal)
 
@@ -407,7 +410,7 @@ def store_commands(path):
 
 
 def journal_commands(path):
-    rest = (["show"], ["push", "--users", "nowhere", "--to", NOWHERE], ["loop", "--users", "nowhere"])
+    rest = (["show"], ["reset"], ["push", "--users", "nowhere", "--to", NOWHERE], ["loop", "--users", "nowhere"])
     return [[*arguments, "--journal", path] for arguments in rest]
 
 

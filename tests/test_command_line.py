@@ -1,7 +1,7 @@
 """Arguments that are invalid, help and the version."""
 from support import CREATE_BOB, PROGRAM, ProgramTest, full_disk, scimlink
 
-COMMANDS = ["answer", "loop", "map", "push", "serve", "show", "simulate"]
+COMMANDS = ["answer", "loop", "map", "push", "reset", "serve", "show", "simulate"]
 # Arguments that are complete, but for the one that a test adds or leaves out
 LOOP = ["loop", "--users", "absent"]
 PUSH = ["push", "--users", "absent", "--journal", "journal", "--to", "127.0.0.1:1"]
@@ -23,6 +23,9 @@ NOT_PARSED = [
     ["push", "--journal", "journal", "--to", "127.0.0.1:1"],
     ["push", "--users", "absent", "--journal", "journal"],
     [*PUSH, "more"],
+    ["reset"],
+    ["reset", "--store", "store"],
+    ["reset", "--journal", "journal", "more"],
     ["serve", "--listen", "127.0.0.1:0"],
     ["serve", "--requests", "1"],
     [*SERVE, "more"],

@@ -19,6 +19,7 @@ UNDONE = (
     b'"schemas":["urn:ietf:params:scim:api:messages:2.0:Error"],"status":"500"}'
 )
 BOB_SHOWN = "user bob held=1 version=1 active=true"
+FORGOTTEN = "user bob wanted=1 confirmed=0 id=-"
 SCHEDULE = ROOT / "tests/schedules/restarts.schedule"
 RECORDS = EXAMPLES / "personnel.csv"
 
@@ -277,6 +278,20 @@ class Job:
     def show_journal(self, folder, fault):
         self.shows(folder, fault, "--journal", [f"user bob wanted=1 confirmed=1 id={resource_id(1)}"])
 
+    def reset(self, folder, fault):
+        """A reset with a fault, then one without: the journal has forgotten all, or nothing."""
+        site = self.start(folder)
+        entry = f"user bob wanted=1 confirmed=1 id={resource_id(1)}"
+        run = site.reset(**fault.options)
+        check_ending(run, fault)
+        check(run.lines, ["reset 1 records"][: len(run.lines)], "lines")
+        shown = show("--journal", site.journal)
+        if shown not in ([entry], [FORGOTTEN]) or (run.output and shown == [entry]):
+            raise AssertionError(f"status {run.status}, {shown!r}")
+        again = site.reset()
+        check((again.status, again.lines), (0, [f"reset {int(shown == [entry])} records"]), "the next reset")
+        check(show("--journal", site.journal), [FORGOTTEN], "the journal in the end")
+
     def shows(self, folder, fault, option, lines):
         """A show with a fault of what is kept at first, then one without."""
         site = self.start(folder)
@@ -349,6 +364,9 @@ class FaultsTest(unittest.TestCase):
         for option, story in ("--store", self.leaver.show_store), ("--journal", self.leaver.show_journal):
             self.refuse("ALLOCATION", story, step=STEP)
 
+    def test_memory_of_reset(self):
+        self.refuse("ALLOCATION", self.leaver.reset)
+
     def test_memory_of_push(self):
         self.refuse_memory_after(
             lambda site: ["push", "--users", "nowhere", "--journal", site.journal, "--to", "127.0.0.1:1"], self.leaver.push
@@ -365,12 +383,12 @@ class FaultsTest(unittest.TestCase):
         )
 
     def test_writes(self):
-        self.refuse("WRITE", answer_stored, ways=WRITE_FAULTS)
+        self.refuse("WRITE", answer_stored, self.leaver.reset, ways=WRITE_FAULTS)
         for job in self.joiners, self.leaver:
             self.refuse("WRITE", job.push, job.serve, job.loop, ways=WRITE_FAULTS)
 
     def test_reads(self):
-        self.refuse("READ", answer_stored, self.leaver.push, self.leaver.serve, self.leaver.loop, ways=["5"])
+        self.refuse("READ", answer_stored, self.leaver.reset, self.leaver.push, self.leaver.serve, self.leaver.loop, ways=["5"])
 
 
 if __name__ == "__main__":

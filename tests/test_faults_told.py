@@ -69,8 +69,12 @@ class InputFileTest(Case):
                 ["loop", "--users", "users.csv", "--groups", file], ["push", "--users", file, *at],
                 ["push", "--users", "users.csv", "--groups", file, *at]]
 
+    def without_folders(self, file):
+        """The same, and `reset`, which makes no journal. (A folder isn't a journal: that is its fault J1.)"""
+        return [*self.reading(file), ["reset", "--journal", file]]
+
     def test_a_file_that_is_not_there(self):
-        for words in self.reading("nothing.csv"):
+        for words in self.without_folders("nothing.csv"):
             self.tells(words, "file fault\n nothing.csv: No such file or directory\n")
 
     def test_a_folder(self):
@@ -79,7 +83,7 @@ class InputFileTest(Case):
             self.tells(words, "file fault\n folder: Is a directory\n")
 
     def test_a_file_in_no_folder(self):
-        for words in self.reading("users.csv/users.csv"):
+        for words in self.without_folders("users.csv/users.csv"):
             self.tells(words, "file fault\n users.csv/users.csv: Not a directory\n")
 
 
@@ -88,17 +92,19 @@ class DatabaseTest(Case):
         """Each command that opens a store or a journal of this name, and the fault."""
         to = ["--to", "127.0.0.1:1"]
         return [(["show", "--store", file], "store fault Y1"), (["show", "--journal", file], "journal fault J1"),
+                (["reset", "--journal", file], "journal fault J1"),
                 (["serve", "--listen", "127.0.0.1:0", "--requests", "1", "--store", file], "store fault Y1"),
                 (["loop", *SOURCES, "--store", file], "store fault Y1"),
                 (["loop", *SOURCES, "--journal", file], "journal fault J1"),
                 (["push", *SOURCES, "--journal", file, *to], "journal fault J1")]
 
-    def each_tells(self, file, why):
+    def each_tells(self, file, why, but=None):
         for words, fault in self.opening(file):
-            self.tells(words, f"{fault}\n {file}: {why}\n")
+            if words[0] != but:
+                self.tells(words, f"{fault}\n {file}: {why}\n")
 
     def test_no_such_folder(self):
-        self.each_tells("folder/rows.db", "No such file or directory")
+        self.each_tells("folder/rows.db", "No such file or directory", but="reset")
 
     def test_a_folder(self):
         (self.folder / "folder").mkdir()
@@ -133,7 +139,7 @@ class FullDiskTest(Case):
         with socket.create_server(("127.0.0.1", 0)) as peer:
             peer.close()
         each = [["map", "users.csv"], ["simulate", "a.schedule"], ["loop", *SOURCES], ["show", "--store", "rows.db"],
-                ["show", "--journal", "journal.db"], ["serve", "--listen", "127.0.0.1:0", "--requests", "1"]]
+                ["show", "--journal", "journal.db"], ["reset", "--journal", "journal.db"], ["serve", "--listen", "127.0.0.1:0", "--requests", "1"]]
         for words in each:
             with open("/dev/full", "wb") as full:
                 self.tells(words, "file fault\n standard output: No space left on device\n", stdout=full)

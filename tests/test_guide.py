@@ -15,10 +15,6 @@ BLOCKS = re.findall(r"^```(\w*)\n(.*?)^```$", PAGE, re.MULTILINE | re.DOTALL)
 ADDRESS = "127.0.0.1:8080"
 # What the shell says of its jobs, which the page leaves out
 OF_JOBS = re.compile(r"^.*: line \d+: +\d+ Terminated .*\n", re.MULTILINE)
-# The command that stands in for SQLite's own, if that isn't there
-SQLITE = """sqlite3() {
-    python3 -c 'import sqlite3, sys; sqlite3.connect(sys.argv[1]).executescript(sys.argv[2])' "$@"
-}"""
 
 
 def commands():
@@ -39,8 +35,6 @@ class Shell:
         pipes = {"stdin": subprocess.PIPE, "stdout": subprocess.PIPE, "stderr": subprocess.DEVNULL, "text": True}
         self.process = subprocess.Popen(["bash"], cwd=folder, env=environment, **pipes)
         self.watchdog = watchdog(self.process)
-        if shutil.which("sqlite3") is None:
-            self.send(SQLITE)
 
     def send(self, line):
         self.process.stdin.write(f"{line}\n")

@@ -36,6 +36,7 @@ class MemoryTest(ProgramTest):
     def test_a_journal(self):
         journal = make_journal(self.site.journal, (user_entry(name, confirmed=1, id=name) for name in NAMES))
         self.assert_starves(journal, "show", "--journal", journal)
+        self.assert_starves(journal, "reset", "--journal", journal)
         self.assert_starves(journal, "push", *MONDAY, "--journal", journal, "--to", NOWHERE)
         self.assert_starves(journal, "loop", *MONDAY, "--journal", journal)
 

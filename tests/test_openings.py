@@ -34,7 +34,9 @@ class Openings:
 
     def test_a_folder_that_is_not_there(self):
         path = self.folder / "nowhere" / "file"
-        self.assert_refused(path, self.commands(path), self.failed)
+        # `reset` makes no file, so for it this is a file that isn't there
+        makers = [command for command in self.commands(path) if command[0] != "reset"]
+        self.assert_refused(path, makers, self.failed)
         self.assertFalse(path.parent.exists())
 
     def test_a_damaged_page(self):

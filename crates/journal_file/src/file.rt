@@ -4,7 +4,7 @@ ghost use Rattle.journal_file.specs.Opened.{IsOpened};
 
 use crate::storage::{EntryStorage, StoredEntries};
 use database_file::{DatabaseFile, DatabaseReason, failure_in, failure_since};
-use journal_core::Journal;
+use journal_core::{Journal, JournalFault};
 use journal_store::{JournalOpenFault, SqlJournal};
 use sqlite::{Alter, Connection, Error, File, FileStore};
 use sqlite_disk::{Disk, Files};
@@ -45,6 +45,10 @@ impl<D: Disk + Drop> StoredEntries for SqlJournal<FileStore<D>> {
     type Left = Result<Files<D>, (Error, FileStore<D>)>;
 
     ghost is_closed = { λ s left. ClosesFiles D.Disk s.conn left };
+
+    fn reset(&mut self) -> Result<usize, JournalFault> {
+        SqlJournal::reset(self)
+    }
 
     /// Copies the log into the main file.
     fn close(self) -> Self::Left {

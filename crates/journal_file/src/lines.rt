@@ -1,6 +1,7 @@
-//! Entries as lines of text.
+//! The printed lines.
 ghost use Rattle.std.specs.Prelude.{◌≡◌, IfOk, string_bytes};
 ghost use Rattle.journal_file.specs.Lines.{entry_line, id_text};
+ghost use Rattle.journal_file.specs.Resetting.{reset_line};
 
 use journal_core::{Entry, kind_word};
 use scim_key::ResourceId;
@@ -24,4 +25,11 @@ fn id_text(id: &Option<ResourceId>) -> &str
         Some(id) => id.as_str(),
         None => "-",
     }
+}
+
+/// The line of a reset that changed this many entries, with its line end: `reset 3 records`.
+pub fn reset_line(alloc: Global, count: usize) -> Result<String, AllocError>
+    ensures { IfOk result (λ line. string_bytes line ≡ reset_line count) }
+{
+    format!(in alloc; "reset {count} records\n")
 }

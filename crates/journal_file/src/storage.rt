@@ -1,9 +1,11 @@
 //! Where the entries of a connector are kept.
-ghost use Rattle.std.specs.Prelude.{IfOk};
+ghost use Rattle.std.specs.Prelude.{◌≡◌, IfOk, OnOk};
+ghost use Rattle.journal_core.specs.Stores.{CountsFault, WritesOnce};
 ghost use Rattle.journal_file.specs.Opened.{IsOpened};
+ghost use Rattle.journal_store.specs.Resets.{forgotten, learnt_count};
 
 use database_file::DatabaseReason;
-use journal_core::Journal;
+use journal_core::{Journal, JournalFault};
 use journal_store::JournalOpenFault;
 
 /// The entries of a connector, opened where they are kept.
@@ -12,6 +14,13 @@ pub trait StoredEntries: Journal {
     type Left: Drop;
 
     ghost is_closed: { Self → Self.Left → Type 0 };
+
+    /// Forgets the confirmed revision and the id of each record, by one write: of all records or of none.
+    /// The rows stay. Returns how many entries that changes.
+    fn reset(&mut self) -> Result<usize, JournalFault>
+        ensures puts { WritesOnce Self.entries Self.is_faithful Self.is_honest Self.may_hold Self.faults Self.writes CountsFault self.old self.new (forgotten (Self.entries self.old)) result }
+        ensures count { Self.is_faithful self.new → IfOk result (λ count. count ≡ learnt_count (Self.entries self.old)) }
+        ensures open { Self.is_honest self.new → OnOk result (Self.is_faithful self.new) };
 
     /// Closes the entries. What was committed stays, even if closing fails.
     fn close(self) -> Self::Left

@@ -25,3 +25,7 @@ pub mod Refusing
 pub mod Repeating
 pub mod Holding
 pub mod UserTexts
+pub mod Forgetting
+pub mod Resetting
+pub mod Unlearning
+pub mod Undertaking

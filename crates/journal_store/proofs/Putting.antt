@@ -52,7 +52,7 @@ put_there new (r ∷ rows) = go (value_cmp (rowid r) (rowid new)) (put_there new
     go Equal ih = inl refl
     go Greater ih = inl refl
 
-not_true : (b : Bool) → not b ≡ true → b ≡ false
+pub not_true : (b : Bool) → not b ≡ true → b ≡ false
 not_true true e = absurd (cc)
 not_true false e = refl
 
@@ -90,7 +90,7 @@ int_apart m n apart = elim (cases_Bool (int_eq n m)) [
   | inr other ↦ other
 ]
 
-own_number : (r : Row) (n : ℤ) → rowid r ≡ Int n → has_rowid n r ≡ true
+pub own_number : (r : Row) (n : ℤ) → rowid r ≡ Int n → has_rowid n r ≡ true
 own_number r n is = rowid_is r n n is ∙ (Decides-int_eq n n).1 refl
 
 number_taken : (rows : List Row) (new : Row) (n : ℤ) → rowid new ≡ Int n → is_taken rows new ≡ false → filter (has_rowid n) rows ≡ []

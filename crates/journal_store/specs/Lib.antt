@@ -6,3 +6,4 @@ pub mod Faults
 pub mod Opening
 pub mod Kept
 pub mod KeptLaws
+pub mod Resets

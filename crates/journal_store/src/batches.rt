@@ -59,7 +59,7 @@ fn find_in<S: Alter>(
 }
 
 /// Runs one write.
-fn write_in<S: Alter>(
+pub(crate) fn write_in<S: Alter>(
     tables: &mut Transaction<'_, S>,
     sql: &str,
     params: &[ValueRef<'_>],

@@ -13,11 +13,13 @@ ghost use Rattle.sql_tables.specs.Faults.{HasFailed};
 ghost use Rattle.sql_tables.specs.Statements.{LeavesStore};
 ghost use Rattle.journal_store.specs.Kept.{CallFailsFor, IsFaithful, IsHonest, IsRefused, MayHold, kept_entries};
 ghost use Rattle.journal_store.specs.Opening.{IsCause, LeavesNone, OpenFailsFor, OpeningFails, Stands, journal_fault, table_fault};
+ghost use Rattle.journal_store.specs.Resets.{AreListed, forgotten, learnt_count};
 ghost use Rattle.journal_store.specs.Rows.{entry_in, row_of};
 
 use crate::batches::put_all;
 use crate::format::Journal as Tables;
 use crate::opening::{JournalOpenFault, check_tables, open_tables};
+use crate::resets::{learnt_count, reset_all};
 use crate::statements::TableFault;
 use crate::tables::{find_entry, list_entries, put_entry, with_row};
 use journal_core::{Entry, Journal, JournalFault, ReopenJournal};
@@ -236,6 +238,57 @@ impl<S: Alter> Journal for SqlJournal<S> {
     ghost settled = { kept_settled _ S.Store.settled };
 
     ghost stays = { kept_stays _ S.Store.stays };
+}
+
+// ---- a reset
+
+impl<S: Alter> SqlJournal<S> {
+    /// Of how many records a revision is confirmed or the id is known.
+    fn count_learnt(&mut self) -> Result<usize, JournalFault>
+        ensures listed { IsFaithful S.Store self.new → OnOk result (AreListed (state S.Store self.new.conn).now.trees) }
+        ensures count { IsFaithful S.Store self.new → IfOk result (λ count. count ≡ learnt_count (kept_entries S.Store self.old)) }
+        ensures reads { OnlyReads (kept_entries S.Store) (IsFaithful S.Store) (IsHonest S.Store) (MayHold S.Store) (λ k. k.faults) (λ k. k.writes) CountsFault self.old self.new result }
+        ensures shut { IsRefused self.old result }
+    {
+        let mut entries = self.list(Kind::User)?;
+        let mut others = self.list(Kind::Group)?;
+        entries.append(&mut others)?;
+        Ok(learnt_count(entries.as_slice()))
+    }
+
+    /// Forgets what was learnt of each record.
+    fn forget(&mut self) -> Result<(), JournalFault>
+        requires listed { IsFaithful S.Store self.old → AreListed (state S.Store self.old.conn).now.trees }
+        ensures puts { WritesOnce (kept_entries S.Store) (IsFaithful S.Store) (IsHonest S.Store) (MayHold S.Store) (λ k. k.faults) (λ k. k.writes) CountsFault self.old self.new (forgotten (kept_entries S.Store self.old)) result }
+        ensures open { IsHonest S.Store self.new → OnOk result (IsFaithful S.Store self.new) }
+        ensures counted { OnOk result (HasRisen self.old.writes self.new.writes) }
+        ensures shut { IsRefused self.old result }
+    {
+        if !self.is_usable {
+            return Err(refusal(&mut self.faults));
+        }
+        match reset_all(&mut self.conn) {
+            Ok(()) => {
+                self.writes = self.writes.saturating_add(1);
+                Ok(())
+            }
+            Err(fault) => Err(counted(&mut self.faults, fault_of(fault))),
+        }
+    }
+
+    /// Forgets the confirmed revision and the id of each record, by one write: of all records or of none.
+    /// The rows stay. Returns how many entries that changes.
+    pub fn reset(&mut self) -> Result<usize, JournalFault>
+        ensures puts { WritesOnce (kept_entries S.Store) (IsFaithful S.Store) (IsHonest S.Store) (MayHold S.Store) (λ k. k.faults) (λ k. k.writes) CountsFault self.old self.new (forgotten (kept_entries S.Store self.old)) result }
+        ensures count { IsFaithful S.Store self.new → IfOk result (λ count. count ≡ learnt_count (kept_entries S.Store self.old)) }
+        ensures open { IsHonest S.Store self.new → OnOk result (IsFaithful S.Store self.new) }
+        ensures counted { OnOk result (HasRisen self.old.writes self.new.writes) }
+        ensures shut { IsRefused self.old result }
+    {
+        let count = self.count_learnt()?;
+        self.forget()?;
+        Ok(count)
+    }
 }
 
 // ---- opening and closing

@@ -8,8 +8,10 @@ mod formats;
 mod journal;
 mod lawful;
 mod opening;
+mod resets;
 mod statements;
 mod tables;
 
 pub use journal::SqlJournal;
 pub use opening::JournalOpenFault;
+pub use resets::resets_keep_rows;

@@ -54,6 +54,8 @@ pub enum Choice {
         to: String,
         base: Base,
     },
+    /// Have a connector's journal forget what the provider has shown.
+    Reset,
     /// Print the rows of a provider's store, or the entries of a connector's journal.
     Show,
     /// Run events over connector and provider in memory, and then settle every record if the arguments ask
@@ -204,6 +206,17 @@ fn push_command<'a>(alloc: Global) -> Result<Command<'a>, AllocError> {
     with_option(to, base_option(alloc))
 }
 
+fn reset_command<'a>(alloc: Global) -> Result<Command<'a>, AllocError> {
+    let journal = journal_option(alloc)
+        .help("the file of the connector's journal, which must be there")
+        .required(true);
+    Command::new(alloc, "reset")
+        .about(
+            "forgets what the provider has shown, so that the next push asks about each record, and prints how many records had an id or a confirmed revision",
+        )
+        .arg(journal)
+}
+
 fn show_command<'a>(alloc: Global) -> Result<Command<'a>, AllocError> {
     let store = Command::new(alloc, "show")
         .about(
@@ -268,7 +281,8 @@ fn command<'a>(alloc: Global, events_help: &'a str) -> Result<Command<'a>, Alloc
     let looping = with_subcommand(answering, loop_command(alloc));
     let mapping = with_subcommand(looping, map_command(alloc));
     let pushing = with_subcommand(mapping, push_command(alloc));
-    let serving = with_subcommand(pushing, serve_command(alloc));
+    let resetting = with_subcommand(pushing, reset_command(alloc));
+    let serving = with_subcommand(resetting, serve_command(alloc));
     let showing = with_subcommand(serving, show_command(alloc));
     with_subcommand(showing, simulate_command(alloc, events_help))
 }
@@ -298,6 +312,7 @@ fn chosen_by(alloc: Global, matches: &ArgMatches<'_>) -> Result<Chosen, CommandF
         Some(("map", words)) => to_map(alloc, words),
         Some(("serve", words)) => to_serve(alloc, words),
         Some(("push", words)) => to_push(alloc, words),
+        Some(("reset", words)) => to_reset(alloc, words),
         Some(("show", words)) => to_show(alloc, words),
         Some(("simulate", words)) => to_simulate(alloc, words),
         _ => Err(CommandFault::Subcommand),
@@ -352,6 +367,14 @@ fn to_push(alloc: Global, words: &ArgMatches<'_>) -> Result<Chosen, CommandFault
             to: to(alloc, words)?,
             base: base(alloc, words)?,
         },
+    })
+}
+
+fn to_reset(alloc: Global, words: &ArgMatches<'_>) -> Result<Chosen, CommandFault> {
+    Ok(Chosen {
+        store: None,
+        journal: journal(alloc, words)?,
+        choice: Choice::Reset,
     })
 }
 

@@ -7,6 +7,7 @@ mod looping;
 mod map_users;
 mod parts;
 mod pushing;
+mod resetting;
 mod serving;
 mod showing;
 mod simulating;
@@ -82,6 +83,7 @@ fn carry_out<R: Runtime + Net + AllocGlobal, K: RowStorage, J: journal_file::Ent
         Choice::Push { files, to, base } => parts
             .carrying(&files, to.as_str())
             .ended(rt, push(rt, journal, &files, to.as_str(), base)),
+        Choice::Reset => parts.reading_journal().ended(rt, reset(rt, journal)),
         Choice::Show => parts.ended(rt, showing::show(rt, store, journal)),
         Choice::Simulate {
             events,
@@ -104,6 +106,17 @@ fn push<R: Runtime + Net + AllocGlobal, J: journal_file::EntryStorage>(
 ) -> Result<Status, CommandFault> {
     match journal {
         Some(journal) => pushing::push(rt, journal, files, to, base),
+        None => Err(CommandFault::File),
+    }
+}
+
+/// The arguments of `reset` name a journal.
+fn reset<R: Runtime + AllocGlobal, J: journal_file::EntryStorage>(
+    rt: &R,
+    journal: Option<&J>,
+) -> Result<Status, CommandFault> {
+    match journal {
+        Some(journal) => resetting::reset(rt, journal),
         None => Err(CommandFault::File),
     }
 }

@@ -34,6 +34,14 @@ impl<'a, K: RowStorage, J: journal_file::EntryStorage> Parts<'a, K, J> {
         self
     }
 
+    /// With the journal's file, which must be there.
+    pub fn reading_journal(mut self) -> Self {
+        if let Some(journal) = self.journal {
+            self.file = journal.name();
+        }
+        self
+    }
+
     /// With an address to listen on.
     pub fn listening(mut self, address: &'a str) -> Self {
         self.address = address;

@@ -1,0 +1,41 @@
+-- The calls of a reset.
+use Rattle.std.proofs.Common.{◌≡◌, ℕ, List, [], None, Ok, subst}
+use Rattle.sqlite.specs.Does.{Does}
+use Rattle.sqlite.specs.Listing.{understood}
+use Rattle.sqlite.specs.State.{State}
+use Rattle.scim_key.specs.declared.records.Kind.{Kind}
+use Rattle.journal_core.specs.Entries.{EntryMap}
+use Rattle.journal_core.specs.Stores.{CountsFault, WritesOnce}
+use Rattle.journal_core.specs.declared.journals.JournalFault.{JournalFault}
+use Rattle.sql_tables.specs.Statements.{Ran, plain_mode}
+use Rattle.sql_tables.proofs.Editing.{command_is, edits_by}
+use Rattle.journal_store.specs.Connections.{Commits, IsEditText, IsLaid}
+use Rattle.journal_store.specs.Resets.{IsListed, ResetsOne, reset_text}
+use Rattle.journal_store.proofs.Calls.{fault_as}
+use Rattle.journal_store.proofs.Resetting.{reset_is, resets_by}
+use Rattle.journal_store.proofs.Unlearning.{all_show}
+
+-- ---- the statement
+
+pub reset_edits : (kind : Kind) → IsEditText (reset_text kind)
+reset_edits kind = edits_by (reset_is kind) tt
+
+pub reset_made : (old new : State) (kind : Kind) (sql : List ℕ) → sql ≡ reset_text kind → IsLaid old → IsListed kind old.now.trees → Ran sql [] old new → Commits (ResetsOne kind) old new
+reset_made old new kind sql text laid listed ran =
+    let command = command_is (reset_is kind) old ran.compiled laid (subst (λ t. understood old.now.schema t ≡ Ok ran.compiled) text ran.is) in
+    let made = resets_by ran.limit laid.form old.now new.now ran.tally ran.text laid.schema kind listed.numbered (all_show kind old.now.trees listed.list listed.shows)
+    (subst (λ k. Does ran.limit plain_mode [] old.now ran.text None k (Ok (ran.tally, new.now))) command ran.does) in
+    record {
+      was_open = ran.was_open;
+      is_open = ran.is_open;
+      laid = record { form = laid.form; schema = made.0; committed = (ran.settled laid.autocommit).0; autocommit = (ran.settled laid.autocommit).1 };
+      puts = made.1;
+    }
+
+-- ---- the call
+
+module _ {S : Type 0} {entries : S → EntryMap} {is_faithful is_honest : S → Type 0} {may_hold : S → EntryMap → Type 0} {faults writes : S → ℕ} where
+  -- a fault of a call that writes, as the result of another call
+  pub failed_so : {T : Type 0} (U : Type 0) {old new : S} {later : EntryMap} {fault : JournalFault} → WritesOnce entries is_faithful is_honest may_hold faults writes CountsFault old new later (fault_as T fault)
+      → WritesOnce entries is_faithful is_honest may_hold faults writes CountsFault old new later (fault_as U fault)
+  failed_so U w = record { was = w.was; done = w.done; same = w.same; honest = w.honest; stop = w.stop; counted = w.counted; written = w.written; unwritten = w.unwritten }

@@ -1,0 +1,81 @@
+-- What a reset leaves: the row of each record, and nothing that was learnt of the provider.
+use Rattle.std.specs.Prelude.{◌≡◌, ℕ, pos, Bool, not, ◌||◌, List, [], ◌∷◌, None, codes, is_some, map, IsPermutation}
+use Rattle.std.specs.FinMap.{entries, from_entries, get, values}
+use Rattle.std.specs.List.{count_by}
+use Rattle.std.specs.Option.{option_map}
+use Rattle.sqlite_value.specs.declared.value.Value.TheVariants.{Int, Null}
+use Rattle.sqlite_value.specs.Order.{Row, column}
+use Rattle.sqlite_trees.specs.Tree.{Trees}
+use Rattle.scim_key.specs.Revisions.{no_revision, same_revision}
+use Rattle.scim_key.specs.declared.records.Kind.{Kind}
+use Rattle.scim_key.specs.declared.records.Kind.TheVariants.{User, Group}
+use Rattle.scim_key.specs.declared.records.RecordName.{RecordName}
+use Rattle.journal_core.specs.Entries.{EntryMap, IsListOf}
+use Rattle.journal_core.specs.declared.entries.Entry.{Entry}
+use Rattle.journal_store.specs.Format.{entry_tree}
+use Rattle.journal_store.specs.Connections.{AreNumbered, ListsAll}
+use Rattle.journal_store.specs.Opening.{AreLawful}
+
+-- ---- entries
+
+-- the entry with no confirmed revision and no id; its row stays
+abbrev pub unlearnt : Entry → Entry
+unlearnt entry = record entry { confirmed = no_revision; id = None }
+
+-- the entries, each unlearnt
+abbrev pub forgotten : EntryMap → EntryMap
+forgotten map_ = from_entries (map (λ e. (e.0, unlearnt e.1)) (entries map_))
+
+-- a revision of the record is confirmed, or its id is known
+abbrev pub is_learnt : Entry → Bool
+is_learnt entry = not (same_revision entry.confirmed no_revision) || is_some entry.id
+
+-- how many of the entries a reset changes
+abbrev pub learnt_count : EntryMap → ℕ
+learnt_count map_ = count_by is_learnt (values map_)
+
+-- Each name has its entry, unlearnt, and no other name has an entry. The entries are valid as before, so that an
+-- opening accepts them
+pub record ForgetsOnly : Type 0 where
+  pub each : (map_ : EntryMap) (name : RecordName) → get (forgotten map_) name ≡ option_map unlearnt (get map_ name)
+  pub list : (map_ : EntryMap) (list : List Entry) → IsListOf map_ list → IsListOf (forgotten map_) (map unlearnt list)
+  pub lawful : (users groups : List Entry) → AreLawful users groups → AreLawful (map unlearnt users) (map unlearnt groups)
+
+-- ---- rows
+
+-- the statement that resets the entries of a type
+abbrev pub reset_text : Kind → List ℕ
+reset_text User = codes "UPDATE user_entry SET confirmed = 0, id = NULL"
+reset_text Group = codes "UPDATE group_entry SET confirmed = 0, id = NULL"
+
+-- the row with 0 and NULL in the last two columns, and with all its other columns
+abbrev pub reset_row : Kind → Row → Row
+reset_row User r =
+    column r 0 ∷ column r 1 ∷ column r 2 ∷ column r 3 ∷ column r 4 ∷ column r 5 ∷ column r 6 ∷ column r 7 ∷ column r 8 ∷ Int (pos 0) ∷ Null ∷ []
+reset_row Group r = column r 0 ∷ column r 1 ∷ column r 2 ∷ column r 3 ∷ column r 4 ∷ Int (pos 0) ∷ Null ∷ []
+
+-- the table of a type has its rows, each reset
+abbrev pub Resets : Kind → (old new : Trees) → Type 0
+Resets kind old new = IsPermutation (map (reset_row kind) (old (entry_tree kind))) (new (entry_tree kind))
+
+-- the table of one type is reset, and the other table stays
+pub record ResetsOne (kind : Kind) (old new : Trees) : Type 0 where
+  pub resets : Resets kind old new
+  pub users : kind ≡ Group → new (entry_tree User) ≡ old (entry_tree User)
+  pub groups : kind ≡ User → new (entry_tree Group) ≡ old (entry_tree Group)
+
+-- both tables are reset
+pub record ResetsAll (old new : Trees) : Type 0 where
+  pub users : Resets User old new
+  pub groups : Resets Group old new
+
+-- each row of a table has its own number, and the rows show a list of entries
+pub record IsListed (kind : Kind) (db : Trees) : Type 0 where
+  pub numbered : AreNumbered (db (entry_tree kind))
+  pub list : List Entry
+  pub shows : ListsAll kind db list
+
+-- the same of both tables
+pub record AreListed (db : Trees) : Type 0 where
+  pub users : IsListed User db
+  pub groups : IsListed Group db

@@ -1,0 +1,99 @@
+//! Resets the entries by one transaction: what was learnt of the provider is forgotten.
+ghost use Rattle.std.specs.Prelude.{◌≡◌, IsTrue, OnErr, OnOk};
+ghost use Rattle.std.specs.List.{count_by};
+ghost use Rattle.sqlite.specs.Held.{state};
+ghost use Rattle.sqlite.specs.State.{HasCleanDisk, Survives};
+ghost use Rattle.scim_key.specs.declared.records.Kind.TheVariants.{Group, User};
+ghost use Rattle.sql_tables.specs.Statements.{Keeps, LeavesStore};
+ghost use Rattle.journal_store.specs.Batches.{IsUnderWay, settled};
+ghost use Rattle.journal_store.specs.Connections.{Commits, IsLaid};
+ghost use Rattle.journal_store.specs.Resets.{AreListed, ForgetsOnly, IsListed, ResetsAll, ResetsOne, is_learnt, reset_text};
+
+use crate::batches::write_in;
+use crate::statements::TableFault;
+use journal_core::Entry;
+use scim_key::{Kind, Revision};
+use sqlite::{Alter, Connection, Transaction};
+
+// ---- what a reset changes
+
+/// Whether a revision of the record is confirmed, or its id is known.
+fn is_learnt(entry: &Entry) -> bool
+    ensures { result ≡ is_learnt entry.now }
+{
+    entry.confirmed != Revision::none() || entry.id.is_some()
+}
+
+/// How many of the entries a reset changes.
+pub(crate) fn learnt_count(entries: &[Entry]) -> usize
+    ensures { result ≡ count_by is_learnt entries.now }
+{
+    entries.iter().filter(|entry| is_learnt(entry)).count()
+}
+
+// ---- inside a transaction
+
+fn reset_statement(kind: Kind) -> &'static str
+    ensures { result.now ≡ reset_text kind }
+{
+    match kind {
+        Kind::User => "UPDATE user_entry SET confirmed = 0, id = NULL",
+        Kind::Group => "UPDATE group_entry SET confirmed = 0, id = NULL",
+    }
+}
+
+/// Resets the entries of one type.
+fn reset_in<S: Alter>(tables: &mut Transaction<'_, S>, kind: Kind) -> Result<(), TableFault>
+    requires under_way { IsUnderWay (state S.Store tables.old.conn.now) }
+    requires listed { HasCleanDisk (state S.Store tables.old.conn.now) → IsTrue (state S.Store tables.old.conn.now).is_open → IsListed kind (state S.Store tables.old.conn.now).now.trees }
+    ensures same_reference { tables.new.conn.ghost_name ≡ tables.old.conn.ghost_name }
+    ensures made { HasCleanDisk (state S.Store tables.new.conn.now) → OnOk result (Commits (ResetsOne kind) (settled (state S.Store tables.old.conn.now)) (settled (state S.Store tables.new.conn.now))) }
+    ensures inside { HasCleanDisk (state S.Store tables.new.conn.now) → OnOk result (IsTrue (state S.Store tables.new.conn.now).in_transaction) }
+    ensures left { HasCleanDisk (state S.Store tables.new.conn.now) → LeavesStore (state S.Store tables.old.conn.now) (state S.Store tables.new.conn.now) }
+    ensures quiet { Survives (state S.Store tables.old.conn.now) (state S.Store tables.new.conn.now) (λ _. ⊥) }
+{
+    write_in(tables, reset_statement(kind), &[])
+}
+
+/// Resets the entries of both types.
+fn reset_both<S: Alter>(tables: &mut Transaction<'_, S>) -> Result<(), TableFault>
+    requires under_way { IsUnderWay (state S.Store tables.old.conn.now) }
+    requires listed { HasCleanDisk (state S.Store tables.old.conn.now) → IsTrue (state S.Store tables.old.conn.now).is_open → AreListed (state S.Store tables.old.conn.now).now.trees }
+    ensures same_reference { tables.new.conn.ghost_name ≡ tables.old.conn.ghost_name }
+    ensures reset { HasCleanDisk (state S.Store tables.new.conn.now) → OnOk result (ResetsAll (state S.Store tables.old.conn.now).now.trees (state S.Store tables.new.conn.now).now.trees) }
+    ensures open { HasCleanDisk (state S.Store tables.new.conn.now) → OnOk result (IsTrue (state S.Store tables.new.conn.now).is_open) }
+    ensures under_way { OnOk result (IsUnderWay (state S.Store tables.new.conn.now)) }
+    ensures left { HasCleanDisk (state S.Store tables.new.conn.now) → LeavesStore (state S.Store tables.old.conn.now) (state S.Store tables.new.conn.now) }
+    ensures quiet { Survives (state S.Store tables.old.conn.now) (state S.Store tables.new.conn.now) (λ _. ⊥) }
+{
+    reset_in(tables, Kind::User)?;
+    reset_in(tables, Kind::Group)
+}
+
+// ---- the transaction
+
+/// Resets the entries by one transaction: all or none.
+pub(crate) fn reset_all<S: Alter>(conn: &mut Connection<S>) -> Result<(), TableFault>
+    requires laid { HasCleanDisk (state S.Store conn.old) → IsTrue (state S.Store conn.old).is_open → IsLaid (state S.Store conn.old) }
+    requires listed { HasCleanDisk (state S.Store conn.old) → IsTrue (state S.Store conn.old).is_open → AreListed (state S.Store conn.old).now.trees }
+    ensures made { HasCleanDisk (state S.Store conn.new) → OnOk result (Commits ResetsAll (state S.Store conn.old) (state S.Store conn.new)) }
+    ensures keeps { HasCleanDisk (state S.Store conn.new) → OnErr result (Keeps (state S.Store conn.old) (state S.Store conn.new)) }
+    ensures stop { Survives (state S.Store conn.old) (state S.Store conn.new) (λ db. IsTrue (state S.Store conn.old).is_open × ResetsAll (state S.Store conn.old).now.trees db) }
+{
+    if !conn.is_autocommit() {
+        return Err(TableFault::Store);
+    }
+    let mut tables = conn.transaction();
+    reset_both(&mut tables)?;
+    match tables.commit() {
+        Ok(()) => Ok(()),
+        Err(error) => Err(TableFault::from(error)),
+    }
+}
+
+// ---- laws
+
+/// A reset keeps the row of each record, and nothing else of its entry. An opening accepts the entries.
+pub fn resets_keep_rows()
+    ensures { ForgetsOnly }
+{}

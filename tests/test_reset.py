@@ -1,0 +1,110 @@
+"""`reset`: a journal forgets what the provider has shown. (What it refuses is in test_openings.py and test_journals.py.)"""
+from support import (
+    NOWHERE, ProgramTest, full_disk, group_entry, make_journal, resource_id, sql, user_entry, writes_of,
+)
+
+USERS = [
+    user_entry("ann", revision=7, confirmed=5, id=resource_id(1), number="1001", given="Ann", family="Lee"),
+    # a late answer has shown the id, and no revision is confirmed
+    user_entry("bob", login="Bob", revision=2, id=resource_id(2), mail="bob@example.com", active=0),
+    user_entry("cid"),
+]
+GROUPS = [
+    group_entry("band", confirmed=1, id=resource_id(3)),
+    group_entry("crew", "ann bob", name="Crew", revision=3),
+]
+
+
+def forgotten(entry):
+    """The entry with nothing confirmed and no id, which are its last columns."""
+    return (*entry[:-2], 0, None)
+
+
+class JournalTest(ProgramTest):
+    def entries(self):
+        """The entries of both tables, as SQLite reads them."""
+        tables = ("user_entry", "group_entry")
+        return [sql(self.site.journal, f"SELECT * FROM {table} ORDER BY name_key") for table in tables]
+
+
+class ResetTest(JournalTest):
+    def assert_forgotten(self):
+        self.assertEqual(self.entries(), [list(map(forgotten, USERS)), list(map(forgotten, GROUPS))])
+
+    def test_rows_stay(self):
+        make_journal(self.site.journal, USERS, GROUPS)
+        self.assert_prints(self.site.reset(), "reset 3 records")
+        self.assert_forgotten()
+        self.assertEqual(sql(self.site.journal, "PRAGMA integrity_check"), [("ok",)])
+
+    def test_a_second_reset_finds_nothing(self):
+        make_journal(self.site.journal, USERS, GROUPS)
+        self.site.reset()
+        self.assert_prints(self.site.reset(), "reset 0 records")
+        self.assert_forgotten()
+
+    def test_the_line_is_one_write(self):
+        make_journal(self.site.journal, USERS)
+        self.assertEqual(writes_of("reset", "--journal", self.site.journal), ["reset 2 records\n"])
+
+    def test_no_entries(self):
+        make_journal(self.site.journal)
+        self.assert_prints(self.site.reset(), "reset 0 records")
+
+    def test_an_output_that_takes_nothing(self):
+        make_journal(self.site.journal, USERS, GROUPS)
+        with full_disk() as stdout:
+            self.assert_fault(self.site.reset(stdout=stdout), "file fault")
+        self.assert_forgotten()
+
+    def test_a_file_that_is_not_there_is_not_made(self):
+        run = self.site.reset()
+        self.assertEqual((run.status, run.output), (3, b""))
+        self.assertEqual(run.errors, f"file fault\n {self.site.journal}: No such file or directory\n")
+        self.assertEqual(list(self.folder.iterdir()), [])
+
+    def test_many_records(self):
+        names = [f"u{place:06}" for place in range(100_000)]
+        make_journal(self.site.journal, (user_entry(name, confirmed=1, id=name) for name in names))
+        self.assert_prints(self.site.reset(), "reset 100000 records")
+        learnt = "SELECT count(*) FROM user_entry WHERE confirmed <> 0 OR id IS NOT NULL"
+        self.assertEqual(sql(self.site.journal, learnt), [(0,)])
+        self.assertEqual(sql(self.site.journal, "SELECT count(*) FROM user_entry"), [(100_000,)])
+
+
+class LostStoreTest(JournalTest):
+    """A provider that lost its store, and a connector that has confirmed all of it."""
+
+    def test_the_next_push_asks_about_each_record(self):
+        self.site.write_users("ann,1,,,,,active", "bob,1,,,,,active")
+        self.site.write_groups("crew,1,ann bob")
+        confirmed = ["user ann confirmed 1", "user bob confirmed 1", "group crew confirmed 1"]
+        held = ["user ann held=1 version=1 active=true", "user bob held=1 version=1 active=true",
+                "group crew held=1 version=1 members=2"]
+        # each record is looked for, and created
+        with self.serving(6, "--store", self.site.store) as provider:
+            self.assert_prints(self.site.push(provider.address), *confirmed)
+        for file in self.folder.glob("store*"):
+            file.unlink()
+        # bob has left in the meantime, and is in no file
+        self.site.write_users("ann,1,,,,,active", "bob,2,,,,,left")
+        self.assert_reports(self.site.push(NOWHERE), 3, "connection fault")
+        self.site.write_users("ann,1,,,,,active")
+        self.assert_prints(self.site.reset(), "reset 3 records")
+        wanted = {"user ann": 1, "user bob": 2, "group crew": 1}
+        self.assert_prints(self.site.show_journal(), *(f"{name} wanted={number} confirmed=0 id=-" for name, number in wanted.items()))
+        with self.serving(6, "--store", self.site.store) as provider:
+            self.assert_prints(self.site.push(provider.address), confirmed[0], "user bob confirmed 2", confirmed[2])
+        self.assert_prints(self.site.show_store(), held[0], "user bob held=2 version=1 active=false", held[2])
+
+    def test_what_the_provider_still_holds_is_found(self):
+        self.site.write_users("ann,1,,,,,active", "bob,1,,,,,active")
+        confirmed = ["user ann confirmed 1", "user bob confirmed 1"]
+        with self.serving(4, "--store", self.site.store) as provider:
+            self.assert_prints(self.site.push(provider.address), *confirmed)
+        before = self.entries()
+        self.assert_prints(self.site.reset(), "reset 2 records")
+        # each record is looked for, and found as it is wanted
+        with self.serving(2, "--store", self.site.store) as provider:
+            self.assert_prints(self.site.push(provider.address), *confirmed)
+        self.assertEqual(self.entries(), before)
