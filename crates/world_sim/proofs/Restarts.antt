@@ -44,7 +44,7 @@ opened_known : (known : Option Known) → option_map opened (option_map entry_of
 opened_known None = refl
 opened_known (Some known) = refl
 
-forgotten_twice : (known : Option Known) → option_map forgotten (option_map forgotten known) ≡ option_map forgotten known
+pub forgotten_twice : (known : Option Known) → option_map forgotten (option_map forgotten known) ≡ option_map forgotten known
 forgotten_twice None = refl
 forgotten_twice (Some known) = refl
 
@@ -65,7 +65,7 @@ module _ {R J : Type 0} (g : Registries R) (h : Journals J) (old : Running R J) 
   -- ---- restarts
 
   -- what runs is the world after a restart of the connector, if the side has its book
-  restarted : (side : Side J) (w : World) → Is g h old w → HasBook side (reopened w.book) (world_names w)
+  pub restarted : (side : Side J) (w : World) → Is g h old w → HasBook side (reopened w.book) (world_names w)
       → ((found : EntryMap) → h.may_hold (journal_in side) found → h.may_hold (journal_in old.connector) found)
       → Is g h (record old { connector = side }) (happens w Restarts_connector)
   restarted side w is book leaves = is_after g h old (record old { connector = side }) w Restarts_connector tt refl is (record {
@@ -184,7 +184,7 @@ module _ {R J : Type 0} (g : Registries R) (h : Journals J) (old : Running R J) 
 
   -- ---- faults
 
-  staying : (new : Running R J) → Stays old new → (w : World) → Is g h old w → Is g h new w
+  pub staying : (new : Running R J) → Stays old new → (w : World) → Is g h old w → Is g h new w
   staying new s w is = is_still g h old new w s.base is (record {
     rows = subst (λ p. g.is_faithful p → g.rows p ≡ world_rows w) (sym s.provider) is.mirrors.rows;
     found = subst (λ p. (found : List StoredRecord) → g.may_hold p found → found ≡ world_rows w) (sym s.provider) is.mirrors.found;
@@ -196,7 +196,7 @@ module _ {R J : Type 0} (g : Registries R) (h : Journals J) (old : Running R J) 
     formed = formed_same old.service new.service w.messages s.base is.mirrors.formed;
   })
 
-  fails_staying : (new : Running R J) (event : Event) (fault : WorldFault) → Stays old new → ((w : World) → if_restart w event ≡ w) → IsExcused g h old new event fault → Fails g h old new event fault
+  pub fails_staying : (new : Running R J) (event : Event) (fault : WorldFault) → Stays old new → ((w : World) → if_restart w event ≡ w) → IsExcused g h old new event fault → Fails g h old new event fault
   fails_staying new event fault s still excused = record {
     was = λ sound. record { registry = subst g.is_honest s.provider sound.registry; journal = subst (λ side. h.is_honest (journal_in side)) s.connector sound.journal };
     base = s.base;
@@ -303,7 +303,7 @@ module _ {R J : Type 0} (g : Registries R) (h : Journals J) (old : Running R J) 
   excuse new number Memory connector counted = (counted, ap (λ side. h.faults (journal_in side)) connector)
 
   -- the world is as it was, if its rows are
-  still_there : (new : Running R J) (w : World) → new.connector ≡ old.connector → new.service ≡ old.service → new.sent.items ≡ old.sent.items
+  pub still_there : (new : Running R J) (w : World) → new.connector ≡ old.connector → new.service ≡ old.service → new.sent.items ≡ old.sent.items
       → (g.is_faithful new.provider → g.rows new.provider ≡ world_rows w) → ((found : List StoredRecord) → g.may_hold new.provider found → found ≡ world_rows w)
       → Is g h old w → Is g h new w
   still_there new w connector base sent rows finds is = is_still g h old new w base is (record {

@@ -44,7 +44,7 @@ use Rattle.world_model.specs.Safe.{rows as world_rows}
 use Rattle.world_sim.specs.Events.{report_of}
 use Rattle.world_sim.specs.Fitting.{IsFormed}
 use Rattle.world_sim.specs.Messages.{IsMessage, messages_of, text_at, texts_of, message_text, message_size, says}
-use Rattle.world_sim.specs.Running.{Is, Mirrors, Makes, Happens, Arrives, Fails, FailsToArrive, HasBook, HoldsOneOf, IsOpenTo, journal_in}
+use Rattle.world_sim.specs.Running.{Is, Mirrors, Makes, Happens, Arrives, Fails, FailsToArrive, HasBook, HoldsOneOf, IsOpenTo, Posts, journal_in}
 use Rattle.world_sim.specs.Reading.{IsReadAs, IsOrMemory}
 use Rattle.world_sim.specs.declared.messages.Sent.{Sent}
 use Rattle.world_sim.specs.declared.reading.ReadingFault.TheVariants.{Unread}
@@ -180,25 +180,6 @@ module _ {R J : Type 0} (g : Registries R) (h : Journals J) (old : Running R J) 
     report = λ sound w is. said (model.next_number w) ∙ sym (ap (model.ask_report (model.next_number w)) (asked_same before at name ask e w is));
   }
 
-  pub sends_request : (new : Running R J) (before : State J) (name : RecordName) (request : Request) (told : Report) → old.connector ≡ Open before → asking (book_of before.book) name ≡ Some (asks.Send request)
-      → Makes g h old new (λ w. Mirrors g h new (with_message w (Asked request))) (λ w. model.sending_report (model.next_number w) request) told
-      → Happens g h old new (Sends name) told
-  sends_request new before name request told at e m = record {
-    was = m.was;
-    base = m.base;
-    stays_open = m.stays_open;
-    journal_open = m.journal_open;
-    is = λ sound w is. is_after g h old new w (Sends name) tt m.base is
-        (subst (λ v. Mirrors g h new v) (sym (ap (sends w) (asked_same before at name (Some (asks.Send request)) e w is))) (m.is sound w is));
-    report = λ sound w is. m.report sound w is ∙ sym (ap (model.ask_report (model.next_number w)) (asked_same before at name (Some (asks.Send request)) e w is));
-  }
-
-  pub sends_told : (new : Running R J) (before : State J) (name : RecordName) (request : Request) (result : Result Report WorldFault) → old.connector ≡ Open before → asking (book_of before.book) name ≡ Some (asks.Send request)
-      → IfOk result (λ told. Makes g h old new (λ w. Mirrors g h new (with_message w (Asked request))) (λ w. model.sending_report (model.next_number w) request) told)
-      → IfOk result (λ told. Happens g h old new (Sends name) told)
-  sends_told new before name request (Ok told) at e m = sends_request new before name request told at e m
-  sends_told new before name request (Err fault) at e m = tt
-
   more_messages : (w : World) (sent : Sent) (message : Message) → IsMessage old.service sent message → Is g h old w → messages_of (old.sent.items ++ sent ∷ []) ≡ w.messages ++ message ∷ []
   more_messages w sent message in_bytes is = map_push (λ (s : Sent). says s.said) old.sent.items sent ∙ ap (λ ms. ms ++ says sent.said ∷ []) is.mirrors.messages ∙ ap (λ m. w.messages ++ m ∷ []) in_bytes.is
 
@@ -209,27 +190,43 @@ module _ {R J : Type 0} (g : Registries R) (h : Journals J) (old : Running R J) 
   pub as_many : (w : World) → Is g h old w → length old.sent.items ≡ length w.messages
   as_many w is = sym (length-map old.sent.items (λ (s : Sent). says s.said)) ∙ ap length is.mirrors.messages
 
-  pub posts : (new : Running R J) (message : Sent) (request : Request) (told : Report) → IsMessage old.service message (Asked request) → IsFormed old.service (Asked request)
-      → new.provider ≡ old.provider → new.connector ≡ old.connector → new.service ≡ old.service → new.sent.items ≡ old.sent.items ++ message ∷ []
-      → report_of told ≡ model.sending_report (suc (length old.sent.items)) request
+  -- the request is sent
+  posts : (new : Running R J) (request : Request) (told : Report) → Posts old new request told
       → Makes g h old new (λ w. Mirrors g h new (with_message w (Asked request))) (λ w. model.sending_report (model.next_number w) request) told
-  posts new message request told in_bytes formed provider connector base sent said = record {
-    was = λ sound. record { registry = subst g.is_honest provider sound.registry; journal = subst (λ s. h.is_honest (journal_in s)) connector sound.journal };
-    base = base;
-    stays_open = λ sound faithful. subst g.is_faithful (sym provider) faithful;
-    journal_open = λ sound faithful. subst (λ s. h.is_faithful (journal_in s)) (sym connector) faithful;
+  posts new request told p = record {
+    was = λ sound. record { registry = subst g.is_honest p.provider sound.registry; journal = subst (λ s. h.is_honest (journal_in s)) p.connector sound.journal };
+    base = p.base;
+    stays_open = λ sound faithful. subst g.is_faithful (sym p.provider) faithful;
+    journal_open = λ sound faithful. subst (λ s. h.is_faithful (journal_in s)) (sym p.connector) faithful;
     is = λ sound w is. record {
-      rows = subst (λ p. g.is_faithful p → g.rows p ≡ world_rows w) (sym provider) is.mirrors.rows;
-      found = subst (λ p. (found : List StoredRecord) → g.may_hold p found → found ≡ world_rows w) (sym provider) is.mirrors.found;
+      rows = subst (λ r. g.is_faithful r → g.rows r ≡ world_rows w) (sym p.provider) is.mirrors.rows;
+      found = subst (λ r. (found : List StoredRecord) → g.may_hold r found → found ≡ world_rows w) (sym p.provider) is.mirrors.found;
       table = is.mirrors.table;
-      book = subst (λ s. HasBook s w.book (world_names w)) (sym connector) is.mirrors.book;
-      kept = λ found holds. is.mirrors.kept found (subst (λ s. h.may_hold (journal_in s) found) connector holds);
-      messages = ap messages_of sent ∙ more_messages w message (Asked request) in_bytes is;
-      texts = ap texts_of sent ∙ more_texts w message (Asked request) in_bytes is ∙ ap (λ b. map (message_text b) (w.messages ++ Asked request ∷ [])) (sym base);
-      formed = formed_more old.service new.service w.messages (Asked request) base is.mirrors.formed formed;
+      book = subst (λ s. HasBook s w.book (world_names w)) (sym p.connector) is.mirrors.book;
+      kept = λ found holds. is.mirrors.kept found (subst (λ s. h.may_hold (journal_in s) found) p.connector holds);
+      messages = ap messages_of p.sent ∙ more_messages w p.message (Asked request) p.is is;
+      texts = ap texts_of p.sent ∙ more_texts w p.message (Asked request) p.is is ∙ ap (λ b. map (message_text b) (w.messages ++ Asked request ∷ [])) (sym p.base);
+      formed = formed_more old.service new.service w.messages (Asked request) p.base is.mirrors.formed p.formed;
     };
-    report = λ sound w is. said ∙ ap (λ n. model.sending_report (suc n) request) (as_many w is);
+    report = λ sound w is. p.report ∙ ap (λ n. model.sending_report (suc n) request) (as_many w is);
   }
+
+  pub sends_request : (new : Running R J) (before : State J) (name : RecordName) (request : Request) (told : Report) → old.connector ≡ Open before → asking (book_of before.book) name ≡ Some (asks.Send request)
+      → Posts old new request told → Happens g h old new (Sends name) told
+  sends_request new before name request told at e p = let m = posts new request told p in record {
+    was = m.was;
+    base = m.base;
+    stays_open = m.stays_open;
+    journal_open = m.journal_open;
+    is = λ sound w is. is_after g h old new w (Sends name) tt m.base is
+        (subst (λ v. Mirrors g h new v) (sym (ap (sends w) (asked_same before at name (Some (asks.Send request)) e w is))) (m.is sound w is));
+    report = λ sound w is. m.report sound w is ∙ sym (ap (model.ask_report (model.next_number w)) (asked_same before at name (Some (asks.Send request)) e w is));
+  }
+
+  pub sends_told : (new : Running R J) (before : State J) (name : RecordName) (request : Request) (result : Result Report WorldFault) → old.connector ≡ Open before → asking (book_of before.book) name ≡ Some (asks.Send request)
+      → IfOk result (Posts old new request) → IfOk result (Happens g h old new (Sends name))
+  sends_told new before name request (Ok told) at e p = sends_request new before name request told at e p
+  sends_told new before name request (Err fault) at e p = tt
 
   -- ---- messages that arrive
 

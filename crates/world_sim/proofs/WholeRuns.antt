@@ -26,7 +26,7 @@ use Rattle.world_sim.specs.declared.events.Event.{Event as EventOf}
 use Rattle.world_sim.specs.declared.reports.WorldFault.{WorldFault}
 use Rattle.world_sim.specs.declared.reports.WorldFault.TheVariants.{Memory, Store}
 use Rattle.world_sim.specs.Messages.{messages_of, texts_of, message_size}
-use Rattle.world_sim.specs.Running.{IsSound, Is, Happens, Fails, HasBook, Keeps, Starts, Runs, RunsFromEmpty, EndsRun, journal_in, opens_of}
+use Rattle.world_sim.specs.Running.{IsSound, Is, Apart, Happens, Fails, HasBook, Keeps, Starts, Runs, RunsFromEmpty, EndsRun, journal_in, opens_of}
 use Rattle.world_sim.specs.declared.reports.Report.{Report}
 use Rattle.world_sim.specs.declared.sides.Side.TheVariants.{Open}
 use Rattle.world_sim.specs.declared.worlds.World.{World as Running}
@@ -119,8 +119,8 @@ module _ {R J : Type 0} (g : Registries R) (h : Journals J) where
   -- a run up to an event that failed
   pub event_ends : (first last left : Running R J) (registry : R) (journal : J) (base : List ℕ) (es : List EventOf) (i : ℕ) (e : EventOf) (told : List Report) (fault : WorldFault)
       → i < length es → e ≡ get_or es i e → first.service ≡ base → opens_of first ≡ (true, true) → Starts g h registry journal first → Runs g h first last (events_of (take i es)) told
-      → Fails g h last left (event_of e) fault → Keeps last left (event_of e) → EndsRun g h registry journal base (events_of es) fault
-  event_ends first last left registry journal base es i e told fault less is at opens starts runs fails keeps = inr (inr (record {
+      → Fails g h last left (event_of e) fault → Keeps last left (event_of e) → Apart last left (event_of e) → EndsRun g h registry journal base (events_of es) fault
+  event_ends first last left registry journal base es i e told fault less is at opens starts runs fails keeps apart = inr (inr (record {
     first = first;
     last = last;
     left = left;
@@ -135,4 +135,5 @@ module _ {R J : Type 0} (g : Registries R) (h : Journals J) where
     runs = runs;
     fails = fails;
     keeps = keeps;
+    apart = apart;
   }))

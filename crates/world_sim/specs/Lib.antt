@@ -5,6 +5,7 @@ pub mod Reading
 pub mod Fitting
 pub mod Answering
 pub mod Running
+pub mod GoingOn
 pub mod Settling
 pub mod Schedules
 pub mod Views

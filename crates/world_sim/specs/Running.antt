@@ -1,11 +1,12 @@
 -- When the running world is a world of the model.
-use Rattle.std.specs.Prelude.{◌≡◌, ◌⊎◌, ℕ, Bool, true, false, List, [], ◌∷◌, ◌++◌, map, Option, Some, None, Result, Ok, Err}
+use Rattle.std.specs.Prelude.{◌≡◌, ◌⊎◌, ℕ, suc, Bool, true, false, List, [], ◌∷◌, ◌++◌, length, map, Option, Some, None, Result, Ok, Err}
 use Rattle.std.specs.FinMap.{keys}
 use Rattle.std.specs.FinMap as fin
 use Rattle.std.specs.List.{AllByRecursion}
 use Rattle.scim_key.specs.Bases.{IsBase}
 use Rattle.scim_key.specs.Stores.{HasRisen}
 use Rattle.scim_key.specs.declared.records.RecordName.{RecordName}
+use Rattle.scim_message.specs.declared.messages.Request.{Request}
 use Rattle.scim_resource.specs.Rows.{StoredRecord}
 use Rattle.provider_core.specs.Stories.{IsTable}
 use Rattle.provider_core.specs.declared.registry.Registry.{Ghosts as Registries}
@@ -15,12 +16,13 @@ use Rattle.connector_core.specs.Book.{Book, reopened}
 use Rattle.connector_core.specs.Maps.{BookMap, book_of}
 use Rattle.connector_core.specs.State.{AreOf}
 use Rattle.world_model.specs.World.{World, Message, Asked, Answered, Event, Changes, Sends, Delivers, Cuts, Restarts_provider, Restarts_connector, message_at, names as world_names, arrives, happens, empty, run}
-use Rattle.world_model.specs.Reports.{Report, report, reports, arrival_report}
+use Rattle.world_model.specs.Reports.{Report, report, reports, arrival_report, sending_report}
 use Rattle.world_model.specs.Safe.{Has, Headline, Onward, Safe, rows as world_rows}
 use Rattle.world_model.specs.Untroubled.{IsLawful}
 use Rattle.world_sim.specs.Fitting.{IsFormed}
-use Rattle.world_sim.specs.Messages.{message_text, message_size, messages_of, texts_of}
+use Rattle.world_sim.specs.Messages.{IsMessage, message_text, message_size, messages_of, texts_of}
 use Rattle.world_sim.specs.Events.{report_of}
+use Rattle.world_sim.specs.declared.messages.Sent.{Sent}
 use Rattle.world_sim.specs.declared.reports.Report.{Report as ReportOf}
 use Rattle.world_sim.specs.declared.reports.WorldFault.{WorldFault}
 use Rattle.world_sim.specs.declared.reports.WorldFault.TheVariants.{Memory, Store}
@@ -117,6 +119,17 @@ pub record Makes {R J : Type 0} (g : Registries R) (h : Journals J) (old new : R
 abbrev pub Happens : {R J : Type 0} → Registries R → Journals J → (old new : Running R J) → Event → ReportOf → Type 0
 Happens g h old new event told = Makes g h old new (λ w. Is g h new (happens w event)) (λ w. report (message_size old.service) w event) told
 
+-- a request was sent: it is the last message, in its bytes, and nothing else changed
+pub record Posts {R J : Type 0} (old new : Running R J) (request : Request) (told : ReportOf) : Type 0 where
+  pub message : Sent
+  pub is : IsMessage old.service message (Asked request)
+  pub formed : IsFormed old.service (Asked request)
+  pub provider : new.provider ≡ old.provider
+  pub connector : new.connector ≡ old.connector
+  pub base : new.service ≡ old.service
+  pub sent : new.sent.items ≡ old.sent.items ++ message ∷ []
+  pub report : report_of told ≡ sending_report (suc (length old.sent.items)) request
+
 -- a message arrives: the running world has the parts of the world after that
 abbrev pub Arrives : {R J : Type 0} → Registries R → Journals J → (old new : Running R J) → Message → ReportOf → Type 0
 Arrives g h old new message told = Makes g h old new (λ w. Mirrors g h new (arrives w message)) (λ w. arrival_report w message) told
@@ -204,30 +217,40 @@ abbrev pub known_in : {J : Type 0} → Side J → Option BookMap
 known_in (Open connector) = Some connector.book
 known_in (Shut journal) = None
 
--- the connector knows what it knew, and the provider is unchanged
-pub record KeepsSides {R J : Type 0} (old new : Running R J) : Type 0 where
-  pub known : known_in new.connector ≡ known_in old.connector
-  pub provider : new.provider ≡ old.provider
+-- the message is a request
+abbrev pub IsRequest : Option Message → Type 0
+IsRequest None = ⊥
+IsRequest (Some (Asked request)) = Unit {0}
+IsRequest (Some (Answered request answer)) = ⊥
 
--- the connector's side is unchanged
-pub record KeepsConnector {R J : Type 0} (old new : Running R J) : Type 0 where
-  pub connector : new.connector ≡ old.connector
+-- an event reads the registry: a request arrives, or the provider restarts
+abbrev pub ReadsRegistry : {R J : Type 0} → Running R J → Event → Type 0
+ReadsRegistry r (Changes row) = ⊥
+ReadsRegistry r (Sends name) = ⊥
+ReadsRegistry r (Delivers number) = IsRequest (message_at (messages_of r.sent.items) number)
+ReadsRegistry r (Cuts number length) = ⊥
+ReadsRegistry r Restarts_provider = Unit {0}
+ReadsRegistry r Restarts_connector = ⊥
 
--- a message that didn't arrive
-abbrev pub KeepsTo : {R J : Type 0} → (old new : Running R J) → Option Message → Type 0
-KeepsTo old new None = KeepsSides old new
-KeepsTo old new (Some (Asked request)) = KeepsConnector old new
-KeepsTo old new (Some (Answered request answer)) = KeepsSides old new
+-- an event reads the journal: the connector restarts. All else goes by what the connector knows
+abbrev pub ReadsJournal : Event → Type 0
+ReadsJournal (Changes row) = ⊥
+ReadsJournal (Sends name) = ⊥
+ReadsJournal (Delivers number) = ⊥
+ReadsJournal (Cuts number length) = ⊥
+ReadsJournal Restarts_provider = ⊥
+ReadsJournal Restarts_connector = Unit {0}
 
--- What an event that failed keeps, even if its fault shut a store: the connector knows and has seen what it had,
--- unless its opening failed; and the side that the event doesn't need is unchanged
+-- What an event that failed keeps, even if its fault shut a store: the connector knows and has seen what it had, unless
+-- the event was its restart
 abbrev pub Keeps : {R J : Type 0} → (old new : Running R J) → Event → Type 0
-Keeps old new (Changes row) = KeepsSides old new
-Keeps old new (Sends name) = KeepsSides old new
-Keeps old new (Delivers number) = KeepsTo old new (message_at (messages_of old.sent.items) number)
-Keeps old new (Cuts number length) = KeepsSides old new
-Keeps old new Restarts_provider = KeepsConnector old new
-Keeps old new Restarts_connector = new.provider ≡ old.provider
+Keeps old new event = (ReadsJournal event → ⊥) → known_in new.connector ≡ known_in old.connector
+
+-- Whatever the result of an event, the side that it doesn't need is unchanged: the connector, what it knows and its
+-- journal, if the event reads the registry, and otherwise the provider
+pub record Apart {R J : Type 0} (old new : Running R J) (event : Event) : Type 0 where
+  pub connector : ReadsRegistry old event → new.connector ≡ old.connector
+  pub provider : (ReadsRegistry old event → ⊥) → new.provider ≡ old.provider
 
 -- ---- runs
 
@@ -268,6 +291,7 @@ pub record FailsAt {R J : Type 0} (g : Registries R) (h : Journals J) (registry 
   pub runs : Runs g h first last early told
   pub fails : Fails g h last left event fault
   pub keeps : Keeps last left event
+  pub apart : Apart last left event
 
 -- Why a run failed: a fault of the journal's store was counted at the start, or an event failed, or memory ran out
 abbrev pub EndsRun : {R J : Type 0} → Registries R → Journals J → R → J → (base : List ℕ) → List Event → WorldFault → Type 0

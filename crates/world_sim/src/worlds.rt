@@ -12,11 +12,12 @@ ghost use Rattle.scim_key.specs.Bases.{IsBase};
 ghost use Rattle.scim_message.specs.declared.messages.Answer.{Answer};
 ghost use Rattle.scim_http.specs.Replies.{answer_text};
 ghost use Rattle.source_csv.specs.Records.{IsRow};
-ghost use Rattle.world_model.specs.Reports.{Judged, Taught, learnt_of, next_number, sending_report};
-ghost use Rattle.world_model.specs.World.{Answered, Asked, Changes, Cuts, Delivers, Restarts_connector, Restarts_provider, Sends, with_message};
+ghost use Rattle.world_model.specs.Reports.{Judged, Taught, learnt_of, sending_report};
+ghost use Rattle.world_model.specs.World.{Answered, Asked, Changes, Cuts, Delivers, Restarts_connector, Restarts_provider, Sends};
 ghost use Rattle.world_sim.specs.Events.{event_of, report_of};
 ghost use Rattle.world_sim.specs.Fitting.{IsFormed};
-ghost use Rattle.world_sim.specs.Running.{Arrives, Fails, FailsToArrive, Happens, IsOpenedBy, IsShutOff, Keeps, KeepsConnector, Makes, Mirrors, Starts, Stays, journal_after, journal_in, opens_after, opens_of};
+ghost use Rattle.world_sim.specs.GoingOn.{FailsOn, GoesOn, unknown_entries};
+ghost use Rattle.world_sim.specs.Running.{Apart, Arrives, Fails, FailsToArrive, Happens, IsOpenedBy, IsShutOff, Keeps, Posts, Starts, Stays, journal_after, journal_in, opens_after, opens_of};
 ghost use Rattle.world_sim.specs.Sides.{CountsStart, CountsWorldFault};
 ghost use Rattle.world_sim.specs.declared.reports.Report.TheVariants.{CutShort};
 ghost use Rattle.world_sim.specs.declared.reports.WorldFault.TheVariants.{Memory, Store};
@@ -214,7 +215,10 @@ impl<R: Registry + Drop, J: Journal + Drop> World<R, J> {
     fn change(&mut self, row: &Row) -> Result<Report, WorldFault>
         ensures done { IfOk result (Happens R.Registry J.Journal self.old self.new (Changes row.now)) }
         ensures fails { IfErr result (Fails R.Registry J.Journal self.old self.new (Changes row.now)) }
+        ensures goes_on { IfOk result (GoesOn R.Registry J.Journal self.old self.new (Changes row.now)) }
+        ensures fails_on { IfErr result (FailsOn R.Registry J.Journal self.old self.new (Changes row.now)) }
         ensures keeps { OnErr result (Keeps self.old self.new (Changes row.now)) }
+        ensures apart { Apart self.old self.new (Changes row.now) }
         ensures shut { IsShutOff self.old (Changes row.now) → result ≡ Err Store }
         ensures opens { opens_of self.new ≡ opens_of self.old }
     {
@@ -231,7 +235,10 @@ impl<R: Registry + Drop, J: Journal + Drop> World<R, J> {
     pub(crate) fn send(&mut self, name: &RecordName) -> Result<Report, WorldFault>
         ensures done { IfOk result (Happens R.Registry J.Journal self.old self.new (Sends name.now)) }
         ensures fails { IfErr result (Fails R.Registry J.Journal self.old self.new (Sends name.now)) }
+        ensures goes_on { IfOk result (GoesOn R.Registry J.Journal self.old self.new (Sends name.now)) }
+        ensures fails_on { IfErr result (FailsOn R.Registry J.Journal self.old self.new (Sends name.now)) }
         ensures keeps { OnErr result (Keeps self.old self.new (Sends name.now)) }
+        ensures apart { Apart self.old self.new (Sends name.now) }
         ensures shut { IsShutOff self.old (Sends name.now) → result ≡ Err Store }
         ensures opens { opens_of self.new ≡ opens_of self.old }
     {
@@ -249,9 +256,10 @@ impl<R: Registry + Drop, J: Journal + Drop> World<R, J> {
 
     /// Sends a request.
     fn post(&mut self, request: Request) -> Result<Report, WorldFault>
-        ensures sent { IfOk result (Makes R.Registry J.Journal self.old self.new (λ w. Mirrors R.Registry J.Journal self.new (with_message w (Asked request))) (λ w. sending_report (next_number w) request)) }
+        ensures sent { IfOk result (Posts self.old self.new request) }
         ensures memory { IfErr result (λ fault. fault ≡ Memory) }
         ensures stays { OnErr result (Stays self.old self.new) }
+        ensures apart { self.new.provider ≡ self.old.provider }
         ensures opens { opens_of self.new ≡ opens_of self.old }
     {
         let report = sending(self.sent.len() + 1, &request);
@@ -264,7 +272,10 @@ impl<R: Registry + Drop, J: Journal + Drop> World<R, J> {
     pub(crate) fn deliver(&mut self, number: usize) -> Result<Report, WorldFault>
         ensures done { IfOk result (Happens R.Registry J.Journal self.old self.new (Delivers number)) }
         ensures fails { IfErr result (Fails R.Registry J.Journal self.old self.new (Delivers number)) }
+        ensures goes_on { IfOk result (GoesOn R.Registry J.Journal self.old self.new (Delivers number)) }
+        ensures fails_on { IfErr result (FailsOn R.Registry J.Journal self.old self.new (Delivers number)) }
         ensures keeps { OnErr result (Keeps self.old self.new (Delivers number)) }
+        ensures apart { Apart self.old self.new (Delivers number) }
         ensures shut { IsShutOff self.old (Delivers number) → result ≡ Err Store }
         ensures opens { opens_of self.new ≡ opens_of self.old }
     {
@@ -288,9 +299,9 @@ impl<R: Registry + Drop, J: Journal + Drop> World<R, J> {
     /// A request arrives, and its reply is sent. Everything that needs memory is done before the rows
     /// change.
     fn answer(&mut self, request: Request) -> Result<Report, WorldFault>
-        ensures done { IfOk result (Arrives R.Registry J.Journal self.old self.new (Asked request)) }
-        ensures fails { IfErr result (FailsToArrive R.Registry J.Journal self.old self.new (Asked request)) }
-        ensures keeps { KeepsConnector self.old self.new }
+        ensures done { IfOk result (Arrives R.Registry (unknown_entries J.Journal) self.old self.new (Asked request)) }
+        ensures fails { IfErr result (FailsToArrive R.Registry (unknown_entries J.Journal) self.old self.new (Asked request)) }
+        ensures apart { self.new.connector ≡ self.old.connector }
         ensures opens { opens_of self.new ≡ opens_of self.old }
     {
         let (pending, bytes) = prepared(
@@ -312,6 +323,8 @@ impl<R: Registry + Drop, J: Journal + Drop> World<R, J> {
     fn cut(&self, number: usize, length: usize) -> Result<Report, WorldFault>
         ensures done { IfOk result (Happens R.Registry J.Journal self.now self.now (Cuts number length)) }
         ensures fails { IfErr result (Fails R.Registry J.Journal self.now self.now (Cuts number length)) }
+        ensures goes_on { IfOk result (GoesOn R.Registry J.Journal self.now self.now (Cuts number length)) }
+        ensures fails_on { IfErr result (FailsOn R.Registry J.Journal self.now self.now (Cuts number length)) }
     {
         match sent_at(&self.sent, number) {
             Some(sent) if length < sent.bytes.len() => {
@@ -328,7 +341,9 @@ impl<R: Reopen + Drop, J: Journal + Drop> World<R, J> {
     fn restart_provider(&mut self) -> Result<Report, WorldFault>
         ensures done { IfOk result (Happens R.Registry J.Journal self.old self.new Restarts_provider) }
         ensures fails { IfErr result (Fails R.Registry J.Journal self.old self.new Restarts_provider) }
-        ensures keeps { KeepsConnector self.old self.new }
+        ensures goes_on { IfOk result (GoesOn R.Registry J.Journal self.old self.new Restarts_provider) }
+        ensures fails_on { IfErr result (FailsOn R.Registry J.Journal self.old self.new Restarts_provider) }
+        ensures apart { Apart self.old self.new Restarts_provider }
         ensures opened { OnOk result (R.is_honest self.new.provider → R.is_faithful self.new.provider) }
         ensures opens { opens_of self.new ≡ opens_after Restarts_provider (is_ok result) (opens_of self.old) }
     {
@@ -344,7 +359,9 @@ impl<R: Registry + Drop, J: ReopenJournal + Drop> World<R, J> {
     fn restart_connector(&mut self) -> Result<Report, WorldFault>
         ensures done { IfOk result (Happens R.Registry J.Journal self.old self.new Restarts_connector) }
         ensures fails { IfErr result (Fails R.Registry J.Journal self.old self.new Restarts_connector) }
-        ensures keeps { self.new.provider ≡ self.old.provider }
+        ensures goes_on { IfOk result (GoesOn R.Registry J.Journal self.old self.new Restarts_connector) }
+        ensures fails_on { IfErr result (FailsOn R.Registry J.Journal self.old self.new Restarts_connector) }
+        ensures apart { Apart self.old self.new Restarts_connector }
         ensures opened { OnOk result (J.is_honest (journal_in self.new.connector) → J.is_faithful (journal_in self.new.connector)) }
         ensures opens { opens_of self.new ≡ opens_after Restarts_connector (is_ok result) (opens_of self.old) }
     {
@@ -358,10 +375,14 @@ impl<R: Registry + Drop, J: ReopenJournal + Drop> World<R, J> {
 impl<R: Reopen + Drop, J: ReopenJournal + Drop> World<R, J> {
     /// Makes one event. After a fault, the connector knows and has seen what it had, unless a restart
     /// failed: events that need that side return `WorldFault::Store` until a restart of it succeeds.
+    /// Events that need the other side alone go on as before.
     pub fn step(&mut self, event: &Event) -> Result<Report, WorldFault>
         ensures done { IfOk result (Happens R.Registry J.Journal self.old self.new (event_of event.now)) }
         ensures fails { IfErr result (Fails R.Registry J.Journal self.old self.new (event_of event.now)) }
+        ensures goes_on { IfOk result (GoesOn R.Registry J.Journal self.old self.new (event_of event.now)) }
+        ensures fails_on { IfErr result (FailsOn R.Registry J.Journal self.old self.new (event_of event.now)) }
         ensures keeps { OnErr result (Keeps self.old self.new (event_of event.now)) }
+        ensures apart { Apart self.old self.new (event_of event.now) }
         ensures shut { IsShutOff self.old (event_of event.now) → result ≡ Err Store }
         ensures opened { OnOk result (IsOpenedBy R.Registry J.Journal self.new (event_of event.now)) }
         ensures opens { opens_of self.new ≡ opens_after (event_of event.now) (is_ok result) (opens_of self.old) }

@@ -23,7 +23,7 @@ pub returns-in_err-report-clause-fault : goal.returns-in_err-report-clause-fault
 returns-in_err-report-clause-fault g c =
     let less : c.loop-event.event-index < length c.args.events.now = search rules in
     let why = event_ends g.R.Registry g.J.Journal c.in-Ok.world c.loop-event.world c.step.new.self c.args.registry c.args.journal c.args.base c.args.events.now c.loop-event.event-index c.event-item.result c.loop-event.reports.items _
-    less c.event-item.is c.in-Ok.ensures.base c.in-Ok.ensures.open c.in-Ok.ensures.starts c.loop-event.invariant c.in_err-report.ensures.fails c.in_err-report.ensures.keeps in
+    less c.event-item.is c.in-Ok.ensures.base c.in-Ok.ensures.open c.in-Ok.ensures.starts c.loop-event.invariant c.in_err-report.ensures.fails c.in_err-report.ensures.keeps c.in_err-report.ensures.apart in
     search rules
 
 pub returns-clause-ran : goal.returns-clause-ran

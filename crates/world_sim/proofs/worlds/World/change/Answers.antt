@@ -1,7 +1,8 @@
-use Rattle.std.proofs.Common.{◌≡◌, refl, rules}
+use Rattle.std.proofs.Common.{◌≡◌, rules}
+use Rattle.world_sim.proofs.GoingOn.{changes_on, fails_on_change}
+use Rattle.world_sim.proofs.Keeping.{known_still, on_err}
 use Rattle.world_sim.proofs.Restarts.{fails_to_change}
 use Rattle.world_sim.proofs.Steps.{changes_told}
-use Rattle.world_sim.proofs.Keeping.{book_keeps, on_err}
 use Rattle.world_sim.proofs.worlds.World.change.Goals as goal
 
 pub returns-in_ok-clone-in-Open-clause-done : goal.returns-in_ok-clone-in-Open-clause-done
@@ -18,5 +19,19 @@ returns-in_ok-clone-in-Open-clause-fails g c =
     fails_to_change g.R.Registry g.J.Journal c.args.self.now c.in-Open.connector c.judge.new.connector c.args.row.now c.in_ok-clone-in-Open.field-0 c.judge.result copied c.in-Open.is
     told.same told.honest told.still told.leaves told.counted
 
+pub returns-in_ok-clone-in-Open-clause-goes_on : goal.returns-in_ok-clone-in-Open-clause-goes_on
+returns-in_ok-clone-in-Open-clause-goes_on g c =
+    let copied : c.in_ok-clone-in-Open.field-0 ≡ c.args.row.now = search rules in
+    let told = c.judge.ensures in
+    changes_on g.R.Registry g.J.Journal c.args.self.now c.in-Open.connector c.judge.new.connector c.args.row.now c.in_ok-clone-in-Open.field-0 c.judge.result (search rules) copied c.in-Open.is
+    told.honest told.open told.leaves told.book told.report
+
+pub returns-in_ok-clone-in-Open-clause-fails_on : goal.returns-in_ok-clone-in-Open-clause-fails_on
+returns-in_ok-clone-in-Open-clause-fails_on g c =
+    let copied : c.in_ok-clone-in-Open.field-0 ≡ c.args.row.now = search rules in
+    let told = c.judge.ensures in
+    fails_on_change g.R.Registry g.J.Journal c.args.self.now c.in-Open.connector c.judge.new.connector c.args.row.now c.in_ok-clone-in-Open.field-0 c.judge.result copied c.in-Open.is
+    told.same told.honest told.still told.leaves told.counted
+
 pub returns-in_ok-clone-in-Open-clause-keeps : goal.returns-in_ok-clone-in-Open-clause-keeps
-returns-in_ok-clone-in-Open-clause-keeps g c = on_err c.judge.result (book_keeps c.args.self.now _ c.in-Open.connector c.judge.new.connector c.in-Open.is refl refl) c.judge.ensures.same
+returns-in_ok-clone-in-Open-clause-keeps g c = on_err c.judge.result (λ same _. known_still c.args.self.now.connector c.in-Open.connector c.judge.new.connector c.in-Open.is same) c.judge.ensures.same
