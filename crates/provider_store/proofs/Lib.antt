@@ -8,6 +8,7 @@ pub mod Fields
 pub mod Failing
 pub mod Giving
 pub mod Finding
+pub mod Paging
 pub mod Written
 pub mod Reading
 pub mod RowReading

@@ -1,11 +1,12 @@
 -- What the statements mean over the tables.
-use Rattle.std.proofs.Common.{ℕ, pos, List, [], ◌∷◌, codes, refl}
+use Rattle.std.proofs.Common.{ℕ, pos, false, List, [], ◌∷◌, codes, refl}
 use Rattle.sqlite_value.specs.declared.value.Value.TheVariants.{Null, Int}
 use Rattle.sqlite_value.specs.declared.keys.Collation.TheVariants.{Binary}
+use Rattle.sqlite_value.specs.declared.keys.Key.{Key}
 use Rattle.sqlite_sql.specs.Term.{Term, lit, col, op1, op2}
 use Rattle.sqlite_sql.specs.declared.ops.UnaryOp.TheVariants.{ToNumeric}
 use Rattle.sqlite_sql.specs.declared.ops.BinaryOp.TheVariants.{Compare, Or}
-use Rattle.sqlite_sql.specs.declared.ops.CompareOp.TheVariants.{Eq, Lt, Gt}
+use Rattle.sqlite_sql.specs.declared.ops.CompareOp.TheVariants.{Eq, Lt, Gt, Le, Ge}
 use Rattle.sqlite_schema.specs.declared.command.Source.TheVariants.{Values}
 use Rattle.sqlite_schema.specs.declared.command.Command.TheVariants.{Insert, Update}
 use Rattle.sqlite_tied.specs.Compute.{everything}
@@ -14,7 +15,7 @@ use Rattle.sqlite_schema.specs.declared.command.Command.{Command}
 use Rattle.sql_tables.proofs.Queries.{IsSelect, query}
 use Rattle.sql_tables.proofs.Editing.{IsWrite}
 use Rattle.sql_tables.proofs.Marking.{marked_shown}
-use Rattle.provider_store.specs.Format.{provider_schema, insert_text, update_text, named_text, numbered_text, marked_text, outside_text}
+use Rattle.provider_store.specs.Format.{provider_schema, insert_text, update_text, named_text, numbered_text, page_text, marked_text, outside_text}
 
 abbrev pub insert_terms : List Term
 insert_terms = col 0 0 ∷ lit Null ∷ col 0 1 ∷ col 0 2 ∷ col 0 3 ∷ col 0 4 ∷ []
@@ -56,6 +57,17 @@ named_is = record { means = λ f. refl; reads = λ f. ((refl, refl), refl); fits
 pub numbered_is : IsSelect provider_schema numbered_text 1 (number_is ∷ []) shown_terms [] names 1
 unfolding understood everything
 numbered_is = record { means = λ f. refl; reads = λ f. ((refl, refl), refl); fits = λ f. (refl, refl) }
+
+-- the number is from the first one of a page to the last one
+abbrev pub page_terms : List Term
+page_terms = op2 (Compare Ge Binary) (col 1 0) (col 0 0) ∷ op2 (Compare Le Binary) (col 1 0) (col 0 1) ∷ []
+
+abbrev pub by_number : List (Term × Key)
+by_number = (col 1 0, record { collation = Binary; descending = false }) ∷ []
+
+pub page_is : IsSelect provider_schema page_text 1 page_terms shown_terms by_number names 2
+unfolding understood everything
+page_is = record { means = λ f. refl; reads = λ f. ((refl, refl), refl); fits = λ f. (refl, refl) }
 
 pub marked_is : IsSelect provider_schema marked_text 0 [] marked_shown [] (codes "number" ∷ []) 0
 unfolding understood everything

@@ -1,7 +1,10 @@
 -- What the statements require of a connection, and what they leave of it.
-use Rattle.std.specs.Prelude.{◌≡◌, ◌≢◌, ℕ, pos, List, [], ◌∷◌, Ok, IsTrue, filter}
-use Rattle.sqlite_value.specs.Order.{Row}
-use Rattle.sqlite_trees.specs.Tree.{has_rowid, put_row, without_rowid}
+use Rattle.std.specs.Prelude.{◌≡◌, ◌≢◌, ◌<◌, ◌≤◌, ◌+◌, ◌&&◌, ℕ, suc, pos, Bool, false, List, [], ◌∷◌, Some, Ok, IsTrue, IsPermutation, IsSorted, filter, length, map, slice_get}
+use Rattle.std.specs.Ordering.{is_ge, is_le}
+use Rattle.sqlite_value.specs.declared.value.Value.{Value}
+use Rattle.sqlite_value.specs.declared.value.Value.TheVariants.{Null, Int}
+use Rattle.sqlite_value.specs.Order.{Row, column, value_cmp}
+use Rattle.sqlite_trees.specs.Tree.{has_rowid, put_row, rowid, without_rowid}
 use Rattle.sqlite_rules.specs.Lists.{Has}
 use Rattle.sqlite.specs.State.{State}
 use Rattle.sqlite_trees.specs.Tree.{Trees}
@@ -60,6 +63,37 @@ abbrev pub IsOnly : List Row → Found → Type 0
 IsOnly rows Nothing = rows ≡ []
 IsOnly rows Damaged = (rows ≢ []) × ((r : Row) (s : StoredRecord) → rows ≡ r ∷ [] → IsRowOf r s → ⊥)
 IsOnly rows (There s) = (r : Row) × (rows ≡ r ∷ []) × IsRowOf r s
+
+-- ---- a page
+
+-- the number is from the first one to the last one, as SQLite compares them; NULL, which no row has as its number, isn't
+abbrev pub is_between : ℕ → ℕ → Value → Bool
+is_between first last Null = false
+is_between first last v = is_ge (value_cmp v (Int (pos first))) && is_le (value_cmp v (Int (pos last)))
+
+-- the rows with the numbers of a page, as the query shows them: in order of their numbers
+pub record IsRange (table : List Row) (first last : ℕ) (rows : List Row) : Type 0 where
+  pub same : IsPermutation (map shown_row (filter (λ r. is_between first last (rowid r)) table)) rows
+  pub ordered : IsSorted (λ a b. value_cmp (column a 0) (column b 0)) rows
+
+-- the rows show these records, one each, and the records are numbered from this number on
+abbrev pub AreRowsFrom : ℕ → List Row → List StoredRecord → Type 0
+AreRowsFrom number [] [] = Unit {0}
+AreRowsFrom number (r ∷ rows) (s ∷ page) = IsRowOf r s × (s.number ≡ number) × AreRowsFrom (suc number) rows page
+AreRowsFrom number rows page = ⊥
+
+-- these records are those with the numbers above `after` and up to `last`: their numbers follow each other from the next
+-- one on, each is in the only row with its number, and no row has a later number of the page
+pub record HoldsPage (table : List Row) (after last : ℕ) (page : List StoredRecord) : Type 0 where
+  pub each : (n : ℕ) (s : StoredRecord) → slice_get page n ≡ Some s → FindsNumber table (suc (after + n)) (There s)
+  pub none : (n : ℕ) → after + length page < n → n ≤ last → FindsNumber table n Nothing
+
+-- the rows with the numbers above `after` and up to `last` don't show records whose numbers follow each other from the
+-- next one on
+pub record IsBroken (table : List Row) (after last : ℕ) : Type 0 where
+  pub rows : List Row
+  pub range : IsRange table (suc after) last rows
+  pub unread : (page : List StoredRecord) → AreRowsFrom (suc after) rows page → ⊥
 
 -- ---- a write
 

@@ -84,6 +84,10 @@ named_text = codes "SELECT number, kind, name_key, version, content FROM resourc
 abbrev pub numbered_text : List ℕ
 numbered_text = codes "SELECT number, kind, name_key, version, content FROM resource WHERE number = ?1"
 
+-- the query for the rows with the numbers of a page
+abbrev pub page_text : List ℕ
+page_text = codes "SELECT number, kind, name_key, version, content FROM resource WHERE number >= ?1 AND number <= ?2 ORDER BY number"
+
 abbrev pub marked_text : List ℕ
 marked_text = codes "SELECT number FROM provider_format"
 

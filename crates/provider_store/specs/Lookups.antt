@@ -17,6 +17,12 @@ IsFaultOf (Ok Damaged) fault = fault ≡ Store
 IsFaultOf (Ok found) fault = ⊥
 IsFaultOf (Err given) fault = fault ≡ given
 
+-- a page that wasn't found whole is a fault of the store; otherwise the statement's fault is reported
+abbrev pub IsPageFault : {T : Type 0} (IsWhole : T → Type 0) → Result (Option T) RegistryFault → RegistryFault → Type 0
+IsPageFault IsWhole (Ok None) fault = fault ≡ Store
+IsPageFault IsWhole (Ok (Some page)) fault = (fault ≡ Store) × (IsWhole page → ⊥)
+IsPageFault IsWhole (Err given) fault = fault ≡ given
+
 -- a call that succeeded, and a call that failed
 abbrev pub answered : Result (Unit {0}) RegistryFault
 answered = Ok tt

@@ -1,5 +1,5 @@
 //! A registry in SQLite.
-ghost use Rattle.std.specs.Prelude.{◌≡◌, ◌⊎◌, ℕ, ◌<◌, ◌≤◌, ◌+◌, ◌-◌, ◌↔◌, ◌++◌, ◌∷◌, [], length, min, None, Ok, IfErr, IfOk, OnOk, IsTrue, slice_get};
+ghost use Rattle.std.specs.Prelude.{◌≡◌, ◌⊎◌, ℕ, ◌<◌, ◌≤◌, ◌+◌, ◌-◌, ◌↔◌, ◌++◌, ◌∷◌, [], length, min, None, Some, Ok, IfErr, IfOk, OnOk, IsTrue, slice_get};
 ghost use Rattle.std.specs.Result.{is_ok};
 ghost use Rattle.scim_resource.specs.Contents.{content_name};
 ghost use Rattle.provider_core.specs.Rows.{AreNamedApart, IsNumberedFrom, page_after, row_named, row_with_id, with_row};
@@ -9,7 +9,7 @@ ghost use Rattle.provider_store.specs.Kept.{IsFaithful, IsHonest, IsRefused, May
 ghost use Rattle.provider_store.specs.Connections.{FindsName, FindsNumber, resources};
 ghost use Rattle.provider_store.specs.Faults.{FailsFor};
 ghost use Rattle.provider_store.specs.declared.tables.Found.TheVariants.{Damaged};
-ghost use Rattle.provider_store.specs.Lookups.{IsFaultOf, found_of};
+ghost use Rattle.provider_store.specs.Lookups.{IsFaultOf, IsPageFault, found_of};
 ghost use Rattle.provider_store.specs.Opening.{IsCause, IsDamaged, LeavesNone, OpenFailsFor, OpeningFails, Stands, registry_fault};
 ghost use Rattle.sqlite.specs.Held.{state};
 ghost use Rattle.sqlite.specs.State.{HasCleanDisk, Survives};
@@ -17,7 +17,7 @@ ghost use Rattle.sql_tables.specs.Faults.{HasFailed};
 ghost use Rattle.sql_tables.specs.Statements.{LeavesStore};
 
 use crate::opening::{RegistryOpenFault, check_tables, open_tables};
-use crate::tables::{Found, find_named, find_numbered, insert_row, update_row};
+use crate::tables::{Found, find_named, find_numbered, find_page, insert_row, update_row};
 use provider_core::{Registry, RegistryFault, Reopen};
 use scim_key::{RecordName, ResourceId};
 use scim_resource::Stored;
@@ -92,6 +92,24 @@ fn one_of(
         Ok(Found::Damaged) => Err(counted(faults, RegistryFault::Store)),
         Err(fault) => Err(counted(faults, fault)),
     }
+}
+
+/// The page of this many rows that a look-up found; any other result is a fault of the store.
+fn page_of(
+    faults: &mut u64,
+    found: Result<Option<Vec<Stored>>, RegistryFault>,
+    count: u32,
+) -> Result<Vec<Stored>, RegistryFault>
+    ensures found { IfOk result (λ page. (found ≡ Ok (Some page)) × (length page.items ≡ count)) }
+    ensures fault { IfErr result (IsPageFault (λ page. length page.items ≡ count) found) }
+    ensures counts { CountsFaults CountsFault faults.old faults.new result }
+{
+    let fault = match found {
+        Ok(Some(page)) if page.len() == count as usize => return Ok(page),
+        Ok(_) => RegistryFault::Store,
+        Err(fault) => fault,
+    };
+    Err(counted(faults, fault))
 }
 
 impl<S: Alter> SqlRegistry<S> {
@@ -243,16 +261,12 @@ impl<S: Alter> Registry for SqlRegistry<S> {
         ensures reads { OnlyReads (kept_rows S.Store) (IsFaithful S.Store) (IsHonest S.Store) (MayHold S.Store) (λ k. k.faults) (λ k. k.writes) CountsFault self.old self.new result }
         ensures shut { IsRefused self.old result }
     {
-        self.row_at(1)?;
-        let mut page = Vec::new(self.alloc);
-        let last = self.last_of(after, limit);
-        for number in after..last {
-            match self.row_at(number + 1)? {
-                Some(row) => page.push(row)?,
-                None => return Err(counted(&mut self.faults, RegistryFault::Store)),
-            }
+        if !self.is_usable {
+            return Err(refusal(&mut self.faults));
         }
-        Ok(page)
+        let last = self.last_of(after, limit);
+        let found = find_page(self.alloc, &mut self.conn, after, last);
+        page_of(&mut self.faults, found, last.saturating_sub(after))
     }
 
     fn insert(&mut self, row: Stored) -> Result<(), RegistryFault>

@@ -1,5 +1,5 @@
 //! The tables, and the statements on them.
-ghost use Rattle.std.specs.Prelude.{◌≡◌, ℕ, pos, false, List, Ok, IfErr, IfNone, IfOk, IfSome, OnOk, OnErr, IsTrue};
+ghost use Rattle.std.specs.Prelude.{◌≡◌, ℕ, suc, pos, false, List, Ok, IfErr, IfNone, IfOk, IfSome, OnOk, OnErr, IsTrue};
 ghost use Rattle.sqlite_value.specs.declared.value.Value.TheVariants.{Int, Text};
 ghost use Rattle.sqlite_value.specs.Order.{column};
 ghost use Rattle.sqlite.specs.Held.{state};
@@ -10,7 +10,7 @@ ghost use Rattle.scim_resource.specs.Reading.{content_in};
 ghost use Rattle.scim_resource.specs.Rows.{IsStored, StoredRecord};
 ghost use Rattle.provider_store.specs.Faults.{FailsFor, statement_fault};
 ghost use Rattle.provider_store.specs.Rows.{IsRowOf, kind_code};
-ghost use Rattle.provider_store.specs.Connections.{FindsName, FindsNumber, IsLaid, IsOnly, IsThere, Leaves, Makes, added, content_text, renewed, resources};
+ghost use Rattle.provider_store.specs.Connections.{AreRowsFrom, FindsName, FindsNumber, HoldsPage, IsBroken, IsLaid, IsOnly, IsThere, Leaves, Makes, added, content_text, renewed, resources};
 ghost use Rattle.sql_tables.specs.Faults.{HasFailed};
 ghost use Rattle.sql_tables.specs.Statements.{Keeps};
 
@@ -158,6 +158,56 @@ pub(crate) fn find_numbered<S: Alter>(
         &[ValueRef::Int(i64::from(number))],
     ) {
         Ok(rows) => Ok(only(alloc, rows.as_slice())?),
+        Err(error) => Err(fault_of(error)),
+    }
+}
+
+/// The resources that the rows show, or none if a row is invalid or the numbers don't follow each other from
+/// the one after `after`.
+fn read_page(alloc: Global, rows: &[Row], after: u32) -> Result<Option<Vec<Stored>>, AllocError>
+    ensures some { IfOk result (λ page. IfSome page (λ records. AreRowsFrom (suc after) rows.now records.items)) }
+    ensures none { IfOk result (λ page. IfNone page ((records : List StoredRecord) → AreRowsFrom (suc after) rows.now records → ⊥)) }
+{
+    let mut page = Vec::new(alloc);
+    let mut last = after;
+    for row in rows {
+        let Some(stored) = read_row(alloc, row)? else {
+            return Ok(None);
+        };
+        if u64::from(stored.number()) != u64::from(last) + 1 {
+            return Ok(None);
+        }
+        last = stored.number();
+        page.push(stored)?;
+    }
+    Ok(Some(page))
+}
+
+/// The resources with the numbers above `after` and up to `last`, or none if a row with one of these numbers
+/// is invalid, or the numbers of the rows don't follow each other from the one after `after`.
+pub(crate) fn find_page<S: Alter>(
+    alloc: Global,
+    conn: &mut Connection<S>,
+    after: u32,
+    last: u32,
+) -> Result<Option<Vec<Stored>>, RegistryFault>
+    requires laid { HasCleanDisk (state S.Store conn.old) → IsTrue (state S.Store conn.old).is_open → IsLaid (state S.Store conn.old) }
+    ensures found { HasCleanDisk (state S.Store conn.new) → IfOk result (λ page. IfSome page (λ records. HoldsPage (resources (state S.Store conn.old)) after last records.items)) }
+    ensures broken { HasCleanDisk (state S.Store conn.new) → IfOk result (λ page. IfNone page (IsBroken (resources (state S.Store conn.old)) after last)) }
+    ensures failed { HasCleanDisk (state S.Store conn.new) → IfErr result (FailsFor (HasFailed (state S.Store conn.old) (state S.Store conn.new))) }
+    ensures keeps { HasCleanDisk (state S.Store conn.new) → Keeps (state S.Store conn.old) (state S.Store conn.new) }
+    ensures open { HasCleanDisk (state S.Store conn.new) → OnOk result (IsTrue (state S.Store conn.new).is_open) }
+    ensures quiet { Survives (state S.Store conn.old) (state S.Store conn.new) (λ _. ⊥) }
+{
+    match ask::<S, Provider>(
+        conn,
+        "SELECT number, kind, name_key, version, content FROM resource WHERE number >= ?1 AND number <= ?2 ORDER BY number",
+        &[
+            ValueRef::Int(i64::from(after) + 1),
+            ValueRef::Int(i64::from(last)),
+        ],
+    ) {
+        Ok(rows) => Ok(read_page(alloc, rows.as_slice(), after)?),
         Err(error) => Err(fault_of(error)),
     }
 }
