@@ -5,7 +5,7 @@ ghost use Rattle.std.specs.Time.{instant_nanos};
 use std::time::{Duration, Instant};
 
 /// The longest time between two looks, in milliseconds.
-const LONGEST_PAUSE: u64 = 64;
+const LONGEST_PAUSE: u64 = 256;
 
 /// The time between two looks is this part of the time in which nothing moved.
 const PART: u32 = 8;
