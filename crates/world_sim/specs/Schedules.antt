@@ -2,7 +2,7 @@
 use Rattle.std.specs.Prelude.{ℕ, ◌+◌, Bool, true, List, [], ◌∷◌, ◌++◌, Option, Some, None, Result, Ok, if◌then◌else◌, ◌==◌, ◌&&◌, codes, length, map, nat_le, option_to_list}
 use Rattle.std.specs.Char.{is_ascii_digit}
 use Rattle.std.specs.List.{after_first, before_first, join_with_byte, list_all}
-use Rattle.std.specs.Option.{ok_or, option_and_then, option_map}
+use Rattle.std.specs.Option.{ok_or, option_and_then, option_map, option_or}
 use Rattle.std.specs.Str.{bytes_eq}
 use Rattle.std.specs.Str.Lines.{lines}
 use Rattle.std.specs.Str.Parse.{digits_value}
@@ -12,10 +12,9 @@ use Rattle.scim_key.specs.declared.records.Kind.TheVariants as kind
 use Rattle.scim_key.specs.declared.records.RecordName.{RecordName}
 use Rattle.scim_filter.specs.Names.{record_named}
 use Rattle.source_csv.specs.Fields.{Record}
-use Rattle.source_csv.specs.Files.{AreRecordsOf, rows_of}
+use Rattle.source_csv.specs.Files.{AreRecordsOf, headers_of, rows_of}
 use Rattle.source_csv.specs.declared.faults.RowFault.{RowFault}
 use Rattle.source_csv.specs.declared.faults.SourceFault.{SourceFault}
-use Rattle.source_csv.specs.declared.files.TheConstants.{GROUP_COLUMNS, USER_COLUMNS}
 use Rattle.source_csv.specs.declared.rows.Row.{Row}
 use Rattle.world_sim.specs.declared.events.Event.{Event}
 use Rattle.world_sim.specs.declared.events.Event.TheVariants as events
@@ -28,23 +27,23 @@ use Rattle.world_sim.specs.declared.schedules.TheConstants.{NUMBER_DIGITS}
 abbrev pub ReadsFiles : (List ℕ → List Record) → Type 0
 ReadsFiles records_in = (bytes : List ℕ) → AreRecordsOf bytes (records_in bytes)
 
--- the header of a record of this kind in a schedule
-abbrev pub header_of : Kind → Record
-header_of kind.User = map (λ column. column.now) USER_COLUMNS
-header_of kind.Group = map (λ column. column.now) GROUP_COLUMNS
-
--- a file of this kind with one record: its header, a line end, and the record
-abbrev pub file_of : Kind → List ℕ → List ℕ
-file_of of text = join_with_byte 44 (header_of of) ++ 10 ∷ text
+-- a file with one record: this header, a line end, and the record
+abbrev pub file_of : Record → List ℕ → List ℕ
+file_of columns text = join_with_byte 44 columns ++ 10 ∷ text
 
 -- the only row of a file, if it has exactly one record and that is a row
 abbrev pub only_row : Result (List (Result Row RowFault)) SourceFault → Option Row
 only_row (Ok (Ok row ∷ [])) = Some row
 only_row other = None
 
+-- the row that a record of this kind is under the first of these headers that makes it exactly one row
+abbrev pub row_under : (List ℕ → List Record) → Kind → List ℕ → List Record → Option Row
+row_under records_in of text [] = None
+row_under records_in of text (columns ∷ headers) = option_or (only_row (rows_of of (records_in (file_of columns text)))) (row_under records_in of text headers)
+
 -- `user` or `group` and a record: the source offers that row
 unfoldable pub change_in : (List ℕ → List Record) → Kind → List ℕ → Option Event
-change_in records_in of text = option_map events.Change (only_row (rows_of of (records_in (file_of of text))))
+change_in records_in of text = option_map events.Change (row_under records_in of text (headers_of of))
 
 -- the text before the first space, and the text after it
 abbrev pub first_word : List ℕ → List ℕ

@@ -7,7 +7,7 @@ ghost use Rattle.scim_key.specs.Outcome.{Gives, GivesBy};
 ghost use Rattle.scim_filter.specs.Names.{is_lawful, record_named};
 ghost use Rattle.source_csv.specs.Fields.{Record, named};
 ghost use Rattle.source_csv.specs.Files.{AreRecordsOf, rows_of};
-ghost use Rattle.world_sim.specs.Schedules.{ReadsFiles, behind, event_in, event_of_words, events_from, events_in, file_of, first_word, is_silent, only_row};
+ghost use Rattle.world_sim.specs.Schedules.{ReadsFiles, behind, event_in, event_of_words, events_from, events_in, file_of, first_word, is_silent, only_row, row_under};
 ghost use Rattle.world_sim.specs.Schedules as spec;
 ghost use Rattle.world_sim.specs.declared.schedules.ScheduleFault.TheVariants as fault;
 ghost use Rattle.world_sim.specs.declared.events.Event.TheVariants as events;
@@ -15,7 +15,7 @@ ghost use Rattle.world_sim.specs.declared.events.Event.TheVariants as events;
 use crate::events::Event;
 use scim_key::{GroupName, Key, Kind, NameFault, RecordName, UserName};
 use source_csv::{
-    GROUP_COLUMNS, Row, RowFault, SourceFault, SourceRows, USER_COLUMNS, read_groups, read_users,
+    GROUP_HEADERS, Row, RowFault, SourceFault, SourceRows, USER_HEADERS, read_groups, read_users,
 };
 use std::alloc::{AllocError, AllocFailed, Global};
 use thiserror::Error;
@@ -64,14 +64,11 @@ fn header(alloc: Global, columns: &[&str]) -> Result<String, AllocError>
     Ok(header)
 }
 
-/// The file of this kind with only this record.
-fn file_of(alloc: Global, kind: Kind, text: &str) -> Result<String, AllocError>
-    ensures { IfOk result (λ file. string_bytes file ≡ file_of kind text.now) }
+/// The file with this header and only this record.
+fn file_of(alloc: Global, columns: &[&str], text: &str) -> Result<String, AllocError>
+    ensures { IfOk result (λ file. string_bytes file ≡ file_of (named columns.now) text.now) }
 {
-    let mut file = match kind {
-        Kind::User => header(alloc, &USER_COLUMNS)?,
-        Kind::Group => header(alloc, &GROUP_COLUMNS)?,
-    };
+    let mut file = header(alloc, columns)?;
     file.push('\n')?;
     file.push_str(text)?;
     Ok(file)
@@ -111,13 +108,33 @@ fn only_row_in(alloc: Global, kind: Kind, bytes: &[u8]) -> Result<Option<Row>, A
     }
 }
 
+/// The row that a record of this kind is under the first of these headers that makes it one row.
+fn row_under(
+    alloc: Global,
+    kind: Kind,
+    headers: &[&[&str]],
+    text: &str,
+) -> Result<Option<Row>, AllocError>
+    ensures { (records_in : List ℕ → List Record) → ReadsFiles records_in → IfOk result (λ row. row ≡ row_under records_in kind text.now (map (λ columns. named columns.now) headers.now)) }
+{
+    for columns in headers {
+        let file = file_of(alloc, columns, text)?;
+        if let Some(row) = only_row_in(alloc, kind, file.as_bytes())? {
+            return Ok(Some(row));
+        }
+    }
+    Ok(None)
+}
+
 /// The event that offers this record of a file of this kind.
 #[tactic(auto, unfolding(crate::specs::Schedules::change_in))]
 pub(crate) fn change_in(alloc: Global, kind: Kind, text: &str) -> Result<Option<Event>, AllocError>
     ensures { (records_in : List ℕ → List Record) → ReadsFiles records_in → IfOk result (λ event. event ≡ spec.change_in records_in kind text.now) }
 {
-    let file = file_of(alloc, kind, text)?;
-    let row = only_row_in(alloc, kind, file.as_bytes())?;
+    let row = match kind {
+        Kind::User => row_under(alloc, kind, &USER_HEADERS, text)?,
+        Kind::Group => row_under(alloc, kind, &GROUP_HEADERS, text)?,
+    };
     Ok(row.map(Event::Change))
 }
 
