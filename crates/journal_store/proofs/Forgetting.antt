@@ -1,5 +1,5 @@
 -- What a reset makes of the entries.
-use Rattle.std.proofs.Common.{◌≡◌, ℕ, zero, suc, true, false, ◌&&◌, cond, T, List, [], ◌∷◌, map, Some, refl, sym, ap, ◌∙◌, subst, arith}
+use Rattle.std.proofs.Common.{◌≡◌, ℕ, zero, suc, true, false, ◌&&◌, cond, T, List, [], ◌∷◌, map, Some, refl, sym, ap, ◌∙◌, subst, inl, arith}
 use Rattle.std.specs.FinMap.{entries, entries_sorted, entries-from_sorted, find, from_entries, from_sorted, get, get-entries, get-from_entries, get-from_sorted, is_sorted, same_map}
 use Rattle.std.specs.FinMap.Entries.{below_all}
 use Rattle.std.specs.List.{All, AllByRecursion, list_all}
@@ -9,10 +9,9 @@ use Rattle.std.proofs.lemmas.List.{length-map}
 use Rattle.scim_key.proofs.RevisionLaws.{none_first}
 use Rattle.scim_key.specs.RecordOrder.{names_total}
 use Rattle.scim_key.specs.Records.{name_cmp}
-use Rattle.scim_key.specs.Revisions.{◌≼◌}
 use Rattle.scim_key.specs.declared.records.RecordName.{RecordName}
 use Rattle.source_csv.specs.Records.{row_name, row_revision}
-use Rattle.journal_core.specs.Entries.{EntryMap, IsListOf, named}
+use Rattle.journal_core.specs.Entries.{EntryMap, IsListOf, IsUpTo, named}
 use Rattle.journal_core.specs.declared.entries.Entry.{Entry}
 use Rattle.journal_core.proofs.Trees.{names_same}
 use Rattle.journal_store.specs.Opening.{AreLawful, HasMembersOf, is_identified, keys_of}
@@ -63,13 +62,13 @@ entries_forgotten m =
     let same : from_entries es ≡ from_sorted {R = name_cmp} es = same_map names_total names_same (from_entries es) (from_sorted es) (λ q. get-from_entries names_total es q ∙ sym (get-from_sorted name_cmp es q sorted)) in
     ap entries same ∙ entries-from_sorted name_cmp es sorted
 
-none_within : (list : List Entry) → All (λ (e : Entry). e.confirmed ≼ row_revision e.row) (map unlearnt list)
-none_within [] k d low = absurd (omega arith)
-none_within (e ∷ list) zero d low = none_first (row_revision e.row)
-none_within (e ∷ list) (suc k) d low = none_within list k d (omega arith)
+none_confirmed : (list : List Entry) → All (λ (e : Entry). IsUpTo e.row e.confirmed) (map unlearnt list)
+none_confirmed [] k d low = absurd (omega arith)
+none_confirmed (e ∷ list) zero d low = record { known = inl refl; within = none_first (row_revision e.row) }
+none_confirmed (e ∷ list) (suc k) d low = none_confirmed list k d (omega arith)
 
 list_unlearnt : (m : EntryMap) (list : List Entry) → IsListOf m list → IsListOf (forgotten m) (map unlearnt list)
-list_unlearnt m list is = record { whole = entries_forgotten m ∙ ap (map at_name) is.whole ∙ named_after list; lawful = none_within list }
+list_unlearnt m list is = record { whole = entries_forgotten m ∙ ap (map at_name) is.whole ∙ named_after list; lawful = none_confirmed list }
 
 -- ---- entries that an opening accepts
 

@@ -35,7 +35,7 @@ pub all_show : (kind : Kind) (db : Trees) (list : List Entry) → ListsAll kind 
 all_show kind db list lists r there =
     let shown = map (shown_row kind) (db (entry_tree kind)) in
     let among = permuted lists.rows shown (shown_row kind r) (IsPermutation-sym shown lists.rows lists.all) (map_has (shown_row kind) (db (entry_tree kind)) r there) in
-    let it = zip_left kind lists.rows list (shown_row kind r) lists.shown.each among in
+    let it = zip_left (Shows kind) lists.rows list (shown_row kind r) lists.shown.each among in
     (it.0, it.2.entry_is)
 
 own_rowid : (kind : Kind) (r : Row) → rowid (reset_row kind r) ≡ rowid r

@@ -1,5 +1,5 @@
 -- What a reset leaves: the row of each record, and nothing that was learnt of the provider.
-use Rattle.std.specs.Prelude.{◌≡◌, ℕ, pos, Bool, not, ◌||◌, List, [], ◌∷◌, None, codes, is_some, map, IsPermutation}
+use Rattle.std.specs.Prelude.{◌≡◌, ◌+◌, ◌-◌, ℕ, pos, Bool, not, ◌||◌, List, [], ◌∷◌, ◌++◌, None, codes, is_some, map, IsPermutation}
 use Rattle.std.specs.FinMap.{entries, from_entries, get, values}
 use Rattle.std.specs.List.{count_by}
 use Rattle.std.specs.Option.{option_map}
@@ -12,7 +12,7 @@ use Rattle.scim_key.specs.declared.records.Kind.TheVariants.{User, Group}
 use Rattle.scim_key.specs.declared.records.RecordName.{RecordName}
 use Rattle.journal_core.specs.Entries.{EntryMap, IsListOf}
 use Rattle.journal_core.specs.declared.entries.Entry.{Entry}
-use Rattle.journal_store.specs.Format.{entry_tree}
+use Rattle.journal_store.specs.Format.{column_count, entry_tree, places}
 use Rattle.journal_store.specs.Connections.{AreNumbered, ListsAll}
 use Rattle.journal_store.specs.Opening.{AreLawful}
 
@@ -48,11 +48,13 @@ abbrev pub reset_text : Kind → List ℕ
 reset_text User = codes "UPDATE user_entry SET confirmed = 0, id = NULL"
 reset_text Group = codes "UPDATE group_entry SET confirmed = 0, id = NULL"
 
--- the row with 0 and NULL in the last two columns, and with all its other columns
+-- how many columns of a type's table a reset keeps: all but the last two
+abbrev pub kept_count : Kind → ℕ
+kept_count kind = column_count kind - 2
+
+-- the row with its number and the columns that a reset keeps, and with 0 and NULL in the last two
 abbrev pub reset_row : Kind → Row → Row
-reset_row User r =
-    column r 0 ∷ column r 1 ∷ column r 2 ∷ column r 3 ∷ column r 4 ∷ column r 5 ∷ column r 6 ∷ column r 7 ∷ column r 8 ∷ Int (pos 0) ∷ Null ∷ []
-reset_row Group r = column r 0 ∷ column r 1 ∷ column r 2 ∷ column r 3 ∷ column r 4 ∷ Int (pos 0) ∷ Null ∷ []
+reset_row kind r = map (column r) (places 0 (1 + kept_count kind)) ++ Int (pos 0) ∷ Null ∷ []
 
 -- the table of a type has its rows, each reset
 abbrev pub Resets : Kind → (old new : Trees) → Type 0
