@@ -28,7 +28,7 @@ use Rattle.scim_resource.specs.declared.contents.Content.{Content}
 use Rattle.source_csv.specs.Records.{IsRow}
 use Rattle.source_csv.proofs.RowLemmas.{short_text}
 use Rattle.source_csv.specs.Rows.{UserFields, GroupFields, IsUserRow, IsGroupRow, text_of}
-use Rattle.source_csv.specs.declared.texts.UserText.TheVariants as texts
+use Rattle.source_csv.specs.declared.texts.TextField.TheVariants as texts
 use Rattle.source_csv.specs.declared.rows.Row.{Row}
 use Rattle.source_csv.specs.declared.rows.Row.TheVariants.{User, Group}
 use Rattle.source_book.specs.History.{user, members_of}
