@@ -4,7 +4,7 @@ use mapping::{row_line, user_content, write_images};
 use scim_key::{Kind, Revision};
 use source_book::{BookFault, Verdict, accept};
 use source_csv::{
-    GroupRow, Row, RowCode, RowFault, SourceFault, SourceRows, UserRow, UserText, read_groups,
+    GroupRow, Row, RowCode, RowFault, SourceFault, SourceRows, TextField, UserRow, read_groups,
     read_users,
 };
 use std::alloc::Global;
@@ -233,9 +233,9 @@ fn is_named(rt: &impl Abort, alloc: Global, row: &Row, key: &str) {
 }
 
 fn has_fields(rt: &impl Abort, user: &UserRow, given: &str, family: &str, mail: &str) {
-    assert_same(rt, user.text(UserText::Given), given);
-    assert_same(rt, user.text(UserText::Family), family);
-    assert_same(rt, user.text(UserText::Mail), mail);
+    assert_same(rt, user.text(TextField::Given), given);
+    assert_same(rt, user.text(TextField::Family), family);
+    assert_same(rt, user.text(TextField::Mail), mail);
 }
 
 #[test]
