@@ -208,9 +208,9 @@ fn the_first_whole_request_is_served_first(rt: HostRuntime) {
     );
     serves(&rt, alloc, &mut sockets, b"GET /c");
     assert_that(&rt, clock.millis.get() < 1_000);
-    // the silent one is out of time, which is noticed soon
+    // the silent one is out of time, which is noticed when it is looked at next, 256 ms later at most
     assert_that(&rt, sockets.accept().is_ok());
-    assert_that(&rt, (30_000..30_100).contains(&clock.millis.get()));
+    assert_that(&rt, (30_000..30_300).contains(&clock.millis.get()));
 }
 
 #[test]
