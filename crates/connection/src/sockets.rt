@@ -22,7 +22,7 @@ const LOOKS_AT_ONCE: u32 = 50;
 /// The first pause and the longest one, in microseconds. Each is longer than the one before by the first.
 const FIRST_PAUSE: u64 = 20;
 
-const LONGEST_PAUSE: u64 = 2_000;
+const LONGEST_PAUSE: u64 = 4_000;
 
 /// The connections of a listening socket. Each has this time in all, from when it is accepted. A connection
 /// is given out when its request is whole, is refused by its form, has ended or failed, or is out of time.
