@@ -1,5 +1,5 @@
 -- What the checks of an opening show, and what they leave.
-use Rattle.std.proofs.Common.{◌≡◌, ◌≢◌, ◌⊎◌, ◌<◌, ℕ, zero, suc, ◌+◌, ◌-◌, ℤ, pos, false, List, [], ◌∷◌, ◌++◌, map, filter, length, Some, None, Result, Ok, Err, IsTrue, IfErr, IsErrAnd, refl, sym, ap, ◌∙◌, subst, inl, inr, arith, IsPermutation}
+use Rattle.std.proofs.Common.{◌≡◌, ◌≢◌, ◌⊎◌, ◌<◌, ℕ, zero, suc, ◌+◌, ◌-◌, ℤ, pos, false, List, [], ◌∷◌, ◌++◌, map, filter, length, length-append, Some, None, Result, Ok, Err, IsTrue, IfErr, IsErrAnd, refl, sym, ap, ◌∙◌, subst, inl, inr, arith, IsPermutation}
 use Rattle.std.specs.Prelude.{slice_get}
 use Rattle.std.proofs.lemmas.Option.{slice_get_within}
 use Rattle.sqlite_value.specs.declared.value.Value.TheVariants.{Int}
@@ -7,12 +7,12 @@ use Rattle.sqlite_value.specs.Order.{Row, column}
 use Rattle.sqlite_trees.specs.Tree.{rowid, has_rowid}
 use Rattle.sqlite_rules.specs.Lists.{Has}
 use Rattle.sqlite_rules.proofs.ListLemmas.{has_filtered}
-use Rattle.sqlite.specs.Effect.{Database}
+use Rattle.sqlite.specs.Effect.{Database, IsDatabase}
 use Rattle.sqlite.specs.State.{State, HasCleanDisk}
 use Rattle.sqlite_trees.proofs.ListLemmas.{filter_same, all_of}
 use Rattle.scim_resource.specs.Contents.{content_name}
 use Rattle.scim_resource.specs.Rows.{StoredRecord}
-use Rattle.provider_core.specs.Rows.{is_named, row_named}
+use Rattle.provider_core.specs.Rows.{IsNumberedFrom, AreNamedApart, is_named, row_named}
 use Rattle.provider_core.specs.declared.registry.RegistryFault.{RegistryFault}
 use Rattle.provider_core.specs.declared.registry.RegistryFault.TheVariants as registry
 use Rattle.provider_core.proofs.RowLaws.{same_name-eq, find-passes}
@@ -23,8 +23,8 @@ use Rattle.provider_store.specs.Format.{outside_text}
 use Rattle.provider_store.specs.Rows.{shown_row, IsRowOf, number_at, Holds}
 use Rattle.provider_store.specs.Connections.{IsLaid, FindsName, resources}
 use Rattle.provider_store.specs.Faults.{FailsFor}
-use Rattle.provider_store.specs.Lawful.{IsLawfulAt, is_outside, IsOutside, AreWithin}
-use Rattle.provider_store.specs.Opening.{IsFor, IsAlone, HoldsFirst, IsNewer, IsNotLaid, IsSpoilt, IsDamaged, IsCause, IsOfRows, OpenFailsFor, open_fault}
+use Rattle.provider_store.specs.Lawful.{AreLawfulTo, IsLawfulAt, is_outside, IsOutside, AreWithin}
+use Rattle.provider_store.specs.Opening.{IsFor, IsAlone, IsNewer, IsNotLaid, IsSpoilt, IsDamaged, IsCause, IsOfRows, OpenFailsFor, open_fault}
 use Rattle.provider_store.specs.declared.opening.RegistryOpenFault.{RegistryOpenFault}
 use Rattle.provider_store.specs.declared.opening.RegistryOpenFault.TheVariants.{Store, Damaged, Newer, Memory}
 use Rattle.provider_store.specs.declared.tables.Found.TheVariants.{There}
@@ -32,7 +32,7 @@ use Rattle.provider_store.proofs.Texts.{outside_term, outside_shown, outside_is}
 use Rattle.provider_store.proofs.Outside.{outside_passes, none_passes, outside_tests}
 use Rattle.provider_store.proofs.Finding.{only_one, has_named, found_alone}
 use Rattle.provider_store.proofs.Holding.{numbered_append, apart_append, number_of}
-use Rattle.sql_tables.proofs.Looking.{same_now}
+use Rattle.sql_tables.proofs.Looking.{same_now, was_clean}
 use Rattle.sql_tables.proofs.Results.{if_err}
 use Rattle.sql_tables.specs.Layouts.{no_schema}
 use Rattle.sql_tables.specs.Statements.{Answers, Looks}
@@ -118,6 +118,10 @@ fails_of P (Err given) fault is it = subst (OpenFailsFor P) (sym is) (told_fails
 pub same_rows : (old new : State) → Looks old new → (HasCleanDisk old → IsTrue old.is_open → IsLaid old) → HasCleanDisk new → IsTrue new.is_open → resources new ≡ resources old
 same_rows old new looks laid clean still = ap (λ (d : Database). d.trees 1) (same_now old new looks laid clean still)
 
+pub sound_on : (old new : State) → Looks old new → (HasCleanDisk old → IsTrue old.is_open → IsLaid old) → (HasCleanDisk old → IsTrue old.is_open → IsDatabase old.now) → HasCleanDisk new → IsTrue new.is_open → IsDatabase new.now
+sound_on old new looks laid sound clean still =
+    subst IsDatabase (sym (same_now old new looks laid clean still)) (sound (was_clean old new looks laid clean) ((looks.keeps clean).was_open still))
+
 -- ---- the rows outside
 
 pub outside_found : (s : State) (number : ℤ) (count : ℕ) (rows given : List Row) → number ≡ pos count → given ≡ rows → IsLaid s → Answers outside_text (Int number ∷ []) s rows → given ≡ [] → (k : ℕ) → count < k → filter (has_rowid (pos k)) (resources s) ≡ []
@@ -156,7 +160,13 @@ alone_lawful table number it q r s t first second =
 
 -- ---- the rows in turn
 
-pub first_none : (table : List Row) → HoldsFirst table []
+-- the rows with the first numbers show these records, no two of them with the same name
+pub record HoldsFirst (table : List Row) (rows : List StoredRecord) : Type 0 where
+  pub numbered : IsNumberedFrom 1 rows
+  pub apart : AreNamedApart rows
+  pub each : (n : ℕ) (s : StoredRecord) → slice_get rows n ≡ Some s → (r : Row) × (filter (has_rowid (pos (suc n))) table ≡ r ∷ []) × IsRowOf (shown_row r) s
+
+first_none : (table : List Row) → HoldsFirst table []
 first_none table = record { numbered = tt; apart = apart-none; each = λ n s at. absurd (cc) }
 
 module _ (table : List Row) (rows : List StoredRecord) (first : HoldsFirst table rows) (lawful : IsLawfulAt table (length rows + 1)) where
@@ -190,7 +200,7 @@ module _ (table : List Row) (rows : List StoredRecord) (first : HoldsFirst table
         absurd (omega (arith, one, near, number_is, at.0))
   ] refl
 
-  pub first_next : HoldsFirst table (rows ++ new ∷ [])
+  first_next : HoldsFirst table (rows ++ new ∷ [])
   first_next = record {
     numbered = numbered_append 1 rows new first.numbered (omega (arith, number_is));
     apart = apart_append rows new first.apart other_name;
@@ -203,6 +213,14 @@ module _ (table : List Row) (rows : List StoredRecord) (first : HoldsFirst table
       )
     ];
   }
+
+-- valid rows show records
+pub first_of : (table : List Row) (count : ℕ) → AreLawfulTo table count → (rows : List StoredRecord) × HoldsFirst table rows × (length rows ≡ count)
+first_of table zero lawful = ([], first_none table, refl)
+first_of table (suc count) lawful =
+    let first = first_of table count (λ n low high. lawful n low (omega (arith, high))) in
+    let next : IsLawfulAt table (length first.0 + 1) = subst (IsLawfulAt table) (omega (arith, first.2)) (lawful (suc count) (omega arith) (omega arith)) in
+    (first.0 ++ next.held ∷ [], first_next table first.0 first.1 next, omega (arith, first.2, length-append first.0 (next.held ∷ [])))
 
 pub first_all : (table : List Row) (rows : List StoredRecord) → HoldsFirst table rows → ((n : ℕ) → length rows < n → filter (has_rowid (pos n)) table ≡ []) → Holds table rows
 first_all table rows first none = record {

@@ -17,5 +17,6 @@ pub mod Storing
 pub mod Scanning
 pub mod Refusing
 pub mod Checking
+pub mod Naming
 pub mod Made
 pub mod Reopening

@@ -5,7 +5,7 @@ use Rattle.sqlite_value.specs.declared.keys.Collation.TheVariants.{Binary}
 use Rattle.sqlite_value.specs.declared.keys.Key.{Key}
 use Rattle.sqlite_sql.specs.Term.{Term, lit, col, op1, op2}
 use Rattle.sqlite_sql.specs.declared.ops.UnaryOp.TheVariants.{ToNumeric}
-use Rattle.sqlite_sql.specs.declared.ops.BinaryOp.TheVariants.{Compare, Or}
+use Rattle.sqlite_sql.specs.declared.ops.BinaryOp.TheVariants.{Compare, Is, Or}
 use Rattle.sqlite_sql.specs.declared.ops.CompareOp.TheVariants.{Eq, Lt, Gt, Le, Ge}
 use Rattle.sqlite_schema.specs.declared.command.Source.TheVariants.{Values}
 use Rattle.sqlite_schema.specs.declared.command.Command.TheVariants.{Insert, Update}
@@ -15,7 +15,7 @@ use Rattle.sqlite_schema.specs.declared.command.Command.{Command}
 use Rattle.sql_tables.proofs.Queries.{IsSelect, query}
 use Rattle.sql_tables.proofs.Editing.{IsWrite}
 use Rattle.sql_tables.proofs.Marking.{marked_shown}
-use Rattle.provider_store.specs.Format.{provider_schema, insert_text, update_text, named_text, numbered_text, page_text, marked_text, outside_text}
+use Rattle.provider_store.specs.Format.{provider_schema, insert_text, update_text, named_text, numbered_text, page_text, marked_text, outside_text, unnumbered_text}
 
 abbrev pub insert_terms : List Term
 insert_terms = col 0 0 ∷ lit Null ∷ col 0 1 ∷ col 0 2 ∷ col 0 3 ∷ col 0 4 ∷ []
@@ -83,3 +83,11 @@ outside_shown = col 1 0 ∷ []
 pub outside_is : IsSelect provider_schema outside_text 1 (outside_term ∷ []) outside_shown [] (codes "number" ∷ []) 1
 unfolding understood everything
 outside_is = record { means = λ f. refl; reads = λ f. ((refl, refl), refl); fits = λ f. (refl, refl) }
+
+-- no number
+abbrev pub unnumbered_term : Term
+unnumbered_term = op2 (Is Binary) (col 1 0) (lit Null)
+
+pub unnumbered_is : IsSelect provider_schema unnumbered_text 1 (unnumbered_term ∷ []) outside_shown [] (codes "number" ∷ []) 0
+unfolding understood everything
+unnumbered_is = record { means = λ f. refl; reads = λ f. ((refl, refl), refl); fits = λ f. (refl, refl) }

@@ -94,3 +94,7 @@ marked_text = codes "SELECT number FROM provider_format"
 -- the query for numbers other than the first ones
 abbrev pub outside_text : List ℕ
 outside_text = codes "SELECT number FROM resource WHERE number < 1 OR number > ?1"
+
+-- the query for rows without a number
+abbrev pub unnumbered_text : List ℕ
+unnumbered_text = codes "SELECT number FROM resource WHERE number IS NULL"

@@ -4,6 +4,7 @@ use Rattle.std.specs.Ordering.{is_eq, is_lt, is_gt}
 use Rattle.sqlite_value.specs.declared.value.Value.{Value}
 use Rattle.sqlite_value.specs.declared.value.Value.TheVariants.{Null, Int, Text}
 use Rattle.sqlite_value.specs.Order.{Row, column, value_cmp}
+use Rattle.sqlite_sql.specs.Ops.{is_null}
 use Rattle.sqlite_trees.specs.Tree.{rowid, has_rowid}
 use Rattle.sqlite_rules.specs.Lists.{Has}
 use Rattle.scim_key.specs.Identifiers.{last_number}
@@ -36,6 +37,10 @@ pub record IsWrong (table : List Row) (number : ℕ) : Type 0 where
   pub unlawful : IsLawfulAt table number → ⊥
 
 -- ---- the rows in turn
+
+-- no row has NULL as its number
+abbrev pub AreNumbered : List Row → Type 0
+AreNumbered table = filter (λ r. is_null (rowid r)) table ≡ []
 
 -- the rows with the numbers from 1 to this one are valid
 abbrev pub AreLawfulTo : List Row → ℕ → Type 0

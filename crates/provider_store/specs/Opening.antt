@@ -1,15 +1,14 @@
 -- What an opening looks for, what it finds, and what it leaves if it refuses.
-use Rattle.std.specs.Prelude.{◌≡◌, ◌≢◌, ◌⊎◌, ℕ, suc, ◌<◌, ◌≤◌, pos, true, List, [], ◌∷◌, Some, IsTrue, length, filter, slice_get, codes}
+use Rattle.std.specs.Prelude.{◌≡◌, ◌≢◌, ◌⊎◌, ℕ, ◌<◌, ◌≤◌, true, List, [], ◌∷◌, Some, IsTrue, length, codes}
 use Rattle.sqlite_value.specs.Order.{Row}
-use Rattle.sqlite_trees.specs.Tree.{Trees, has_rowid}
+use Rattle.sqlite_trees.specs.Tree.{Trees}
 use Rattle.sqlite_schema.specs.declared.schema.Table.{Table}
 use Rattle.sqlite_schema.specs.declared.schema.Schema.{Schema}
 use Rattle.sqlite.specs.State.{State}
 use Rattle.scim_key.specs.declared.records.RecordName.{RecordName}
 use Rattle.scim_resource.specs.Rows.{StoredRecord}
-use Rattle.provider_core.specs.Rows.{IsNumberedFrom, AreNamedApart}
 use Rattle.provider_store.specs.Format.{provider_schema, resource_tree, resource_columns, name_places, format_number}
-use Rattle.provider_store.specs.Rows.{shown_row, IsRowOf, Holds}
+use Rattle.provider_store.specs.Rows.{shown_row, Holds}
 use Rattle.provider_store.specs.Lawful.{AreAllLawful, IsUnlawfulAt}
 use Rattle.provider_store.specs.Connections.{IsLaid, IsNamed, resources}
 use Rattle.sql_tables.specs.Layouts.{IsBlank, IsFormat, IsOne, IsPlainTable, no_schema}
@@ -68,12 +67,6 @@ IsFor newer damaged fault = Unit {0}
 -- no two rows show resources with this name
 abbrev pub IsAlone : List Row → RecordName → Type 0
 IsAlone table name = (q r : Row) (s t : StoredRecord) → IsNamed table name q s → IsNamed table name r t → shown_row q ≡ shown_row r
-
--- the rows with the first numbers show these records, no two of them with the same name
-pub record HoldsFirst (table : List Row) (rows : List StoredRecord) : Type 0 where
-  pub numbered : IsNumberedFrom 1 rows
-  pub apart : AreNamedApart rows
-  pub each : (n : ℕ) (s : StoredRecord) → slice_get rows n ≡ Some s → (r : Row) × (filter (has_rowid (pos (suc n))) table ≡ r ∷ []) × IsRowOf (shown_row r) s
 
 -- ---- the store
 

@@ -1,23 +1,25 @@
 //! Opens a store: makes its tables, or checks them and each of their rows.
-ghost use Rattle.std.specs.Prelude.{◌≡◌, ◌⊎◌, ◌<◌, ◌≤◌, ℕ, false, List, [], ◌∷◌, length, pos, IfErr, IfOk, OnErr, OnOk, IsTrue, filter};
+ghost use Rattle.std.specs.Prelude.{◌≡◌, ◌⊎◌, ◌<◌, ◌≤◌, ◌+◌, ℕ, false, List, [], ◌∷◌, length, min, pos, IfErr, IfOk, OnErr, OnOk, IsTrue, filter};
 ghost use Rattle.sqlite_value.specs.Order.{column};
 ghost use Rattle.sqlite_trees.specs.Tree.{has_rowid};
 ghost use Rattle.sqlite_rules.specs.Lists.{Has};
+ghost use Rattle.sqlite.specs.Effect.{IsDatabase};
 ghost use Rattle.sqlite.specs.Held.{state};
 ghost use Rattle.sqlite.specs.State.{HasCleanDisk, Survives};
+ghost use Rattle.scim_key.specs.Identifiers.{last_number};
 ghost use Rattle.scim_resource.specs.Contents.{content_name};
 ghost use Rattle.scim_resource.specs.Rows.{StoredRecord};
 ghost use Rattle.provider_store.specs.Format.{format_number};
-ghost use Rattle.provider_store.specs.Connections.{IsLaid, resources};
-ghost use Rattle.provider_store.specs.Lawful.{AreLawfulTo, AreWithin, EndsAt, IsFirstWrong, IsLawfulAt, IsOutside, IsWrong, NoneNamed, has_name};
+ghost use Rattle.provider_store.specs.Connections.{IsBroken, IsLaid, resources};
+ghost use Rattle.provider_store.specs.Lawful.{AreLawfulTo, AreNumbered, AreWithin, EndsAt, IsFirstWrong, IsLawfulAt, IsOutside, IsWrong, NoneNamed, has_name};
 ghost use Rattle.provider_store.specs.Rows.{number_at};
-ghost use Rattle.provider_store.specs.Opening.{HoldsFirst, IsAlone, IsCause, IsDamaged, IsFor, IsNewer, IsNotLaid, IsOfRows, IsSpoilt, IsStore, IsUnmarked, LeavesNone, OpenFailsFor, OpeningFails, Stands};
+ghost use Rattle.provider_store.specs.Opening.{IsAlone, IsCause, IsDamaged, IsFor, IsNewer, IsNotLaid, IsOfRows, IsSpoilt, IsStore, IsUnmarked, LeavesNone, OpenFailsFor, OpeningFails, Stands};
 ghost use Rattle.sql_tables.specs.Faults.{HasFailed};
 ghost use Rattle.sql_tables.specs.Layouts.{IsBlank, IsFormat};
 ghost use Rattle.sql_tables.specs.Statements.{LeavesStore, Looks};
 
 use crate::format::{FORMAT, Provider, is_provider};
-use crate::tables::{Found, fault_of, find_named, find_numbered};
+use crate::tables::{Found, fault_of, find_named, find_numbered, find_page};
 use provider_core::RegistryFault;
 use scim_key::LAST_NUMBER;
 use scim_resource::Stored;
@@ -26,6 +28,9 @@ use sqlite::{Alter, Connection, Error, Row};
 use sqlite_value::value::ValueRef;
 use std::alloc::{AllocError, Global};
 use thiserror::Error as Fault;
+
+/// How many rows the check reads by one query.
+const ROWS_AT_ONCE: u32 = 200;
 
 /// Why a store couldn't be opened. Its contents are unchanged.
 #[derive(Clone, Copy, Debug, PartialEq, Eq, Fault)]
@@ -170,22 +175,101 @@ fn check_name<S: Alter>(
     }
 }
 
-/// Checks the rows in order of their numbers, and returns how many follow each other from 1.
-fn check_rows<S: Alter>(alloc: Global, conn: &mut Connection<S>) -> Result<u32, RegistryOpenFault>
+/// Checks the rows after the first `from` one by one, and returns how many follow each other from 1.
+fn check_from<S: Alter>(
+    alloc: Global,
+    conn: &mut Connection<S>,
+    from: u32,
+) -> Result<u32, RegistryOpenFault>
     requires laid { HasCleanDisk (state S.Store conn.old) → IsTrue (state S.Store conn.old).is_open → IsLaid (state S.Store conn.old) }
-    ensures first { HasCleanDisk (state S.Store conn.new) → IfOk result (λ count. (rows : List StoredRecord) × HoldsFirst (resources (state S.Store conn.old)) rows × (length rows ≡ count)) }
+    requires within { from ≤ last_number }
+    requires before { HasCleanDisk (state S.Store conn.old) → AreLawfulTo (resources (state S.Store conn.old)) from }
     ensures lawful { HasCleanDisk (state S.Store conn.new) → IfOk result (AreLawfulTo (resources (state S.Store conn.old))) }
     ensures ends { HasCleanDisk (state S.Store conn.new) → IfOk result (EndsAt (resources (state S.Store conn.old))) }
     ensures cause { HasCleanDisk (state S.Store conn.new) → IfErr result (IsFor ⊥ (λ told. IsTrue (state S.Store conn.new).is_open × IsFirstWrong (resources (state S.Store conn.old)) told)) }
     ensures failed { HasCleanDisk (state S.Store conn.new) → IfErr result (OpenFailsFor (HasFailed (state S.Store conn.old) (state S.Store conn.new))) }
     ensures looks { Looks (state S.Store conn.old) (state S.Store conn.new) }
 {
-    for count in 0..LAST_NUMBER {
+    for count in from..LAST_NUMBER {
         if !check_row(alloc, conn, count + 1)? {
             return Ok(count);
         }
     }
     Ok(LAST_NUMBER)
+}
+
+/// Whether each row has a number. SQLite gives one to each row, but its contracts don't say so.
+fn are_numbered<S: Alter>(conn: &mut Connection<S>) -> Result<bool, RegistryOpenFault>
+    requires laid { HasCleanDisk (state S.Store conn.old) → IsTrue (state S.Store conn.old).is_open → IsLaid (state S.Store conn.old) }
+    ensures all { HasCleanDisk (state S.Store conn.new) → IfOk result (λ are. IsTrue are → AreNumbered (resources (state S.Store conn.old))) }
+    ensures some { HasCleanDisk (state S.Store conn.new) → IfOk result (λ are. are ≡ false → AreNumbered (resources (state S.Store conn.old)) → ⊥) }
+    ensures cause { IfErr result (IsFor ⊥ (λ _. ⊥)) }
+    ensures open { HasCleanDisk (state S.Store conn.new) → OnOk result (IsTrue (state S.Store conn.new).is_open) }
+    ensures failed { HasCleanDisk (state S.Store conn.new) → IfErr result (OpenFailsFor (HasFailed (state S.Store conn.old) (state S.Store conn.new))) }
+    ensures looks { Looks (state S.Store conn.old) (state S.Store conn.new) }
+{
+    match ask::<S, Provider>(
+        conn,
+        "SELECT number FROM resource WHERE number IS NULL",
+        &[],
+    ) {
+        Ok(rows) => Ok(rows.is_empty()),
+        Err(error) => Err(RegistryOpenFault::from(error)),
+    }
+}
+
+/// The number up to which a page has rows that follow each other.
+fn page_end(after: u32, page: &[Stored], last: u32) -> u32
+    ensures { result ≡ min (after + length page.now) last }
+{
+    let end = (after as usize).saturating_add(page.len());
+    end.min(last as usize) as u32
+}
+
+/// Checks the rows by pages, and returns how many follow each other from 1, up to a page that is broken. It
+/// looks up no name, because kind and key are unique in sound tables.
+fn check_pages<S: Alter>(alloc: Global, conn: &mut Connection<S>) -> Result<u32, RegistryOpenFault>
+    requires laid { HasCleanDisk (state S.Store conn.old) → IsTrue (state S.Store conn.old).is_open → IsLaid (state S.Store conn.old) }
+    requires sound { HasCleanDisk (state S.Store conn.old) → IsTrue (state S.Store conn.old).is_open → IsDatabase (state S.Store conn.old).now }
+    requires numbered { HasCleanDisk (state S.Store conn.old) → AreNumbered (resources (state S.Store conn.old)) }
+    requires open { HasCleanDisk (state S.Store conn.old) → IsTrue (state S.Store conn.old).is_open }
+    ensures lawful { HasCleanDisk (state S.Store conn.new) → IfOk result (AreLawfulTo (resources (state S.Store conn.old))) }
+    ensures within { IfOk result (λ count. count ≤ last_number) }
+    ensures ends { HasCleanDisk (state S.Store conn.new) → IfOk result (λ count. EndsAt (resources (state S.Store conn.old)) count ⊎ ((last : ℕ) × IsBroken (resources (state S.Store conn.old)) count last)) }
+    ensures cause { IfErr result (IsFor ⊥ (λ _. ⊥)) }
+    ensures open { HasCleanDisk (state S.Store conn.new) → OnOk result (IsTrue (state S.Store conn.new).is_open) }
+    ensures failed { HasCleanDisk (state S.Store conn.new) → IfErr result (OpenFailsFor (HasFailed (state S.Store conn.old) (state S.Store conn.new))) }
+    ensures looks { Looks (state S.Store conn.old) (state S.Store conn.new) }
+{
+    let mut count = 0;
+    while count < LAST_NUMBER {
+        let last = LAST_NUMBER.min(count + ROWS_AT_ONCE);
+        let Some(page) = find_page(alloc, conn, count, last)? else {
+            return Ok(count);
+        };
+        count = page_end(count, page.as_slice(), last);
+        if count < last {
+            return Ok(count);
+        }
+    }
+    Ok(count)
+}
+
+/// Checks the rows in order of their numbers, and returns how many follow each other from 1.
+fn check_rows<S: Alter>(alloc: Global, conn: &mut Connection<S>) -> Result<u32, RegistryOpenFault>
+    requires laid { HasCleanDisk (state S.Store conn.old) → IsTrue (state S.Store conn.old).is_open → IsLaid (state S.Store conn.old) }
+    requires sound { HasCleanDisk (state S.Store conn.old) → IsTrue (state S.Store conn.old).is_open → IsDatabase (state S.Store conn.old).now }
+    ensures lawful { HasCleanDisk (state S.Store conn.new) → IfOk result (AreLawfulTo (resources (state S.Store conn.old))) }
+    ensures ends { HasCleanDisk (state S.Store conn.new) → IfOk result (EndsAt (resources (state S.Store conn.old))) }
+    ensures cause { HasCleanDisk (state S.Store conn.new) → IfErr result (IsFor ⊥ (λ told. IsTrue (state S.Store conn.new).is_open × IsFirstWrong (resources (state S.Store conn.old)) told)) }
+    ensures failed { HasCleanDisk (state S.Store conn.new) → IfErr result (OpenFailsFor (HasFailed (state S.Store conn.old) (state S.Store conn.new))) }
+    ensures looks { Looks (state S.Store conn.old) (state S.Store conn.new) }
+{
+    if !are_numbered(conn)? {
+        return check_from(alloc, conn, 0);
+    }
+    let count = check_pages(alloc, conn)?;
+    check_from(alloc, conn, count)
 }
 
 /// Checks that there is no row other than the first `count`.
@@ -225,6 +309,7 @@ fn none_in(rows: &[Row]) -> Result<(), RegistryOpenFault>
 /// Checks the format and each row, and returns how many rows there are.
 fn check_laid<S: Alter>(alloc: Global, conn: &mut Connection<S>) -> Result<u32, RegistryOpenFault>
     requires laid { HasCleanDisk (state S.Store conn.old) → IsTrue (state S.Store conn.old).is_open → IsLaid (state S.Store conn.old) }
+    requires sound { HasCleanDisk (state S.Store conn.old) → IsTrue (state S.Store conn.old).is_open → IsDatabase (state S.Store conn.old).now }
     ensures store { HasCleanDisk (state S.Store conn.new) → IfOk result (λ count. (rows : List StoredRecord) × IsStore (state S.Store conn.old) rows × (length rows ≡ count)) }
     ensures cause { HasCleanDisk (state S.Store conn.new) → IfErr result (IsFor (IsNewer (state S.Store conn.old)) (IsSpoilt (state S.Store conn.old))) }
     ensures open { HasCleanDisk (state S.Store conn.new) → OnOk result (IsTrue (state S.Store conn.new).is_open) }
@@ -240,6 +325,7 @@ fn check_laid<S: Alter>(alloc: Global, conn: &mut Connection<S>) -> Result<u32, 
 /// Whether the tables are laid out and no transaction is open.
 fn is_laid<S: Alter>(conn: &Connection<S>) -> bool
     ensures is { IsTrue result → IsTrue (state S.Store conn.now).is_open → IsLaid (state S.Store conn.now) }
+    ensures sound { IsTrue result → IsTrue (state S.Store conn.now).is_open → IsDatabase (state S.Store conn.now).now }
     ensures not { result ≡ false → IsNotLaid (state S.Store conn.now) }
 {
     conn.is_autocommit() && is_provider(conn.schema())

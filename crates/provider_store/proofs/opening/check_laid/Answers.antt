@@ -3,16 +3,20 @@ use Rattle.sqlite_trees.specs.Tree.{has_rowid}
 use Rattle.sqlite.specs.Held.{state}
 use Rattle.sqlite.specs.State.{HasCleanDisk}
 use Rattle.provider_store.specs.Connections.{resources}
-use Rattle.provider_store.specs.Opening.{HoldsFirst, IsNewer, IsSpoilt, IsUnmarked}
+use Rattle.provider_store.specs.Opening.{IsNewer, IsSpoilt, IsUnmarked}
 use Rattle.provider_store.specs.Lawful.{AreAllLawful, AreLawfulTo, AreWithin, EndsAt, IsFirstWrong, IsOutside}
 use Rattle.provider_store.proofs.Refusing.{spoilt_by}
 use Rattle.sql_tables.proofs.Looking.{one_of_laid}
-use Rattle.provider_store.proofs.Checking.{both_of, damage_of, same_rows, first_all}
-use Rattle.provider_store.proofs.Checking.{opens_of}
+use Rattle.provider_store.proofs.Checking.{both_of, damage_of, same_rows, first_all, first_of}
+use Rattle.provider_store.proofs.Checking.{opens_of, sound_on}
 use Rattle.sql_tables.proofs.Looking.{laid_on, was_laid, looks_then}
 use Rattle.sql_tables.specs.Faults.{HasFailed}
 use Rattle.sql_tables.proofs.Failing.{failed_since}
 use Rattle.provider_store.proofs.opening.check_laid.Goals as goal
+
+pub check_rows-requires-clause-sound : goal.check_rows-requires-clause-sound
+check_rows-requires-clause-sound g c clean still =
+    sound_on (state g.S.Store c.args.conn.now) (state g.S.Store c.check_format.new.conn) c.in_ok-check_format.ensures.looks c.requires.laid c.requires.sound clean still
 
 pub returns-clause-store : goal.returns-clause-store
 returns-clause-store g c clean =
@@ -28,12 +32,13 @@ returns-clause-store g c clean =
     let was = (rows.looks.keeps later).was_open still in
     let to_old = same_rows (state g.S.Store old) (state g.S.Store marked) format.looks c.requires.laid early was in
     let to_marked = same_rows (state g.S.Store marked) (state g.S.Store counted) rows.looks (laid_on (state g.S.Store old) (state g.S.Store marked) format.looks c.requires.laid) later still in
-    let first = rows.first later in
+    let lawful_to : AreLawfulTo (resources (state g.S.Store old)) c.in_ok-count.count = subst (λ table. AreLawfulTo table c.in_ok-count.count) to_old (rows.lawful later) in
+    let first = first_of (resources (state g.S.Store old)) c.in_ok-count.count lawful_to in
     let none = rest.none clean in
-    let holds = first_all (resources (state g.S.Store old)) first.0 (subst (λ table. HoldsFirst table first.0) to_old first.1)
+    let holds = first_all (resources (state g.S.Store old)) first.0 first.1
     (λ n far. subst (λ table. filter (has_rowid (pos n)) table ≡ []) (to_marked ∙ to_old) (none n (omega (arith, far, first.2)))) in
     let lawful : AreAllLawful (resources (state g.S.Store old)) (length first.0) = record {
-      each = subst (AreLawfulTo (resources (state g.S.Store old))) (sym first.2) (subst (λ table. AreLawfulTo table c.in_ok-count.count) to_old (rows.lawful later));
+      each = subst (AreLawfulTo (resources (state g.S.Store old))) (sym first.2) lawful_to;
       within = subst (AreWithin (resources (state g.S.Store old))) (sym first.2) (subst (λ table. AreWithin table c.in_ok-count.count) (to_marked ∙ to_old) (rest.within clean));
     } in
     (first.0, record { laid = was_laid (state g.S.Store old) (state g.S.Store marked) format.looks c.requires.laid early was; format = format.known early; holds = holds; lawful = lawful }, first.2)

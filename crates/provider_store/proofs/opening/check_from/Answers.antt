@@ -1,18 +1,18 @@
-use Rattle.std.proofs.Common.{◌≡◌, ◌+◌, [], ◌∷◌, ◌++◌, IsTrue, length, length-append, refl, sym, ap, ◌∙◌, subst, arith, rules, tests}
+use Rattle.std.proofs.Common.{◌≡◌, ◌+◌, IsTrue, subst, arith, rules, tests}
 use Rattle.sqlite.specs.Held.{state}
 use Rattle.sqlite.specs.State.{HasCleanDisk}
 use Rattle.provider_store.specs.Connections.{resources}
 use Rattle.provider_store.specs.Lawful.{IsLawfulAt, IsFirstWrong, IsWrong}
-use Rattle.provider_store.proofs.Refusing.{none_lawful, next_lawful, first_wrong}
-use Rattle.provider_store.proofs.Checking.{damage_of, same_rows, first_none, first_next}
+use Rattle.provider_store.proofs.Refusing.{next_lawful, first_wrong}
+use Rattle.provider_store.proofs.Checking.{damage_of, same_rows}
 use Rattle.provider_store.proofs.Checking.{opens_of}
 use Rattle.sql_tables.proofs.Looking.{looks_same, looks_then}
 use Rattle.sql_tables.specs.Faults.{HasFailed}
 use Rattle.sql_tables.proofs.Failing.{failed_since}
-use Rattle.provider_store.proofs.opening.check_rows.Goals as goal
+use Rattle.provider_store.proofs.opening.check_from.Goals as goal
 
 pub loop-count-init : goal.loop-count-init
-loop-count-init g c = (looks_same (state g.S.Store c.args.conn.now), λ _. ([], first_none _, refl), λ _. none_lawful _)
+loop-count-init g c = (looks_same (state g.S.Store c.args.conn.now), c.requires.before)
 
 pub loop-count-preserved : goal.loop-count-preserved
 loop-count-preserved g c =
@@ -21,19 +21,10 @@ loop-count-preserved g c =
       looks_then (state g.S.Store c.args.conn.now) (state g.S.Store c.loop-count.conn) (state g.S.Store c.check_row.new.conn) so_far.0 step.looks,
       λ clean.
           let mid_clean : HasCleanDisk (state g.S.Store c.loop-count.conn) = omega (arith, clean, step.looks.quiet.clean) in
-          let first = so_far.1 mid_clean in
           let still = (step.looks.keeps clean).was_open (step.open clean) in
           let table = same_rows (state g.S.Store c.args.conn.now) (state g.S.Store c.loop-count.conn) so_far.0 c.requires.laid mid_clean still in
           let is : IsTrue c.in_ok-check_row.field-0 = search (rules, tests) in
-          let lawful : IsLawfulAt (resources (state g.S.Store c.args.conn.now)) (length first.0 + 1) =
-          subst (λ rows. IsLawfulAt rows (length first.0 + 1)) table (subst (IsLawfulAt (resources (state g.S.Store c.loop-count.conn))) (ap (λ n. n + 1) (sym first.2)) (step.lawful clean is)) in
-          (first.0 ++ lawful.held ∷ [], first_next (resources (state g.S.Store c.args.conn.now)) first.0 first.1 lawful, length-append first.0 (lawful.held ∷ []) ∙ ap (λ n. n + 1) first.2),
-      λ clean.
-          let mid_clean : HasCleanDisk (state g.S.Store c.loop-count.conn) = omega (arith, clean, step.looks.quiet.clean) in
-          let still = (step.looks.keeps clean).was_open (step.open clean) in
-          let table = same_rows (state g.S.Store c.args.conn.now) (state g.S.Store c.loop-count.conn) so_far.0 c.requires.laid mid_clean still in
-          let is : IsTrue c.in_ok-check_row.field-0 = search (rules, tests) in
-          next_lawful (resources (state g.S.Store c.args.conn.now)) c.loop-count.count (so_far.2 mid_clean) (subst (λ rows. IsLawfulAt rows (c.loop-count.count + 1)) table (step.lawful clean is)),
+          next_lawful (resources (state g.S.Store c.args.conn.now)) c.loop-count.count (so_far.1 mid_clean) (subst (λ rows. IsLawfulAt rows (c.loop-count.count + 1)) table (step.lawful clean is)),
     )
 
 pub returns-in_err-check_row-clause-cause : goal.returns-in_err-check_row-clause-cause
@@ -46,7 +37,7 @@ returns-in_err-check_row-clause-cause g c clean =
     (λ told it.
     let still = (err.looks.keeps clean).was_open it.0 in
     let table = same_rows (state g.S.Store c.args.conn.now) (state g.S.Store c.loop-count.conn) so_far.0 c.requires.laid mid_clean still in
-    (it.0, first_wrong (resources (state g.S.Store c.args.conn.now)) c.loop-count.count told (so_far.2 mid_clean) it.1 (subst (λ rows. IsWrong rows (c.loop-count.count + 1)) table it.2)))
+    (it.0, first_wrong (resources (state g.S.Store c.args.conn.now)) c.loop-count.count told (so_far.1 mid_clean) it.1 (subst (λ rows. IsWrong rows (c.loop-count.count + 1)) table it.2)))
     c.from_residual.result c.in_err-check_row.field-0.0 c.from_residual.ensures.1 (err.cause clean)
 
 pub returns-in_err-check_row-clause-failed : goal.returns-in_err-check_row-clause-failed
