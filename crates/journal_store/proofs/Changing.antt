@@ -16,6 +16,7 @@ use Rattle.journal_core.specs.Entries.{CanPutLearnt, CanPutRow, EntryMap, IsList
 use Rattle.journal_core.specs.Stores.{CountsFault, OnlyReads}
 use Rattle.journal_core.specs.declared.entries.Entry.{Entry}
 use Rattle.journal_core.specs.declared.journals.JournalFault.{JournalFault}
+use Rattle.journal_store.specs.Format.{entry_tree}
 use Rattle.journal_store.specs.Rows.{entries_in, entry_in, row_of, shown_row}
 use Rattle.journal_store.specs.Connections.{Finds, FindsIf, ListsAll}
 use Rattle.journal_store.specs.Kept.{Kept, IsFaithful, IsHonest, MayHold, kept_entries}
@@ -51,7 +52,7 @@ module _ {S : Type 0} (g : Ghosts S) where
   pub loaded : (old mid new : Kept S) (users groups all : List Entry) → all ≡ users ++ groups → IsFaithful g new → kept_entries g new ≡ kept_entries g old → (at new).now.trees ≡ (at mid).now.trees
       → ListsAll kind.User (at mid).now.trees users → ListsAll kind.Group (at new).now.trees groups → IsListOf (kept_entries g old) all
   loaded old mid new users groups all both it same trees first second =
-      subst (IsListOf (kept_entries g old)) (sym both) (subst (λ m. IsListOf m (users ++ groups)) (entries_now new it ∙ same) (lists_both (at new).now.trees users groups (subst (λ t. ListsAll kind.User t users) (sym trees) first) second))
+      subst (IsListOf (kept_entries g old)) (sym both) (subst (λ m. IsListOf m (users ++ groups)) (entries_now new it ∙ same) (lists_both entry_tree shown_row (at new).now.trees users groups (subst (λ t. ListsAll kind.User t users) (sym trees) first) second))
 
   -- ---- a row
 

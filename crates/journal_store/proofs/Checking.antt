@@ -8,15 +8,14 @@ use Rattle.scim_key.specs.declared.records.Kind.{Kind}
 use Rattle.scim_key.specs.declared.records.Kind.TheVariants.{User, Group}
 use Rattle.journal_core.specs.Entries.{EntryMap}
 use Rattle.journal_core.specs.declared.entries.Entry.{Entry}
-use Rattle.journal_store.specs.Format.{format_number}
 use Rattle.sql_tables.specs.Layouts.{no_schema, IsFormat, IsLaid as IsLaidBy}
 use Rattle.sqlite_schema.specs.declared.schema.Schema.{Schema}
 use Rattle.sql_tables.specs.Statements.{Answers, IsGiven, Looks}
 use Rattle.sql_tables.specs.Faults.{HasFailed}
 use Rattle.sql_tables.proofs.Failing.{failed_since}
-use Rattle.journal_store.specs.Connections.{AreNumbered, HasNumbers, HasNumbersBy, IsLaid, Lists, ListsAll}
-use Rattle.journal_store.specs.Rows.{entries_in}
-use Rattle.journal_store.specs.Opening.{AreInOrder, AreLawful, AreRising, HoldsEntries, IsCause, IsDamaged, IsFor, IsNewer, IsNotLaid, IsOfRows, IsSpoilt, keys_of, open_fault, IsStore, OpenFailsFor}
+use Rattle.journal_store.specs.Connections.{AreNumbered, HasNumbersBy, Lists, ListsAllBy, Shows}
+use Rattle.journal_store.specs.Rows.{entries_by}
+use Rattle.journal_store.specs.Opening.{AreInOrder, AreLawful, AreRising, HoldsEntriesBy, IsCause, IsDamaged, IsFor, IsNewer, IsNotLaid, IsOfRows, IsSpoilt, keys_of, open_fault, IsStoreBy, OpenFailsFor}
 use Rattle.journal_store.specs.Faults.{FailsFor, HasCause}
 use Rattle.journal_store.specs.declared.statements.TableFault.{TableFault}
 use Rattle.journal_store.specs.declared.statements.TableFault.TheVariants as table
@@ -122,21 +121,26 @@ module _ {Form : Type 0} {layout : Form → Schema} (old mid new : State) (first
   pub numbers_both : {T F : Type 0} (tree : Kind → ℕ) (r : Result T F) → (HasCleanDisk mid → AreNumbered (old.now.trees (tree User))) → OnOk r (AreNumbered (mid.now.trees (tree Group))) → OnOk r (IsTrue new.is_open) → OnOk r (HasNumbersBy tree old.now.trees)
   numbers_both tree r users = on_both r (λ groups still. record { users = users mid_clean; groups = subst (λ (d : Database). AreNumbered (d.trees (tree Group))) (mid_same still) groups })
 
-  pub groups_listed : (groups : List Entry) → ListsAll Group mid.now.trees groups → IsTrue new.is_open → ListsAll Group old.now.trees groups
-  groups_listed groups all still = subst (λ (d : Database). ListsAll Group d.trees groups) (mid_same still) all
+  -- given the tables of the format, and the columns that its queries show
+  module _ (tree : Kind → ℕ) (columns : Kind → Row → Row) where
+    pub groups_listed : (groups : List Entry) → ListsAllBy (Shows Group) (columns Group) (mid.now.trees (tree Group)) groups → IsTrue new.is_open → ListsAllBy (Shows Group) (columns Group) (old.now.trees (tree Group)) groups
+    groups_listed groups all still = subst (λ (d : Database). ListsAllBy (Shows Group) (columns Group) (d.trees (tree Group)) groups) (mid_same still) all
 
-  pub entries_both : {T F : Type 0} (r : Result T F) (users groups : List Entry) → (HasCleanDisk mid → ListsAll User old.now.trees users) → ListsAll Group mid.now.trees groups → IsTrue new.is_open → OnOk r (AreLawful users groups) → OnOk r (HoldsEntries old.now.trees)
-  entries_both r users groups all_users all_groups still =
-      on_ok r (λ lawful. record { users = users; groups = groups; all_users = all_users mid_clean; all_groups = groups_listed groups all_groups still; lawful = lawful })
+    pub entries_both : {T F : Type 0} (r : Result T F) (users groups : List Entry) → (HasCleanDisk mid → ListsAllBy (Shows User) (columns User) (old.now.trees (tree User)) users) → ListsAllBy (Shows Group) (columns Group) (mid.now.trees (tree Group)) groups
+        → IsTrue new.is_open → OnOk r (AreLawful users groups) → OnOk r (HoldsEntriesBy tree columns old.now.trees)
+    entries_both r users groups all_users all_groups still =
+        on_ok r (λ lawful. record { users = users; groups = groups; all_users = all_users mid_clean; all_groups = groups_listed groups all_groups still; lawful = lawful })
 
-  pub lists_refused : (users groups : List Entry) → (HasCleanDisk mid → ListsAll User old.now.trees users) → ListsAll Group mid.now.trees groups → IsTrue new.is_open → (AreInOrder (keys_of users) → AreLawful users groups → ⊥) → HoldsEntries old.now.trees → ⊥
-  lists_refused users groups all_users all_groups still unlawful holds =
-      let lists_users = all_users mid_clean in
-      unlawful (keys_in_order old.now.trees users lists_users) (lawful_lists old.now.trees users groups lists_users (groups_listed groups all_groups still) holds)
+    pub lists_refused : (users groups : List Entry) → (HasCleanDisk mid → ListsAllBy (Shows User) (columns User) (old.now.trees (tree User)) users) → ListsAllBy (Shows Group) (columns Group) (mid.now.trees (tree Group)) groups
+        → IsTrue new.is_open → (AreInOrder (keys_of users) → AreLawful users groups → ⊥) → HoldsEntriesBy tree columns old.now.trees → ⊥
+    lists_refused users groups all_users all_groups still unlawful holds =
+        let lists_users = all_users mid_clean in
+        unlawful (keys_in_order (columns User) (old.now.trees (tree User)) users lists_users) (lawful_lists tree columns old.now.trees users groups lists_users (groups_listed groups all_groups still) holds)
 
-pub store_found : {T F : Type 0} (old marked numbered new : State) (r : Result T F) → Looks old marked → (HasCleanDisk old → IsTrue old.is_open → IsLaid old) → Looks marked numbered → Looks numbered new → HasCleanDisk new → (HasCleanDisk marked → IsFormat old format_number)
-    → (HasCleanDisk numbered → HasNumbers marked.now.trees) → OnOk r (HoldsEntries numbered.now.trees) → OnOk r (IsTrue new.is_open) → OnOk r ((entries : EntryMap) × IsStore old entries)
-store_found old marked numbered new r first laid second third clean format numbers = on_both r (λ holds still.
+pub store_found : {Form T F : Type 0} {layout : Form → Schema} (number : ℕ) (tree : Kind → ℕ) (columns : Kind → Row → Row) (old marked numbered new : State) (r : Result T F) → Looks old marked → (HasCleanDisk old → IsTrue old.is_open → IsLaidBy layout old)
+    → Looks marked numbered → Looks numbered new → HasCleanDisk new → (HasCleanDisk marked → IsFormat old number) → (HasCleanDisk numbered → HasNumbersBy tree marked.now.trees) → OnOk r (HoldsEntriesBy tree columns numbered.now.trees) → OnOk r (IsTrue new.is_open)
+    → OnOk r ((entries : EntryMap) × IsStoreBy layout number tree columns old entries)
+store_found number tree columns old marked numbered new r first laid second third clean format numbers = on_both r (λ holds still.
     let laid_marked = laid_on old marked first laid in
     let numbered_clean = was_clean numbered new third (laid_on marked numbered second laid_marked) clean in
     let numbered_open = (third.keeps clean).was_open still in
@@ -144,12 +148,12 @@ store_found old marked numbered new r first laid second third clean format numbe
     let marked_open = (second.keeps numbered_clean).was_open numbered_open in
     let to_old = same_now old marked first laid marked_clean marked_open in
     let to_marked = same_now marked numbered second laid_marked numbered_clean numbered_open in (
-      entries_in old.now.trees,
+      entries_by tree columns old.now.trees,
       record {
         laid = was_laid old marked first laid marked_clean marked_open;
         format = format marked_clean;
-        numbers = subst (λ (d : Database). HasNumbers d.trees) to_old (numbers numbered_clean);
-        holds = subst (λ (d : Database). HoldsEntries d.trees) (to_marked ∙ to_old) holds;
+        numbers = subst (λ (d : Database). HasNumbersBy tree d.trees) to_old (numbers numbered_clean);
+        holds = subst (λ (d : Database). HoldsEntriesBy tree columns d.trees) (to_marked ∙ to_old) holds;
         are = refl;
       },
     ))

@@ -1,5 +1,5 @@
 -- All entries, in order of their names.
-use Rattle.std.proofs.Common.{◌≡◌, zero, suc, true, List, [], ◌∷◌, ◌++◌, map, Option, Some, None, Less, refl, sym, ap, ◌∙◌, subst, inl, inr, IsPermutation, arith}
+use Rattle.std.proofs.Common.{◌≡◌, ℕ, zero, suc, true, List, [], ◌∷◌, ◌++◌, map, Option, Some, None, Less, refl, sym, ap, ◌∙◌, subst, inl, inr, IsPermutation, arith}
 use Rattle.std.specs.Prelude.{MatchOption}
 use Rattle.std.specs.FinMap.{entries, find, from_entries, get-from_entries, same_map}
 use Rattle.std.specs.List.{All, AllByRecursion, AllZip}
@@ -21,11 +21,10 @@ use Rattle.source_csv.specs.Records.{row_name}
 use Rattle.journal_core.specs.Entries.{IsListOf, IsUpTo, named}
 use Rattle.journal_core.specs.declared.entries.Entry.{Entry}
 use Rattle.journal_core.proofs.Trees.{listed, names_same}
-use Rattle.journal_store.specs.Format.{entry_tree}
-use Rattle.journal_store.specs.Rows.{entries_in, entry_in, named_in, shown_row}
-use Rattle.journal_store.specs.Connections.{AreShownBy, ListsAll, Shows, last_name}
+use Rattle.journal_store.specs.Rows.{entries_by, entry_in, named_by}
+use Rattle.journal_store.specs.Connections.{AreShownBy, ListsAllBy, Shows, last_name}
 use Rattle.journal_store.proofs.Decoding.{key_from, known_from}
-use Rattle.journal_store.proofs.Standing.{all_named, find_has, has_find, has_named, named_has, tied_self}
+use Rattle.journal_store.proofs.Standing.{find_has, has_find, has_named, named_has, tied_self}
 
 -- ---- names in order
 
@@ -119,27 +118,31 @@ has_map f [] y h = absurd h
 has_map f (x ∷ xs) y (inl same) = (x, inl refl, same)
 has_map f (x ∷ xs) y (inr later) = let found = has_map f xs y later in (found.0, inr found.1, found.2)
 
--- an entry is on the list if a row shows it
-listed_there : (kind : Kind) (db : Trees) (list : List Entry) (p : RecordName × Entry) → ListsAll kind db list → Has (named_in kind (db (entry_tree kind))) p → Has (map named list) p
-listed_there kind db list p lists there =
-    let it = has_named kind (db (entry_tree kind)) p there in
-    let row = permuted_there kind db list lists it.0 it.1 in
-    let held = zip_left (Shows kind) lists.rows list (shown_row kind it.0) lists.shown.each row in
-    let same : held.0 ≡ p.1 = (let both : Some held.0 ≡ Some p.1 = sym held.2.entry_is ∙ it.2 in cc) in
-    subst (Has (map named list)) (λ i. (sym it.3 i, same i)) (subst (λ e. Has (map named list) (row_name e.row, held.0)) same (map_has named list held.0 held.1))
-  where
-    permuted_there : (kind : Kind) (db : Trees) (list : List Entry) (lists : ListsAll kind db list) (r : Row) → Has (db (entry_tree kind)) r → Has lists.rows (shown_row kind r)
-    permuted_there kind db list lists r h =
-        all_has (λ x. Has lists.rows x) (map (shown_row kind) (db (entry_tree kind))) (shown_row kind r)
-        (all-permutation (λ x. Has lists.rows x) lists.rows (map (shown_row kind) (db (entry_tree kind))) (IsPermutation-sym (map (shown_row kind) (db (entry_tree kind))) lists.rows lists.all) (all_from (λ x. Has lists.rows x) lists.rows (λ e there. there)))
-        (map_has (shown_row kind) (db (entry_tree kind)) r h)
+-- given which columns of the rows of a table a query shows
+module _ (kind : Kind) (columns : Row → Row) (table : List Row) (list : List Entry) (lists : ListsAllBy (Shows kind) columns table list) where
+  shown_there : (r : Row) → Has table r → Has lists.rows (columns r)
+  shown_there r there = permuted lists.rows (map columns table) (columns r) (IsPermutation-sym (map columns table) lists.rows lists.all) (map_has columns table r there)
 
-there_listed : (kind : Kind) (db : Trees) (list : List Entry) (p : RecordName × Entry) → ListsAll kind db list → Has (map named list) p → Has (named_in kind (db (entry_tree kind))) p
-there_listed kind db list p lists there =
-    let it = has_map named list p there in
-    let shown = zip_right (Shows kind) lists.rows list it.0 lists.shown.each it.1 in
-    let back = has_map (shown_row kind) (db (entry_tree kind)) shown.0 (permuted (map (shown_row kind) (db (entry_tree kind))) lists.rows shown.0 lists.all shown.1) in
-    subst (Has (named_in kind (db (entry_tree kind)))) (sym it.2) (named_has kind (db (entry_tree kind)) back.0 it.0 back.1 (ap (entry_in kind) (sym back.2) ∙ shown.2.entry_is))
+  -- an entry is on the list if a row shows it
+  listed_there : (p : RecordName × Entry) → Has (named_by columns kind table) p → Has (map named list) p
+  listed_there p there =
+      let it = has_named columns kind table p there in
+      let held = zip_left (Shows kind) lists.rows list (columns it.0) lists.shown.each (shown_there it.0 it.1) in
+      let same : held.0 ≡ p.1 = (let both : Some held.0 ≡ Some p.1 = sym held.2.entry_is ∙ it.2 in cc) in
+      subst (Has (map named list)) (λ i. (sym it.3 i, same i)) (subst (λ e. Has (map named list) (row_name e.row, held.0)) same (map_has named list held.0 held.1))
+
+  there_listed : (p : RecordName × Entry) → Has (map named list) p → Has (named_by columns kind table) p
+  there_listed p there =
+      let it = has_map named list p there in
+      let shown = zip_right (Shows kind) lists.rows list it.0 lists.shown.each it.1 in
+      let back = has_map columns table shown.0 (permuted (map columns table) lists.rows shown.0 lists.all shown.1) in
+      subst (Has (named_by columns kind table)) (sym it.2) (named_has columns kind table back.0 it.0 back.1 (ap (entry_in kind) (sym back.2) ∙ shown.2.entry_is))
+
+  kind_at : (name : RecordName) → Has (names_of list) name → name.kind ≡ kind
+  kind_at name there =
+      let it = has_map (λ (e : Entry). row_name e.row) list name there in
+      let shown = zip_right (Shows kind) lists.rows list it.0 lists.shown.each it.1 in
+      ap (λ (n : RecordName). n.kind) it.2 ∙ (key_from kind shown.0 it.0 shown.2.entry_is).1
 
 -- ---- both types
 
@@ -163,12 +166,6 @@ first_names : (list : List Entry) → map (λ (e : RecordName × Entry). e.0) (m
 first_names [] = refl
 first_names (e ∷ list) = ap (λ l. row_name e.row ∷ l) (first_names list)
 
-kind_at : (kind : Kind) (db : Trees) (list : List Entry) (name : RecordName) → ListsAll kind db list → Has (names_of list) name → name.kind ≡ kind
-kind_at kind db list name lists there =
-    let it = has_map (λ (e : Entry). row_name e.row) list name there in
-    let shown = zip_right (Shows kind) lists.rows list it.0 lists.shown.each it.1 in
-    ap (λ (n : RecordName). n.kind) it.2 ∙ (key_from kind shown.0 it.0 shown.2.entry_is).1
-
 users_first : (a b : RecordName) → a.kind ≡ User → b.kind ≡ Group → name_cmp a b ≡ Less
 users_first a b users groups = rw (users, groups) refl
 
@@ -183,13 +180,17 @@ all_by P [] all k d low = absurd (omega arith)
 all_by P (x ∷ xs) all zero d low = all.0
 all_by P (x ∷ xs) all (suc k) d low = all_by P xs all.1 k d (omega arith)
 
-module _ (db : Trees) (users groups : List Entry) (lists_users : ListsAll User db users) (lists_groups : ListsAll Group db groups) where
+module _ (tree : Kind → ℕ) (columns : Kind → Row → Row) (db : Trees) (users groups : List Entry) (lists_users : ListsAllBy (Shows User) (columns User) (db (tree User)) users)
+    (lists_groups : ListsAllBy (Shows Group) (columns Group) (db (tree Group)) groups) where
+  abbrev in_tables : List (RecordName × Entry)
+  in_tables = named_by (columns User) User (db (tree User)) ++ named_by (columns Group) Group (db (tree Group))
+
   abbrev both : List Entry
   both = users ++ groups
 
   in_order : Sorted (names_of both)
   in_order = subst Sorted (sym (map-append (λ (e : Entry). row_name e.row) users groups))
-      (sorted_append (names_of users) (names_of groups) lists_users.shown.rising lists_groups.shown.rising (λ a b here there. users_first a b (kind_at User db users a lists_users here) (kind_at Group db groups b lists_groups there)))
+      (sorted_append (names_of users) (names_of groups) lists_users.shown.rising lists_groups.shown.rising (λ a b here there. users_first a b (kind_at User (columns User) (db (tree User)) users lists_users a here) (kind_at Group (columns Group) (db (tree Group)) groups lists_groups b there)))
 
   sorted_pairs : Sorted (map (λ (e : RecordName × Entry). e.0) (map named both))
   sorted_pairs = subst Sorted (sym (first_names both)) in_order
@@ -197,33 +198,33 @@ module _ (db : Trees) (users groups : List Entry) (lists_users : ListsAll User d
   named_both : map named both ≡ map named users ++ map named groups
   named_both = map-append named users groups
 
-  from_tables : (p : RecordName × Entry) → Has (all_named db) p → Has (map named both) p
-  from_tables p there = subst (λ l. Has l p) (sym named_both) (elim (has_either (named_in User (db (entry_tree User))) (named_in Group (db (entry_tree Group))) p there) [
-    | inl here ↦ has_left (map named users) (map named groups) p (listed_there User db users p lists_users here)
-    | inr here ↦ has_right (map named users) (map named groups) p (listed_there Group db groups p lists_groups here)
+  from_tables : (p : RecordName × Entry) → Has in_tables p → Has (map named both) p
+  from_tables p there = subst (λ l. Has l p) (sym named_both) (elim (has_either (named_by (columns User) User (db (tree User))) (named_by (columns Group) Group (db (tree Group))) p there) [
+    | inl here ↦ has_left (map named users) (map named groups) p (listed_there User (columns User) (db (tree User)) users lists_users p here)
+    | inr here ↦ has_right (map named users) (map named groups) p (listed_there Group (columns Group) (db (tree Group)) groups lists_groups p here)
   ])
 
-  to_tables : (p : RecordName × Entry) → Has (map named both) p → Has (all_named db) p
+  to_tables : (p : RecordName × Entry) → Has (map named both) p → Has in_tables p
   to_tables p there = elim (has_either (map named users) (map named groups) p (subst (λ l. Has l p) named_both there)) [
-    | inl here ↦ has_left (named_in User (db (entry_tree User))) (named_in Group (db (entry_tree Group))) p (there_listed User db users p lists_users here)
-    | inr here ↦ has_right (named_in User (db (entry_tree User))) (named_in Group (db (entry_tree Group))) p (there_listed Group db groups p lists_groups here)
+    | inl here ↦ has_left (named_by (columns User) User (db (tree User))) (named_by (columns Group) Group (db (tree Group))) p (there_listed User (columns User) (db (tree User)) users lists_users p here)
+    | inr here ↦ has_right (named_by (columns User) User (db (tree User))) (named_by (columns Group) Group (db (tree Group))) p (there_listed Group (columns Group) (db (tree Group)) groups lists_groups p here)
   ]
 
-  find_same : (q : RecordName) → find name_cmp q (all_named db) ≡ find name_cmp q (map named both)
-  find_same q = go (find name_cmp q (all_named db)) (find name_cmp q (map named both)) refl refl
+  find_same : (q : RecordName) → find name_cmp q in_tables ≡ find name_cmp q (map named both)
+  find_same q = go (find name_cmp q in_tables) (find name_cmp q (map named both)) refl refl
     where
-      go : (o p : Option Entry) → find name_cmp q (all_named db) ≡ o → find name_cmp q (map named both) ≡ p → o ≡ p
+      go : (o p : Option Entry) → find name_cmp q in_tables ≡ o → find name_cmp q (map named both) ≡ p → o ≡ p
       go None None a b = refl
-      go None (Some w) a b = absurd (has_find q (all_named db) w (to_tables (q, w) (find_has q (map named both) w b)) a)
-      go (Some v) None a b = absurd (has_find q (map named both) v (from_tables (q, v) (find_has q (all_named db) v a)) b)
-      go (Some v) (Some w) a b = ap Some (one_each (map named both) q v w sorted_pairs (from_tables (q, v) (find_has q (all_named db) v a)) (find_has q (map named both) w b))
+      go None (Some w) a b = absurd (has_find q in_tables w (to_tables (q, w) (find_has q (map named both) w b)) a)
+      go (Some v) None a b = absurd (has_find q (map named both) v (from_tables (q, v) (find_has q in_tables v a)) b)
+      go (Some v) (Some w) a b = ap Some (one_each (map named both) q v w sorted_pairs (from_tables (q, v) (find_has q in_tables v a)) (find_has q (map named both) w b))
 
-  same_entries : entries_in db ≡ from_entries (map named both)
-  unfolding entries_in
-  same_entries = same_map names_total names_same (from_entries (all_named db)) (from_entries (map named both)) (λ q.
-      get-from_entries names_total (all_named db) q ∙ find_same q ∙ sym (get-from_entries names_total (map named both) q))
+  same_entries : entries_by tree columns db ≡ from_entries (map named both)
+  unfolding entries_by
+  same_entries = same_map names_total names_same (from_entries in_tables) (from_entries (map named both)) (λ q.
+      get-from_entries names_total in_tables q ∙ find_same q ∙ sym (get-from_entries names_total (map named both) q))
 
-  pub lists_both : IsListOf (entries_in db) both
+  pub lists_both : IsListOf (entries_by tree columns db) both
   lists_both = record {
     whole = ap entries same_entries ∙ listed (map named both) sorted_pairs;
     lawful = all_by (λ (e : Entry). IsUpTo e.row e.confirmed) both

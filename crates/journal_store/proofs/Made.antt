@@ -14,7 +14,7 @@ use Rattle.journal_store.specs.Format.{Form, format_name, journal_schema, entry_
 use Rattle.sql_tables.specs.Layouts.{format_table, no_schema, IsBlank, format_schema}
 use Rattle.sql_tables.proofs.Making.{creates, marks}
 use Rattle.journal_store.specs.Connections.{AreNumbered, HasNumbers, ListsAll}
-use Rattle.journal_store.specs.Rows.{entries_in, shown_row}
+use Rattle.journal_store.specs.Rows.{entries_by, entries_in, shown_row}
 use Rattle.journal_store.specs.Opening.{HoldsEntries, IsStore}
 use Rattle.journal_store.proofs.Making.{mark_is, users_schema, format_made, users_made, groups_made, users_created, groups_created}
 
@@ -47,7 +47,7 @@ tables_made b m1 m2 m3 m4 n1 n2 n3 n4 mark blank one two three four =
 -- ---- tables without rows
 
 pub none_in : (db : Trees) → db 1 ≡ [] → db 3 ≡ [] → entries_in db ≡ empty
-unfolding entries_in
+unfolding entries_by
 none_in db users groups = rw (users, groups) refl
 
 lists_none : (kind : Kind) (db : Trees) → db (entry_tree kind) ≡ [] → ListsAll kind db []

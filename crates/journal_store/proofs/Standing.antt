@@ -20,7 +20,7 @@ use Rattle.journal_core.specs.Entries.{named}
 use Rattle.journal_core.specs.declared.entries.Entry.{Entry}
 use Rattle.journal_core.proofs.Trees.{names_same}
 use Rattle.journal_store.specs.Format.{entry_tree}
-use Rattle.journal_store.specs.Rows.{entries_in, entry_in, named_if, named_in, shown_row}
+use Rattle.journal_store.specs.Rows.{entries_by, entries_in, entry_in, named_if, named_by, named_in, shown_row}
 use Rattle.journal_store.specs.Connections.{has_key}
 use Rattle.journal_store.proofs.Decoding.{key_from, shown_key}
 use Rattle.journal_store.proofs.Values.{key_test}
@@ -69,25 +69,27 @@ find_both q (x ∷ xs) ys =
 
 -- ---- the entries of a table
 
-pub named_has : (kind : Kind) (table : List Row) (r : Row) (e : Entry) → Has table r → entry_in kind (shown_row kind r) ≡ Some e → Has (named_in kind table) (named e)
-named_has kind [] r e h is = h
-named_has kind (x ∷ xs) r e (inl same) is =
-    let here : entry_in kind (shown_row kind x) ≡ Some e = ap (λ (y : Row). entry_in kind (shown_row kind y)) (sym same) ∙ is in
-    has_left (named_if (entry_in kind (shown_row kind x))) (named_in kind xs) (named e) (subst (λ o. Has (named_if o) (named e)) (sym here) (inl refl))
-named_has kind (x ∷ xs) r e (inr later) is = has_right (named_if (entry_in kind (shown_row kind x))) (named_in kind xs) (named e) (named_has kind xs r e later is)
+-- given which columns of a row a query shows
+module _ (columns : Row → Row) (kind : Kind) where
+  pub named_has : (table : List Row) (r : Row) (e : Entry) → Has table r → entry_in kind (columns r) ≡ Some e → Has (named_by columns kind table) (named e)
+  named_has [] r e h is = h
+  named_has (x ∷ xs) r e (inl same) is =
+      let here : entry_in kind (columns x) ≡ Some e = ap (λ (y : Row). entry_in kind (columns y)) (sym same) ∙ is in
+      has_left (named_if (entry_in kind (columns x))) (named_by columns kind xs) (named e) (subst (λ o. Has (named_if o) (named e)) (sym here) (inl refl))
+  named_has (x ∷ xs) r e (inr later) is = has_right (named_if (entry_in kind (columns x))) (named_by columns kind xs) (named e) (named_has xs r e later is)
 
-one_named : (o : Option Entry) (p : RecordName × Entry) → Has (named_if o) p → (o ≡ Some p.1) × (p.0 ≡ row_name p.1.row)
-one_named None p h = absurd h
-one_named (Some e) p (inl same) =
-    (ap (λ (x : RecordName × Entry). Some x.1) (sym same), ap (λ (x : RecordName × Entry). x.0) same ∙ ap (λ (x : RecordName × Entry). row_name x.1.row) (sym same))
-one_named (Some e) p (inr none) = absurd none
+  one_named : (o : Option Entry) (p : RecordName × Entry) → Has (named_if o) p → (o ≡ Some p.1) × (p.0 ≡ row_name p.1.row)
+  one_named None p h = absurd h
+  one_named (Some e) p (inl same) =
+      (ap (λ (x : RecordName × Entry). Some x.1) (sym same), ap (λ (x : RecordName × Entry). x.0) same ∙ ap (λ (x : RecordName × Entry). row_name x.1.row) (sym same))
+  one_named (Some e) p (inr none) = absurd none
 
-pub has_named : (kind : Kind) (table : List Row) (p : RecordName × Entry) → Has (named_in kind table) p → (r : Row) × Has table r × (entry_in kind (shown_row kind r) ≡ Some p.1) × (p.0 ≡ row_name p.1.row)
-has_named kind [] p h = absurd h
-has_named kind (x ∷ xs) p h = elim (has_either (named_if (entry_in kind (shown_row kind x))) (named_in kind xs) p h) [
-  | inl here ↦ let it = one_named (entry_in kind (shown_row kind x)) p here in (x, inl refl, it.0, it.1)
-  | inr later ↦ let it = has_named kind xs p later in (it.0, inr it.1, it.2, it.3)
-]
+  pub has_named : (table : List Row) (p : RecordName × Entry) → Has (named_by columns kind table) p → (r : Row) × Has table r × (entry_in kind (columns r) ≡ Some p.1) × (p.0 ≡ row_name p.1.row)
+  has_named [] p h = absurd h
+  has_named (x ∷ xs) p h = elim (has_either (named_if (entry_in kind (columns x))) (named_by columns kind xs) p h) [
+    | inl here ↦ let it = one_named (entry_in kind (columns x)) p here in (x, inl refl, it.0, it.1)
+    | inr later ↦ let it = has_named xs p later in (it.0, inr it.1, it.2, it.3)
+  ]
 
 -- whether the entry of a row has a name
 abbrev pub tie_if : RecordName → Option Entry → Bool
@@ -123,21 +125,21 @@ pub record Stands (db : Trees) (kind : Kind) (e : Entry) : Type 0 where
 stands_of : (db : Trees) (q : RecordName) (v : Entry) → Has (all_named db) (q, v) → Stands db q.kind v × (row_name v.row ≡ q)
 stands_of db q v h = elim (has_either (named_in User (db (entry_tree User))) (named_in Group (db (entry_tree Group))) (q, v) h) [
   | inl here ↦
-      let it = has_named User (db (entry_tree User)) (q, v) here in
+      let it = has_named (shown_row User) User (db (entry_tree User)) (q, v) here in
       let kind_is : User ≡ q.kind = sym (key_from User (shown_row User it.0) v it.2).1 ∙ ap (λ (n : RecordName). n.kind) (sym it.3) in
       (subst (λ k. Stands db k v) kind_is (record { row = it.0; there = it.1; shows = it.2 }), sym it.3)
   | inr here ↦
-      let it = has_named Group (db (entry_tree Group)) (q, v) here in
+      let it = has_named (shown_row Group) Group (db (entry_tree Group)) (q, v) here in
       let kind_is : Group ≡ q.kind = sym (key_from Group (shown_row Group it.0) v it.2).1 ∙ ap (λ (n : RecordName). n.kind) (sym it.3) in
       (subst (λ k. Stands db k v) kind_is (record { row = it.0; there = it.1; shows = it.2 }), sym it.3)
 ]
 
 stands_has : (db : Trees) (kind : Kind) (e : Entry) → Stands db kind e → Has (all_named db) (named e)
-stands_has db User e s = has_left (named_in User (db (entry_tree User))) (named_in Group (db (entry_tree Group))) (named e) (named_has User (db (entry_tree User)) s.row e s.there s.shows)
-stands_has db Group e s = has_right (named_in User (db (entry_tree User))) (named_in Group (db (entry_tree Group))) (named e) (named_has Group (db (entry_tree Group)) s.row e s.there s.shows)
+stands_has db User e s = has_left (named_in User (db (entry_tree User))) (named_in Group (db (entry_tree Group))) (named e) (named_has (shown_row User) User (db (entry_tree User)) s.row e s.there s.shows)
+stands_has db Group e s = has_right (named_in User (db (entry_tree User))) (named_in Group (db (entry_tree Group))) (named e) (named_has (shown_row Group) Group (db (entry_tree Group)) s.row e s.there s.shows)
 
 pub get_is : (db : Trees) (q : RecordName) → get (entries_in db) q ≡ find name_cmp q (all_named db)
-unfolding entries_in
+unfolding entries_by
 get_is db q = get-from_entries names_total (all_named db) q
 
 pub get_none : (db : Trees) (q : RecordName) → ((e : Entry) → Stands db q.kind e → row_name e.row ≡ q → ⊥) → get (entries_in db) q ≡ None

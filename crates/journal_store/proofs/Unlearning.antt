@@ -95,9 +95,9 @@ reset_entries old new listed resets =
     let users = listed.users.list in
     let groups = listed.groups.list in (
       record { users = numbered_still User old new resets.users listed.users.numbered; groups = numbered_still Group old new resets.groups listed.groups.numbered },
-      forgotten_is (entries_in old) (entries_in new) (users ++ groups) (lists_both old users groups listed.users.shows listed.groups.shows)
+      forgotten_is (entries_in old) (entries_in new) (users ++ groups) (lists_both entry_tree shown_row old users groups listed.users.shows listed.groups.shows)
           (subst (IsListOf (entries_in new)) (sym (map-append unlearnt users groups))
-          (lists_both new (map unlearnt users) (map unlearnt groups) (lists_unlearnt User old new resets.users users listed.users.shows) (lists_unlearnt Group old new resets.groups groups listed.groups.shows))),
+          (lists_both entry_tree shown_row new (map unlearnt users) (map unlearnt groups) (lists_unlearnt User old new resets.users users listed.users.shows) (lists_unlearnt Group old new resets.groups groups listed.groups.shows))),
     )
 
 -- the same of a journal

@@ -22,10 +22,10 @@ use Rattle.journal_core.specs.declared.entries.Entry.{Entry}
 use Rattle.journal_core.specs.declared.journals.JournalFault.{JournalFault}
 use Rattle.journal_core.specs.declared.journals.JournalFault.TheVariants as journal
 use Rattle.journal_store.specs.Format.{journal_schema, format_number, entry_columns, entry_name, entry_tree, key_places}
-use Rattle.sql_tables.specs.Layouts.{IsBlank, IsFormat, IsOne, IsPlainTable, no_schema}
+use Rattle.sql_tables.specs.Layouts.{IsBlank, IsFormat, IsLaid as IsLaidBy, IsOne, IsPlainTable, no_schema}
 use Rattle.sql_tables.specs.Faults.{HasFailed}
-use Rattle.journal_store.specs.Rows.{entries_in}
-use Rattle.journal_store.specs.Connections.{FailsToRise, HasNumbers, IsLaid, ListsAll}
+use Rattle.journal_store.specs.Rows.{entries_by, entries_in, shown_row}
+use Rattle.journal_store.specs.Connections.{FailsToRise, HasNumbersBy, ListsAllBy, Shows}
 use Rattle.journal_store.specs.declared.statements.TableFault.{TableFault}
 use Rattle.journal_store.specs.declared.statements.TableFault.TheVariants as table
 use Rattle.journal_store.specs.declared.opening.JournalOpenFault.{JournalOpenFault}
@@ -121,23 +121,31 @@ pub record AreLawful (users groups : List Entry) : Type 0 where
   pub identified_groups : list_all is_identified groups ≡ true
   pub members : AllByRecursion (HasMembersOf (keys_of users)) groups
 
--- the tables show these entries, one for each row, and the entries are valid
-pub record HoldsEntries (db : Trees) : Type 0 where
+-- the tables in these trees, of which the queries show these columns, show these entries, one for each row, and the
+-- entries are valid
+pub record HoldsEntriesBy (tree : Kind → ℕ) (columns : Kind → Row → Row) (db : Trees) : Type 0 where
   pub users : List Entry
   pub groups : List Entry
-  pub all_users : ListsAll User db users
-  pub all_groups : ListsAll Group db groups
+  pub all_users : ListsAllBy (Shows User) (columns User) (db (tree User)) users
+  pub all_groups : ListsAllBy (Shows Group) (columns Group) (db (tree Group)) groups
   pub lawful : AreLawful users groups
+
+abbrev pub HoldsEntries : Trees → Type 0
+HoldsEntries = HoldsEntriesBy entry_tree shown_row
 
 -- ---- the store
 
--- the tables are of the format, and hold these entries
-pub record IsStore (s : State) (entries : EntryMap) : Type 0 where
-  pub laid : IsLaid s
-  pub format : IsFormat s format_number
-  pub numbers : HasNumbers s.now.trees
-  pub holds : HoldsEntries s.now.trees
-  pub are : entries_in s.now.trees ≡ entries
+-- the tables are of the format with this layout and this number, and hold these entries
+pub record IsStoreBy {Form : Type 0} (layout : Form → Schema) (number : ℕ) (tree : Kind → ℕ) (columns : Kind → Row → Row) (s : State) (entries : EntryMap) : Type 0 where
+  pub laid : IsLaidBy layout s
+  pub format : IsFormat s number
+  pub numbers : HasNumbersBy tree s.now.trees
+  pub holds : HoldsEntriesBy tree columns s.now.trees
+  pub are : entries_by tree columns s.now.trees ≡ entries
+
+-- the tables are of the current format, and hold these entries
+abbrev pub IsStore : State → EntryMap → Type 0
+IsStore = IsStoreBy journal_schema format_number entry_tree shown_row
 
 -- what is in a store: the entries of its tables, or none if there are no tables
 abbrev pub Stands : State → EntryMap → Type 0
@@ -150,36 +158,54 @@ pub record IsForeign (s : State) : Type 0 where
   pub stand : s.now.schema ≢ no_schema
   pub other : IsJournal s.now.schema → ⊥
 
--- the tables aren't those of the format, or a transaction is open
-abbrev pub IsNotLaid : State → Type 0
-IsNotLaid s = IsJournal s.now.schema → s.in_transaction ≡ true
+-- the tables aren't those of the format with this layout, or a transaction is open
+abbrev pub IsNotLaidBy : {Form : Type 0} → (Form → Schema) → State → Type 0
+IsNotLaidBy layout s = IsOne layout s.now.schema → s.in_transaction ≡ true
 
--- the table of the format doesn't show one number, equal to this format's or greater
+abbrev pub IsNotLaid : State → Type 0
+IsNotLaid = IsNotLaidBy journal_schema
+
+-- the table of the format shows no number that is the format's own, or newer than the current format's
+abbrev pub IsUnmarkedBy : (own : ℕ) → State → Type 0
+IsUnmarkedBy own s = (number : ℕ) → IsFormat s number → (number ≢ own) × (number ≤ format_number)
+
 abbrev pub IsUnmarked : State → Type 0
-IsUnmarked s = (number : ℕ) → format_number ≤ number → IsFormat s number → ⊥
+IsUnmarked = IsUnmarkedBy format_number
 
 -- the rows are invalid: some row has no number of its own, or the entries aren't valid
+abbrev pub IsUnlawfulBy : (tree : Kind → ℕ) (columns : Kind → Row → Row) → Trees → Type 0
+IsUnlawfulBy tree columns db = (HasNumbersBy tree db → ⊥) ⊎ (HoldsEntriesBy tree columns db → ⊥)
+
 abbrev pub IsUnlawful : Trees → Type 0
-IsUnlawful db = (HasNumbers db → ⊥) ⊎ (HoldsEntries db → ⊥)
+IsUnlawful = IsUnlawfulBy entry_tree shown_row
 
 -- the tables have the number of the format, and the rows are invalid
-pub record HasUnlawful (s : State) : Type 0 where
-  pub format : IsFormat s format_number
-  pub rows : IsUnlawful s.now.trees
+pub record HasUnlawfulBy (number : ℕ) (tree : Kind → ℕ) (columns : Kind → Row → Row) (s : State) : Type 0 where
+  pub format : IsFormat s number
+  pub rows : IsUnlawfulBy tree columns s.now.trees
+
+abbrev pub HasUnlawful : State → Type 0
+HasUnlawful = HasUnlawfulBy format_number entry_tree shown_row
 
 -- the number of the format is invalid, or the rows are
+abbrev pub ShowsDamageBy : (number : ℕ) (tree : Kind → ℕ) (columns : Kind → Row → Row) → State → Type 0
+ShowsDamageBy number tree columns s = IsUnmarkedBy number s ⊎ HasUnlawfulBy number tree columns s
+
 abbrev pub ShowsDamage : State → Type 0
-ShowsDamage s = IsUnmarked s ⊎ HasUnlawful s
+ShowsDamage = ShowsDamageBy format_number entry_tree shown_row
 
 -- the tables are of the format, but something in them is invalid
+abbrev pub IsSpoiltBy : {Form : Type 0} → (Form → Schema) → (number : ℕ) (tree : Kind → ℕ) (columns : Kind → Row → Row) → State → Type 0
+IsSpoiltBy layout number tree columns s = IsOne layout s.now.schema × ShowsDamageBy number tree columns s
+
 abbrev pub IsSpoilt : State → Type 0
-IsSpoilt s = IsJournal s.now.schema × ShowsDamage s
+IsSpoilt = IsSpoiltBy journal_schema format_number entry_tree shown_row
 
 -- the tables aren't a valid journal
 abbrev pub IsDamaged : State → Type 0
 IsDamaged s = IsForeign s ⊎ IsSpoilt s
 
--- the table of the format has the number of a newer format
+-- the table of the format has a number that is newer than the current format's
 abbrev pub IsNewer : State → Type 0
 IsNewer s = (number : ℕ) × (format_number < number) × IsFormat s number
 

@@ -198,10 +198,17 @@ abbrev pub named_if : Option Entry → List (RecordName × Entry)
 named_if None = []
 named_if (Some e) = named e ∷ []
 
--- the entries of one table, each under its name
+-- the entries of one table, of which a query shows these columns, each under its name
+abbrev pub named_by : (columns : Row → Row) → Kind → List Row → List (RecordName × Entry)
+named_by columns type table = flat_map (λ r. named_if (entry_in type (columns r))) table
+
+-- the entries of the tables in these trees, of which the queries show these columns
+unfoldable pub entries_by : (tree : Kind → ℕ) (columns : Kind → Row → Row) → Trees → EntryMap
+entries_by tree columns db = from_entries (named_by (columns kind.User) kind.User (db (tree kind.User)) ++ named_by (columns kind.Group) kind.Group (db (tree kind.Group)))
+
 abbrev pub named_in : Kind → List Row → List (RecordName × Entry)
-named_in type table = flat_map (λ r. named_if (entry_in type (shown_row type r))) table
+named_in type = named_by (shown_row type) type
 
 -- the entries of both tables
-unfoldable pub entries_in : Trees → EntryMap
-entries_in db = from_entries (named_in kind.User (db (entry_tree kind.User)) ++ named_in kind.Group (db (entry_tree kind.Group)))
+abbrev pub entries_in : Trees → EntryMap
+entries_in = entries_by entry_tree shown_row

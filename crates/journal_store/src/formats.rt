@@ -1,33 +1,43 @@
 //! A format of the journal, and the current one.
-ghost use Rattle.std.specs.Prelude.{◌≡◌, ℕ, [], ◌∷◌, IfErr, IfOk};
+ghost use Rattle.std.specs.Prelude.{◌≡◌, ◌≤◌, ℕ, [], ◌∷◌, IsTrue};
 ghost use Rattle.scim_key.specs.declared.records.Kind.{Kind as KindData};
-ghost use Rattle.sqlite_value.specs.Order.{Row as RowData, column};
+ghost use Rattle.sqlite_value.specs.Order.{Row as RowData};
 ghost use Rattle.sqlite_trees.specs.Tree.{rowid};
-ghost use Rattle.sqlite_value.specs.declared.value.Value.TheVariants.{Text};
-ghost use Rattle.source_csv.specs.Records.{row_name};
-ghost use Rattle.journal_core.specs.declared.entries.Entry.{Entry as EntryData};
-ghost use Rattle.sql_tables.specs.Statements.{IsGiven, IsQuery};
+ghost use Rattle.sql_tables.specs.Layouts.{IsOne};
+ghost use Rattle.sql_tables.specs.Statements.{IsGiven, IsQuery, ShowsFormat};
 ghost use Rattle.journal_store.specs.Connections.{Lists};
-ghost use Rattle.journal_store.specs.Faults.{HasCause, IsOfRow};
+ghost use Rattle.journal_store.specs.Format.{format_number};
 
-use crate::columns::read_entry;
-use crate::format::Journal;
-use crate::statements::TableFault;
-use crate::tables::{all_statement, numbers_statement};
-use journal_core::Entry;
+use crate::format::{FORMAT, Journal, is_journal};
+use crate::tables::{all_statement, marked_statement, numbers_statement};
 use scim_key::Kind;
 use sql_tables::Layout;
-use sqlite::Row;
-use std::alloc::Global;
+use sqlite_schema::schema::Schema;
 
-/// A format of the journal: how the entries in its tables are listed and read. A row that is listed has the
-/// key of its entry first.
+/// A format of the journal: its number, and how the entries in its tables are listed. A row that is listed has
+/// the columns of the current format.
 pub(crate) trait Format: Layout {
+    ghost number: { ℕ };
+
     ghost tree: { KindData → ℕ };
 
     ghost columns: { KindData → RowData → RowData };
 
-    ghost shows: { KindData → RowData → EntryData → Type 0 };
+    /// The number of the format, which is at most the current one's.
+    fn number() -> u64
+        ensures number { result ≡ number }
+        ensures known { number ≤ format_number };
+
+    /// Whether the tables are those of the format.
+    fn is_laid_out(schema: &Schema) -> bool
+        ensures is { IsTrue result → IsOne Self.layout schema.now }
+        ensures known { IsOne Self.layout schema.now → IsTrue result };
+
+    /// The query for the number in the table of the format.
+    fn marked_statement() -> &'static str
+        ensures query { IsQuery Self.layout result.now }
+        ensures given { IsGiven Self.layout result.now [] }
+        ensures shows { ShowsFormat Self.layout result.now };
 
     /// The query that lists the numbers of the rows of a type.
     fn numbers_statement(kind: Kind) -> &'static str
@@ -40,26 +50,29 @@ pub(crate) trait Format: Layout {
         ensures query { IsQuery Self.layout result.now }
         ensures given { IsGiven Self.layout result.now [] }
         ensures lists { Lists Self.layout (tree kind) (columns kind) result.now };
-
-    /// The entry that a listed row shows.
-    fn entry_at(alloc: Global, kind: Kind, row: &Row) -> Result<Entry, TableFault>
-        ensures some { IfOk result (shows kind row.now) }
-        ensures none { IfErr result (HasCause ((entry : EntryData) → shows kind row.now entry → ⊥)) }
-        ensures read { IfErr result IsOfRow };
-
-    ghost keyed: { (kind : KindData) (row : RowData) (entry : EntryData) → shows kind row entry → (column row 0 ≡ Text (row_name entry.row).key) × ((row_name entry.row).kind ≡ kind) };
 }
 
 impl Format for Journal {
-    ghost use Rattle.journal_store.specs.Connections.{Shows};
     ghost use Rattle.journal_store.specs.Format.{entry_tree};
     ghost use Rattle.journal_store.specs.Rows.{shown_row};
+
+    ghost number = { format_number };
 
     ghost tree = { entry_tree };
 
     ghost columns = { shown_row };
 
-    ghost shows = { Shows };
+    fn number() -> u64 {
+        FORMAT
+    }
+
+    fn is_laid_out(schema: &Schema) -> bool {
+        is_journal(schema)
+    }
+
+    fn marked_statement() -> &'static str {
+        marked_statement()
+    }
 
     fn numbers_statement(kind: Kind) -> &'static str {
         numbers_statement(kind)
@@ -68,10 +81,4 @@ impl Format for Journal {
     fn list_statement(kind: Kind) -> &'static str {
         all_statement(kind)
     }
-
-    fn entry_at(alloc: Global, kind: Kind, row: &Row) -> Result<Entry, TableFault> {
-        read_entry(alloc, kind, row)
-    }
-
-    ghost keyed = { λ kind row entry it. (it.key, it.kind_is) };
 }

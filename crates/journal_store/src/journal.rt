@@ -354,7 +354,7 @@ impl<S: Alter> ReopenJournal for SqlJournal<S> {
         ensures reopens { Reopens (kept_entries S.Store) (IsFaithful S.Store) (IsHonest S.Store) (MayHold S.Store) (λ k. k.faults) (λ k. k.writes) CountsFault self.old self.new result }
         ensures usable { self.new.is_usable ≡ is_ok result }
     {
-        match check_tables(self.alloc, &mut self.conn) {
+        match check_tables::<S, Tables>(self.alloc, &mut self.conn) {
             Ok(()) => {
                 self.is_usable = true;
                 Ok(())

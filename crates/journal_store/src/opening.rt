@@ -1,19 +1,18 @@
 //! Opens a store: makes its tables, or checks them and each of their rows.
-ghost use Rattle.std.specs.Prelude.{◌≡◌, ◌⊎◌, ◌<◌, ◌≤◌, ℕ, false, IfErr, MatchOption, OnErr, OnOk, IsTrue};
+ghost use Rattle.std.specs.Prelude.{◌≡◌, ◌⊎◌, ◌<◌, ◌≤◌, ℕ, false, IfErr, IfOk, MatchOption, OnErr, OnOk, IsTrue};
 ghost use Rattle.std.specs.Ordering.{int_cmp, is_lt};
 ghost use Rattle.std.specs.declared.cmp.Ordering.TheVariants.{Less};
 ghost use Rattle.std.specs.FinMap.{empty};
 ghost use Rattle.journal_core.specs.Entries.{EntryMap};
 ghost use Rattle.sqlite.specs.Held.{state};
 ghost use Rattle.sqlite.specs.State.{HasCleanDisk, Survives};
-ghost use Rattle.journal_store.specs.Connections.{AreNumbered, HasNumbersBy, IsLaid};
+ghost use Rattle.journal_store.specs.Connections.{AreNumbered, HasNumbersBy};
 ghost use Rattle.sql_tables.specs.Faults.{HasFailed};
-ghost use Rattle.sql_tables.specs.Layouts.{IsBlank, IsFormat, IsLaid as IsLaidBy};
+ghost use Rattle.sql_tables.specs.Layouts.{IsBlank, IsFormat, IsLaid as IsLaidBy, IsMark, IsOne};
 ghost use Rattle.sql_tables.specs.Statements.{LeavesStore, Looks};
-ghost use Rattle.journal_store.specs.Format.{format_number};
-ghost use Rattle.journal_store.specs.Opening.{AreRising, HoldsEntries, IsCause, IsFor, IsJournal, IsNewer, IsNotLaid, IsOfRows, IsSpoilt, IsStore, IsUnmarked, IsUnnumbered, OpenFailsFor, OpeningFails, ShowsDamage, LeavesNone, Stands};
+ghost use Rattle.journal_store.specs.Opening.{AreRising, HoldsEntriesBy, IsCause, IsFor, IsNewer, IsNotLaidBy, IsOfRows, IsSpoiltBy, IsStore, IsStoreBy, IsUnmarkedBy, IsUnnumbered, OpenFailsFor, OpeningFails, ShowsDamageBy, LeavesNone, Stands};
 
-use crate::format::{FORMAT, Journal, is_journal};
+use crate::format::{FORMAT, Journal};
 use crate::formats::Format;
 use crate::lawful::check_lists;
 use crate::statements::TableFault;
@@ -107,20 +106,56 @@ fn make_tables<S: Alter>(conn: &mut Connection<S>) -> Result<(), Error>
     tables.commit()
 }
 
-/// Checks the number of the format.
-fn check_format<S: Alter>(conn: &mut Connection<S>) -> Result<(), JournalOpenFault>
-    requires laid { HasCleanDisk (state S.Store conn.old) → IsTrue (state S.Store conn.old).is_open → IsLaid (state S.Store conn.old) }
-    ensures known { HasCleanDisk (state S.Store conn.new) → OnOk result (IsFormat (state S.Store conn.old) format_number) }
-    ensures cause { HasCleanDisk (state S.Store conn.new) → IfErr result (IsFor (IsNewer (state S.Store conn.old)) (IsUnmarked (state S.Store conn.old))) }
+// ---- the number of the format
+
+/// What the number in the table of the format means for the format with this number.
+fn mark_of<S: Alter, F: Format>(
+    conn: &mut Connection<S>,
+    number: u64,
+) -> Result<Mark, JournalOpenFault>
+    requires laid { HasCleanDisk (state S.Store conn.old) → IsTrue (state S.Store conn.old).is_open → IsLaidBy F.layout (state S.Store conn.old) }
+    ensures mark { HasCleanDisk (state S.Store conn.new) → IfOk result (IsMark (IsFormat (state S.Store conn.old)) number) }
+    ensures cause { IfErr result (IsFor ⊥ ⊥) }
     ensures failed { HasCleanDisk (state S.Store conn.new) → IfErr result (OpenFailsFor (HasFailed (state S.Store conn.old) (state S.Store conn.new))) }
     ensures open { HasCleanDisk (state S.Store conn.new) → OnOk result (IsTrue (state S.Store conn.new).is_open) }
     ensures looks { Looks (state S.Store conn.old) (state S.Store conn.new) }
 {
-    match find_mark::<S, Journal>(conn, "SELECT number FROM journal_format", FORMAT) {
-        Ok(Mark::Own) => Ok(()),
-        Ok(Mark::Newer) => Err(JournalOpenFault::Newer),
-        Ok(Mark::Unmarked) => Err(JournalOpenFault::Damaged),
+    match find_mark::<S, F>(conn, F::marked_statement(), number) {
+        Ok(mark) => Ok(mark),
         Err(error) => Err(JournalOpenFault::from(error)),
+    }
+}
+
+/// The fault for a number above that of the format: either it is above each known one, or the tables aren't
+/// those of its format.
+fn number_fault<S: Alter, F: Format>(conn: &mut Connection<S>) -> JournalOpenFault
+    requires laid { HasCleanDisk (state S.Store conn.old) → IsTrue (state S.Store conn.old).is_open → IsLaidBy F.layout (state S.Store conn.old) }
+    requires above { HasCleanDisk (state S.Store conn.old) → IsTrue (state S.Store conn.old).is_open → (number : ℕ) × (F.number < number) × IsFormat (state S.Store conn.old) number }
+    ensures cause { HasCleanDisk (state S.Store conn.new) → IsFor (IsTrue (state S.Store conn.new).is_open × IsNewer (state S.Store conn.old)) (IsTrue (state S.Store conn.new).is_open × IsUnmarkedBy F.number (state S.Store conn.old)) result }
+    ensures failed { HasCleanDisk (state S.Store conn.new) → OpenFailsFor (HasFailed (state S.Store conn.old) (state S.Store conn.new)) result }
+    ensures looks { Looks (state S.Store conn.old) (state S.Store conn.new) }
+{
+    match mark_of::<S, F>(conn, FORMAT) {
+        Ok(Mark::Newer) => JournalOpenFault::Newer,
+        Ok(Mark::Own | Mark::Unmarked) => JournalOpenFault::Damaged,
+        Err(fault) => fault,
+    }
+}
+
+/// Checks the number of the format.
+fn check_format<S: Alter, F: Format>(conn: &mut Connection<S>) -> Result<(), JournalOpenFault>
+    requires laid { HasCleanDisk (state S.Store conn.old) → IsTrue (state S.Store conn.old).is_open → IsLaidBy F.layout (state S.Store conn.old) }
+    ensures known { HasCleanDisk (state S.Store conn.new) → OnOk result (IsFormat (state S.Store conn.old) F.number) }
+    ensures cause { HasCleanDisk (state S.Store conn.new) → IfErr result (IsFor (IsNewer (state S.Store conn.old)) (IsUnmarkedBy F.number (state S.Store conn.old))) }
+    ensures failed { HasCleanDisk (state S.Store conn.new) → IfErr result (OpenFailsFor (HasFailed (state S.Store conn.old) (state S.Store conn.new))) }
+    ensures open { HasCleanDisk (state S.Store conn.new) → OnOk result (IsTrue (state S.Store conn.new).is_open) }
+    ensures looks { Looks (state S.Store conn.old) (state S.Store conn.new) }
+{
+    match mark_of::<S, F>(conn, F::number()) {
+        Ok(Mark::Own) => Ok(()),
+        Ok(Mark::Newer) => Err(number_fault::<S, F>(conn)),
+        Ok(Mark::Unmarked) => Err(JournalOpenFault::Damaged),
+        Err(fault) => Err(fault),
     }
 }
 
@@ -188,58 +223,64 @@ fn check_numbers<S: Alter, F: Format>(conn: &mut Connection<S>) -> Result<(), Jo
 }
 
 /// Checks the entries of both tables.
-fn check_entries<S: Alter>(alloc: Global, conn: &mut Connection<S>) -> Result<(), JournalOpenFault>
-    requires laid { HasCleanDisk (state S.Store conn.old) → IsTrue (state S.Store conn.old).is_open → IsLaid (state S.Store conn.old) }
-    ensures holds { HasCleanDisk (state S.Store conn.new) → OnOk result (HoldsEntries (state S.Store conn.old).now.trees) }
-    ensures cause { HasCleanDisk (state S.Store conn.new) → IfErr result (IsFor ⊥ (IsTrue (state S.Store conn.new).is_open × (HoldsEntries (state S.Store conn.old).now.trees → ⊥))) }
+fn check_entries<S: Alter, F: Format>(
+    alloc: Global,
+    conn: &mut Connection<S>,
+) -> Result<(), JournalOpenFault>
+    requires laid { HasCleanDisk (state S.Store conn.old) → IsTrue (state S.Store conn.old).is_open → IsLaidBy F.layout (state S.Store conn.old) }
+    ensures holds { HasCleanDisk (state S.Store conn.new) → OnOk result (HoldsEntriesBy F.tree F.columns (state S.Store conn.old).now.trees) }
+    ensures cause { HasCleanDisk (state S.Store conn.new) → IfErr result (IsFor ⊥ (IsTrue (state S.Store conn.new).is_open × (HoldsEntriesBy F.tree F.columns (state S.Store conn.old).now.trees → ⊥))) }
     ensures failed { HasCleanDisk (state S.Store conn.new) → IfErr result (OpenFailsFor (HasFailed (state S.Store conn.old) (state S.Store conn.new))) }
     ensures open { HasCleanDisk (state S.Store conn.new) → OnOk result (IsTrue (state S.Store conn.new).is_open) }
     ensures looks { Looks (state S.Store conn.old) (state S.Store conn.new) }
 {
-    let users = list_entries::<S, Journal>(alloc, conn, Kind::User)?;
-    let groups = list_entries::<S, Journal>(alloc, conn, Kind::Group)?;
+    let users = list_entries::<S, F>(alloc, conn, Kind::User)?;
+    let groups = list_entries::<S, F>(alloc, conn, Kind::Group)?;
     check_lists(alloc, users.as_slice(), groups.as_slice())
 }
 
 // ---- the store
 
 /// Checks the format and each row.
-fn check_laid<S: Alter>(alloc: Global, conn: &mut Connection<S>) -> Result<(), JournalOpenFault>
-    requires laid { HasCleanDisk (state S.Store conn.old) → IsTrue (state S.Store conn.old).is_open → IsLaid (state S.Store conn.old) }
-    ensures store { HasCleanDisk (state S.Store conn.new) → OnOk result ((entries : EntryMap) × IsStore (state S.Store conn.old) entries) }
-    ensures cause { HasCleanDisk (state S.Store conn.new) → IfErr result (IsFor (IsNewer (state S.Store conn.old)) (ShowsDamage (state S.Store conn.old))) }
+fn check_laid<S: Alter, F: Format>(
+    alloc: Global,
+    conn: &mut Connection<S>,
+) -> Result<(), JournalOpenFault>
+    requires laid { HasCleanDisk (state S.Store conn.old) → IsTrue (state S.Store conn.old).is_open → IsLaidBy F.layout (state S.Store conn.old) }
+    ensures store { HasCleanDisk (state S.Store conn.new) → OnOk result ((entries : EntryMap) × IsStoreBy F.layout F.number F.tree F.columns (state S.Store conn.old) entries) }
+    ensures cause { HasCleanDisk (state S.Store conn.new) → IfErr result (IsFor (IsNewer (state S.Store conn.old)) (ShowsDamageBy F.number F.tree F.columns (state S.Store conn.old))) }
     ensures failed { HasCleanDisk (state S.Store conn.new) → IfErr result (OpenFailsFor (HasFailed (state S.Store conn.old) (state S.Store conn.new))) }
     ensures open { HasCleanDisk (state S.Store conn.new) → OnOk result (IsTrue (state S.Store conn.new).is_open) }
     ensures looks { Looks (state S.Store conn.old) (state S.Store conn.new) }
 {
-    check_format(conn)?;
-    check_numbers::<S, Journal>(conn)?;
-    check_entries(alloc, conn)
+    check_format::<S, F>(conn)?;
+    check_numbers::<S, F>(conn)?;
+    check_entries::<S, F>(alloc, conn)
 }
 
 /// Whether the tables are laid out and no transaction is open.
-fn is_laid<S: Alter>(conn: &Connection<S>) -> bool
-    ensures is { IsTrue result → IsTrue (state S.Store conn.now).is_open → IsLaid (state S.Store conn.now) }
-    ensures journal { IsTrue result → IsJournal (state S.Store conn.now).now.schema }
-    ensures not { result ≡ false → IsNotLaid (state S.Store conn.now) }
+fn is_laid<S: Alter, F: Format>(conn: &Connection<S>) -> bool
+    ensures is { IsTrue result → IsTrue (state S.Store conn.now).is_open → IsLaidBy F.layout (state S.Store conn.now) }
+    ensures one { IsTrue result → IsOne F.layout (state S.Store conn.now).now.schema }
+    ensures not { result ≡ false → IsNotLaidBy F.layout (state S.Store conn.now) }
 {
-    conn.is_autocommit() && is_journal(conn.schema())
+    conn.is_autocommit() && F::is_laid_out(conn.schema())
 }
 
 /// Checks the tables, their format and each row.
-pub(crate) fn check_tables<S: Alter>(
+pub(crate) fn check_tables<S: Alter, F: Format>(
     alloc: Global,
     conn: &mut Connection<S>,
 ) -> Result<(), JournalOpenFault>
-    ensures store { HasCleanDisk (state S.Store conn.new) → OnOk result ((entries : EntryMap) × IsStore (state S.Store conn.old) entries) }
-    ensures cause { HasCleanDisk (state S.Store conn.new) → IfErr result (IsFor (IsNewer (state S.Store conn.old)) (IsNotLaid (state S.Store conn.old) ⊎ IsSpoilt (state S.Store conn.old))) }
+    ensures store { HasCleanDisk (state S.Store conn.new) → OnOk result ((entries : EntryMap) × IsStoreBy F.layout F.number F.tree F.columns (state S.Store conn.old) entries) }
+    ensures cause { HasCleanDisk (state S.Store conn.new) → IfErr result (IsFor (IsNewer (state S.Store conn.old)) (IsNotLaidBy F.layout (state S.Store conn.old) ⊎ IsSpoiltBy F.layout F.number F.tree F.columns (state S.Store conn.old))) }
     ensures failed { HasCleanDisk (state S.Store conn.new) → IfErr result (OpenFailsFor (HasFailed (state S.Store conn.old) (state S.Store conn.new))) }
     ensures open { HasCleanDisk (state S.Store conn.new) → OnOk result (IsTrue (state S.Store conn.new).is_open) }
     ensures looks { Looks (state S.Store conn.old) (state S.Store conn.new) }
     ensures left { HasCleanDisk (state S.Store conn.new) → LeavesStore (state S.Store conn.old) (state S.Store conn.new) }
 {
-    if is_laid(conn) {
-        check_laid(alloc, conn)
+    if is_laid::<S, F>(conn) {
+        check_laid::<S, F>(alloc, conn)
     } else {
         Err(JournalOpenFault::Damaged)
     }
@@ -261,7 +302,7 @@ pub(crate) fn open_tables<S: Alter>(
         return Err(JournalOpenFault::Store);
     }
     if !is_blank(conn.schema()) {
-        return check_tables(alloc, conn);
+        return check_tables::<S, Journal>(alloc, conn);
     }
     match make_tables(conn) {
         Ok(()) => Ok(()),

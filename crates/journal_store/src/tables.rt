@@ -12,12 +12,12 @@ ghost use Rattle.source_csv.specs.Records.{row_name};
 ghost use Rattle.source_csv.specs.Rows.{IsGroupRow, IsUserRow, text_of};
 ghost use Rattle.source_csv.specs.declared.rows.Row.TheVariants.{User, Group};
 ghost use Rattle.journal_core.specs.Entries.{entry_with};
-ghost use Rattle.journal_store.specs.Connections.{AreShownBy, Finds, IsDamagedAt, IsEditText, IsLaid, IsOnly, IsThere, IsUnshownBy, ListsAllBy, ListsNoneBy, Makes, PutsIn, put_text};
+ghost use Rattle.journal_store.specs.Connections.{AreShownBy, Finds, IsDamagedAt, IsEditText, IsLaid, IsOnly, IsThere, IsUnshownBy, ListsAllBy, ListsNoneBy, Makes, PutsIn, Shows, put_text};
 ghost use Rattle.sql_tables.specs.Statements.{Keeps, MayLeave, Ran};
 ghost use Rattle.sql_tables.specs.Faults.{HasFailed};
 ghost use Rattle.sql_tables.specs.Layouts.{IsLaid as IsLaidBy};
 ghost use Rattle.journal_store.specs.Faults.{FailsFor, HasCause, IsOfRow};
-ghost use Rattle.journal_store.specs.Format.{all_text, find_text, numbers_text};
+ghost use Rattle.journal_store.specs.Format.{all_text, find_text, marked_text, numbers_text};
 ghost use Rattle.journal_store.specs.declared.format.TheConstants.{TEXT_ORDER};
 ghost use Rattle.journal_store.specs.Rows.{active_number, id_value, members_text, row_by};
 
@@ -318,6 +318,12 @@ pub(crate) fn put_entry<S: Alter>(
 
 // ---- all entries
 
+pub(crate) fn marked_statement() -> &'static str
+    ensures { result.now ≡ marked_text }
+{
+    "SELECT number FROM journal_format"
+}
+
 pub(crate) fn numbers_statement(kind: Kind) -> &'static str
     ensures { result.now ≡ numbers_text kind }
 {
@@ -352,15 +358,15 @@ fn comes_after(previous: &Option<RecordName>, name: &RecordName) -> bool
 }
 
 /// The entries that the rows show, which must be in order of their names.
-fn read_all<F: Format>(alloc: Global, kind: Kind, rows: &[Row]) -> Result<Vec<Entry>, TableFault>
-    ensures some { IfOk result (λ list. AreShownBy (F.shows kind) rows.now list.items) }
-    ensures none { IfErr result (HasCause (IsUnshownBy (F.shows kind) rows.now)) }
+fn read_all(alloc: Global, kind: Kind, rows: &[Row]) -> Result<Vec<Entry>, TableFault>
+    ensures some { IfOk result (λ list. AreShownBy (Shows kind) rows.now list.items) }
+    ensures none { IfErr result (HasCause (IsUnshownBy (Shows kind) rows.now)) }
     ensures read { IfErr result IsOfRow }
 {
     let mut list = Vec::new(alloc);
     let mut previous = None;
     for row in rows {
-        let entry = F::entry_at(alloc, kind, row)?;
+        let entry = read_entry(alloc, kind, row)?;
         let name = entry.row.record_name(alloc)?;
         if !comes_after(&previous, &name) {
             return Err(TableFault::Damaged);
@@ -378,15 +384,15 @@ pub(crate) fn list_entries<S: Alter, F: Format>(
     kind: Kind,
 ) -> Result<Vec<Entry>, TableFault>
     requires laid { HasCleanDisk (state S.Store conn.old) → IsTrue (state S.Store conn.old).is_open → IsLaidBy F.layout (state S.Store conn.old) }
-    ensures all { HasCleanDisk (state S.Store conn.new) → IfOk result (λ list. ListsAllBy (F.shows kind) (F.columns kind) ((state S.Store conn.old).now.trees (F.tree kind)) list.items) }
-    ensures none { HasCleanDisk (state S.Store conn.new) → IfErr result (HasCause (IsTrue (state S.Store conn.new).is_open × ListsNoneBy (F.shows kind) (F.columns kind) ((state S.Store conn.old).now.trees (F.tree kind)))) }
+    ensures all { HasCleanDisk (state S.Store conn.new) → IfOk result (λ list. ListsAllBy (Shows kind) (F.columns kind) ((state S.Store conn.old).now.trees (F.tree kind)) list.items) }
+    ensures none { HasCleanDisk (state S.Store conn.new) → IfErr result (HasCause (IsTrue (state S.Store conn.new).is_open × ListsNoneBy (Shows kind) (F.columns kind) ((state S.Store conn.old).now.trees (F.tree kind)))) }
     ensures failed { HasCleanDisk (state S.Store conn.new) → IfErr result (FailsFor (HasFailed (state S.Store conn.old) (state S.Store conn.new))) }
     ensures keeps { HasCleanDisk (state S.Store conn.new) → Keeps (state S.Store conn.old) (state S.Store conn.new) }
     ensures open { HasCleanDisk (state S.Store conn.new) → OnOk result (IsTrue (state S.Store conn.new).is_open) }
     ensures quiet { Survives (state S.Store conn.old) (state S.Store conn.new) (λ _. ⊥) }
 {
     match ask::<S, F>(conn, F::list_statement(kind), &[]) {
-        Ok(rows) => read_all::<F>(alloc, kind, rows.as_slice()),
+        Ok(rows) => read_all(alloc, kind, rows.as_slice()),
         Err(error) => Err(TableFault::from(error)),
     }
 }

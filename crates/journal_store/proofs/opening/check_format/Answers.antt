@@ -1,30 +1,19 @@
-use Rattle.std.proofs.Common.{subst, sym}
+use Rattle.std.proofs.Common.{◌≡◌, ◌<◌, [], ◌∷◌, pos, map, subst, sym}
+use Rattle.sqlite_value.specs.Order.{Row, column}
+use Rattle.sqlite_value.specs.declared.value.Value.TheVariants.{Int}
+use Rattle.sqlite.specs.Effect.{Database}
 use Rattle.sqlite.specs.Held.{state}
-use Rattle.sql_tables.specs.Faults.{HasFailed, statement_fault as fault_of}
-use Rattle.sql_tables.proofs.Marking.{shows_format}
-use Rattle.journal_store.specs.Faults.{statement_fault}
-use Rattle.journal_store.specs.Opening.{IsNewer, IsUnmarked, OpenFailsFor}
-use Rattle.journal_store.proofs.Checking.{no_damage, told_fails}
-use Rattle.journal_store.proofs.Failing.{fails_as}
-use Rattle.journal_store.proofs.Giving.{marked_given}
-use Rattle.journal_store.proofs.Texts.{marked_is}
+use Rattle.sql_tables.specs.Layouts.{IsFormat, IsMark, format_tree}
+use Rattle.sql_tables.specs.declared.marks.Mark.TheVariants.{Newer}
+use Rattle.sql_tables.proofs.Looking.{same_now}
 use Rattle.journal_store.proofs.opening.check_format.Goals as goal
 
-pub find_mark-requires-clause-query : goal.find_mark-requires-clause-query
-find_mark-requires-clause-query g c = marked_is.reads
-
-pub find_mark-requires-clause-given : goal.find_mark-requires-clause-given
-find_mark-requires-clause-given g c = marked_given
-
-pub find_mark-requires-clause-shows : goal.find_mark-requires-clause-shows
-find_mark-requires-clause-shows g c = shows_format marked_is
-
-pub returns-in-Err-clause-cause : goal.returns-in-Err-clause-cause
-returns-in-Err-clause-cause g c clean =
+pub number_fault-requires-clause-above : goal.number_fault-requires-clause-above
+number_fault-requires-clause-above g c clean still =
     let old = state g.S.Store c.args.conn.now in
-    no_damage (IsNewer old) (IsUnmarked old) c.from.result c.from.ensures.1
-
-pub returns-in-Err-clause-failed : goal.returns-in-Err-clause-failed
-returns-in-Err-clause-failed g c clean =
-    let failure = HasFailed (state g.S.Store c.args.conn.now) (state g.S.Store c.find_mark.new.conn) in
-    subst (OpenFailsFor failure) (sym c.from.ensures.0) (told_fails failure failure (λ it. it) (statement_fault c.in-Err.error) (fails_as failure (fault_of c.in-Err.error) (c.in-Err.ensures.failed clean)))
+    let above : IsMark (IsFormat old) c.number.result Newer = subst (IsMark (IsFormat old) c.number.result) c.in-Ok-Newer.field-0-is (c.in-Ok-Newer.ensures.mark clean) in
+    let same = same_now old (state g.S.Store c.mark_of.new.conn) c.mark_of.ensures.looks c.requires.laid clean still in (
+      above.0,
+      subst (λ own. own < above.0) c.number.ensures.number above.1,
+      subst (λ (d : Database). map (λ (r : Row). column r 2) (d.trees format_tree) ≡ Int (pos above.0) ∷ []) (sym same) above.2,
+    )
