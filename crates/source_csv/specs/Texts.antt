@@ -16,6 +16,7 @@ column_of text.Number = codes "number"
 column_of text.Given = codes "given"
 column_of text.Family = codes "family"
 column_of text.Mail = codes "mail"
+column_of text.Department = codes "department"
 
 -- whether a text has at most `VALUE_LIMIT` bytes
 abbrev pub is_short : List ℕ → Bool

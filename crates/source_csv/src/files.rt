@@ -27,8 +27,20 @@ pub const USER_COLUMNS: [&str; 7] = [
     "login", "revision", "number", "given", "family", "mail", "status",
 ];
 
+/// The columns of a file of users with their departments.
+pub const DEPARTMENT_COLUMNS: [&str; 8] = [
+    "login",
+    "revision",
+    "number",
+    "given",
+    "family",
+    "mail",
+    "status",
+    "department",
+];
+
 /// The headers that a file of users may have.
-pub const USER_HEADERS: [&[&str]; 1] = [&USER_COLUMNS];
+pub const USER_HEADERS: [&[&str]; 2] = [&USER_COLUMNS, &DEPARTMENT_COLUMNS];
 
 /// The columns of a file of groups.
 pub const GROUP_COLUMNS: [&str; 3] = ["name", "revision", "members"];

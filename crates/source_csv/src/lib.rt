@@ -11,8 +11,8 @@ mod users;
 
 pub use faults::{RowCode, RowFault, SourceFault};
 pub use files::{
-    GROUP_COLUMNS, GROUP_HEADERS, SourceRows, USER_COLUMNS, USER_HEADERS, files_have_records,
-    read_groups, read_users,
+    DEPARTMENT_COLUMNS, GROUP_COLUMNS, GROUP_HEADERS, SourceRows, USER_COLUMNS, USER_HEADERS,
+    files_have_records, read_groups, read_users,
 };
 pub use groups::{GroupRow, MEMBER_LIMIT};
 pub use rows::{Row, keys_are_of_names};

@@ -19,13 +19,20 @@ pub enum TextField {
     Given,
     Family,
     Mail,
+    Department,
 }
 
 /// How many texts a user has.
-pub const TEXT_FIELD_COUNT: usize = 4;
+pub const TEXT_FIELD_COUNT: usize = 5;
 
 /// The column of each text of a user, in the order of `TextField`.
-pub const TEXT_FIELDS: [&str; TEXT_FIELD_COUNT] = ["number", "given", "family", "mail"];
+pub const TEXT_FIELDS: [&str; TEXT_FIELD_COUNT] = [
+    "number",
+    "given",
+    "family",
+    "mail",
+    "department",
+];
 
 impl TextField {
     /// Its place among the texts of a user.
