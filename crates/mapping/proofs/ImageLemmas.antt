@@ -74,7 +74,7 @@ emails_are_lawful (b ∷ mail) short = record {
 }
 
 source_short : (row : UserFields) → IsUserRow row → (which : UserText) → length (source_text row which) ≤ TEXT_LIMIT
-source_short row lawful texts.Department = omega arith
+source_short row lawful texts.Department = short_text row lawful field.Department
 source_short row lawful texts.ExternalId = short_text row lawful field.Number
 source_short row lawful texts.FamilyName = short_text row lawful field.Family
 source_short row lawful texts.GivenName = short_text row lawful field.Given

@@ -34,9 +34,9 @@ abbrev pub emails_of : List ℕ → List Email
 emails_of [] = []
 emails_of (b ∷ mail) = work_email (b ∷ mail) ∷ []
 
--- the text of a row that gives a text of a user; empty if no field gives it
+-- the text of a row that gives a text of a user
 abbrev pub source_text : UserFields → UserText → List ℕ
-source_text row texts.Department = []
+source_text row texts.Department = text_of row field.Department
 source_text row texts.ExternalId = text_of row field.Number
 source_text row texts.FamilyName = text_of row field.Family
 source_text row texts.GivenName = text_of row field.Given

@@ -21,13 +21,13 @@ pub fn user_content(alloc: Global, row: &UserRow) -> Result<Content, AllocError>
     Ok(Content::User(user.with_texts(texts).with_emails(emails)))
 }
 
-/// The field of a row that gives a text of a user; empty if no field gives it.
+/// The field of a row that gives a text of a user.
 fn source_text(row: &UserRow, which: UserText) -> &str
     ensures value { result.now ≡ source_text row.now which }
     ensures short { length result.now ≤ TEXT_LIMIT }
 {
     match which {
-        UserText::Department => "",
+        UserText::Department => row.text(TextField::Department),
         UserText::ExternalId => row.text(TextField::Number),
         UserText::FamilyName => row.text(TextField::Family),
         UserText::GivenName => row.text(TextField::Given),
