@@ -22,9 +22,11 @@ use Rattle.scim_key.specs.Revisions.{RevisionValue, IsRevision, revision_number}
 use Rattle.scim_key.proofs.RevisionLaws.{are_read_back}
 use Rattle.scim_key.specs.declared.records.RecordName.{RecordName}
 use Rattle.scim_resource.specs.Contents.{content_kind}
-use Rattle.scim_resource.specs.Schemas.{core_user, core_group, source_extension}
+use Rattle.scim_resource.specs.Schemas.{core_user, core_group, enterprise_extension, source_extension}
+use Rattle.scim_resource.specs.UserTexts.{has_some}
 use Rattle.scim_resource.specs.Writing.{Extension, source_data, schemas_data, object_if, email_data, email_parts, emails_data, user_data, user_front, user_back, member_data, group_members_data, group_data, content_data}
 use Rattle.scim_resource.specs.declared.contents.Content.{Content}
+use Rattle.scim_resource.specs.declared.user_texts.UserText.TheVariants.{Department}
 use Rattle.source_csv.specs.Records.{IsRow}
 use Rattle.source_csv.proofs.RowLemmas.{short_text}
 use Rattle.source_csv.specs.Rows.{UserFields, GroupFields, IsUserRow, IsGroupRow, text_of}
@@ -259,6 +261,10 @@ key_value : length (quoted (codes "value")) ≡ 7
 unfolding escape_byte
 key_value = refl
 
+key_department : length (quoted (codes "department")) ≡ 12
+unfolding escape_byte
+key_department = refl
+
 key_revision : length (quoted (codes "revision")) ≡ 10
 unfolding escape_byte
 key_revision = refl
@@ -270,6 +276,10 @@ the_work = refl
 extension_length : length (quoted source_extension) ≡ 54
 unfolding escape_byte source_extension
 extension_length = refl
+
+enterprise_length : length (quoted enterprise_extension) ≡ 60
+unfolding escape_byte enterprise_extension
+enterprise_length = refl
 
 core_user_length : length (quoted core_user) ≡ 44
 unfolding escape_byte core_user
@@ -285,9 +295,22 @@ revision_part : (r : RevisionValue) → IsRevision r → (d : Data) → source_d
 revision_part r law d is =
     just (object (member (codes "revision") (number (unsigned (revision_number r))) no_members)) d 34 (object_most (member (codes "revision") (number (unsigned (revision_number r))) no_members) 33 (with_member (codes "revision") (number (unsigned (revision_number r))) no_members 10 20 1 key_revision (revision_most r law) no_more_members)) is
 
+-- the enterprise extension with this department, if there is one
+abbrev enterprise_data : Option (List ℕ) → Option Data
+enterprise_data department = object_if (members_from ((codes "department", option_map string department) ∷ []))
+
+enterprise_part : (text : List ℕ) → length text ≤ 256 → (d : Data) → enterprise_data (present text) ≡ Some d → length (compact_text d) ≤ 1554
+enterprise_part [] short d is = absurd (cc)
+enterprise_part (b ∷ text) short d is =
+    just (object (member (codes "department") (string (b ∷ text)) no_members)) d 1554 (object_most (member (codes "department") (string (b ∷ text)) no_members) 1553 (with_member (codes "department") (string (b ∷ text)) no_members 12 1538 1 key_department (text_most (b ∷ text) short) no_more_members)) is
+
 -- an image has the source extension
 abbrev sourced : List Extension
 sourced = (source_extension, true) ∷ []
+
+-- the extensions of an image of a user, which has the enterprise extension if it has a department
+abbrev extended : Bool → List Extension
+extended has = (enterprise_extension, has) ∷ sourced
 
 schemas_most : (core : List ℕ) (n : ℕ) → length (quoted core) ≤ n → length (compact_text (array (schemas_data core sourced))) ≤ n + 58
 schemas_most core n short =
@@ -296,6 +319,16 @@ schemas_most core n short =
 
 schemas_part : (core : List ℕ) (n : ℕ) → length (quoted core) ≤ n → (d : Data) → Some (array (schemas_data core sourced)) ≡ Some d → length (compact_text d) ≤ n + 58
 schemas_part core n short d is = just (array (schemas_data core sourced)) d (n + 58) (schemas_most core n short) is
+
+user_schemas_most : (has : Bool) → length (compact_text (array (schemas_data core_user (extended has)))) ≤ 163
+user_schemas_most true =
+    let source = with_item (string source_extension) no_items 54 1 (omega (arith, extension_length)) no_more_items in
+    let urns = with_item (string enterprise_extension) (item (string source_extension) no_items) 60 56 (omega (arith, enterprise_length)) source in
+    array_most (schemas_data core_user (extended true)) 162 (with_item (string core_user) (item (string enterprise_extension) (item (string source_extension) no_items)) 44 117 (omega (arith, core_user_length)) urns)
+user_schemas_most false = omega (arith, schemas_most core_user 44 (omega (arith, core_user_length)))
+
+user_schemas_part : (has : Bool) (d : Data) → Some (array (schemas_data core_user (extended has))) ≡ Some d → length (compact_text d) ≤ 163
+user_schemas_part has d is = just (array (schemas_data core_user (extended has))) d 163 (user_schemas_most has) is
 
 -- the parts of a name
 abbrev name_parts : Option (List ℕ) → Option (List ℕ) → List Part
@@ -333,15 +366,17 @@ no_part n d is = absurd (cc)
 user_size : (row : UserFields) → IsUserRow row → length (compact_text (content_data (user_image row))) < 9_000
 unfolding user_data user_front user_back
 user_size row law =
-    let whole : length (compact_text (content_data (user_image row))) ≤ 6619 = object_most _ 6618 (with_part (codes "active") (Some (boolean row.active)) _ 8 5 6603 key_active (λ d is. just (boolean row.active) d 5 (boolean_most row.active) is)
-    (with_part (codes "emails") (emails_data (emails_of (text_of row texts.Mail))) _ 8 1582 5011 key_emails (emails_part (text_of row texts.Mail) (short_text row law texts.Mail))
-    (with_part (codes "externalId") (option_map string (present (text_of row texts.Number))) _ 12 1538 3459 key_external_id (present_most (text_of row texts.Number) (short_text row law texts.Number))
-    (with_part (codes "name") (object_if (members_from (name_parts (present (text_of row texts.Given)) (present (text_of row texts.Family))))) _ 6 3105 346 key_name
+    let department = text_of row texts.Department in
+    let whole : length (compact_text (content_data (user_image row))) ≤ 8296 = object_most _ 8295 (with_part (codes "active") (Some (boolean row.active)) _ 8 5 8280 key_active (λ d is. just (boolean row.active) d 5 (boolean_most row.active) is)
+    (with_part (codes "emails") (emails_data (emails_of (text_of row texts.Mail))) _ 8 1582 6688 key_emails (emails_part (text_of row texts.Mail) (short_text row law texts.Mail))
+    (with_part (codes "externalId") (option_map string (present (text_of row texts.Number))) _ 12 1538 5136 key_external_id (present_most (text_of row texts.Number) (short_text row law texts.Number))
+    (with_part (codes "name") (object_if (members_from (name_parts (present (text_of row texts.Given)) (present (text_of row texts.Family))))) _ 6 3105 2023 key_name
     (name_part (present (text_of row texts.Given)) (present (text_of row texts.Family)) (present_most (text_of row texts.Given) (short_text row law texts.Given)) (present_most (text_of row texts.Family) (short_text row law texts.Family)))
-    (with_part (codes "schemas") (Some (array (schemas_data core_user sourced))) _ 9 102 233 key_schemas (schemas_part core_user 44 (omega (arith, core_user_length)))
-    (with_part source_extension (source_data (Some row.revision)) _ 54 34 143 extension_length (revision_part row.revision law.revision)
+    (with_part (codes "schemas") (Some (array (schemas_data core_user (extended (has_some (image_texts row) (Department ∷ [])))))) _ 9 163 1849 key_schemas (user_schemas_part (has_some (image_texts row) (Department ∷ [])))
+    (with_part source_extension (source_data (Some row.revision)) _ 54 34 1759 extension_length (revision_part row.revision law.revision)
+    (with_part enterprise_extension (enterprise_data (present department)) _ 60 1554 143 enterprise_length (enterprise_part department (short_text row law texts.Department))
     (with_part (codes "userName") (Some (string row.login)) no_members 10 130 1 key_user_name
-    (λ d is. just (string row.login) d 130 (login_most row.login law.login) is) no_more_members))))))) in
+    (λ d is. just (string row.login) d 130 (login_most row.login law.login) is) no_more_members)))))))) in
     omega (arith, whole)
 
 -- ---- a Group
