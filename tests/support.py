@@ -39,10 +39,12 @@ TIME_LIMIT = 30
 NOWHERE = "127.0.0.1:1"
 
 SCIM_TYPE = "application/scim+json"
+ENTERPRISE = "urn:ietf:params:scim:schemas:extension:enterprise:2.0:User"
 SOURCE = "urn:example:params:scim:schemas:extension:source:1.0"
 USER = "urn:ietf:params:scim:schemas:core:2.0:User"
 GROUP = "urn:ietf:params:scim:schemas:core:2.0:Group"
 USERS_HEADER = "login,revision,number,given,family,mail,status"
+DEPARTMENTS_HEADER = f"{USERS_HEADER},department"
 GROUPS_HEADER = "name,revision,members"
 
 # A request that creates the user bob, its body, and the answer of a provider that holds nothing yet
@@ -276,8 +278,8 @@ class Site:
         self.users, self.groups = folder / "users.csv", folder / "groups.csv"
         self.journal, self.store = folder / "journal", folder / "store"
 
-    def write_users(self, *records):
-        self.users.write_text(text(USERS_HEADER, *records))
+    def write_users(self, *records, header=USERS_HEADER):
+        self.users.write_text(text(header, *records))
 
     def write_groups(self, *records):
         self.groups.write_text(text(GROUPS_HEADER, *records))
@@ -380,6 +382,12 @@ def compact(content):
 def user_text(name, revision=1, **more):
     schemas = {"schemas": [USER, SOURCE], SOURCE: {"revision": revision}}
     return compact(schemas | {"userName": name, "active": True} | more)
+
+
+def department_text(name, revision, department):
+    """The text of a user in this department."""
+    schemas = {"schemas": [USER, ENTERPRISE, SOURCE], ENTERPRISE: {"department": department}}
+    return user_text(name, revision, **schemas)
 
 
 def group_text(name, members):

@@ -8,7 +8,7 @@ import re
 import socket
 
 from support import (
-    EXAMPLES, ROOT, USERS_HEADER, ProgramTest, Running,
+    DEPARTMENTS_HEADER, EXAMPLES, ROOT, USERS_HEADER, ProgramTest, Running,
     full_disk, limited_files, limited_handles, resource_id, scimlink, text, wait_until, writes_of,
 )
 
@@ -66,6 +66,11 @@ class RowsTest(LoopTest):
     def test_the_same_row_again(self):
         self.writes(["bob,1,,,,,active"] * 2)
         self.assert_loop("1 new", "2 known", "settled in 2 exchanges", BOB)
+
+    def test_a_department_is_a_field_of_a_row(self):
+        records = ["bob,1,,,,,active,Sales", "bob,1,,,,,active,Sales", "bob,1,,,,,active,"]
+        self.site.write_users(*records, header=DEPARTMENTS_HEADER)
+        self.assert_loop("1 new", "2 known", "3 S7", "settled in 2 exchanges", BOB, status=1)
 
     def test_each_report_is_one_write(self):
         self.writes(["bob,1,,,,,active"] * 2, ["crew,1,"])

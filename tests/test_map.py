@@ -1,6 +1,7 @@
 """`map`: the image of each row of a users file."""
 from support import (
-    EXAMPLES, SOURCE, USERS_HEADER, ProgramTest, broken_pipe, full_disk, scimlink, text, user_text,
+    DEPARTMENTS_HEADER, EXAMPLES, SOURCE, USERS_HEADER, ProgramTest,
+    broken_pipe, department_text, full_disk, scimlink, text, user_text,
 )
 
 PERSONNEL = EXAMPLES / "personnel.csv"
@@ -20,12 +21,21 @@ class MapTest(ProgramTest):
         self.assertIn(f'"{SOURCE}":{{"revision":7}},"userName":"ann"', run.lines[0])
 
     def test_a_header_alone(self):
-        self.assert_prints(scimlink("map", self.write(text(USERS_HEADER))))
+        for header in (USERS_HEADER, DEPARTMENTS_HEADER):
+            with self.subTest(header=header):
+                self.assert_prints(scimlink("map", self.write(text(header))))
 
     def test_other_headers(self):
-        for header in ["", "\n", "name,revision,members\n", USERS_HEADER.upper() + "\n", USERS_HEADER + ",more\n"]:
+        more = [f"{header},more" for header in (USERS_HEADER, DEPARTMENTS_HEADER)]
+        for header in ["", "\n", "name,revision,members\n", USERS_HEADER.upper() + "\n", *map(text, more)]:
             with self.subTest(header=header):
                 self.assert_prints(scimlink("map", self.write(header)), status=1, errors=["users: S1"])
+
+    def test_departments(self):
+        records = ["bob,2,,,,,active,Sales", "ann,1,,,,,active,", "cid,1,,,,,active", f"dee,1,,,,,active,{'d' * 257}"]
+        run = scimlink("map", self.write(text(DEPARTMENTS_HEADER, *records)))
+        images = [department_text("bob", 2, "Sales"), user_text("ann")]
+        self.assert_prints(run, *images, status=1, errors=["users record 3: S2", "users record 4: S6"])
 
     def test_rejected_records(self):
         records = ["ann,1", "\xff,1,,,,,active", "bob,1,,,,,active", "c d,1,,,,,active", "cid,1,,,,,gone"]

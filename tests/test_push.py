@@ -1,7 +1,8 @@
 """`push` to a provider of this program, both over files."""
 from support import (
-    GROUPS_HEADER, NOWHERE, USERS_HEADER, ProgramTest, Provider,
-    full_disk, group_entry, limited_files, make_journal, resource_id, scimlink, text, user_entry, writes_of,
+    DEPARTMENTS_HEADER, GROUPS_HEADER, NOWHERE, USERS_HEADER, ProgramTest, Provider,
+    department_text, full_disk, group_entry, limited_files, make_journal, resource_id, scimlink, sql, text,
+    user_entry, user_text, writes_of,
 )
 
 ANN_CONFIRMED, BOB_CONFIRMED = "user ann confirmed 1", "user bob confirmed 1"
@@ -60,6 +61,17 @@ class RecordTest(PushTest):
         self.leave()
         self.site.write_users("bob,2,,,,,active")
         self.pushes(0, ANN_CONFIRMED, "user bob confirmed 2", status=1, errors=["users record 1: S7"])
+
+    def test_a_department(self):
+        content = "SELECT content FROM resource"
+        self.site.write_users("bob,1,,,,,active,Sales", header=DEPARTMENTS_HEADER)
+        self.pushes(2, BOB_CONFIRMED)
+        self.assertEqual(sql(self.site.store, content), [(department_text("bob", 1, "Sales"),)])
+        self.site.write_users("bob,1,,,,,active")
+        self.pushes(0, BOB_CONFIRMED, status=1, errors=["users record 1: S7"])
+        self.site.write_users("bob,2,,,,,active")
+        self.pushes(2, "user bob confirmed 2")
+        self.assertEqual(sql(self.site.store, content), [(user_text("bob", 2),)])
 
     def test_a_group(self):
         self.join()

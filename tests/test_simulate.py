@@ -17,6 +17,7 @@ user ann,0,,,,,active
 user ann,2000000001,,,,,active
 user ann,07x,,,,,active
 user ann,1,,,,active
+user ann,1,,,,,active,Sales,
 user an n,1,,,,,active
 user ann,1,,,,,active\ruser bob,1,,,,,active
 group crew,1,ann Ann
@@ -76,6 +77,12 @@ class SimulateTest(ProgramTest):
         *reports, bob = creation.with_suffix(".out").read_text().splitlines()
         run = self.simulate(creation.read_text() + text("user bob,1,,,,bob@example.com,active"))
         self.assert_prints(run, *reports, "9 S7", bob, status=1)
+
+    def test_rows_with_and_without_a_department(self):
+        rows = ["bob,2,,,,,active,Sales", "bob,2,,,,,active,Sales", "bob,2,,,,,active", "bob,3,,,,,active,"]
+        bob = "user bob wanted=3 confirmed=0 held=0 version=0 active=-"
+        run = self.simulate(text(*(f"user {row}" for row in rows)))
+        self.assert_prints(run, "1 new", "2 known", "3 S7", "4 new", bob, status=1)
 
     def test_comments_and_line_ends(self):
         creation = SCHEDULES / "creation.schedule"

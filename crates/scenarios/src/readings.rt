@@ -2,6 +2,7 @@
 mod answers_back;
 mod codes;
 mod copies;
+mod departments;
 mod filter_texts;
 mod filters;
 mod groups;

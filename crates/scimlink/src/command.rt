@@ -121,7 +121,7 @@ fn users_option<'a>(alloc: Global) -> Arg<'a> {
     Arg::new(alloc, "users")
         .long("users")
         .value_name("FILE")
-        .help("the file of users: login,revision,number,given,family,mail,status")
+        .help("the file of users: login,revision,number,given,family,mail,status[,department]")
         .required(true)
 }
 
@@ -153,7 +153,7 @@ fn loop_command<'a>(alloc: Global) -> Result<Command<'a>, AllocError> {
 
 fn map_command<'a>(alloc: Global) -> Result<Command<'a>, AllocError> {
     let file = Arg::new(alloc, "FILE")
-        .help("a users file: login,revision,number,given,family,mail,status")
+        .help("a users file: login,revision,number,given,family,mail,status[,department]")
         .required(true);
     Command::new(alloc, "map")
         .about("prints the SCIM user that each row of a users file asks for, a line each")

@@ -1,11 +1,14 @@
 //! Rows that meet every limit of a row, from the source to the provider and after a restart.
 use crate::connector::asking::exchange;
-use crate::connector::offers::{named, new_connector, offer_group, offer_user, opened_again};
+use crate::connector::offers::{
+    named, new_connector, offer, offer_group, offer_user, opened_again,
+};
 use crate::support::{assert_same, assert_that, empty, repeated};
 use connector_core::Connector;
 use journal_core::MemoryJournal;
 use provider_core::{MemoryRegistry, Provider};
 use scim_key::{Kind, RecordName};
+use source_csv::read_users;
 use std::alloc::Global;
 use std::process::Abort;
 
@@ -41,10 +44,12 @@ fn a_user_with_the_longest_fields(rt: HostRuntime) {
     let mut connector = new_connector(&rt, alloc);
     let login = repeated(&rt, alloc, "A", 128);
     let field = repeated(&rt, alloc, "f", 256);
-    let record = format!(in alloc;
-        "{login},2000000000,{field},{field},{field},{field},active\n"
+    let text = format!(in alloc;
+        "login,revision,number,given,family,mail,status,department\n{login},2000000000,{field},{field},{field},{field},active,{field}\n"
     ).expect(&rt, "memory");
-    let said = offer_user(&rt, alloc, &mut connector, record.as_str());
+    let rows = read_users(alloc, text.as_bytes()).expect(&rt, "a file");
+    let record = rows.as_slice().first().expect(&rt, "no record");
+    let said = offer(&rt, alloc, &mut connector, record);
     assert_same(&rt, said.as_str(), "new");
     let name = named(&rt, alloc, Kind::User, login.as_str());
     let said = created(&rt, alloc, &mut connector, &mut provider, &name);

@@ -1,6 +1,7 @@
 //! Whole runs of connector and provider in memory: messages lost, late and repeated, and restarts.
 use crate::connector::failing::{FailingJournal, FailingRegistry};
 use crate::connector::offers::named;
+use crate::departments::CREATED;
 use crate::support::{BOB_CREATED, CREATE_BOB, are_printed, assert_same, assert_that};
 use connector_core::{ChangeFault, LearnFault};
 use journal_core::MemoryJournal;
@@ -208,6 +209,21 @@ static RUNS: &[Run] = &[
         ]],
         &["user ann wanted=2000000000 confirmed=0 held=0 version=0 active=-"],
     ),
+    (
+        "a department is a field of a row",
+        &[&[
+            ("user bob,2,,,,,active,Sales", "new"),
+            ("user bob,2,,,,,active,Sales", "known"),
+            ("user bob,2,,,,,active", "S7"),
+            ("user ann,2,,,,,active", "new"),
+            ("user ann,2,,,,,active,", "known"),
+            ("user ann,2,,,,,active,Sales", "S7"),
+        ]],
+        &[
+            "user ann wanted=2 confirmed=0 held=0 version=0 active=-",
+            "user bob wanted=2 confirmed=0 held=0 version=0 active=-",
+        ],
+    ),
 ];
 
 /// The events of a run's parts, one part after the other.
@@ -279,6 +295,22 @@ fn messages_are_kept_in_their_bytes(rt: HostRuntime) {
     assert_that(&rt, world.message(4) == Some(BOB_CREATED));
     assert_that(&rt, world.message(0).is_none());
     assert_that(&rt, world.message(5).is_none());
+}
+
+/// Bob is wanted in the department `Sales`.
+const IN_SALES: &[Told] = &[("user bob,2,,,,,active,Sales", "new")];
+
+const CONFIRMED_IN_SALES: &[Told] = &[("deliver 3", "answer 4 201"), ("deliver 4", "confirmed 2")];
+
+/// The request that creates him there.
+const CREATE_IN_SALES: &[u8] =
+    b"POST /v2/Users HTTP/1.1\r\nHost: localhost:8080\r\nAccept: application/scim+json\r\nConnection: close\r\nContent-Length: 359\r\nContent-Type: application/scim+json\r\n\r\n{\"active\":true,\"schemas\":[\"urn:ietf:params:scim:schemas:core:2.0:User\",\"urn:ietf:params:scim:schemas:extension:enterprise:2.0:User\",\"urn:example:params:scim:schemas:extension:source:1.0\"],\"urn:example:params:scim:schemas:extension:source:1.0\":{\"revision\":2},\"urn:ietf:params:scim:schemas:extension:enterprise:2.0:User\":{\"department\":\"Sales\"},\"userName\":\"bob\"}";
+
+#[test]
+fn a_department_is_sent_and_kept(rt: HostRuntime) {
+    let world = runs(&rt, rt.alloc(), &[IN_SALES, SENT, CONFIRMED_IN_SALES]);
+    assert_that(&rt, world.message(3) == Some(CREATE_IN_SALES));
+    assert_that(&rt, world.message(4) == Some(CREATED));
 }
 
 /// No run reports one of these for the connector's own requests.

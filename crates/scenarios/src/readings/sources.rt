@@ -64,7 +64,7 @@ fn refused(place: usize, code: RowCode) -> Option<RowFault> {
 }
 
 /// Asserts that the records at these places, from 1 on, are rejected with these codes.
-fn are_refused(rt: &impl Abort, records: &[Result<Row, RowFault>], codes: &[(usize, RowCode)]) {
+pub fn are_refused(rt: &impl Abort, records: &[Result<Row, RowFault>], codes: &[(usize, RowCode)]) {
     for (place, code) in codes {
         let record = records.get(place.saturating_sub(1));
         assert_same(rt, fault(record), refused(*place, *code));
@@ -72,7 +72,7 @@ fn are_refused(rt: &impl Abort, records: &[Result<Row, RowFault>], codes: &[(usi
 }
 
 /// The user of a record.
-fn user<'a>(rt: &impl Abort, record: Option<&'a Result<Row, RowFault>>) -> &'a UserRow {
+pub fn user<'a>(rt: &impl Abort, record: Option<&'a Result<Row, RowFault>>) -> &'a UserRow {
     match row(rt, record) {
         Row::User(user) => user,
         Row::Group(_) => panic!(rt; "no user"),
@@ -207,7 +207,8 @@ fn headers_may_stand_alone(rt: HostRuntime) {
     has_no_records(&rt, alloc, quoted);
 }
 
-fn is_no_header(rt: &impl Abort, alloc: Global, text: &str) {
+/// Asserts that a file has no header of users.
+pub fn is_no_header(rt: &impl Abort, alloc: Global, text: &str) {
     let fault = read_users(alloc, text.as_bytes()).err();
     assert_same(rt, fault, Some(SourceFault::Header));
 }
@@ -330,7 +331,8 @@ fn rows_have_their_images(rt: HostRuntime) {
     are_both_lines(&rt, images.as_slice());
 }
 
-fn has_line(rt: &impl Abort, alloc: Global, user: &UserRow, line: &[u8]) {
+/// Asserts the line of a user.
+pub fn has_line(rt: &impl Abort, alloc: Global, user: &UserRow, line: &[u8]) {
     let written = row_line(alloc, user).expect(rt, "a line");
     assert_that(rt, written.as_slice() == line);
 }
@@ -350,28 +352,28 @@ fn a_row_has_its_image(rt: HostRuntime) {
     content_is_named(&rt, alloc, ann, "ann");
 }
 
-/// The row with the longest line.
+/// A file of the row with the longest line.
 fn longest_row(rt: &impl Abort, alloc: Global) -> String {
     let login = repeated(rt, alloc, "a", 128);
     let field = repeated(rt, alloc, "\x01", 256);
-    format!(in alloc; "{login},2000000000,{field},{field},{field},{field},active\n").expect(
-        rt, "memory",
-    )
+    format!(in alloc;
+        "login,revision,number,given,family,mail,status,department\n{login},2000000000,{field},{field},{field},{field},active,{field}\n"
+    ).expect(rt, "memory")
 }
 
 fn longest_line(rt: &impl Abort, alloc: Global) -> String {
     let login = repeated(rt, alloc, "a", 128);
     let written = repeated(rt, alloc, "\\u0001", 256);
     format!(in alloc;
-        "{{\"active\":true,\"emails\":[{{\"primary\":true,\"type\":\"work\",\"value\":\"{written}\"}}],\"externalId\":\"{written}\",\"name\":{{\"familyName\":\"{written}\",\"givenName\":\"{written}\"}},\"schemas\":[\"urn:ietf:params:scim:schemas:core:2.0:User\",\"urn:example:params:scim:schemas:extension:source:1.0\"],\"urn:example:params:scim:schemas:extension:source:1.0\":{{\"revision\":2000000000}},\"userName\":\"{login}\"}}\n"
+        "{{\"active\":true,\"emails\":[{{\"primary\":true,\"type\":\"work\",\"value\":\"{written}\"}}],\"externalId\":\"{written}\",\"name\":{{\"familyName\":\"{written}\",\"givenName\":\"{written}\"}},\"schemas\":[\"urn:ietf:params:scim:schemas:core:2.0:User\",\"urn:ietf:params:scim:schemas:extension:enterprise:2.0:User\",\"urn:example:params:scim:schemas:extension:source:1.0\"],\"urn:example:params:scim:schemas:extension:source:1.0\":{{\"revision\":2000000000}},\"urn:ietf:params:scim:schemas:extension:enterprise:2.0:User\":{{\"department\":\"{written}\"}},\"userName\":\"{login}\"}}\n"
     ).expect(rt, "memory")
 }
 
 #[test]
 fn the_longest_line(rt: HostRuntime) {
     let alloc = rt.alloc();
-    let record = longest_row(&rt, alloc);
-    let rows = users(&rt, alloc, record.as_str());
+    let text = longest_row(&rt, alloc);
+    let rows = read_users(alloc, text.as_bytes()).expect(&rt, "a file");
     let line = longest_line(&rt, alloc);
     has_line(
         &rt,
