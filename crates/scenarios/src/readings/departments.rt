@@ -7,15 +7,15 @@ use std::alloc::Global;
 use std::process::Abort;
 
 /// Bob in the department `Sales`.
-static IN_SALES: &[u8] =
+const IN_SALES: &[u8] =
     b"login,revision,number,given,family,mail,status,department\nbob,2,,,,,active,Sales\n";
 
 /// Bob in no department, in a file that could give one.
-static IN_NONE: &[u8] =
+const IN_NONE: &[u8] =
     b"login,revision,number,given,family,mail,status,department\nbob,2,,,,,active,\n";
 
 /// Bob in a file without departments.
-static ALONE: &[u8] = b"login,revision,number,given,family,mail,status\nbob,2,,,,,active\n";
+const ALONE: &[u8] = b"login,revision,number,given,family,mail,status\nbob,2,,,,,active\n";
 
 /// The image of bob in the department `Sales`.
 static SALES_LINE: &[u8] =
