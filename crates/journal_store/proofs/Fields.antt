@@ -1,17 +1,16 @@
 -- A table is what its fields say.
-use Rattle.std.proofs.Common.{◌≡◌, [], ◌∷◌, refl, ◌∙◌}
-use Rattle.sqlite_value.specs.declared.keys.Order.{Order}
+use Rattle.std.proofs.Common.{◌≡◌, ℕ, List, [], ◌∷◌, refl, ◌∙◌}
+use Rattle.sqlite_schema.specs.declared.schema.Column.{Column}
 use Rattle.sqlite_schema.specs.declared.schema.Index.{Index}
 use Rattle.sqlite_schema.specs.declared.schema.Schema.{Schema}
 use Rattle.sqlite_schema.specs.declared.schema.Table.{Table}
-use Rattle.scim_key.specs.declared.records.Kind.{Kind}
 use Rattle.scim_key.specs.declared.records.Kind.TheVariants.{User, Group}
-use Rattle.journal_store.specs.Format.{entry_table, format_name, key_index}
+use Rattle.journal_store.specs.Format.{entry_columns, entry_name, entry_tree, first_columns, first_index_name, first_name, first_tree, format_name, index_name, keyed_index, keyed_table}
 use Rattle.sql_tables.specs.Layouts.{format_table}
-use Rattle.journal_store.specs.Opening.{IsEntryTable, IsJournal}
+use Rattle.journal_store.specs.Opening.{IsEntryTable, IsFirst, IsJournal, IsKeyedTable}
 
-entry_fields : (kind : Kind) (table : Table) (order : Order) → IsEntryTable kind table → table.orders ≡ order ∷ [] → table ≡ entry_table kind order
-entry_fields kind table order it orders =
+table_fields : (name : List ℕ) (tree : ℕ) (columns : List Column) (table : Table) (keys : Index) → IsEntryTable name tree columns table → table.orders ≡ keys.order ∷ [] → table ≡ keyed_table name tree columns keys.order
+table_fields name tree columns table keys it orders =
     let same : table ≡ record {
       name = table.name;
       tree = table.tree;
@@ -26,19 +25,39 @@ entry_fields kind table order it orders =
       stamps = table.stamps;
       is_counted = table.is_counted;
     } = refl in
-    same ∙ rw (it.name, it.tree, it.columns, it.key, it.primary, it.uniques, orders, it.checks, it.plain.references, it.plain.computed, it.plain.stamps, it.plain.uncounted) refl
+    same ∙ rw (it.name_is, it.tree_is, it.columns_are, it.keyed.key, it.keyed.primary, it.keyed.uniques, orders, it.keyed.checks, it.keyed.plain.references, it.keyed.plain.computed, it.keyed.plain.stamps, it.keyed.plain.uncounted) refl
 
--- the three tables and the two indexes are the schema of the format
-pub journal_fields : (schema : Schema) (format users groups : Table) (user_keys group_keys : Index) → schema.tables ≡ format ∷ users ∷ groups ∷ [] → schema.indexes ≡ user_keys ∷ group_keys ∷ [] → schema.views ≡ []
-    → format ≡ format_table format_name format.checks → IsEntryTable User users → IsEntryTable Group groups → user_keys ≡ key_index User user_keys.order → group_keys ≡ key_index Group group_keys.order
-    → users.orders ≡ user_keys.order ∷ [] → groups.orders ≡ group_keys.order ∷ [] → IsJournal schema
-journal_fields schema format users groups user_keys group_keys tables indexes views is_format is_users is_groups is_user_keys is_group_keys user_orders group_orders = record {
-  form = record { format_checks = format.checks; users = user_keys.order; groups = group_keys.order };
-  is =
-      let same : schema ≡ record { tables = schema.tables; indexes = schema.indexes; views = schema.views } = refl in
-      same ∙ rw (tables, indexes, views) (λ i. record {
-        tables = is_format i ∷ entry_fields User users user_keys.order is_users user_orders i ∷ entry_fields Group groups group_keys.order is_groups group_orders i ∷ [];
-        indexes = is_user_keys i ∷ is_group_keys i ∷ [];
-        views = [];
-      });
-}
+-- the table, and the index of its keys
+pub keyed : (name index : List ℕ) (tree : ℕ) (columns : List Column) (table : Table) (keys : Index) → IsEntryTable name tree columns table → keys ≡ keyed_index index tree keys.order → table.orders ≡ keys.order ∷ [] → IsKeyedTable name index tree columns table keys
+keyed name index tree columns table keys it is orders = (table_fields name tree columns table keys it orders, is)
+
+module _ (schema : Schema) (views : schema.views ≡ []) where
+  -- the tables and the indexes are the schema of the format
+  pub journal_fields : (format firsts groups users : Table) (first_keys group_keys user_keys : Index) → schema.tables ≡ format ∷ firsts ∷ groups ∷ users ∷ [] → schema.indexes ≡ first_keys ∷ group_keys ∷ user_keys ∷ []
+      → format ≡ format_table format_name format.checks → IsKeyedTable first_name first_index_name (first_tree User) first_columns firsts first_keys
+      → IsKeyedTable (entry_name Group) (index_name Group) (entry_tree Group) (entry_columns Group) groups group_keys → IsKeyedTable (entry_name User) (index_name User) (entry_tree User) (entry_columns User) users user_keys → IsJournal schema
+  journal_fields format firsts groups users first_keys group_keys user_keys tables indexes is_format is_firsts is_groups is_users = record {
+    form = record { first = record { format_checks = format.checks; users = first_keys.order; groups = group_keys.order }; users = user_keys.order };
+    is =
+        let same : schema ≡ record { tables = schema.tables; indexes = schema.indexes; views = schema.views } = refl in
+        same ∙ rw (tables, indexes, views) (λ i. record {
+          tables = is_format i ∷ is_firsts.0 i ∷ is_groups.0 i ∷ is_users.0 i ∷ [];
+          indexes = is_firsts.1 i ∷ is_groups.1 i ∷ is_users.1 i ∷ [];
+          views = [];
+        });
+  }
+
+  -- the same of the first format
+  pub first_fields : (format users groups : Table) (user_keys group_keys : Index) → schema.tables ≡ format ∷ users ∷ groups ∷ [] → schema.indexes ≡ user_keys ∷ group_keys ∷ []
+      → format ≡ format_table format_name format.checks → IsKeyedTable first_name first_index_name (first_tree User) first_columns users user_keys
+      → IsKeyedTable (entry_name Group) (index_name Group) (entry_tree Group) (entry_columns Group) groups group_keys → IsFirst schema
+  first_fields format users groups user_keys group_keys tables indexes is_format is_users is_groups = record {
+    form = record { format_checks = format.checks; users = user_keys.order; groups = group_keys.order };
+    is =
+        let same : schema ≡ record { tables = schema.tables; indexes = schema.indexes; views = schema.views } = refl in
+        same ∙ rw (tables, indexes, views) (λ i. record {
+          tables = is_format i ∷ is_users.0 i ∷ is_groups.0 i ∷ [];
+          indexes = is_users.1 i ∷ is_groups.1 i ∷ [];
+          views = [];
+        });
+  }

@@ -4,7 +4,8 @@ use Rattle.sqlite_value.specs.declared.value.Value.TheVariants.{Text}
 use Rattle.sqlite_value.specs.Order.{Row, column}
 use Rattle.sqlite_trees.proofs.ListLemmas.{all_of, filter_same}
 use Rattle.sqlite_sql.specs.Term.{Env, col, eval, eval_all}
-use Rattle.sqlite_trees.specs.Tree.{rowid}
+use Rattle.sqlite_sql.specs.Program.{overlay}
+use Rattle.sqlite_trees.specs.Tree.{Trees, rowid}
 use Rattle.sqlite.specs.State.{State}
 use Rattle.scim_key.specs.declared.records.Kind.{Kind}
 use Rattle.scim_key.specs.declared.records.Kind.TheVariants.{User, Group}
@@ -58,23 +59,25 @@ by_key : (kind : Kind) (env : Env) → eval (col 1 1) env ≡ column (eval_all (
 by_key User env = refl
 by_key Group env = refl
 
-lists_by : (kind : Kind) (sql : List ℕ) (shown : List Term) (term : Term) (heads : List (List ℕ)) (columns : Row → Row) → IsSelect journal_schema sql (entry_tree kind) [] shown ((term, record { collation = Binary; descending = false }) ∷ []) heads 0
-    → ((r : Row) → shows shown [] r ≡ columns r) → ((env : Env) → eval term env ≡ column (eval_all shown env) 0) → Lists journal_schema (entry_tree kind) columns sql
-lists_by kind sql shown term heads columns it same first form trees c rows is reads =
-    let db : Database = record { schema = journal_schema form; trees = trees } in
+-- what a query of all rows of a table answers
+pub lists_by : {Form : Type 0} {layout : Form → Schema} (tree : ℕ) (own : (db : Trees) → overlay db [] tree ≡ db tree) (sql : List ℕ) (shown : List Term) (term : Term) (heads : List (List ℕ)) (columns : Row → Row)
+    → IsSelect layout sql tree [] shown ((term, record { collation = Binary; descending = false }) ∷ []) heads 0
+    → ((r : Row) → shows shown [] r ≡ columns r) → ((env : Env) → eval term env ≡ column (eval_all shown env) 0) → Lists layout tree columns sql
+lists_by {layout = layout} tree own sql shown term heads columns it same first form trees c rows is reads =
+    let db : Database = record { schema = layout form; trees = trees } in
     let order : List (Term × Key) = (term, record { collation = Binary; descending = false }) ∷ [] in
-    let command : c.command ≡ Select (record { lets = []; body = query (entry_tree kind) [] shown order }) heads = ap command_of (sym is) ∙ it.means form in
+    let command : c.command ≡ Select (record { lets = []; body = query tree [] shown order }) heads = ap command_of (sym is) ∙ it.means form in
     let asked = subst (λ k. Reads k db [] rows) command reads in (
-      subst (λ l. IsPermutation l rows) (ap (map (shows shown [])) (every (trees (entry_tree kind)) []) ∙ map_same (shows shown []) columns same (trees (entry_tree kind)))
-          (selected_over (entry_tree kind) [] shown order [] (same_tree kind) db rows asked),
-      ordered_over (entry_tree kind) [] shown term [] first db rows asked,
+      subst (λ l. IsPermutation l rows) (ap (map (shows shown [])) (every (trees tree) []) ∙ map_same (shows shown []) columns same (trees tree))
+          (selected_over tree [] shown order [] own db rows asked),
+      ordered_over tree [] shown term [] first db rows asked,
     )
 
 pub all_listed : (kind : Kind) → Lists journal_schema (entry_tree kind) (shown_row kind) (all_text kind)
-all_listed kind = lists_by kind (all_text kind) (shown_terms kind) (col 1 1) (names kind) (shown_row kind) (all_is kind) (shows_all kind []) (by_key kind)
+all_listed kind = lists_by (entry_tree kind) (same_tree kind) (all_text kind) (shown_terms kind) (col 1 1) (names kind) (shown_row kind) (all_is kind) (shows_all kind []) (by_key kind)
 
 pub numbers_listed : (kind : Kind) → Lists journal_schema (entry_tree kind) (λ (r : Row). rowid r ∷ []) (numbers_text kind)
-numbers_listed kind = lists_by kind (numbers_text kind) number_shown (col 1 0) (codes "rowid" ∷ []) (λ (r : Row). rowid r ∷ []) (numbers_is kind) (λ r. refl) (λ env. refl)
+numbers_listed kind = lists_by (entry_tree kind) (same_tree kind) (numbers_text kind) number_shown (col 1 0) (codes "rowid" ∷ []) (λ (r : Row). rowid r ∷ []) (numbers_is kind) (λ r. refl) (λ env. refl)
 
 -- ---- what the calls answer
 

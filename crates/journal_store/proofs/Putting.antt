@@ -99,7 +99,7 @@ number_taken rows new n is none = none_taken (has_rowid n) rows (subst (λ v. li
 empty_has : {X : Type 0} (xs : List X) (x : X) → xs ≡ [] → Has xs x → ⊥
 empty_has xs x none there = subst (λ l. Has l x) none there
 
-put_numbered : (new : Row) (n : ℤ) (rows : List Row) → rowid new ≡ Int n → is_taken rows new ≡ false → AreNumbered rows → AreNumbered (put_row new rows)
+pub put_numbered : (new : Row) (n : ℤ) (rows : List Row) → rowid new ≡ Int n → is_taken rows new ≡ false → AreNumbered rows → AreNumbered (put_row new rows)
 put_numbered new n rows number none numbered x there = elim (put_has new rows x there) [
   | inl same ↦
       let alone = put_here (has_rowid n) new rows (own_number new n number) (number_taken rows new n number none) in

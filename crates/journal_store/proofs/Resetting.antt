@@ -81,7 +81,7 @@ put_one new (r ∷ rows) free = go (value_cmp (rowid r) (rowid new)) free (put_o
     go Equal free ih = absurd (cc)
     go Greater free ih = IsPermutation-refl (new ∷ r ∷ rows)
 
-put_every : (rows news : List Row) → are_fresh rows news ≡ true → IsPermutation (rows ++ news) (put_all rows news)
+pub put_every : (rows news : List Row) → are_fresh rows news ≡ true → IsPermutation (rows ++ news) (put_all rows news)
 put_every rows [] fresh = IsPermutation-same (rows ++ []) rows (append-nil rows)
 put_every rows (new ∷ news) fresh =
     let parts = and_parts (not (is_taken rows new)) (are_fresh (put_row new rows) news) fresh in
@@ -95,14 +95,14 @@ given_numbers rows (new ∷ news) = ap (λ l. new ∷ l) (given_numbers (put_row
 
 -- ---- all rows are taken out
 
-left_has : (ids : List ℤ) (rows : List Row) (x : Row) → Has (without_all rows ids) x → Has rows x × ((n : ℤ) → Has ids n → has_rowid n x ≡ false)
+pub left_has : (ids : List ℤ) (rows : List Row) (x : Row) → Has (without_all rows ids) x → Has rows x × ((n : ℤ) → Has ids n → has_rowid n x ≡ false)
 left_has [] rows x h = (h, λ n none. absurd none)
 left_has (id ∷ ids) rows x h =
     let later = left_has ids (without_rowid id rows) x h in
     let here = has_filtered (λ r. not (has_rowid id r)) rows x later.0 in
     (here.0, λ n there. elim there [ inl same ↦ subst (λ m. has_rowid m x ≡ false) (sym same) (not_true (has_rowid id x) here.1) | inr among ↦ later.1 n among ])
 
-nothing : {X : Type 0} (xs : List X) → ((x : X) → Has xs x → ⊥) → xs ≡ []
+pub nothing : {X : Type 0} (xs : List X) → ((x : X) → Has xs x → ⊥) → xs ≡ []
 nothing [] none = refl
 nothing (x ∷ xs) none = absurd (none x (inl refl))
 
@@ -140,11 +140,11 @@ module _ (it : Table) (db : Trees) (shown renewed : Row → Row) (rows : List Ro
 
 -- ---- a row that shows an entry keeps its columns
 
-some_then : {A B : Type 0} (o : Option A) (f : A → Option B) (b : B) → option_and_then f o ≡ Some b → (a : A) × (o ≡ Some a) × (f a ≡ Some b)
+pub some_then : {A B : Type 0} (o : Option A) (f : A → Option B) (b : B) → option_and_then f o ≡ Some b → (a : A) × (o ≡ Some a) × (f a ≡ Some b)
 some_then None f b is = absurd (cc)
 some_then (Some a) f b is = (a, refl, is)
 
-text_kept : (v : Value) (t : List ℕ) → text_in v ≡ Some t → cast column_kind.Text v ≡ v
+pub text_kept : (v : Value) (t : List ℕ) → text_in v ≡ Some t → cast column_kind.Text v ≡ v
 text_kept Null t is = absurd (cc)
 text_kept (Int n) t is = absurd (cc)
 text_kept (Real x) t is = absurd (cc)
@@ -158,7 +158,7 @@ number_kept (Real x) n is = absurd (cc)
 number_kept (Text s) n is = absurd (cc)
 number_kept (Blob b) n is = absurd (cc)
 
-number_cast : {A : Type 0} (v : Value) (f : ℕ → Option A) (a : A) → option_and_then f (number_in v) ≡ Some a → cast column_kind.Integer v ≡ v
+pub number_cast : {A : Type 0} (v : Value) (f : ℕ → Option A) (a : A) → option_and_then f (number_in v) ≡ Some a → cast column_kind.Integer v ≡ v
 number_cast v f a is = let it = some_then (number_in v) f a is in number_kept v it.0 it.1
 
 members_cast : (v : Value) (members : List (List ℕ)) → members_in v ≡ Some members → cast column_kind.Text v ≡ v
@@ -237,7 +237,7 @@ abbrev KeepsRow : Kind → Row → Row → Type 0
 KeepsRow kind s rest =
     cast_all (entry_columns kind) (map (column s) (places 0 (kept_count kind)) ++ rest) ≡ cast column_kind.Text (column s 0) ∷ (map (column s) (places 1 (kept_count kind - 1)) ++ cast_all (last_columns kind) rest)
 
-user_casts : (s : Row) (row : source.Row) → user_in s ≡ Some row → (rest : Row) → KeepsRow User s rest
+pub user_casts : (s : Row) (row : source.Row) → user_in s ≡ Some row → (rest : Row) → KeepsRow User s rest
 unfolding texts_in text_columns
 user_casts s row is rest =
     let login = some_then (text_in (column s 1)) _ row is in
@@ -274,25 +274,25 @@ module _ (limit : Option ℕ) (f : Form) (db after : Database) (tally : Tally) (
   abbrev schema : Schema
   schema = journal_schema f
 
-  resets_users : AreNumbered (db.trees 1) → AllShow User (db.trees 1) → Does limit plain_mode [] db sql None (reset_command User) (Ok (tally, after)) → (after.schema ≡ schema) × ResetsOne User db.trees after.trees
+  resets_users : AreNumbered (db.trees 5) → AllShow User (db.trees 5) → Does limit plain_mode [] db sql None (reset_command User) (Ok (tally, after)) → (after.schema ≡ schema) × ResetsOne User db.trees after.trees
   resets_users numbers show does =
       let done = went (subst (λ s. Does limit plain_mode [] (record db { schema = s }) sql None (reset_command User) (Ok (tally, after))) has does) in
       let now = ap (λ (t : Tally × Database). t.1) (same_value (went (went done.2).2).2) in
       let rows_given = went done.1 in
       let all = selected User [] (reset_terms User) [] [] (record { schema = schema; trees = db.trees }) rows_given.0 rows_given.1 in
-      let every_row : IsPermutation (map (shows (reset_terms User) []) (db.trees 1)) rows_given.0 = subst (λ l. IsPermutation (map (shows (reset_terms User) []) l) rows_given.0) (every (db.trees 1) []) all in
+      let every_row : IsPermutation (map (shows (reset_terms User) []) (db.trees 5)) rows_given.0 = subst (λ l. IsPermutation (map (shows (reset_terms User) []) l) rows_given.0) (every (db.trees 5) []) all in
       let written = went rows_given.2 in
       let trees : done.0.trees ≡ written.0 = ap (λ (it : Written). it.trees) (same_value written.2) in
       let applied = one_step schema Enforced db.trees written.0 (edit_of db.trees (entry_table User f.users) (ids_of rows_given.0) Given 1 rows_given.0) refl written.1 in
       let reset = all_renewed (entry_table User f.users) db.trees (shows (reset_terms User) []) (reset_row User) rows_given.0 numbers every_row (λ r. refl)
       (λ r there. let n = numbers r there in let e = show r there in writes_reset User f.users r n.0 e.0 n.1 e.1) applied.fresh in
-      let is : after.trees 1 ≡ edited db.trees (edit_of db.trees (entry_table User f.users) (ids_of rows_given.0) Given 1 rows_given.0) =
-      ap (λ (d : Database). d.trees 1) now ∙ ap (λ (t : Trees). t 1) trees ∙ applied.rows in (
+      let is : after.trees 5 ≡ edited db.trees (edit_of db.trees (entry_table User f.users) (ids_of rows_given.0) Given 1 rows_given.0) =
+      ap (λ (d : Database). d.trees 5) now ∙ ap (λ (t : Trees). t 5) trees ∙ applied.rows in (
         ap (λ (d : Database). d.schema) now,
         record {
-          resets = subst (IsPermutation (map (reset_row User) (db.trees 1))) (sym is) reset;
+          resets = subst (IsPermutation (map (reset_row User) (db.trees 5))) (sym is) reset;
           users = λ e. absurd (cc);
-          groups = λ _. ap (λ (d : Database). d.trees 3) now ∙ ap (λ (t : Trees). t 3) trees ∙ applied.tables.1.1.0 (λ (e : 3 ≡ 1). omega (arith, e));
+          groups = λ _. ap (λ (d : Database). d.trees 3) now ∙ ap (λ (t : Trees). t 3) trees ∙ applied.tables.1.1.0 (λ (e : 3 ≡ 5). omega (arith, e));
         },
       )
 
@@ -305,15 +305,15 @@ module _ (limit : Option ℕ) (f : Form) (db after : Database) (tally : Tally) (
       let every_row : IsPermutation (map (shows (reset_terms Group) []) (db.trees 3)) rows_given.0 = subst (λ l. IsPermutation (map (shows (reset_terms Group) []) l) rows_given.0) (every (db.trees 3) []) all in
       let written = went rows_given.2 in
       let trees : done.0.trees ≡ written.0 = ap (λ (it : Written). it.trees) (same_value written.2) in
-      let applied = one_step schema Enforced db.trees written.0 (edit_of db.trees (entry_table Group f.groups) (ids_of rows_given.0) Given 1 rows_given.0) refl written.1 in
-      let reset = all_renewed (entry_table Group f.groups) db.trees (shows (reset_terms Group) []) (reset_row Group) rows_given.0 numbers every_row (λ r. refl)
-      (λ r there. let n = numbers r there in let e = show r there in writes_reset Group f.groups r n.0 e.0 n.1 e.1) applied.fresh in
-      let is : after.trees 3 ≡ edited db.trees (edit_of db.trees (entry_table Group f.groups) (ids_of rows_given.0) Given 1 rows_given.0) =
+      let applied = one_step schema Enforced db.trees written.0 (edit_of db.trees (entry_table Group f.first.groups) (ids_of rows_given.0) Given 1 rows_given.0) refl written.1 in
+      let reset = all_renewed (entry_table Group f.first.groups) db.trees (shows (reset_terms Group) []) (reset_row Group) rows_given.0 numbers every_row (λ r. refl)
+      (λ r there. let n = numbers r there in let e = show r there in writes_reset Group f.first.groups r n.0 e.0 n.1 e.1) applied.fresh in
+      let is : after.trees 3 ≡ edited db.trees (edit_of db.trees (entry_table Group f.first.groups) (ids_of rows_given.0) Given 1 rows_given.0) =
       ap (λ (d : Database). d.trees 3) now ∙ ap (λ (t : Trees). t 3) trees ∙ applied.rows in (
         ap (λ (d : Database). d.schema) now,
         record {
           resets = subst (IsPermutation (map (reset_row Group) (db.trees 3))) (sym is) reset;
-          users = λ _. ap (λ (d : Database). d.trees 1) now ∙ ap (λ (t : Trees). t 1) trees ∙ applied.tables.1.0 (λ (e : 1 ≡ 3). omega (arith, e));
+          users = λ _. ap (λ (d : Database). d.trees 5) now ∙ ap (λ (t : Trees). t 5) trees ∙ applied.tables.1.1.1.0 (λ (e : 5 ≡ 3). omega (arith, e));
           groups = λ e. absurd (cc);
         },
       )

@@ -10,6 +10,8 @@ use Rattle.sqlite_value.specs.declared.value.Value.TheVariants.{Int}
 use Rattle.sqlite_value.specs.Order.{Row, column}
 use Rattle.sqlite_trees.specs.Tree.{Trees}
 use Rattle.sqlite_rules.specs.Lists.{Has}
+use Rattle.sqlite_schema.specs.declared.schema.Column.{Column}
+use Rattle.sqlite_schema.specs.declared.schema.Index.{Index}
 use Rattle.sqlite_schema.specs.declared.schema.Table.{Table}
 use Rattle.sqlite_schema.specs.declared.schema.Schema.{Schema}
 use Rattle.sqlite.specs.State.{State}
@@ -21,10 +23,10 @@ use Rattle.journal_core.specs.Entries.{EntryMap, most_records}
 use Rattle.journal_core.specs.declared.entries.Entry.{Entry}
 use Rattle.journal_core.specs.declared.journals.JournalFault.{JournalFault}
 use Rattle.journal_core.specs.declared.journals.JournalFault.TheVariants as journal
-use Rattle.journal_store.specs.Format.{journal_schema, format_number, entry_columns, entry_name, entry_tree, key_places}
+use Rattle.journal_store.specs.Format.{journal_schema, format_number, entry_tree, first_number, first_schema, first_tree, key_places, keyed_index, keyed_table}
 use Rattle.sql_tables.specs.Layouts.{IsBlank, IsFormat, IsLaid as IsLaidBy, IsOne, IsPlainTable, no_schema}
 use Rattle.sql_tables.specs.Faults.{HasFailed}
-use Rattle.journal_store.specs.Rows.{entries_by, entries_in, shown_row}
+use Rattle.journal_store.specs.Rows.{entries_by, entries_in, first_row, shown_row}
 use Rattle.journal_store.specs.Connections.{FailsToRise, HasNumbersBy, ListsAllBy, Shows}
 use Rattle.journal_store.specs.declared.statements.TableFault.{TableFault}
 use Rattle.journal_store.specs.declared.statements.TableFault.TheVariants as table
@@ -33,20 +35,32 @@ use Rattle.journal_store.specs.declared.opening.JournalOpenFault.TheVariants.{St
 
 -- ---- the tables
 
--- the table is that of the entries of a type, in any order of its index
-pub record IsEntryTable (kind : Kind) (it : Table) : Type 0 where
-  pub name : it.name ≡ entry_name kind
-  pub tree : it.tree ≡ entry_tree kind
-  pub columns : it.columns ≡ entry_columns kind
+-- the table has its key, in any order of its index, and nothing else is declared for it
+pub record IsKeyed (it : Table) : Type 0 where
   pub key : it.key ≡ None
   pub primary : it.primary ≡ key_places
   pub uniques : it.uniques ≡ key_places ∷ []
   pub checks : it.checks ≡ []
   pub plain : IsPlainTable it
 
+-- the table of entries has this name, this tree and these columns
+pub record IsEntryTable (name : List ℕ) (tree : ℕ) (columns : List Column) (it : Table) : Type 0 where
+  pub name_is : it.name ≡ name
+  pub tree_is : it.tree ≡ tree
+  pub columns_are : it.columns ≡ columns
+  pub keyed : IsKeyed it
+
+-- the table of entries with this name, tree and columns, and the index of its keys
+abbrev pub IsKeyedTable : (name index : List ℕ) (tree : ℕ) (columns : List Column) → Table → Index → Type 0
+IsKeyedTable name index tree columns table keys = (table ≡ keyed_table name tree columns keys.order) × (keys ≡ keyed_index index tree keys.order)
+
 -- the schema has exactly the tables of the format
 abbrev pub IsJournal : Schema → Type 0
 IsJournal = IsOne journal_schema
+
+-- the schema has exactly the tables of the first format
+abbrev pub IsFirst : Schema → Type 0
+IsFirst = IsOne first_schema
 
 -- ---- faults
 
@@ -147,16 +161,21 @@ pub record IsStoreBy {Form : Type 0} (layout : Form → Schema) (number : ℕ) (
 abbrev pub IsStore : State → EntryMap → Type 0
 IsStore = IsStoreBy journal_schema format_number entry_tree shown_row
 
--- what is in a store: the entries of its tables, or none if there are no tables
+-- the tables are of the first format, and hold these entries
+abbrev pub IsFirstStore : State → EntryMap → Type 0
+IsFirstStore = IsStoreBy first_schema first_number first_tree first_row
+
+-- what is in a store: the entries of its tables, of the current format or of the first one, or none if there are no tables
 abbrev pub Stands : State → EntryMap → Type 0
-Stands s entries = IsStore s entries ⊎ (IsBlank s × (entries ≡ empty))
+Stands s entries = IsStore s entries ⊎ (IsFirstStore s entries ⊎ (IsBlank s × (entries ≡ empty)))
 
 -- ---- what is refused
 
--- there are tables, but not those of the format
+-- there are tables, but not those of a format
 pub record IsForeign (s : State) : Type 0 where
   pub stand : s.now.schema ≢ no_schema
   pub other : IsJournal s.now.schema → ⊥
+  pub older : IsFirst s.now.schema → ⊥
 
 -- the tables aren't those of the format with this layout, or a transaction is open
 abbrev pub IsNotLaidBy : {Form : Type 0} → (Form → Schema) → State → Type 0
@@ -201,9 +220,12 @@ IsSpoiltBy layout number tree columns s = IsOne layout s.now.schema × ShowsDama
 abbrev pub IsSpoilt : State → Type 0
 IsSpoilt = IsSpoiltBy journal_schema format_number entry_tree shown_row
 
+abbrev pub IsFirstSpoilt : State → Type 0
+IsFirstSpoilt = IsSpoiltBy first_schema first_number first_tree first_row
+
 -- the tables aren't a valid journal
 abbrev pub IsDamaged : State → Type 0
-IsDamaged s = IsForeign s ⊎ IsSpoilt s
+IsDamaged s = IsForeign s ⊎ (IsSpoilt s ⊎ IsFirstSpoilt s)
 
 -- the table of the format has a number that is newer than the current format's
 abbrev pub IsNewer : State → Type 0
@@ -213,11 +235,19 @@ IsNewer s = (number : ℕ) × (format_number < number) × IsFormat s number
 abbrev pub IsCause : State → JournalOpenFault → Type 0
 IsCause s = IsFor (IsNewer s) (IsDamaged s)
 
--- why an opening says that the store failed: a transaction was open, the tables weren't there and couldn't be made, or a
--- statement that checks them failed
+-- why an opening says that the store failed: a transaction was open, the tables weren't there and couldn't be made, those of
+-- the first format couldn't be carried over, or a statement that checks them failed
 abbrev pub OpeningFails : (old new : State) → Type 0
-OpeningFails old new = IsTrue old.in_transaction ⊎ ((old.now.schema ≡ no_schema) ⊎ HasFailed old new)
+OpeningFails old new = IsTrue old.in_transaction ⊎ ((old.now.schema ≡ no_schema) ⊎ (IsFirst old.now.schema ⊎ HasFailed old new))
 
 -- a stop leaves no entry
 abbrev pub LeavesNone : Trees → Type 0
 LeavesNone db = entries_in db ≡ empty
+
+-- a stop leaves the entries of the tables of the first format, carried over
+abbrev pub LeavesCarried : State → Trees → Type 0
+LeavesCarried s db = (entries : EntryMap) × IsFirstStore s entries × (entries_in db ≡ entries)
+
+-- a stop leaves what stood: no entry if there were no tables, or else the entries of the first format
+abbrev pub LeavesStanding : State → Trees → Type 0
+LeavesStanding s db = ((s.now.schema ≡ no_schema) × LeavesNone db) ⊎ LeavesCarried s db

@@ -45,7 +45,7 @@ pub record ForgetsOnly : Type 0 where
 
 -- the statement that resets the entries of a type
 abbrev pub reset_text : Kind → List ℕ
-reset_text User = codes "UPDATE user_entry SET confirmed = 0, id = NULL"
+reset_text User = codes "UPDATE user_entry_2 SET confirmed = 0, id = NULL"
 reset_text Group = codes "UPDATE group_entry SET confirmed = 0, id = NULL"
 
 -- how many columns of a type's table a reset keeps: all but the last two

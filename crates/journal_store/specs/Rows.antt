@@ -22,7 +22,7 @@ use Rattle.source_csv.specs.declared.rows.Row.TheVariants.{User, Group}
 use Rattle.source_csv.specs.declared.texts.TheConstants.{TEXT_FIELD_COUNT}
 use Rattle.journal_core.specs.Entries.{EntryMap, named}
 use Rattle.journal_core.specs.declared.entries.Entry.{Entry}
-use Rattle.journal_store.specs.Format.{column_count, entry_tree, places}
+use Rattle.journal_store.specs.Format.{column_count, entry_tree, first_tree, places}
 use Rattle.journal_store.specs.declared.format.TheConstants.{TEXT_ORDER}
 
 -- ---- how an entry is written
@@ -194,6 +194,11 @@ IsLawfulId (Some id) = IsId id × IsUtf8 id
 abbrev pub shown_row : Kind → Row → Row
 shown_row type r = columns_at (places 1 (column_count type)) r
 
+-- the columns of a row of the first format, as the queries show them: a user has an empty department
+abbrev pub first_row : Kind → Row → Row
+first_row kind.User r = columns_at (places 1 7) r ++ Text [] ∷ columns_at (places 8 3) r
+first_row kind.Group r = shown_row kind.Group r
+
 abbrev pub named_if : Option Entry → List (RecordName × Entry)
 named_if None = []
 named_if (Some e) = named e ∷ []
@@ -212,3 +217,7 @@ named_in type = named_by (shown_row type) type
 -- the entries of both tables
 abbrev pub entries_in : Trees → EntryMap
 entries_in = entries_by entry_tree shown_row
+
+-- the entries of both tables of the first format
+abbrev pub first_entries : Trees → EntryMap
+first_entries = entries_by first_tree first_row

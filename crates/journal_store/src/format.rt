@@ -1,21 +1,39 @@
-//! The format of a store: its number, and the check of a schema at run time.
-ghost use Rattle.std.specs.Prelude.{◌≡◌, [], ◌∷◌, IsTrue, map};
-ghost use Rattle.journal_store.specs.Format.{column_of, entry_columns, entry_name, entry_tree, index_name, key_index, key_places, key_tree};
-ghost use Rattle.journal_store.specs.Opening.{IsEntryTable, IsJournal};
+//! The formats of a journal: their numbers, their tables, and the check of a schema at run time.
+ghost use Rattle.std.specs.Prelude.{◌≡◌, ◌<◌, [], ◌∷◌, IsTrue, map};
+ghost use Rattle.journal_store.specs.Format.{column_of, entry_columns, entry_name, entry_tree, first_columns, first_index_name, first_name, first_tree, index_name, key_places, keyed_index};
+ghost use Rattle.journal_store.specs.Opening.{IsEntryTable, IsFirst, IsJournal, IsKeyed, IsKeyedTable};
 
 use scim_key::Kind as RecordKind;
 use source_csv::{TEXT_FIELD_COUNT, TextField};
 use sql_tables::{Layout, has_order, is_column, is_format, is_plain};
 use sqlite_schema::schema::{Column, Index, Kind, Schema, Table};
 
-/// The number of the format that is written; no other format is read.
-pub(crate) const FORMAT: u64 = 1;
+/// The number of the format that is written.
+pub(crate) const FORMAT: u64 = 2;
+
+/// The number of the first format, from which a journal is carried over.
+pub(crate) const FIRST_FORMAT: u64 = 1;
 
 /// A column of a table of entries: its name, its type, and whether it may not be NULL.
 type EntryColumn = (&'static str, Kind, bool);
 
 /// The columns of the table of users.
 const USER_COLUMNS: [EntryColumn; 6 + TEXT_FIELD_COUNT] = [
+    ("name_key", Kind::Text, true),
+    ("login", Kind::Text, true),
+    ("revision", Kind::Integer, true),
+    ("number", Kind::Text, true),
+    ("given", Kind::Text, true),
+    ("family", Kind::Text, true),
+    ("mail", Kind::Text, true),
+    ("department", Kind::Text, true),
+    ("active", Kind::Integer, true),
+    ("confirmed", Kind::Integer, true),
+    ("id", Kind::Text, false),
+];
+
+/// The columns of the table of users of the first format.
+const FIRST_COLUMNS: [EntryColumn; 10] = [
     ("name_key", Kind::Text, true),
     ("login", Kind::Text, true),
     ("revision", Kind::Integer, true),
@@ -44,6 +62,7 @@ pub(crate) const TEXT_ORDER: [TextField; TEXT_FIELD_COUNT] = [
     TextField::Given,
     TextField::Family,
     TextField::Mail,
+    TextField::Department,
 ];
 
 /// The tables of the format.
@@ -57,11 +76,40 @@ impl Layout for Journal {
     ghost layout = { journal_schema };
 }
 
+/// The tables of the first format.
+pub(crate) struct First;
+
+impl Layout for First {
+    ghost use Rattle.journal_store.specs.Format.{FirstForm, first_schema};
+
+    ghost form = { FirstForm };
+
+    ghost layout = { first_schema };
+}
+
 /// Whether the tables are those of the format. The CHECK of the format's table may have any terms, because
 /// its row is checked.
 pub(crate) fn is_journal(schema: &Schema) -> bool
     ensures is { IsTrue result → IsJournal schema.now }
     ensures known { IsJournal schema.now → IsTrue result }
+{
+    let [format, firsts, groups, users] = schema.tables.as_slice() else {
+        return false;
+    };
+    let [first_keys, group_keys, user_keys] = schema.indexes.as_slice() else {
+        return false;
+    };
+    schema.views.is_empty()
+        && is_format(format, b"journal_format")
+        && is_first_users(firsts, first_keys)
+        && is_entries(RecordKind::Group, groups, group_keys)
+        && is_entries(RecordKind::User, users, user_keys)
+}
+
+/// Whether the tables are those of the first format.
+pub(crate) fn is_first(schema: &Schema) -> bool
+    ensures is { IsTrue result → IsFirst schema.now }
+    ensures known { IsFirst schema.now → IsTrue result }
 {
     let [format, users, groups] = schema.tables.as_slice() else {
         return false;
@@ -69,24 +117,53 @@ pub(crate) fn is_journal(schema: &Schema) -> bool
     let [user_keys, group_keys] = schema.indexes.as_slice() else {
         return false;
     };
-    is_format(format, b"journal_format")
-        && is_entries(RecordKind::User, users)
-        && is_entries(RecordKind::Group, groups)
-        && is_key_index(RecordKind::User, user_keys)
-        && is_key_index(RecordKind::Group, group_keys)
-        && schema.views.is_empty()
-        && has_order(users, user_keys)
-        && has_order(groups, group_keys)
+    schema.views.is_empty()
+        && is_format(format, b"journal_format")
+        && is_first_users(users, user_keys)
+        && is_entries(RecordKind::Group, groups, group_keys)
 }
 
-fn is_entries(kind: RecordKind, table: &Table) -> bool
-    ensures is { IsTrue result → IsEntryTable kind table.now }
-    ensures known { IsEntryTable kind table.now → IsTrue result }
+/// Whether the table and the index of its keys are those of the entries of a type.
+fn is_entries(kind: RecordKind, table: &Table, keys: &Index) -> bool
+    ensures is { IsTrue result → IsKeyedTable (entry_name kind) (index_name kind) (entry_tree kind) (entry_columns kind) table.now keys.now }
+    ensures known { IsKeyedTable (entry_name kind) (index_name kind) (entry_tree kind) (entry_columns kind) table.now keys.now → IsTrue result }
 {
-    table.name.as_slice() == entry_name(kind)
-        && table.tree == entry_tree(kind)
-        && has_columns(table.columns.as_slice(), entry_columns(kind))
-        && table.key.is_none()
+    is_table(
+        entry_name(kind),
+        entry_tree(kind),
+        entry_columns(kind),
+        table,
+    ) && is_key_index(index_name(kind), entry_tree(kind), keys)
+        && has_order(table, keys)
+}
+
+/// Whether the table and the index of its keys are those of the users of the first format.
+fn is_first_users(table: &Table, keys: &Index) -> bool
+    ensures is { IsTrue result → IsKeyedTable first_name first_index_name (first_tree RecordKind.User) first_columns table.now keys.now }
+    ensures known { IsKeyedTable first_name first_index_name (first_tree RecordKind.User) first_columns table.now keys.now → IsTrue result }
+{
+    is_table(b"user_entry", 1, &FIRST_COLUMNS, table)
+        && is_key_index(b"sqlite_autoindex_user_entry_1", 1, keys)
+        && has_order(table, keys)
+}
+
+/// Whether the table of entries has this name, this tree and these columns.
+fn is_table(name: &[u8], tree: u32, columns: &[EntryColumn], table: &Table) -> bool
+    ensures is { IsTrue result → IsEntryTable name.now tree (map column_of columns.now) table.now }
+    ensures known { IsEntryTable name.now tree (map column_of columns.now) table.now → IsTrue result }
+{
+    table.name.as_slice() == name
+        && table.tree == tree
+        && has_columns(table.columns.as_slice(), columns)
+        && is_keyed(table)
+}
+
+/// Whether the table has its key, and nothing else is declared for it.
+fn is_keyed(table: &Table) -> bool
+    ensures is { IsTrue result → IsKeyed table.now }
+    ensures known { IsKeyed table.now → IsTrue result }
+{
+    table.key.is_none()
         && table.primary.as_slice() == [1].as_slice()
         && has_unique(table)
         && table.checks.roots.is_empty()
@@ -97,16 +174,17 @@ fn entry_name(kind: RecordKind) -> &'static [u8]
     ensures { result.now ≡ entry_name kind }
 {
     match kind {
-        RecordKind::User => b"user_entry",
+        RecordKind::User => b"user_entry_2",
         RecordKind::Group => b"group_entry",
     }
 }
 
 fn entry_tree(kind: RecordKind) -> u32
-    ensures { result ≡ entry_tree kind }
+    ensures value { result ≡ entry_tree kind }
+    ensures within { result < 6 }
 {
     match kind {
-        RecordKind::User => 1,
+        RecordKind::User => 5,
         RecordKind::Group => 3,
     }
 }
@@ -152,27 +230,20 @@ fn index_name(kind: RecordKind) -> &'static [u8]
     ensures { result.now ≡ index_name kind }
 {
     match kind {
-        RecordKind::User => b"sqlite_autoindex_user_entry_1",
+        RecordKind::User => b"sqlite_autoindex_user_entry_2_1",
         RecordKind::Group => b"sqlite_autoindex_group_entry_1",
     }
 }
 
-fn key_tree(kind: RecordKind) -> u32
-    ensures { result ≡ key_tree kind }
+/// Whether the index is that of the keys of the table in this tree.
+fn is_key_index(name: &[u8], tree: u32, index: &Index) -> bool
+    requires { tree < 6 }
+    ensures is { IsTrue result → index.now ≡ keyed_index name.now tree index.now.order }
+    ensures known { index.now ≡ keyed_index name.now tree index.now.order → IsTrue result }
 {
-    match kind {
-        RecordKind::User => 2,
-        RecordKind::Group => 4,
-    }
-}
-
-fn is_key_index(kind: RecordKind, index: &Index) -> bool
-    ensures is { IsTrue result → index.now ≡ key_index kind index.now.order }
-    ensures known { index.now ≡ key_index kind index.now.order → IsTrue result }
-{
-    index.name.as_slice() == index_name(kind)
-        && index.tree == key_tree(kind)
-        && index.table == entry_tree(kind)
+    index.name.as_slice() == name
+        && index.tree == tree + 1
+        && index.table == tree
         && index.columns.as_slice() == [1].as_slice()
         && index.is_unique
 }

@@ -1,4 +1,4 @@
-//! A format of the journal, and the current one.
+//! The formats of a journal, and how the entries in their tables are listed.
 ghost use Rattle.std.specs.Prelude.{◌≡◌, ◌≤◌, ℕ, [], ◌∷◌, IsTrue};
 ghost use Rattle.scim_key.specs.declared.records.Kind.{Kind as KindData};
 ghost use Rattle.sqlite_value.specs.Order.{Row as RowData};
@@ -8,8 +8,11 @@ ghost use Rattle.sql_tables.specs.Statements.{IsGiven, IsQuery, ShowsFormat};
 ghost use Rattle.journal_store.specs.Connections.{Lists};
 ghost use Rattle.journal_store.specs.Format.{format_number};
 
-use crate::format::{FORMAT, Journal, is_journal};
-use crate::tables::{all_statement, marked_statement, numbers_statement};
+use crate::format::{FIRST_FORMAT, FORMAT, First, Journal, is_first, is_journal};
+use crate::tables::{
+    all_statement, first_all_statement, first_numbers_statement, marked_statement,
+    numbers_statement,
+};
 use scim_key::Kind;
 use sql_tables::Layout;
 use sqlite_schema::schema::Schema;
@@ -80,5 +83,36 @@ impl Format for Journal {
 
     fn list_statement(kind: Kind) -> &'static str {
         all_statement(kind)
+    }
+}
+
+impl Format for First {
+    ghost use Rattle.journal_store.specs.Format.{first_number, first_tree};
+    ghost use Rattle.journal_store.specs.Rows.{first_row};
+
+    ghost number = { first_number };
+
+    ghost tree = { first_tree };
+
+    ghost columns = { first_row };
+
+    fn number() -> u64 {
+        FIRST_FORMAT
+    }
+
+    fn is_laid_out(schema: &Schema) -> bool {
+        is_first(schema)
+    }
+
+    fn marked_statement() -> &'static str {
+        marked_statement()
+    }
+
+    fn numbers_statement(kind: Kind) -> &'static str {
+        first_numbers_statement(kind)
+    }
+
+    fn list_statement(kind: Kind) -> &'static str {
+        first_all_statement(kind)
     }
 }

@@ -12,7 +12,7 @@ ghost use Rattle.journal_store.specs.Connections.{Finds, FindsIf, IsDamagedAt, L
 ghost use Rattle.sql_tables.specs.Faults.{HasFailed};
 ghost use Rattle.sql_tables.specs.Statements.{LeavesStore};
 ghost use Rattle.journal_store.specs.Kept.{CallFailsFor, IsFaithful, IsHonest, IsRefused, MayHold, kept_entries};
-ghost use Rattle.journal_store.specs.Opening.{IsCause, LeavesNone, OpenFailsFor, OpeningFails, Stands, journal_fault, table_fault};
+ghost use Rattle.journal_store.specs.Opening.{IsCause, LeavesStanding, OpenFailsFor, OpeningFails, Stands, journal_fault, table_fault};
 ghost use Rattle.journal_store.specs.Resets.{AreListed, forgotten, learnt_count};
 ghost use Rattle.journal_store.specs.Rows.{entry_in, row_of};
 
@@ -306,7 +306,8 @@ fn journal_fault(fault: JournalOpenFault) -> JournalFault
 
 impl<S: Alter> SqlJournal<S> {
     /// Opens the journal of a connection. If there are no tables, it makes them; otherwise it checks them,
-    /// their format and each row. If it refuses them, it hands the connection back.
+    /// their format and each row. It carries a journal of the first format over to the current one, all of
+    /// it or none. If it refuses the tables, it hands the connection back.
     pub fn open(
         alloc: Global,
         mut conn: Connection<S>,
@@ -314,11 +315,11 @@ impl<S: Alter> SqlJournal<S> {
         ensures faithful { IfOk result (λ j. IsHonest S.Store j → IsFaithful S.Store j) }
         ensures entries { IfOk result (λ j. IsHonest S.Store j → Stands (state S.Store conn) (kept_entries S.Store j)) }
         ensures counts { IfOk result (λ j. (j.faults ≡ 0) × (j.writes ≡ 0)) }
-        ensures stop { IfOk result (λ j. Survives (state S.Store conn) (state S.Store j.conn) LeavesNone) }
+        ensures stop { IfOk result (λ j. Survives (state S.Store conn) (state S.Store j.conn) (LeavesStanding (state S.Store conn))) }
         ensures cause { IfErr result (λ e. HasCleanDisk (state S.Store e.1) → IsCause (state S.Store conn) e.0) }
         ensures failed { IfErr result (λ e. HasCleanDisk (state S.Store e.1) → OpenFailsFor (OpeningFails (state S.Store conn) (state S.Store e.1)) e.0) }
         ensures left { IfErr result (λ e. HasCleanDisk (state S.Store e.1) → LeavesStore (state S.Store conn) (state S.Store e.1)) }
-        ensures refused { IfErr result (λ e. Survives (state S.Store conn) (state S.Store e.1) LeavesNone) }
+        ensures refused { IfErr result (λ e. Survives (state S.Store conn) (state S.Store e.1) (LeavesStanding (state S.Store conn))) }
     {
         match open_tables(alloc, &mut conn) {
             Ok(()) => Ok(SqlJournal {

@@ -7,6 +7,7 @@ mod format;
 mod formats;
 mod journal;
 mod lawful;
+mod making;
 mod opening;
 mod resets;
 mod statements;

@@ -1,26 +1,25 @@
-//! Opens a store: makes its tables, or checks them and each of their rows.
+//! Opens a store: makes its tables, or checks them and each of their rows, and carries the first format over.
 ghost use Rattle.std.specs.Prelude.{◌≡◌, ◌⊎◌, ◌<◌, ◌≤◌, ℕ, false, IfErr, IfOk, MatchOption, OnErr, OnOk, IsTrue};
 ghost use Rattle.std.specs.Ordering.{int_cmp, is_lt};
 ghost use Rattle.std.specs.declared.cmp.Ordering.TheVariants.{Less};
-ghost use Rattle.std.specs.FinMap.{empty};
 ghost use Rattle.journal_core.specs.Entries.{EntryMap};
 ghost use Rattle.sqlite.specs.Held.{state};
 ghost use Rattle.sqlite.specs.State.{HasCleanDisk, Survives};
 ghost use Rattle.journal_store.specs.Connections.{AreNumbered, HasNumbersBy};
 ghost use Rattle.sql_tables.specs.Faults.{HasFailed};
-ghost use Rattle.sql_tables.specs.Layouts.{IsBlank, IsFormat, IsLaid as IsLaidBy, IsMark, IsOne};
+ghost use Rattle.sql_tables.specs.Layouts.{IsFormat, IsLaid as IsLaidBy, IsMark, IsOne};
 ghost use Rattle.sql_tables.specs.Statements.{LeavesStore, Looks};
-ghost use Rattle.journal_store.specs.Opening.{AreRising, HoldsEntriesBy, IsCause, IsFor, IsNewer, IsNotLaidBy, IsOfRows, IsSpoiltBy, IsStore, IsStoreBy, IsUnmarkedBy, IsUnnumbered, OpenFailsFor, OpeningFails, ShowsDamageBy, LeavesNone, Stands};
+ghost use Rattle.journal_store.specs.Opening.{AreRising, HoldsEntriesBy, IsCause, IsFirst, IsFirstSpoilt, IsFirstStore, IsFor, IsNewer, IsNotLaidBy, IsOfRows, IsSpoiltBy, IsStore, IsStoreBy, IsUnmarkedBy, IsUnnumbered, LeavesCarried, LeavesStanding, OpenFailsFor, OpeningFails, ShowsDamageBy, Stands};
 
-use crate::format::{FORMAT, Journal};
+use crate::format::{FORMAT, First, Journal, is_first};
 use crate::formats::Format;
 use crate::lawful::check_lists;
+use crate::making::{carry, make_tables};
 use crate::statements::TableFault;
 use crate::tables::list_entries;
 use scim_key::Kind;
 use sql_tables::{Mark, ask, find_mark, integer_at, is_blank};
 use sqlite::{Alter, Connection, Error, Row};
-use sqlite_value::value::ValueRef;
 use std::alloc::{AllocError, Global};
 use thiserror::Error as Fault;
 
@@ -74,36 +73,6 @@ impl From<Error> for JournalOpenFault {
     fn from(error: Error) -> JournalOpenFault {
         JournalOpenFault::from(TableFault::from(error))
     }
-}
-
-// ---- the tables
-
-/// Makes the tables and the row of the format, all or none.
-fn make_tables<S: Alter>(conn: &mut Connection<S>) -> Result<(), Error>
-    requires outside { (state S.Store conn.old).in_transaction ≡ false }
-    requires blank { HasCleanDisk (state S.Store conn.old) → IsTrue (state S.Store conn.old).is_open → IsBlank (state S.Store conn.old) }
-    ensures made { HasCleanDisk (state S.Store conn.new) → OnOk result (IsTrue (state S.Store conn.new).is_open × IsBlank (state S.Store conn.old) × IsStore (state S.Store conn.new) empty) }
-    ensures left { HasCleanDisk (state S.Store conn.new) → OnErr result (LeavesStore (state S.Store conn.old) (state S.Store conn.new)) }
-    ensures stop { Survives (state S.Store conn.old) (state S.Store conn.new) LeavesNone }
-{
-    let mut tables = conn.transaction();
-    tables.execute(
-        "CREATE TABLE IF NOT EXISTS journal_format (one INTEGER PRIMARY KEY CHECK (one = 1), number INTEGER NOT NULL)",
-        &[],
-    )?;
-    tables.execute(
-        "INSERT INTO journal_format (one, number) VALUES (1, ?1)",
-        &[ValueRef::Int(FORMAT as i64)],
-    )?;
-    tables.execute(
-        "CREATE TABLE user_entry (name_key TEXT PRIMARY KEY NOT NULL, login TEXT NOT NULL, revision INTEGER NOT NULL, number TEXT NOT NULL, given TEXT NOT NULL, family TEXT NOT NULL, mail TEXT NOT NULL, active INTEGER NOT NULL, confirmed INTEGER NOT NULL, id TEXT)",
-        &[],
-    )?;
-    tables.execute(
-        "CREATE TABLE group_entry (name_key TEXT PRIMARY KEY NOT NULL, name TEXT NOT NULL, revision INTEGER NOT NULL, members TEXT NOT NULL, confirmed INTEGER NOT NULL, id TEXT)",
-        &[],
-    )?;
-    tables.commit()
 }
 
 // ---- the number of the format
@@ -286,7 +255,27 @@ pub(crate) fn check_tables<S: Alter, F: Format>(
     }
 }
 
-/// Makes the tables if there are none, otherwise checks them.
+/// Checks the tables of the first format, and carries them over.
+fn open_first<S: Alter>(alloc: Global, conn: &mut Connection<S>) -> Result<(), JournalOpenFault>
+    requires outside { (state S.Store conn.old).in_transaction ≡ false }
+    requires first { IsFirst (state S.Store conn.old).now.schema }
+    ensures stands { HasCleanDisk (state S.Store conn.new) → OnOk result ((entries : EntryMap) × IsFirstStore (state S.Store conn.old) entries × IsStore (state S.Store conn.new) entries) }
+    ensures cause { HasCleanDisk (state S.Store conn.new) → IfErr result (IsFor (IsNewer (state S.Store conn.old)) (IsFirstSpoilt (state S.Store conn.old))) }
+    ensures open { HasCleanDisk (state S.Store conn.new) → OnOk result (IsTrue (state S.Store conn.new).is_open) }
+    ensures left { HasCleanDisk (state S.Store conn.new) → OnErr result (LeavesStore (state S.Store conn.old) (state S.Store conn.new)) }
+    ensures stop { Survives (state S.Store conn.old) (state S.Store conn.new) (LeavesCarried (state S.Store conn.old)) }
+{
+    check_tables::<S, First>(alloc, conn)?;
+    if !conn.is_autocommit() {
+        return Err(JournalOpenFault::Store);
+    }
+    match carry(conn) {
+        Ok(()) => Ok(()),
+        Err(error) => Err(JournalOpenFault::from(error)),
+    }
+}
+
+/// Makes the tables if there are none, and carries those of the first format over. Otherwise it checks them.
 pub(crate) fn open_tables<S: Alter>(
     alloc: Global,
     conn: &mut Connection<S>,
@@ -296,10 +285,13 @@ pub(crate) fn open_tables<S: Alter>(
     ensures failed { HasCleanDisk (state S.Store conn.new) → IfErr result (OpenFailsFor (OpeningFails (state S.Store conn.old) (state S.Store conn.new))) }
     ensures open { HasCleanDisk (state S.Store conn.new) → OnOk result (IsTrue (state S.Store conn.new).is_open) }
     ensures left { HasCleanDisk (state S.Store conn.new) → OnErr result (LeavesStore (state S.Store conn.old) (state S.Store conn.new)) }
-    ensures stop { Survives (state S.Store conn.old) (state S.Store conn.new) LeavesNone }
+    ensures stop { Survives (state S.Store conn.old) (state S.Store conn.new) (LeavesStanding (state S.Store conn.old)) }
 {
     if !conn.is_autocommit() {
         return Err(JournalOpenFault::Store);
+    }
+    if is_first(conn.schema()) {
+        return open_first(alloc, conn);
     }
     if !is_blank(conn.schema()) {
         return check_tables::<S, Journal>(alloc, conn);

@@ -37,7 +37,7 @@ fn reset_statement(kind: Kind) -> &'static str
     ensures { result.now ≡ reset_text kind }
 {
     match kind {
-        Kind::User => "UPDATE user_entry SET confirmed = 0, id = NULL",
+        Kind::User => "UPDATE user_entry_2 SET confirmed = 0, id = NULL",
         Kind::Group => "UPDATE group_entry SET confirmed = 0, id = NULL",
     }
 }

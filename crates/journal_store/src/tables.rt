@@ -17,7 +17,7 @@ ghost use Rattle.sql_tables.specs.Statements.{Keeps, MayLeave, Ran};
 ghost use Rattle.sql_tables.specs.Faults.{HasFailed};
 ghost use Rattle.sql_tables.specs.Layouts.{IsLaid as IsLaidBy};
 ghost use Rattle.journal_store.specs.Faults.{FailsFor, HasCause, IsOfRow};
-ghost use Rattle.journal_store.specs.Format.{all_text, find_text, marked_text, numbers_text};
+ghost use Rattle.journal_store.specs.Format.{all_text, find_text, first_all_text, first_numbers_text, marked_text, numbers_text};
 ghost use Rattle.journal_store.specs.declared.format.TheConstants.{TEXT_ORDER};
 ghost use Rattle.journal_store.specs.Rows.{active_number, id_value, members_text, row_by};
 
@@ -101,7 +101,7 @@ pub(crate) fn find_statement(kind: Kind) -> &'static str
 {
     match kind {
         Kind::User => {
-            "SELECT name_key, login, revision, number, given, family, mail, active, confirmed, id FROM user_entry WHERE name_key = ?1"
+            "SELECT name_key, login, revision, number, given, family, mail, department, active, confirmed, id FROM user_entry_2 WHERE name_key = ?1"
         }
         Kind::Group => {
             "SELECT name_key, name, revision, members, confirmed, id FROM group_entry WHERE name_key = ?1"
@@ -157,13 +157,13 @@ pub(crate) fn put_statement(kind: Kind, is_there: bool) -> &'static str
 {
     match (kind, is_there) {
         (Kind::User, false) => {
-            "INSERT INTO user_entry (name_key, login, revision, number, given, family, mail, active, confirmed, id) VALUES (?1, ?2, ?3, ?4, ?5, ?6, ?7, ?8, ?9, ?10)"
+            "INSERT INTO user_entry_2 (name_key, login, revision, number, given, family, mail, department, active, confirmed, id) VALUES (?1, ?2, ?3, ?4, ?5, ?6, ?7, ?8, ?9, ?10, ?11)"
         }
         (Kind::Group, false) => {
             "INSERT INTO group_entry (name_key, name, revision, members, confirmed, id) VALUES (?1, ?2, ?3, ?4, ?5, ?6)"
         }
         (Kind::User, true) => {
-            "UPDATE user_entry SET login = ?2, revision = ?3, number = ?4, given = ?5, family = ?6, mail = ?7, active = ?8, confirmed = ?9, id = ?10 WHERE name_key = ?1"
+            "UPDATE user_entry_2 SET login = ?2, revision = ?3, number = ?4, given = ?5, family = ?6, mail = ?7, department = ?8, active = ?9, confirmed = ?10, id = ?11 WHERE name_key = ?1"
         }
         (Kind::Group, true) => {
             "UPDATE group_entry SET name = ?2, revision = ?3, members = ?4, confirmed = ?5, id = ?6 WHERE name_key = ?1"
@@ -328,7 +328,7 @@ pub(crate) fn numbers_statement(kind: Kind) -> &'static str
     ensures { result.now ≡ numbers_text kind }
 {
     match kind {
-        Kind::User => "SELECT rowid FROM user_entry ORDER BY rowid",
+        Kind::User => "SELECT rowid FROM user_entry_2 ORDER BY rowid",
         Kind::Group => "SELECT rowid FROM group_entry ORDER BY rowid",
     }
 }
@@ -338,13 +338,37 @@ pub(crate) fn all_statement(kind: Kind) -> &'static str
 {
     match kind {
         Kind::User => {
-            "SELECT name_key, login, revision, number, given, family, mail, active, confirmed, id FROM user_entry ORDER BY name_key"
+            "SELECT name_key, login, revision, number, given, family, mail, department, active, confirmed, id FROM user_entry_2 ORDER BY name_key"
         }
         Kind::Group => {
             "SELECT name_key, name, revision, members, confirmed, id FROM group_entry ORDER BY name_key"
         }
     }
 }
+
+// ---- all entries of the first format
+
+pub(crate) fn first_numbers_statement(kind: Kind) -> &'static str
+    ensures { result.now ≡ first_numbers_text kind }
+{
+    match kind {
+        Kind::User => "SELECT rowid FROM user_entry ORDER BY rowid",
+        Kind::Group => numbers_statement(Kind::Group),
+    }
+}
+
+pub(crate) fn first_all_statement(kind: Kind) -> &'static str
+    ensures { result.now ≡ first_all_text kind }
+{
+    match kind {
+        Kind::User => {
+            "SELECT name_key, login, revision, number, given, family, mail, '', active, confirmed, id FROM user_entry ORDER BY name_key"
+        }
+        Kind::Group => all_statement(Kind::Group),
+    }
+}
+
+// ---- lists
 
 /// Whether the name comes after the previous one, if there is one.
 fn comes_after(previous: &Option<RecordName>, name: &RecordName) -> bool

@@ -1,11 +1,11 @@
-use Rattle.std.proofs.Common.{◌≡◌, false, refl, sym, ◌∙◌, inl, inr, IsTrue, rules, tests}
+use Rattle.std.proofs.Common.{◌≡◌, false, refl, subst, sym, ◌∙◌, inl, inr, IsTrue, rules, tests}
 use Rattle.std.specs.FinMap.{empty}
 use Rattle.sqlite.specs.Held.{state}
 use Rattle.journal_core.specs.Entries.{EntryMap}
-use Rattle.journal_store.specs.Opening.{IsDamaged, IsNewer, IsStore}
-use Rattle.sql_tables.proofs.Results.{on_both, if_err}
+use Rattle.journal_store.specs.Opening.{IsDamaged, IsFirst, IsFirstSpoilt, IsFirstStore, IsNewer, IsStore}
+use Rattle.sql_tables.proofs.Results.{on_both, on_ok, if_err}
 use Rattle.sql_tables.specs.Faults.{HasFailed}
-use Rattle.journal_store.proofs.Checking.{no_damage, opening_cause}
+use Rattle.journal_store.proofs.Checking.{is_for, no_damage, opening_cause}
 use Rattle.journal_store.proofs.Reopening.{store_on}
 use Rattle.journal_store.specs.Opening.{OpeningFails}
 use Rattle.journal_store.proofs.Checking.{opens_by, opens_so}
@@ -20,13 +20,15 @@ returns-then-not-is_blank-clause-stands g c clean =
     (c.check_tables.ensures.store clean) (c.check_tables.ensures.open clean)
 
 pub returns-in-Ok-clause-stands : goal.returns-in-Ok-clause-stands
-returns-in-Ok-clause-stands g c clean = let it = c.in-Ok.ensures.made clean in (empty, inr (it.1, refl), it.2)
+returns-in-Ok-clause-stands g c clean = let it = c.in-Ok.ensures.made clean in (empty, inr (inr (it.1, refl)), it.2)
 
 pub returns-then-not-is_blank-clause-cause : goal.returns-then-not-is_blank-clause-cause
 returns-then-not-is_blank-clause-cause g c clean =
     let stands : c.is_blank.result ≡ false = search (rules, tests) in
+    let other : c.is_first.result ≡ false = search (rules, tests) in
     let outside : (state g.S.Store c.args.conn.now).in_transaction ≡ false = search (rules, tests) in
-    opening_cause (state g.S.Store c.args.conn.now) c.check_tables.result (λ none. absurd (let clash = sym stands ∙ c.is_blank.ensures.known (c.schema.ensures.value ∙ none) in cc)) outside (c.check_tables.ensures.cause clean)
+    opening_cause (state g.S.Store c.args.conn.now) c.check_tables.result (λ none. absurd (let clash = sym stands ∙ c.is_blank.ensures.known (c.schema-2.ensures.value ∙ none) in cc))
+    (λ first. absurd (let clash = sym other ∙ c.is_first.ensures.known (subst IsFirst (sym c.schema.ensures.value) first) in cc)) outside (c.check_tables.ensures.cause clean)
 
 pub returns-in-Err-clause-cause : goal.returns-in-Err-clause-cause
 returns-in-Err-clause-cause g c clean =
@@ -37,9 +39,22 @@ pub returns-then-not-is_blank-clause-failed : goal.returns-then-not-is_blank-cla
 returns-then-not-is_blank-clause-failed g c clean =
     let old = state g.S.Store c.args.conn.now in
     let new = state g.S.Store c.check_tables.new.conn in
-    if_err c.check_tables.result (opens_by (HasFailed old new) (OpeningFails old new) (λ it. inr (inr it))) (c.check_tables.ensures.failed clean)
+    if_err c.check_tables.result (opens_by (HasFailed old new) (OpeningFails old new) (λ it. inr (inr (inr it)))) (c.check_tables.ensures.failed clean)
 
 pub returns-in-Err-clause-failed : goal.returns-in-Err-clause-failed
 returns-in-Err-clause-failed g c clean =
     let blank : IsTrue c.is_blank.result = search (rules, tests) in
-    opens_so (OpeningFails (state g.S.Store c.args.conn.now) (state g.S.Store c.make_tables.new.conn)) (inr (inl (sym c.schema.ensures.value ∙ c.is_blank.ensures.is blank))) c.from.result
+    opens_so (OpeningFails (state g.S.Store c.args.conn.now) (state g.S.Store c.make_tables.new.conn)) (inr (inl (sym c.schema-2.ensures.value ∙ c.is_blank.ensures.is blank))) c.from.result
+
+-- ---- the tables of the first format
+
+pub returns-then-is_first-clause-stands : goal.returns-then-is_first-clause-stands
+returns-then-is_first-clause-stands g c clean =
+    let old = state g.S.Store c.args.conn.now in
+    let new = state g.S.Store c.open_first.new.conn in
+    on_ok c.open_first.result (λ (it : (entries : EntryMap) × IsFirstStore old entries × IsStore new entries). (it.0, inr (inl it.1), it.2)) (c.open_first.ensures.stands clean)
+
+pub returns-then-is_first-clause-cause : goal.returns-then-is_first-clause-cause
+returns-then-is_first-clause-cause g c clean =
+    let old = state g.S.Store c.args.conn.now in
+    if_err c.open_first.result (λ fault it. is_for {P = IsNewer old} {Q = IsNewer old} {D = IsFirstSpoilt old} {E = IsDamaged old} (λ newer. newer) (λ spoilt. inr (inr spoilt)) fault it) (c.open_first.ensures.cause clean)
