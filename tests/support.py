@@ -339,7 +339,7 @@ def make_file(path, statements, tables):
     return path
 
 
-# The statements of both formats
+# The statements of the store's format and of both formats of the journal
 STORE_FORMAT = """CREATE TABLE IF NOT EXISTS provider_format (
   one INTEGER PRIMARY KEY CHECK (one = 1), number INTEGER NOT NULL)"""
 RESOURCE = """CREATE TABLE resource (
@@ -351,7 +351,7 @@ RESOURCE = """CREATE TABLE resource (
   UNIQUE (kind, name_key))"""
 JOURNAL_FORMAT = """CREATE TABLE IF NOT EXISTS journal_format (
   one INTEGER PRIMARY KEY CHECK (one = 1), number INTEGER NOT NULL)"""
-USER_ENTRY = """CREATE TABLE user_entry (
+FIRST_USER_ENTRY = """CREATE TABLE user_entry (
   name_key TEXT PRIMARY KEY NOT NULL, login TEXT NOT NULL,
   revision INTEGER NOT NULL, number TEXT NOT NULL, given TEXT NOT NULL,
   family TEXT NOT NULL, mail TEXT NOT NULL, active INTEGER NOT NULL,
@@ -360,6 +360,14 @@ GROUP_ENTRY = """CREATE TABLE group_entry (
   name_key TEXT PRIMARY KEY NOT NULL, name TEXT NOT NULL,
   revision INTEGER NOT NULL, members TEXT NOT NULL,
   confirmed INTEGER NOT NULL, id TEXT)"""
+USER_ENTRY = """CREATE TABLE user_entry_2 (
+  name_key TEXT PRIMARY KEY NOT NULL, login TEXT NOT NULL,
+  revision INTEGER NOT NULL, number TEXT NOT NULL, given TEXT NOT NULL,
+  family TEXT NOT NULL, mail TEXT NOT NULL, department TEXT NOT NULL,
+  active INTEGER NOT NULL, confirmed INTEGER NOT NULL, id TEXT)"""
+# The tables of a journal in their order
+FIRST_JOURNAL = (JOURNAL_FORMAT, FIRST_USER_ENTRY, GROUP_ENTRY)
+JOURNAL = (*FIRST_JOURNAL, USER_ENTRY)
 
 
 def make_store(path, resources=(), number=1, statements=(STORE_FORMAT, RESOURCE)):
@@ -368,9 +376,16 @@ def make_store(path, resources=(), number=1, statements=(STORE_FORMAT, RESOURCE)
     return make_file(path, statements, {"provider_format": numbers, "resource": resources})
 
 
-def make_journal(path, users=(), groups=(), number=1, statements=(JOURNAL_FORMAT, USER_ENTRY, GROUP_ENTRY)):
-    """A journal that SQLite made, in the format with this number."""
+def make_journal(path, users=(), groups=(), number=2, statements=JOURNAL):
+    """A journal that SQLite made, with the tables of format 2 and this number."""
     numbers = [(1, number)] if number is not None else []
+    return make_file(path, statements, {"journal_format": numbers, "user_entry_2": users, "group_entry": groups})
+
+
+def make_first_journal(path, users=(), groups=(), number=1, statements=FIRST_JOURNAL):
+    """A journal that SQLite made, with the tables of format 1 and this number. Its users have no department."""
+    numbers = [(1, number)] if number is not None else []
+    users = map(without_department, users)
     return make_file(path, statements, {"journal_format": numbers, "user_entry": users, "group_entry": groups})
 
 
@@ -403,7 +418,12 @@ def user_resource(number, key, **other):
 def user_entry(key, **other):
     """The row of a user in a journal: at revision 1, nothing confirmed, but for other columns."""
     row = {"name_key": key, "login": key, "revision": 1, "number": "", "given": "", "family": "", "mail": ""}
-    return tuple((row | {"active": 1, "confirmed": 0, "id": None} | other).values())
+    return tuple((row | {"department": "", "active": 1, "confirmed": 0, "id": None} | other).values())
+
+
+def without_department(entry):
+    """The row of a user in a journal of format 1."""
+    return entry[:7] + entry[8:]
 
 
 def group_entry(key, members="", **other):

@@ -10,7 +10,10 @@ import time
 import unittest
 
 from faults import ENDED, Fault, build_shim, tell_all
-from support import BOB_CREATED, CREATE_BOB, EXAMPLES, ROOT, Provider, Running, Site, resource_id, scimlink, without_causes
+from support import (
+    BOB_CREATED, CREATE_BOB, EXAMPLES, ROOT, Provider, Running, Site,
+    make_first_journal, resource_id, scimlink, sql, user_entry, without_causes,
+)
 
 UNDONE = (
     b"HTTP/1.1 500 Internal Server Error\r\nConnection: close\r\nContent-Length: 129\r\n"
@@ -137,6 +140,20 @@ def settle(folder, fault):
 def map_users(_, fault):
     lines = scimlink("map", RECORDS).lines
     check_lines(scimlink("map", RECORDS, **fault.options), fault, lines, 1, ["users record 3: S5"])
+
+
+def carry_over(folder, fault):
+    """A journal of format 1 is shown with a fault, and then without one, which shows all that was in it."""
+    confirmed = {"revision": 3, "confirmed": 2, "id": resource_id(1)}
+    users = [user_entry("ann", login="Ann", mail="ann@example.com"), user_entry("bob", active=0, **confirmed)]
+    journal = make_first_journal(folder / "journal", users)
+    lines = ["user ann wanted=1 confirmed=0 id=-", f"user bob wanted=3 confirmed=2 id={resource_id(1)}"]
+    run = scimlink("show", "--journal", journal, **fault.options)
+    check_ending(run, fault)
+    check(run.lines, lines[: len(run.lines)], "lines")
+    check(show("--journal", journal), lines, "entries in the end")
+    check(sql(journal, "SELECT * FROM user_entry_2 ORDER BY name_key"), users, "rows in the end")
+    check(sql(journal, "SELECT * FROM user_entry"), [], "rows of format 1 in the end")
 
 
 # ---- stories of both ends
@@ -366,6 +383,11 @@ class FaultsTest(unittest.TestCase):
 
     def test_memory_of_reset(self):
         self.refuse("ALLOCATION", self.leaver.reset)
+
+    def test_a_journal_of_format_1(self):
+        self.refuse("ALLOCATION", carry_over, step=STEP)
+        self.refuse("WRITE", carry_over, ways=WRITE_FAULTS)
+        self.refuse("READ", carry_over, ways=["5"])
 
     def test_memory_of_push(self):
         self.refuse_memory_after(

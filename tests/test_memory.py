@@ -1,13 +1,26 @@
 """Each command with less memory than its work takes: it says so, and leaves its files as they were."""
+import os
+import subprocess
+
 from support import (
-    CREATE_BOB, EXAMPLES, NOWHERE, ProgramTest,
-    limited_memory, make_journal, make_store, scimlink, text, user_entry, user_resource,
+    CREATE_BOB, EXAMPLES, NOWHERE, PROGRAM, ProgramTest,
+    limited_memory, make_first_journal, make_journal, make_store, scimlink, text, user_entry, user_resource,
 )
 
 # Enough to start, and far too little for what is asked for here
 STARVED = limited_memory(12_000 * 1024)
 NAMES = [f"u{place:06}" for place in range(100_000)]
 MONDAY = ["--users", EXAMPLES / "monday.csv"]
+
+
+def peak(*arguments):
+    """The most memory that a whole run had at once, in KiB."""
+    with subprocess.Popen([PROGRAM, *map(str, arguments)], stdout=subprocess.DEVNULL) as run:
+        _, status, usage = os.wait4(run.pid, 0)
+        run.returncode = os.waitstatus_to_exitcode(status)
+    if run.returncode != 0:
+        raise AssertionError(f"status {run.returncode}")
+    return usage.ru_maxrss
 
 
 class MemoryTest(ProgramTest):
@@ -39,6 +52,15 @@ class MemoryTest(ProgramTest):
         self.assert_starves(journal, "reset", "--journal", journal)
         self.assert_starves(journal, "push", *MONDAY, "--journal", journal, "--to", NOWHERE)
         self.assert_starves(journal, "loop", *MONDAY, "--journal", journal)
+
+    def test_a_journal_of_format_1(self):
+        entries = [user_entry(name, confirmed=1, id=name) for name in NAMES]
+        first = make_first_journal(self.folder / "first", entries)
+        self.assert_starves(first, "show", "--journal", first)
+        self.assert_starves(first, "reset", "--journal", first)
+        # with memory again, it is carried over: for a moment there are the users of both formats
+        journal = make_journal(self.site.journal, entries)
+        self.assertLess(peak("show", "--journal", first), 2.5 * peak("show", "--journal", journal))
 
     def test_a_store(self):
         rows = (user_resource(number, name) for number, name in enumerate(NAMES, 1))

@@ -6,8 +6,8 @@ import sys
 
 from support import (
     CREATE_BOB, PROGRAM, ProgramTest, Running,
-    is_locked, journal_commands, make_journal, make_store, scimlink, silent_provider, sql, store_commands,
-    user_entry, user_resource,
+    is_locked, journal_commands, make_first_journal, make_journal, make_store, scimlink, silent_provider, sql,
+    store_commands, user_entry, user_resource,
 )
 
 # Another program that holds a file locked until its standard input ends. It isn't the test itself, since a
@@ -72,13 +72,13 @@ class Openings:
 
     def test_a_newer_format(self):
         path = self.make()
-        sql(path, f"UPDATE {self.format} SET number = 2")
+        sql(path, f"UPDATE {self.format} SET number = {self.newer_number}")
         self.assert_refused(path, self.commands(path), self.newer)
 
 
 class StoreOpeningsTest(Openings, ProgramTest):
     failed, damaged, newer = "store fault Y1", "store fault Y2", "store fault Y3"
-    format, shown = "provider_format", "user bob held=1 version=1 active=true"
+    format, newer_number, shown = "provider_format", 2, "user bob held=1 version=1 active=true"
     commands = staticmethod(store_commands)
 
     def make(self):
@@ -98,7 +98,7 @@ class StoreOpeningsTest(Openings, ProgramTest):
 
 class JournalOpeningsTest(Openings, ProgramTest):
     failed, damaged, newer = "journal fault J1", "journal fault J2", "journal fault J4"
-    format, shown = "journal_format", "user bob wanted=1 confirmed=0 id=-"
+    format, newer_number, shown = "journal_format", 3, "user bob wanted=1 confirmed=0 id=-"
     commands = staticmethod(journal_commands)
 
     def make(self):
@@ -116,6 +116,13 @@ class JournalOpeningsTest(Openings, ProgramTest):
                 self.assertTrue(is_locked(path))
                 self.kill(push)
         self.assert_prints(self.site.show_journal(), self.shown, "user cid wanted=1 confirmed=0 id=-")
+
+
+class FirstJournalOpeningsTest(JournalOpeningsTest):
+    """The same of a journal of format 1, which an opening that succeeds carries over."""
+
+    def make(self):
+        return make_first_journal(self.site.journal, [user_entry("bob")])
 
 
 class OrderTest(ProgramTest):

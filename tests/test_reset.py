@@ -23,7 +23,7 @@ def forgotten(entry):
 class JournalTest(ProgramTest):
     def entries(self):
         """The entries of both tables, as SQLite reads them."""
-        tables = ("user_entry", "group_entry")
+        tables = ("user_entry_2", "group_entry")
         return [sql(self.site.journal, f"SELECT * FROM {table} ORDER BY name_key") for table in tables]
 
 
@@ -67,9 +67,9 @@ class ResetTest(JournalTest):
         names = [f"u{place:06}" for place in range(100_000)]
         make_journal(self.site.journal, (user_entry(name, confirmed=1, id=name) for name in names))
         self.assert_prints(self.site.reset(), "reset 100000 records")
-        learnt = "SELECT count(*) FROM user_entry WHERE confirmed <> 0 OR id IS NOT NULL"
+        learnt = "SELECT count(*) FROM user_entry_2 WHERE confirmed <> 0 OR id IS NOT NULL"
         self.assertEqual(sql(self.site.journal, learnt), [(0,)])
-        self.assertEqual(sql(self.site.journal, "SELECT count(*) FROM user_entry"), [(100_000,)])
+        self.assertEqual(sql(self.site.journal, "SELECT count(*) FROM user_entry_2"), [(100_000,)])
 
 
 class LostStoreTest(JournalTest):

@@ -1,4 +1,5 @@
-//! The connector's journal: its entries are kept, and an opening that is refused leaves them.
+//! The connector's journal: its entries are kept, an opening that is refused leaves them, and a journal of the
+//! first format is carried over with its entries.
 use crate::stores::connections::{limit, run, shown};
 use crate::stores::exchanges::{Run, entries, runs};
 use crate::support::assert_same;
@@ -26,10 +27,10 @@ static RUNS: &[Run] = &[
 
 /// The entries at the end; the last run confirmed none.
 static KEPT: &str =
-    "ann|ann|3||Ann|Lee|ann@example.com|1|2|5c1a0000-0000-8000-8000-000000000001\nbob|bob|2|||||0|2|5c1a0000-0000-8000-8000-000000000002\nzoe|Zoe|2000000000|1003||||1|0|-\nband|band|7|ann zoe|0|-\ncrew|crew|3||3|5c1a0000-0000-8000-8000-000000000003\n";
+    "ann|ann|3||Ann|Lee|ann@example.com||1|2|5c1a0000-0000-8000-8000-000000000001\nbob|bob|2||||||0|2|5c1a0000-0000-8000-8000-000000000002\nzoe|Zoe|2000000000|1003|||||1|0|-\nband|band|7|ann zoe|0|-\ncrew|crew|3||3|5c1a0000-0000-8000-8000-000000000003\n";
 
 static USERS: &str =
-    "SELECT name_key || '|' || login || '|' || revision || '|' || number || '|' || given || '|' || family || '|' || mail || '|' || active || '|' || confirmed || '|' || ifnull(id, '-') FROM user_entry ORDER BY name_key";
+    "SELECT name_key || '|' || login || '|' || revision || '|' || number || '|' || given || '|' || family || '|' || mail || '|' || department || '|' || active || '|' || confirmed || '|' || ifnull(id, '-') FROM user_entry_2 ORDER BY name_key";
 
 static GROUPS: &str =
     "SELECT name_key || '|' || name || '|' || revision || '|' || members || '|' || confirmed || '|' || ifnull(id, '-') FROM group_entry ORDER BY name_key";
@@ -155,7 +156,7 @@ fn entries_are_kept_where_a_journal_is_reopened(rt: HostRuntime) {
 /// What damages the journal with those entries, and the fault of its opening.
 static SPOILS: &[(&str, JournalOpenFault)] = &[
     (
-        "UPDATE user_entry SET confirmed = 4 WHERE name_key = 'ann'",
+        "UPDATE user_entry_2 SET confirmed = 4 WHERE name_key = 'ann'",
         JournalOpenFault::Damaged,
     ),
     (
@@ -164,7 +165,11 @@ static SPOILS: &[(&str, JournalOpenFault)] = &[
     ),
     ("DELETE FROM journal_format", JournalOpenFault::Damaged),
     (
-        "UPDATE journal_format SET number = 2",
+        "UPDATE journal_format SET number = 1",
+        JournalOpenFault::Damaged,
+    ),
+    (
+        "UPDATE journal_format SET number = 3",
         JournalOpenFault::Newer,
     ),
     ("BEGIN", JournalOpenFault::Store),
@@ -215,4 +220,72 @@ fn a_journal_that_failed_once_is_opened(rt: HostRuntime) {
     let mut conn = close(opened(&rt, rt.alloc(), conn));
     let rows = rows(&rt, rt.alloc(), &mut conn);
     assert_same(&rt, rows.as_str(), KEPT);
+}
+
+// ---- the first format
+
+/// A journal of the first format, in which bob is confirmed.
+static FIRST: &str =
+    "CREATE TABLE IF NOT EXISTS journal_format (one INTEGER PRIMARY KEY CHECK (one = 1), number INTEGER NOT NULL); INSERT INTO journal_format (one, number) VALUES (1, 1); CREATE TABLE user_entry (name_key TEXT PRIMARY KEY NOT NULL, login TEXT NOT NULL, revision INTEGER NOT NULL, number TEXT NOT NULL, given TEXT NOT NULL, family TEXT NOT NULL, mail TEXT NOT NULL, active INTEGER NOT NULL, confirmed INTEGER NOT NULL, id TEXT); CREATE TABLE group_entry (name_key TEXT PRIMARY KEY NOT NULL, name TEXT NOT NULL, revision INTEGER NOT NULL, members TEXT NOT NULL, confirmed INTEGER NOT NULL, id TEXT); INSERT INTO user_entry (name_key, login, revision, number, given, family, mail, active, confirmed, id) VALUES ('bob', 'bob', 1, '', '', '', '', 1, 1, '5c1a0000-0000-8000-8000-000000000001')";
+
+static FIRST_USERS: &str =
+    "SELECT name_key || '|' || revision || '|' || confirmed || '|' || id FROM user_entry";
+
+/// What that query shows before the journal is carried over.
+static FIRST_KEPT: &str = "bob|1|1|5c1a0000-0000-8000-8000-000000000001\n";
+
+/// The entries after it.
+static CARRIED_OVER: &str = "bob|bob|1||||||1|1|5c1a0000-0000-8000-8000-000000000001\n";
+
+fn of_first_format(rt: &impl Abort, alloc: Global) -> Connection<MemStore> {
+    let mut conn = Connection::open_in_memory(alloc).expect(rt, "a connection");
+    run(&mut conn, FIRST).expect(rt, "a run");
+    conn
+}
+
+#[test]
+fn a_journal_of_the_first_format_is_carried_over(rt: HostRuntime) {
+    let mut conn = of_first_format(&rt, rt.alloc());
+    for _ in 0..2 {
+        conn = close(opened(&rt, rt.alloc(), conn));
+        let rows = rows(&rt, rt.alloc(), &mut conn);
+        assert_same(&rt, rows.as_str(), CARRIED_OVER);
+        let first = shown(&rt, rt.alloc(), &mut conn, FIRST_USERS);
+        assert_same(&rt, first.as_str(), "");
+    }
+}
+
+/// Opens and closes a journal, with this limit on the steps of each statement: whether it was opened.
+fn opens_within(
+    rt: &impl Abort,
+    alloc: Global,
+    mut conn: Connection<MemStore>,
+    steps: u64,
+) -> (bool, Connection<MemStore>) {
+    limit(&mut conn, Some(steps));
+    let (is_open, mut conn) = match open(alloc, conn) {
+        Ok(journal) => (true, close(journal)),
+        Err((fault, conn)) => {
+            assert_same(rt, fault, JournalOpenFault::Store);
+            (false, conn)
+        }
+    };
+    limit(&mut conn, None);
+    (is_open, conn)
+}
+
+#[test]
+fn an_opening_that_fails_leaves_the_first_format(rt: HostRuntime) {
+    let mut conn = of_first_format(&rt, rt.alloc());
+    for steps in 1..1_000 {
+        let (is_open, left) = opens_within(&rt, rt.alloc(), conn, steps);
+        conn = left;
+        if is_open {
+            break;
+        }
+        let users = shown(&rt, rt.alloc(), &mut conn, FIRST_USERS);
+        assert_same(&rt, users.as_str(), FIRST_KEPT);
+    }
+    let rows = rows(&rt, rt.alloc(), &mut conn);
+    assert_same(&rt, rows.as_str(), CARRIED_OVER);
 }
