@@ -25,6 +25,7 @@ import time
 
 TOP = os.path.dirname(os.path.dirname(os.path.abspath(__file__)))
 TIMES = 300
+PAGE = 200  # rows that an opening of a store reads by one query
 
 
 def connect(path):
@@ -49,7 +50,9 @@ CREATE TABLE resource (number INTEGER PRIMARY KEY CHECK (number >= 1), kind INTE
 """
     by_number = "SELECT number, kind, name_key, version, content FROM resource WHERE number = ?1"
     by_name = "SELECT number, kind, name_key, version, content FROM resource WHERE kind = ?1 AND name_key = ?2"
+    page = "SELECT number, kind, name_key, version, content FROM resource WHERE number >= ?1 AND number <= ?2 ORDER BY number"
     outside = "SELECT number FROM resource WHERE number < 1 OR number > ?1"
+    unnumbered = "SELECT number FROM resource WHERE number IS NULL"
     insert = "INSERT INTO resource (number, kind, name_key, version, content) VALUES (?1, ?2, ?3, ?4, ?5)"
     update = "UPDATE resource SET version = ?2, content = ?3 WHERE number = ?1"
 
@@ -64,9 +67,10 @@ CREATE TABLE resource (number INTEGER PRIMARY KEY CHECK (number >= 1), kind INTE
     def open(self, connection, users):
         """The statements of an opening."""
         connection.execute("SELECT number FROM provider_format").fetchall()
-        for number in range(1, users + 2):
-            for row in connection.execute(self.by_number, (number,)).fetchall():
-                connection.execute(self.by_name, (row[1], row[2])).fetchall()
+        connection.execute(self.unnumbered).fetchall()
+        for first in range(1, users + 1, PAGE):
+            connection.execute(self.page, (first, first + PAGE - 1)).fetchall()
+        connection.execute(self.by_number, (users + 1,)).fetchall()
         connection.execute(self.outside, (users,)).fetchall()
 
     def run(self, connection, call, users, place, number):
@@ -91,24 +95,25 @@ class Journal:
     sizes = (1_000, 10_000, 99_000)
     tables = """
 CREATE TABLE IF NOT EXISTS journal_format (one INTEGER PRIMARY KEY CHECK (one = 1), number INTEGER NOT NULL);
-INSERT INTO journal_format (one, number) VALUES (1, 1);
+INSERT INTO journal_format (one, number) VALUES (1, 2);
 CREATE TABLE user_entry (name_key TEXT PRIMARY KEY NOT NULL, login TEXT NOT NULL, revision INTEGER NOT NULL, number TEXT NOT NULL, given TEXT NOT NULL, family TEXT NOT NULL, mail TEXT NOT NULL, active INTEGER NOT NULL, confirmed INTEGER NOT NULL, id TEXT);
 CREATE TABLE group_entry (name_key TEXT PRIMARY KEY NOT NULL, name TEXT NOT NULL, revision INTEGER NOT NULL, members TEXT NOT NULL, confirmed INTEGER NOT NULL, id TEXT);
+CREATE TABLE user_entry_2 (name_key TEXT PRIMARY KEY NOT NULL, login TEXT NOT NULL, revision INTEGER NOT NULL, number TEXT NOT NULL, given TEXT NOT NULL, family TEXT NOT NULL, mail TEXT NOT NULL, department TEXT NOT NULL, active INTEGER NOT NULL, confirmed INTEGER NOT NULL, id TEXT);
 """
-    columns = "name_key, login, revision, number, given, family, mail, active, confirmed, id"
-    users = f"SELECT {columns} FROM user_entry"
+    columns = "name_key, login, revision, number, given, family, mail, department, active, confirmed, id"
+    users = f"SELECT {columns} FROM user_entry_2"
     groups = "SELECT name_key, name, revision, members, confirmed, id FROM group_entry"
-    insert = f"INSERT INTO user_entry ({columns}) VALUES (?1, ?2, ?3, ?4, ?5, ?6, ?7, ?8, ?9, ?10)"
-    update = ("UPDATE user_entry SET login = ?2, revision = ?3, number = ?4, given = ?5, family = ?6, "
-              "mail = ?7, active = ?8, confirmed = ?9, id = ?10 WHERE name_key = ?1")
+    insert = f"INSERT INTO user_entry_2 ({columns}) VALUES (?1, ?2, ?3, ?4, ?5, ?6, ?7, ?8, ?9, ?10, ?11)"
+    update = ("UPDATE user_entry_2 SET login = ?2, revision = ?3, number = ?4, given = ?5, family = ?6, "
+              "mail = ?7, department = ?8, active = ?9, confirmed = ?10, id = ?11 WHERE name_key = ?1")
 
     def row(self, number, name, revision=1):
-        return (name, name, revision, str(number), "", "", f"{name}@example.com", 1, 0, None)
+        return (name, name, revision, str(number), "", "", f"{name}@example.com", "", 1, 0, None)
 
     def open(self, connection, _users):
         """The statements of an opening, and of a load."""
         connection.execute("SELECT number FROM journal_format").fetchall()
-        connection.execute("SELECT rowid FROM user_entry ORDER BY rowid").fetchall()
+        connection.execute("SELECT rowid FROM user_entry_2 ORDER BY rowid").fetchall()
         connection.execute("SELECT rowid FROM group_entry ORDER BY rowid").fetchall()
         for _ in range(2):
             connection.execute(f"{self.users} ORDER BY name_key").fetchall()
