@@ -115,6 +115,18 @@ class RowTest(StoreTest):
         for name, rows in DAMAGED.items():
             self.refuses(name, *rows)
 
+    def test_rows_beside_the_end_of_a_page(self):
+        """An opening reads 200 rows by a query."""
+        for count in (199, 200, 201, 400, 401):
+            names = [f"user{number:03}" for number in range(1, count + 1)]
+            rows = [user_resource(number, name) for number, name in enumerate(names, 1)]
+            with self.subTest(count):
+                path = make_store(self.folder / f"{count} rows", rows)
+                self.assert_prints(scimlink("show", "--store", path), *shown(*names))
+            damaged = user_resource(count, names[-1], content=user_text("zoe"))
+            self.refuses(f"the last of {count} is damaged", *rows[:-1], damaged)
+            self.refuses(f"a gap before the last of {count}", *rows[:-1], user_resource(count + 1, names[-1]))
+
     def test_rows_that_the_format_forbids_are_refused(self):
         unchecked = [re.sub(r" CHECK \([^)]*\)", "", statement) for statement in (STORE_FORMAT, RESOURCE)]
         for name, rows in FORBIDDEN.items():
