@@ -1,12 +1,13 @@
 -- What is learnt: what the journal is to keep of it, and what the book and the journal are afterwards.
 use Rattle.std.proofs.Common.{◌≡◌, ℕ, cond, List, Bool, true, false, not, Option, Some, None, Result, Ok, Err, IfOk, IfErr, OnOk, OnErr, refl, ap, sym, subst, ◌∙◌, inl, inr}
 use Rattle.std.proofs.lemmas.Bool.{cases_Bool}
+use Rattle.std.proofs.lemmas.Slice.Eq.{bytes_eq-Decides}
 use Rattle.std.specs.FinMap.{get, insert, keys, get-insert, same_map}
 use Rattle.std.specs.Option.{is_some, option_map}
 use Rattle.std.specs.Ordering.{is_eq, ordering_reverse}
 use Rattle.std.specs.declared.cmp.Ordering.{Ordering}
 use Rattle.std.specs.declared.cmp.Ordering.TheVariants.{Less, Equal, Greater}
-use Rattle.scim_key.proofs.RevisionLaws.{irreflexive, none_before, later_above_second, later_is_one, transitive_up_to}
+use Rattle.scim_key.proofs.RevisionLaws.{irreflexive, none_before, later_above_first, later_above_second, later_is_one, total, transitive_up_to}
 use Rattle.scim_key.specs.Outcome.{◌>>=◌}
 use Rattle.scim_key.specs.RecordOrder.{names_total, tied}
 use Rattle.scim_key.specs.Records.{name_cmp}
@@ -20,7 +21,7 @@ use Rattle.journal_core.specs.Entries.{CanPutLearnt, EntryMap, entry_learnt, lea
 use Rattle.journal_core.specs.declared.entries.Entry.{Entry}
 use Rattle.connector_core.proofs.Keeping.{kept-put, maps_are_books, names-put}
 use Rattle.connector_core.specs.Book.{Book, learning, put, seeing}
-use Rattle.connector_core.specs.Learning.{Finding, Learning, Lesson, after_learning, finding, learn, lesson, noted, or_fault, subject}
+use Rattle.connector_core.specs.Learning.{Finding, Learning, Lesson, Sight, after_learning, finding, fits_id, learn, lesson, noted, or_fault, sighted, subject}
 use Rattle.connector_core.specs.Maps.{BookMap, GivesUnless, book_of, changed, changed_at}
 use Rattle.connector_core.specs.Noting.{IsNewsAt, IsNewsOf, IsNoted, IsNotNoted, IsOfJournal, IsPassing, IsToBeKept, KeepsEntries, MayStandFor, Note, after_news, entries_with, learnt_of, lesson_of, news_learnt, note, noted_entries, noted_in}
 use Rattle.connector_core.specs.State.{IsKept, entry_of}
@@ -28,9 +29,11 @@ use Rattle.connector_core.specs.declared.fitting.News.{News}
 use Rattle.connector_core.specs.declared.fitting.News.TheVariants.{Lasting, Passing, Nothing}
 use Rattle.connector_core.specs.declared.knowledge.Known.{Known}
 use Rattle.connector_core.specs.declared.knowledge.Seen.{Seen}
+use Rattle.connector_core.specs.declared.knowledge.Seen.TheVariants.{At}
 use Rattle.connector_core.specs.declared.learning.LearnFault.{LearnFault}
 use Rattle.connector_core.specs.declared.learning.LearnFault.TheVariants.{Unfit, Unversioned, Refused, NoSuchRecord, Store, Memory}
 use Rattle.connector_core.specs.declared.learning.Learnt.{Learnt}
+use Rattle.connector_core.specs.declared.learning.Learnt.TheVariants as learnts
 
 -- ---- what the journal is to keep
 
@@ -53,6 +56,13 @@ within-later : (a b w : RevisionValue) → b ≼ w → a ≼ w → later a b ≼
 within-later a b w second first = elim (later_is_one a b) [
   | inl is ↦ rw is first
   | inr is ↦ rw is second
+]
+
+-- a revision that isn't below another is the later of the two
+later_stays : (a b : RevisionValue) → before a b ≡ false → later a b ≡ a
+later_stays a b not = elim (later_is_one a b) [
+  | inl first ↦ first
+  | inr second ↦ second ∙ total b a not (subst (λ r. a ≼ r) second (later_above_first a b))
 ]
 
 pub keep-new : (known : Known) (revision : RevisionValue) → IsRevision revision → revision ≼ row_revision known.wanted → known.id ≡ None → IsToBeKept known (later known.confirmed revision)
@@ -130,6 +140,21 @@ pub no-id : (o : Option (List ℕ)) (none : Bool) → is_some o ≡ not none →
 no-id None none is e = refl
 no-id (Some id) true is e = absurd (cc)
 no-id (Some id) false is e = absurd (cc)
+
+-- the known id is that of a resource that fits
+known-id : (o : Option (List ℕ)) (id : List ℕ) (none : Bool) → fits_id o id ≡ true → is_some o ≡ not none → none ≡ false → o ≡ Some id
+known-id None id true fits is e = absurd (cc)
+known-id None id false fits is e = absurd (cc)
+known-id (Some k) id none fits is e = ap Some ((bytes_eq-Decides k id).0 fits)
+
+-- a resource that was seen, of no higher revision and with the known id, changes only what was seen
+pub sighted-again : (known : Known) (sight : Sight) (learnt : Learnt) (none : Bool) → before known.confirmed sight.revision ≡ false → fits_id known.id sight.id ≡ true → is_some known.id ≡ not none → none ≡ false
+    → learnt ≡ learnts.Seen → lesson_of known (Passing (At sight.tag sight.revision) learnt) ≡ sighted known sight
+sighted-again known sight learnt none not_higher fits is some said =
+    let stays : known.confirmed ≡ later known.confirmed sight.revision = sym (later_stays known.confirmed sight.revision not_higher) in
+    let id : known.id ≡ Some sight.id = known-id known.id sight.id none fits is some in
+    let told : learnt ≡ cond (before known.confirmed sight.revision) (learnts.Confirmed sight.revision) learnts.Seen = said ∙ ap (λ (b : Bool). cond b (learnts.Confirmed sight.revision) learnts.Seen) (sym not_higher) in
+    λ i. record { known = record known { confirmed = stays i; id = id i; seen = At sight.tag sight.revision }; learnt = told i }
 
 -- ---- a note is what is learnt
 

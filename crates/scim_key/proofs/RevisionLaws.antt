@@ -23,11 +23,11 @@ unfolding before
 total a b p q = grind (arith, nat_tests)
 
 pub none_first : (a : RevisionValue) → no_revision ≼ a
-unfolding before
+unfolding before no_revision
 none_first a = grind (arith, nat_tests)
 
 pub none_before : (a : RevisionValue) → IsRevision a → no_revision ≺ a
-unfolding before is_revision
+unfolding before is_revision no_revision
 none_before a lawful = grind (arith, nat_tests)
 
 pub rank_rises : (a b : RevisionValue) → IsNoneOrRevision a → IsRevision b → a ≺ b → nat_lt (rank a) (rank b) ≡ true
@@ -39,6 +39,7 @@ unfolding rank is_revision
 rank_bounded a lawful = grind (arith, nat_tests)
 
 pub same : (a b : RevisionValue) → (same_revision a b ≡ true) ↔ (a ≡ b)
+unfolding same_revision
 same a b = (eqb-true a b, eq-eqb a b)
 
 pub reflexive_up_to : (a : RevisionValue) → a ≼ a
@@ -54,18 +55,21 @@ unfolding before
 up_to_before a b p = grind (arith, nat_tests)
 
 pub later_is_one : (a b : RevisionValue) → (later a b ≡ a) ⊎ (later a b ≡ b)
+unfolding later
 later_is_one a b = elim (cases_Bool (before a b)) [
   | inl comes ↦ inr (rw comes refl)
   | inr not ↦ inl (rw not refl)
 ]
 
 pub later_above_first : (a b : RevisionValue) → a ≼ later a b
+unfolding later
 later_above_first a b = elim (cases_Bool (before a b)) [
   | inl comes ↦ rw comes (up_to_before a b comes)
   | inr not ↦ rw not (reflexive_up_to a)
 ]
 
 pub later_above_second : (a b : RevisionValue) → b ≼ later a b
+unfolding later
 later_above_second a b = elim (cases_Bool (before a b)) [
   | inl comes ↦ rw comes (reflexive_up_to b)
   | inr not ↦ rw not not

@@ -5,4 +5,5 @@ pub mod RecordOrder
 pub mod Identifiers
 pub mod Bases
 pub mod Revisions
+pub mod RevisionOrder
 pub mod Stores

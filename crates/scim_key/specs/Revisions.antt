@@ -11,10 +11,10 @@ abbrev pub RevisionValue : Type 0
 RevisionValue = ℕ
 
 -- no revision; it comes before every other
-abbrev pub no_revision : RevisionValue
+unfoldable pub no_revision : RevisionValue
 no_revision = 0
 
-abbrev pub same_revision : RevisionValue → RevisionValue → Bool
+unfoldable pub same_revision : RevisionValue → RevisionValue → Bool
 same_revision a b = a == b
 
 -- whether the first comes before the second
@@ -22,7 +22,7 @@ unfoldable pub before : RevisionValue → RevisionValue → Bool
 before a b = nat_lt a b
 
 -- the later of the two
-abbrev pub later : RevisionValue → RevisionValue → RevisionValue
+unfoldable pub later : RevisionValue → RevisionValue → RevisionValue
 later a b = if before a b then b else a
 
 -- a ≺ b: a comes before b; a ≼ b: b doesn't come before a

@@ -2,8 +2,8 @@
 ghost use Rattle.std.specs.Prelude.{◌≡◌, IfSome, Some};
 ghost use Rattle.std.specs.Char.{is_ascii_digit};
 ghost use Rattle.std.specs.List.{list_all};
-ghost use Rattle.std.proofs.Common.{rules};
-ghost use Rattle.std.specs.Cmp.Rules.{comparing};
+ghost use Rattle.std.specs.Cmp.{partial_equiv_from_equiv};
+ghost use Rattle.scim_key.specs.RevisionOrder.{revisions_equal};
 ghost use Rattle.scim_key.specs.Revisions.{before, later, no_revision, read_revision, revision_number, revision_of_number, revision_text, same_revision, IsOrder, IsRevision, RevisionsAreReadBack};
 ghost use Rattle.scim_key.specs.Revisions as spec;
 
@@ -39,15 +39,16 @@ impl Model for Revision {
 impl PartialEq for Revision {
     ghost eq = { same_revision };
 
-    ghost laws = { Prim.search (comparing, rules) };
+    ghost laws = { partial_equiv_from_equiv revisions_equal };
 
+    #[tactic(auto, unfolding(crate::specs::Revisions::same_revision))]
     fn eq(&self, other: &Revision) -> bool {
         self.number == other.number
     }
 }
 
 impl Eq for Revision {
-    ghost laws = { Prim.search (comparing, rules) };
+    ghost laws = { revisions_equal };
 }
 
 /// Decimal digits without leading zeros; `0` for none.
@@ -75,6 +76,7 @@ fn are_digits(bytes: &[u8]) -> bool
 
 impl Revision {
     /// No revision.
+    #[tactic(auto, unfolding(crate::specs::Revisions::no_revision))]
     pub fn none() -> Revision
         ensures { result ≡ no_revision }
     {
@@ -129,6 +131,7 @@ impl Revision {
     }
 
     /// The later of the two revisions.
+    #[tactic(auto, unfolding(crate::specs::Revisions::later))]
     pub fn later(self, other: Revision) -> Revision
         ensures { result ≡ later self other }
     {

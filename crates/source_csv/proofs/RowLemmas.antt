@@ -58,7 +58,7 @@ group_fields name revision members = record { name = name; revision = revision; 
 same_group_fields : (n n' : List ℕ) (r r' : RevisionValue) (m m' : List (List ℕ)) → n ≡ n' → r ≡ r' → m ≡ m' → group_fields n r m ≡ group_fields n' r' m'
 same_group_fields n n' r r' m m' en er em = rw (en, er, em)
 
-group_from_test : (a b : GroupFields) → same_group a b ≡ true → a ≡ b
+pub group_from_test : (a b : GroupFields) → same_group a b ≡ true → a ≡ b
 group_from_test a b e =
     let all = and_parts (bytes_eq a.name b.name && same_revision a.revision b.revision) (pointwise bytes_eq a.members b.members) e in
     let first = and_parts (bytes_eq a.name b.name) (same_revision a.revision b.revision) all.0 in
@@ -67,7 +67,7 @@ group_from_test a b e =
     ((is_order.same a.revision b.revision).0 first.1)
     ((slice_eq-Decides bytes_eq-Decides a.members b.members _ refl).0 all.1)
 
-group_itself : (a : GroupFields) → same_group a a ≡ true
+pub group_itself : (a : GroupFields) → same_group a a ≡ true
 group_itself a = rw (bytes_itself a.name, (is_order.same a.revision a.revision).1 refl, keys_itself a.members)
 
 pub row_from_test : (a b : Row) → same_row a b ≡ true → a ≡ b

@@ -1,9 +1,9 @@
 -- When a record is done, and what the connector asks for until then.
-use Rattle.std.proofs.Common.{◌≡◌, ℕ, suc, Bool, true, false, cond, List, [], ◌∷◌, map, Option, Some, Result, Ok, refl, ap, ◌∙◌}
+use Rattle.std.proofs.Common.{◌≡◌, ℕ, suc, Bool, true, false, cond, List, [], ◌∷◌, map, Option, Some, Result, Ok, refl, ap, inl, inr, ◌∙◌, subst}
 use Rattle.std.specs.Option.{option_map}
 use Rattle.std.specs.Result.{result_ok}
-use Rattle.scim_key.proofs.RevisionLaws.{same, total}
-use Rattle.scim_key.specs.Revisions.{RevisionValue, before, later, ◌≼◌}
+use Rattle.scim_key.proofs.RevisionLaws.{same, total, later_above_second, later_is_one}
+use Rattle.scim_key.specs.Revisions.{RevisionValue, later, ◌≼◌}
 use Rattle.scim_key.specs.declared.records.Kind.TheVariants as kinds
 use Rattle.scim_key.specs.declared.records.RecordName.{RecordName}
 use Rattle.scim_resource.specs.Contents.{content_name}
@@ -38,11 +38,10 @@ if_done known done = (same known.confirmed (row_revision known.wanted)).0 done
 
 -- if c is up to w, w is the later of the two
 pub later_top : (c w : RevisionValue) → c ≼ w → later c w ≡ w
-later_top c w within = go (before c w) refl
-  where
-    go : (b : Bool) → before c w ≡ b → later c w ≡ w
-    go true is = rw is refl
-    go false is = rw is (total c w within is)
+later_top c w within = elim (later_is_one c w) [
+  | inl first ↦ first ∙ total c w within (subst (λ (r : RevisionValue). w ≼ r) first (later_above_second c w))
+  | inr second ↦ second
+]
 
 -- ---- the image of the wanted row
 

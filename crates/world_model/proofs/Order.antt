@@ -1,7 +1,7 @@
 -- More of the order of revisions.
 use Rattle.std.proofs.Common.{inl, inr}
 use Rattle.std.proofs.lemmas.Bool.{cases_Bool}
-use Rattle.scim_key.proofs.RevisionLaws.{transitive_up_to}
+use Rattle.scim_key.proofs.RevisionLaws.{transitive_up_to, later_is_one}
 use Rattle.scim_key.specs.Revisions.{RevisionValue, before, later, ◌≺◌, ◌≼◌}
 
 -- at most, and then before
@@ -12,7 +12,7 @@ at_most_before a b c p q = elim (cases_Bool (before a c)) [
 ]
 
 pub later_within : (a b c : RevisionValue) → a ≼ c → b ≼ c → later a b ≼ c
-later_within a b c p q = elim (cases_Bool (before a b)) [
-  | inl e ↦ rw e q
-  | inr e ↦ rw e p
+later_within a b c p q = elim (later_is_one a b) [
+  | inl first ↦ rw first p
+  | inr second ↦ rw second q
 ]

@@ -1,14 +1,23 @@
-use Rattle.std.proofs.Common.{◌≡◌, Ok, Result, subst, sym, ap, ◌∙◌}
+use Rattle.std.proofs.Common.{◌≡◌, [], Ok, Result, refl, subst, sym, ap, ◌∙◌}
 use Rattle.std.specs.Option.{ok_or}
 use Rattle.connector_core.specs.Asking.{asking}
 use Rattle.connector_core.specs.Maps.{book_of}
-use Rattle.connector_core.specs.declared.asking.Ask.TheVariants.{Send}
+use Rattle.connector_core.specs.declared.asking.Ask.TheVariants.{Nothing, Send}
 use Rattle.connector_core.specs.declared.asking.AskFault.TheVariants.{NoSuchRecord}
+use Rattle.provisioning.proofs.ListLemmas.{adds_none}
+use Rattle.provisioning.proofs.RestLemmas.{confirmed_at_rest}
 use Rattle.provisioning.proofs.TurnLemmas.{turn_taken, was_asked}
 use Rattle.provisioning.specs.Turns.{TakesTurn}
 use Rattle.provisioning.specs.declared.faults.RunFault.{RunFault}
 use Rattle.provisioning.specs.declared.turns.Turn.{Turn}
 use Rattle.provisioning.proofs.turns.take_turn.Goals as goal
+
+pub returns-in-Ok-Nothing : goal.returns-in-Ok-Nothing
+returns-in-Ok-Nothing g c =
+    let book = book_of c.args.connector.now.book in
+    let said : ok_or (asking book c.args.name.now) NoSuchRecord ≡ Ok Nothing = c.in-Ok-Nothing.ensures ∙ ap Ok c.in-Ok-Nothing.field-0-is in
+    let rests = confirmed_at_rest book c.args.name.now (was_asked (asking book c.args.name.now) Nothing said) in
+    ([], adds_none (g.D.Dial.opened c.args.dial.now), (refl, refl, (c.confirmed.ensures, c.confirmed.ensures ∙ rests)))
 
 pub returns-in-Ok-Send : goal.returns-in-Ok-Send
 returns-in-Ok-Send g c =
