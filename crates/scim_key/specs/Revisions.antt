@@ -1,25 +1,27 @@
 -- Revisions of the source: their order, and how they are read and written.
-use Rattle.std.specs.Prelude.{◌≡◌, ◌<◌, ◌^◌, ◌↔◌, ◌⊎◌, ℕ, List, Bool, true, false, Option, Some, None, length, nat_lt, nat_le, ◌==◌, ◌&&◌, if◌then◌else◌}
+use Rattle.std.specs.Prelude.{◌≡◌, ◌<◌, ◌+◌, ◌*◌, ◌^◌, ◌↔◌, ◌⊎◌, ℕ, List, ◌∷◌, ◌++◌, Bool, true, false, Option, Some, None, length, codes, nat_lt, nat_le, ◌==◌, ◌&&◌, ◌||◌, if◌then◌else◌}
 use Rattle.std.specs.Char.{is_ascii_digit}
 use Rattle.std.specs.Fmt.{decimal}
-use Rattle.std.specs.List.{list_all}
+use Rattle.std.specs.List.{after_first, before_first, list_all, position_or_len}
+use Rattle.std.specs.Option.{option_and_then}
 use Rattle.std.specs.Str.Parse.{digits_value}
-use Rattle.scim_key.specs.declared.revisions.TheConstants.{LAST_REVISION, REVISION_DIGITS}
+use Rattle.scim_key.specs.declared.revisions.TheConstants.{LAST_EPOCH, LAST_REVISION, REVISION_DIGITS}
 
--- what contracts see of a revision
-abbrev pub RevisionValue : Type 0
-RevisionValue = ℕ
+-- what contracts see of a revision: its epoch, and its number in the epoch
+pub record RevisionValue : Type 0 where
+  pub epoch : ℕ
+  pub number : ℕ
 
 -- no revision; it comes before every other
 unfoldable pub no_revision : RevisionValue
-no_revision = 0
+no_revision = record { epoch = 0; number = 0 }
 
 unfoldable pub same_revision : RevisionValue → RevisionValue → Bool
-same_revision a b = a == b
+same_revision a b = (a.epoch == b.epoch) && (a.number == b.number)
 
--- whether the first comes before the second
+-- whether the first comes before the second: by their epochs, then by their numbers
 unfoldable pub before : RevisionValue → RevisionValue → Bool
-before a b = nat_lt a b
+before a b = nat_lt a.epoch b.epoch || ((a.epoch == b.epoch) && nat_lt a.number b.number)
 
 -- the later of the two
 unfoldable pub later : RevisionValue → RevisionValue → RevisionValue
@@ -36,7 +38,7 @@ a ≼ b = before b a ≡ false
 
 -- a revision that the source may give
 unfoldable pub is_revision : RevisionValue → Bool
-is_revision r = nat_le 1 r && nat_le r LAST_REVISION
+is_revision r = nat_le r.epoch LAST_EPOCH && nat_le 1 r.number && nat_le r.number LAST_REVISION
 
 abbrev pub IsRevision : RevisionValue → Type 0
 IsRevision r = is_revision r ≡ true
@@ -47,38 +49,66 @@ IsNoneOrRevision r = (r ≡ no_revision) ⊎ IsRevision r
 
 -- ---- reading and writing
 
--- the revision with this number, and the number that is written for a revision
-unfoldable pub revision_of_number : ℕ → Option RevisionValue
-revision_of_number n = if is_revision n then Some n else None
+-- the epoch and the number that are written for a revision
+unfoldable pub revision_epoch : RevisionValue → ℕ
+revision_epoch r = r.epoch
 
 unfoldable pub revision_number : RevisionValue → ℕ
-revision_number r = r
+revision_number r = r.number
+
+-- the revision with this epoch and number
+unfoldable pub revision_of_parts : (epoch number : ℕ) → Option RevisionValue
+revision_of_parts epoch number = if is_revision (record { epoch = epoch; number = number }) then Some (record { epoch = epoch; number = number }) else None
+
+-- the same, or none for 0 and 0
+unfoldable pub confirmed_of_parts : (epoch number : ℕ) → Option RevisionValue
+confirmed_of_parts epoch number = if same_revision (record { epoch = epoch; number = number }) no_revision then Some no_revision else revision_of_parts epoch number
 
 -- 1 to 18 digits; leading zeros are allowed
 abbrev pub is_numeral : List ℕ → Bool
 is_numeral text = nat_le 1 (length text) && nat_le (length text) REVISION_DIGITS && list_all is_ascii_digit text
 
--- the revision that a text spells, and the text that is written for a revision
-unfoldable pub read_revision : List ℕ → Option RevisionValue
-read_revision text = if is_numeral text then revision_of_number (digits_value 10 text) else None
+abbrev pub numeral_value : List ℕ → Option ℕ
+numeral_value text = if is_numeral text then Some (digits_value 10 text) else None
 
+abbrev pub is_colon : ℕ → Bool
+is_colon b = b == 58
+
+abbrev pub has_colon : List ℕ → Bool
+has_colon text = nat_lt (position_or_len is_colon text) (length text)
+
+-- what stands before the first colon and after it: the epoch and the number; with no colon the epoch is 0
+abbrev pub spelled_parts : List ℕ → List ℕ × List ℕ
+spelled_parts text = if has_colon text then (before_first is_colon text, after_first is_colon text) else (codes "0", text)
+
+abbrev pub revision_spelled : Option ℕ → Option ℕ → Option RevisionValue
+revision_spelled epoch number = option_and_then (λ e. option_and_then (λ n. revision_of_parts e n) number) epoch
+
+-- the revision that a text spells, as `N` or `E:N`
+unfoldable pub read_revision : List ℕ → Option RevisionValue
+read_revision text = revision_spelled (numeral_value (spelled_parts text).0) (numeral_value (spelled_parts text).1)
+
+-- the text that is written for a revision: the epoch only if it isn't 0
 unfoldable pub revision_text : RevisionValue → List ℕ
-revision_text r = decimal r
+revision_text r = if r.epoch == 0 then decimal r.number else decimal r.epoch ++ (58 ∷ decimal r.number)
 
 -- A valid revision, once written, is read back as itself
 pub record RevisionsAreReadBack : Type 0 where
   pub from_text : (r : RevisionValue) → IsRevision r → read_revision (revision_text r) ≡ Some r
-  pub from_number : (r : RevisionValue) → IsRevision r → revision_of_number (revision_number r) ≡ Some r
-  pub number_fits : (r : RevisionValue) → IsRevision r → revision_number r < 2 ^ 64
+  pub from_parts : (r : RevisionValue) → IsRevision r → revision_of_parts (revision_epoch r) (revision_number r) ≡ Some r
+  pub confirmed_from_parts : (r : RevisionValue) → IsNoneOrRevision r → confirmed_of_parts (revision_epoch r) (revision_number r) ≡ Some r
+  pub lawful_from_parts : (epoch number : ℕ) (r : RevisionValue) → revision_of_parts epoch number ≡ Some r → IsRevision r
+  pub known_from_parts : (epoch number : ℕ) (r : RevisionValue) → confirmed_of_parts epoch number ≡ Some r → IsNoneOrRevision r
+  pub parts_fit : (r : RevisionValue) → IsRevision r → (revision_epoch r < 2 ^ 64) × (revision_number r < 2 ^ 64)
 
 -- ---- order
 
 -- The place of a revision in the order, and how many revisions there are at most
 unfoldable pub rank : RevisionValue → ℕ
-rank r = r
+rank r = r.epoch * LAST_REVISION + r.number
 
 abbrev pub most_revisions : ℕ
-most_revisions = LAST_REVISION
+most_revisions = (LAST_EPOCH + 1) * LAST_REVISION
 
 -- The laws of the order of revisions that all other definitions rely on
 pub record IsOrder : Type 0 where

@@ -4,36 +4,39 @@ ghost use Rattle.std.specs.Char.{is_ascii_digit};
 ghost use Rattle.std.specs.List.{list_all};
 ghost use Rattle.std.specs.Cmp.{partial_equiv_from_equiv};
 ghost use Rattle.scim_key.specs.RevisionOrder.{revisions_equal};
-ghost use Rattle.scim_key.specs.Revisions.{before, later, no_revision, read_revision, revision_number, revision_of_number, revision_text, same_revision, IsOrder, IsRevision, RevisionsAreReadBack};
+ghost use Rattle.scim_key.specs.Revisions.{before, confirmed_of_parts, later, no_revision, numeral_value, read_revision, revision_epoch, revision_number, revision_of_parts, revision_text, same_revision, IsOrder, IsRevision, RevisionsAreReadBack};
 ghost use Rattle.scim_key.specs.Revisions as spec;
 
 use std::fmt;
 use std::marker::Model;
 
+/// The greatest epoch that a revision may have.
+pub const LAST_EPOCH: u32 = 999_999;
+
 /// The greatest number that a revision may have.
 pub const LAST_REVISION: u32 = 2_000_000_000;
 
-/// The most digits that the text of a revision may have, leading zeros included.
+/// The most digits that the epoch and the number of a text each may have, leading zeros included.
 pub const REVISION_DIGITS: usize = 18;
 
-/// A revision of a record of the source, or none. "None" comes before all others.
+/// A revision of a record of the source, or none. It has an epoch and a number; a source that counts anew raises
+/// the epoch. Revisions are ordered by epoch, then by number. "None" comes before all others.
 #[derive(Clone, Copy, Debug)]
 pub struct Revision {
+    epoch: u32,
     number: u32,
 }
 
 impl Model for Revision {
-    ghost use Rattle.std.specs.Prelude.{◌≤◌};
-    ghost use Rattle.scim_key.specs.Revisions.{RevisionValue};
-    ghost use Rattle.scim_key.specs.declared.revisions.TheConstants.{LAST_REVISION};
+    ghost use Rattle.scim_key.specs.Revisions.{IsNoneOrRevision, RevisionValue};
 
     ghost Value = { RevisionValue };
 
-    ghost view = { λ r. r.number };
+    ghost view = { λ r. record { epoch = r.epoch; number = r.number } };
 
-    ghost invariant = { λ r. r.number ≤ LAST_REVISION };
+    ghost invariant = { λ r. IsNoneOrRevision (record { epoch = r.epoch; number = r.number }) };
 
-    ghost inverse = { λ n. record { number = n } };
+    ghost inverse = { λ r. record { epoch = r.epoch; number = r.number } };
 }
 
 impl PartialEq for Revision {
@@ -43,7 +46,7 @@ impl PartialEq for Revision {
 
     #[tactic(auto, unfolding(crate::specs::Revisions::same_revision))]
     fn eq(&self, other: &Revision) -> bool {
-        self.number == other.number
+        self.epoch == other.epoch && self.number == other.number
     }
 }
 
@@ -51,13 +54,17 @@ impl Eq for Revision {
     ghost laws = { revisions_equal };
 }
 
-/// Decimal digits without leading zeros; `0` for none.
+/// `N`, or `E:N` if the epoch isn't 0: decimal digits without leading zeros; `0` for none.
 impl fmt::Display for Revision {
     ghost output = { λ r. Some (revision_text r) };
 
     #[tactic(auto, unfolding(crate::specs::Revisions::revision_text))]
     fn fmt<W: fmt::Write>(&self, f: &mut fmt::Formatter<W>) -> fmt::Result {
-        write!(f, "{}", self.number)
+        if self.epoch == 0 {
+            write!(f, "{}", self.number)
+        } else {
+            write!(f, "{}:{}", self.epoch, self.number)
+        }
     }
 }
 
@@ -74,23 +81,45 @@ fn are_digits(bytes: &[u8]) -> bool
     bytes.iter().all(|b| b.is_ascii_digit())
 }
 
+/// The value of a text of 1 to 18 digits.
+fn numeral(text: &str) -> Option<u64>
+    ensures { result ≡ numeral_value text.now }
+{
+    if is_numeral(text) {
+        text.parse().ok()
+    } else {
+        None
+    }
+}
+
+/// The texts of the epoch and of the number; without a colon the epoch is 0.
+fn spelled_parts(text: &str) -> (&str, &str)
+    ensures { (result.0.now, result.1.now) ≡ spec.spelled_parts text.now }
+{
+    text.split_once(':').unwrap_or(("0", text))
+}
+
 impl Revision {
     /// No revision.
     #[tactic(auto, unfolding(crate::specs::Revisions::no_revision))]
     pub fn none() -> Revision
         ensures { result ≡ no_revision }
     {
-        Revision { number: 0 }
+        Revision {
+            epoch: 0,
+            number: 0,
+        }
     }
 
-    /// The revision with this number, as a JSON resource gives it: from 1 to `LAST_REVISION`.
-    #[tactic(auto, unfolding(crate::specs::Revisions::is_revision, crate::specs::Revisions::revision_of_number))]
-    pub fn of_number(number: u64) -> Option<Revision>
-        ensures exact { result ≡ revision_of_number number }
+    /// The revision with this epoch, of at most `LAST_EPOCH`, and this number, from 1 to `LAST_REVISION`.
+    #[tactic(auto, unfolding(crate::specs::Revisions::is_revision, crate::specs::Revisions::revision_of_parts))]
+    pub fn of_parts(epoch: u64, number: u64) -> Option<Revision>
+        ensures exact { result ≡ revision_of_parts epoch number }
         ensures lawful { IfSome result IsRevision }
     {
-        if number >= 1 && number <= LAST_REVISION as u64 {
+        if epoch <= LAST_EPOCH as u64 && number >= 1 && number <= LAST_REVISION as u64 {
             Some(Revision {
+                epoch: epoch as u32,
                 number: number as u32,
             })
         } else {
@@ -98,23 +127,38 @@ impl Revision {
         }
     }
 
-    /// Reads a revision of a source file: 1 to 18 digits, leading zeros allowed, with a value from 1 to
-    /// `LAST_REVISION`.
+    /// The same, or none for epoch 0 and number 0.
+    #[tactic(auto, unfolding(crate::specs::Revisions::confirmed_of_parts, crate::specs::Revisions::no_revision, crate::specs::Revisions::same_revision))]
+    pub fn confirmed_of_parts(epoch: u64, number: u64) -> Option<Revision>
+        ensures exact { result ≡ confirmed_of_parts epoch number }
+    {
+        if epoch == 0 && number == 0 {
+            Some(Revision::none())
+        } else {
+            Revision::of_parts(epoch, number)
+        }
+    }
+
+    /// Reads a revision of a source file: `N` or `E:N`, each 1 to 18 digits, leading zeros allowed, with an epoch
+    /// of at most `LAST_EPOCH` and a number from 1 to `LAST_REVISION`. `N` is `0:N`.
     #[tactic(auto, unfolding(crate::specs::Revisions::read_revision))]
     pub fn read(text: &str) -> Option<Revision>
         ensures exact { result ≡ read_revision text.now }
         ensures lawful { IfSome result IsRevision }
     {
-        if !is_numeral(text) {
-            return None;
-        }
-        match text.parse::<u64>() {
-            Ok(number) => Revision::of_number(number),
-            Err(_) => None,
-        }
+        let (epoch, number) = spelled_parts(text);
+        Revision::of_parts(numeral(epoch)?, numeral(number)?)
     }
 
-    /// The number of this revision in a JSON resource; 0 for none.
+    /// The epoch of this revision; 0 for none.
+    #[tactic(auto, unfolding(crate::specs::Revisions::revision_epoch))]
+    pub fn epoch(self) -> u32
+        ensures { result ≡ revision_epoch self }
+    {
+        self.epoch
+    }
+
+    /// The number of this revision in its epoch; 0 for none.
     #[tactic(auto, unfolding(crate::specs::Revisions::revision_number))]
     pub fn number(self) -> u32
         ensures { result ≡ revision_number self }
@@ -127,7 +171,7 @@ impl Revision {
     pub fn is_before(self, other: Revision) -> bool
         ensures { result ≡ before self other }
     {
-        self.number < other.number
+        self.epoch < other.epoch || (self.epoch == other.epoch && self.number < other.number)
     }
 
     /// The later of the two revisions.
@@ -139,7 +183,8 @@ impl Revision {
     }
 }
 
-/// Revisions are totally ordered, none comes first, and there are at most `LAST_REVISION` of them.
+/// Revisions are totally ordered, none comes first, and there are at most `LAST_EPOCH` + 1 times
+/// `LAST_REVISION` of them.
 pub fn revisions_are_ordered()
     ensures { IsOrder }
 {}

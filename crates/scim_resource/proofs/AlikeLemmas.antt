@@ -131,7 +131,9 @@ revision_alike o p neither = refl
 revision_alike o p (both d e (same x)) = refl
 revision_alike o p (both d e (lists ds es h)) = refl
 revision_alike o p (both d e (objects ms ns r f)) =
-    ap (λ w. checked w >>= revision_of) (whole_alike (attribute (codes "revision") ms) (attribute (codes "revision") ns) (attribute_alike (codes "revision") ms ns (record { repeat = r; found = f })))
+    let number = whole_alike (attribute (codes "revision") ms) (attribute (codes "revision") ns) (attribute_alike (codes "revision") ms ns (record { repeat = r; found = f })) in
+    let epoch = whole_alike (attribute (codes "epoch") ms) (attribute (codes "epoch") ns) (attribute_alike (codes "epoch") ms ns (record { repeat = r; found = f })) in
+    ap₂ (λ n e. checked n >>= revision_of e) number epoch
 
 -- ---- the texts of a user
 

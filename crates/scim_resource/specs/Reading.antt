@@ -1,8 +1,9 @@
 -- Reading a resource from JSON.
 use Rattle.std.specs.Prelude.{ℕ, Bool, true, false, List, [], ◌∷◌, ◌++◌, Option, None, Some, Result, Ok, Err, ◌&&◌, ◌||◌, if◌then◌else◌, is_none, codes, map}
+use Rattle.std.specs.Option.{unwrap_or}
 use Rattle.scim_key.specs.Names.{user_name_fault, group_name_fault}
 use Rattle.scim_key.specs.Outcome.{◌>>=◌}
-use Rattle.scim_key.specs.Revisions.{RevisionValue, revision_of_number}
+use Rattle.scim_key.specs.Revisions.{RevisionValue, revision_of_parts}
 use Rattle.scim_key.specs.declared.records.Kind.{Kind}
 use Rattle.scim_key.specs.declared.records.Kind.TheVariants as kinds
 use Rattle.serde_json.specs.Data.{Data, null, boolean, number, string, array, object, Items, no_items, item, Members}
@@ -70,13 +71,18 @@ abbrev pub lawful_revision : Option RevisionValue → Result (Option RevisionVal
 lawful_revision None = Err InvalidValue
 lawful_revision (Some r) = Ok (Some r)
 
-abbrev pub revision_of : Option ℕ → Result (Option RevisionValue) ContentFault
-revision_of None = Ok None
-revision_of (Some n) = lawful_revision (revision_of_number n)
+-- the revision with this number and this epoch; an absent epoch is 0
+abbrev pub revision_with : ℕ → Option ℕ → Result (Option RevisionValue) ContentFault
+revision_with n epoch = lawful_revision (revision_of_parts (unwrap_or epoch 0) n)
+
+-- without a number there is no revision, whatever the epoch is
+abbrev pub revision_of : Result (Option ℕ) ValueFault → Option ℕ → Result (Option RevisionValue) ContentFault
+revision_of epoch None = Ok None
+revision_of epoch (Some n) = checked epoch >>= revision_with n
 
 abbrev pub source_revision : Option Members → Result (Option RevisionValue) ContentFault
 source_revision None = Ok None
-source_revision (Some ms) = checked (whole_in (attribute (codes "revision") ms)) >>= revision_of
+source_revision (Some ms) = checked (whole_in (attribute (codes "revision") ms)) >>= revision_of (whole_in (attribute (codes "epoch") ms))
 
 -- the revision in the source extension, if there is one
 abbrev pub revision_in : Option Data → Result (Option RevisionValue) ContentFault

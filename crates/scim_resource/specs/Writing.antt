@@ -1,6 +1,6 @@
 -- Writing a resource as JSON.
-use Rattle.std.specs.Prelude.{ℕ, Bool, true, false, List, [], ◌∷◌, ◌++◌, Option, None, Some, option_map, is_some, map, take, drop, codes}
-use Rattle.scim_key.specs.Revisions.{RevisionValue, revision_number}
+use Rattle.std.specs.Prelude.{ℕ, ◌==◌, Bool, true, false, if◌then◌else◌, List, [], ◌∷◌, ◌++◌, Option, None, Some, option_map, is_some, map, take, drop, codes}
+use Rattle.scim_key.specs.Revisions.{RevisionValue, revision_epoch, revision_number}
 use Rattle.json.specs.Token.{Token}
 use Rattle.serde_json.specs.Data.{unsigned, Data, boolean, number, string, array, object, Items, no_items, item, Members, no_members, member}
 use Rattle.serde_json.specs.View.{items_of}
@@ -18,10 +18,17 @@ use Rattle.scim_resource.specs.declared.emails.Email.{Email}
 use Rattle.scim_resource.specs.declared.user_texts.TheConstants.{ENTERPRISE_TEXTS, NAME_TEXTS, TOP_TEXTS}
 use Rattle.scim_resource.specs.declared.user_texts.UserText.{UserText}
 
+-- `epoch`, only if it isn't 0
+abbrev pub epoch_data : ℕ → Option Data
+epoch_data epoch = if epoch == 0 then None else Some (number (unsigned epoch))
+
+abbrev pub source_parts : RevisionValue → List Part
+source_parts r = (codes "epoch", epoch_data (revision_epoch r)) ∷ (codes "revision", Some (number (unsigned (revision_number r)))) ∷ []
+
 -- the source extension, if there is a revision
 abbrev pub source_data : Option RevisionValue → Option Data
 source_data None = None
-source_data (Some r) = Some (object (member (codes "revision") (number (unsigned (revision_number r))) no_members))
+source_data (Some r) = Some (object (members_from (source_parts r)))
 
 -- the URN of an extension, and whether a resource has the extension
 abbrev pub Extension : Type 0

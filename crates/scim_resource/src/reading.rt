@@ -1,5 +1,5 @@
 //! Reading a resource from JSON (RFC 7643 section 2).
-ghost use Rattle.std.specs.Prelude.{◌≡◌, IfOk, IfSome, map, option_map};
+ghost use Rattle.std.specs.Prelude.{◌≡◌, IfOk, IfSome, Some, map, option_map};
 ghost use Rattle.std.specs.Result.{result_map_both};
 ghost use Rattle.scim_key.specs.Names.{IsUserName};
 ghost use Rattle.scim_key.specs.Outcome.{Gives, GivesBy};
@@ -278,20 +278,30 @@ pub(crate) fn revision_in(extension: Option<&Value>) -> Result<Option<Revision>,
     ensures lawful { IfOk result IsSourceRevision }
 {
     match members_in(extension)? {
-        Some(members) => revision_of(whole_in(attribute(members, "revision"))?),
+        Some(members) => source_revision(members),
         None => Ok(None),
     }
 }
 
-fn revision_of(number: Option<u64>) -> Result<Option<Revision>, ContentFault>
-    ensures given { result ≡ spec.revision_of number }
+/// The revision with the number and the epoch of the source extension. Without a number the epoch isn't checked.
+fn source_revision(members: &Map<String, Value>) -> Result<Option<Revision>, ContentFault>
+    ensures given { result
+        ≡ spec.source_revision (Some (members_view members.now.entries)) }
     ensures lawful { IfOk result IsSourceRevision }
 {
-    match number {
+    match whole_in(attribute(members, "revision"))? {
+        Some(number) => revision_with(number, whole_in(attribute(members, "epoch"))?),
         None => Ok(None),
-        Some(number) => match Revision::of_number(number) {
-            Some(revision) => Ok(Some(revision)),
-            None => Err(ContentFault::InvalidValue),
-        },
+    }
+}
+
+/// The revision with this number and this epoch, which is 0 if it is absent.
+fn revision_with(number: u64, epoch: Option<u64>) -> Result<Option<Revision>, ContentFault>
+    ensures given { result ≡ spec.revision_with number epoch }
+    ensures lawful { IfOk result IsSourceRevision }
+{
+    match Revision::of_parts(epoch.unwrap_or(0), number) {
+        Some(revision) => Ok(Some(revision)),
+        None => Err(ContentFault::InvalidValue),
     }
 }

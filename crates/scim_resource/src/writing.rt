@@ -293,8 +293,19 @@ fn write_revision(out: &mut Writer, revision: Revision) -> Result<(), AllocError
 {
     out.key(source_extension())?;
     out.begin_object()?;
+    write_epoch(out, revision.epoch())?;
     write_whole(out, "revision", u64::from(revision.number()))?;
     out.end_object()
+}
+
+/// Writes `epoch`, if it isn't 0.
+fn write_epoch(out: &mut Writer, epoch: u32) -> Result<(), AllocError>
+    ensures { OnOk result (WritesPart (codes "epoch") (spec.epoch_data epoch) out.old out.new) }
+{
+    if epoch == 0 {
+        return Ok(());
+    }
+    write_whole(out, "epoch", u64::from(epoch))
 }
 
 /// Writes the core URN, then the URN of each of these extensions that the resource has.

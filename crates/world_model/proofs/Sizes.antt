@@ -1,10 +1,10 @@
 -- How long the text of an image is at most.
-use Rattle.std.proofs.Common.{◌≡◌, ℕ, zero, suc, ◌+◌, ◌*◌, ◌/◌, ◌%◌, ◌<◌, ◌≤◌, Bool, true, false, not, cond, List, [], ◌∷◌, ◌++◌, length, map, option_map, codes, Option, Some, None, refl, ap, ◌∙◌, subst, arith, length-append, lit<}
+use Rattle.std.proofs.Common.{◌≡◌, ℕ, zero, suc, ◌+◌, ◌*◌, ◌^◌, ◌/◌, ◌%◌, ◌<◌, ◌≤◌, Bool, true, false, not, cond, List, [], ◌∷◌, ◌++◌, length, map, option_map, codes, Option, Some, None, refl, inl, inr, ap, ◌∙◌, subst, arith, length-append, lit<}
 use Rattle.std.specs.Char.{digit_char}
 use Rattle.std.specs.List.{AllByRecursion, filter, list_all}
 use Rattle.std.specs.Prelude.{nat_le, nat_lt, ◌&&◌, ◌==◌}
 use Rattle.std.specs.Str.{bytes_eq}
-use Rattle.std.proofs.lemmas.Bool.{agree_below_at, and_parts, eqb-true, leb-true, ltb-false}
+use Rattle.std.proofs.lemmas.Bool.{agree_below_at, and_parts, cases_Bool, eqb-true, leb-true, ltb-false}
 use Rattle.std.proofs.lemmas.Fmt.{length-decimal-le}
 use Rattle.std.proofs.lemmas.List.Concat.{flat_map-append}
 use Rattle.std.proofs.lemmas.List.Sums.{length-filter, count_by-le-length}
@@ -18,13 +18,13 @@ use Rattle.scim_key.specs.Identifiers.{hex_digit, lower_hex, id_text}
 use Rattle.scim_key.specs.Names.{IsUserName, IsGroupName, is_user_name_byte, user_name_fault, group_name_fault}
 use Rattle.scim_key.specs.declared.names.NameFault.TheVariants.{Empty, TooLong, Character}
 use Rattle.scim_key.specs.declared.names.TheConstants.{NAME_LIMIT}
-use Rattle.scim_key.specs.Revisions.{RevisionValue, IsRevision, revision_number}
+use Rattle.scim_key.specs.Revisions.{RevisionValue, IsRevision, revision_epoch, revision_number}
 use Rattle.scim_key.proofs.RevisionLaws.{are_read_back}
 use Rattle.scim_key.specs.declared.records.RecordName.{RecordName}
 use Rattle.scim_resource.specs.Contents.{content_kind}
 use Rattle.scim_resource.specs.Schemas.{core_user, core_group, enterprise_extension, source_extension}
 use Rattle.scim_resource.specs.UserTexts.{has_some}
-use Rattle.scim_resource.specs.Writing.{Extension, source_data, schemas_data, object_if, email_data, email_parts, emails_data, user_data, user_front, user_back, member_data, group_members_data, group_data, content_data}
+use Rattle.scim_resource.specs.Writing.{Extension, epoch_data, source_data, source_parts, schemas_data, object_if, email_data, email_parts, emails_data, user_data, user_front, user_back, member_data, group_members_data, group_data, content_data}
 use Rattle.scim_resource.specs.declared.contents.Content.{Content}
 use Rattle.scim_resource.specs.declared.user_texts.UserText.TheVariants.{Department}
 use Rattle.source_csv.specs.Records.{IsRow}
@@ -204,8 +204,14 @@ present_most (b ∷ text) short d is = let same : string (b ∷ text) ≡ d = cc
 pub just : (x d : Data) (n : ℕ) → length (compact_text x) ≤ n → Some x ≡ Some d → length (compact_text d) ≤ n
 just x d n most is = let same : x ≡ d = cc in subst (λ (y : Data). length (compact_text y) ≤ n) same most
 
-revision_most : (r : RevisionValue) → IsRevision r → length (compact_text (number (unsigned (revision_number r)))) ≤ 20
-revision_most r law = let fits = are_read_back.number_fits r law in length-decimal-le 20 (revision_number r) (lit< tt) (omega (arith, fits)) fits
+whole_most : (n : ℕ) → n < 2 ^ 64 → length (compact_text (number (unsigned n))) ≤ 20
+whole_most n fits = length-decimal-le 20 n (lit< tt) (omega (arith, fits)) fits
+
+epoch_part : (n : ℕ) → n < 2 ^ 64 → (d : Data) → epoch_data n ≡ Some d → length (compact_text d) ≤ 20
+epoch_part n fits d is = elim (cases_Bool (n == 0)) [
+  | inl first ↦ absurd (cc (rw first at is))
+  | inr not ↦ just (number (unsigned n)) d 20 (whole_most n fits) (rw not at is)
+]
 
 -- ---- keys
 
@@ -269,6 +275,10 @@ key_revision : length (quoted (codes "revision")) ≡ 10
 unfolding escape_byte
 key_revision = refl
 
+key_epoch : length (quoted (codes "epoch")) ≡ 7
+unfolding escape_byte
+key_epoch = refl
+
 the_work : length (quoted (codes "work")) ≡ 6
 unfolding escape_byte
 the_work = refl
@@ -291,9 +301,12 @@ core_group_length = refl
 
 -- ---- parts
 
-revision_part : (r : RevisionValue) → IsRevision r → (d : Data) → source_data (Some r) ≡ Some d → length (compact_text d) ≤ 34
-revision_part r law d is =
-    just (object (member (codes "revision") (number (unsigned (revision_number r))) no_members)) d 34 (object_most (member (codes "revision") (number (unsigned (revision_number r))) no_members) 33 (with_member (codes "revision") (number (unsigned (revision_number r))) no_members 10 20 1 key_revision (revision_most r law) no_more_members)) is
+source_part : (r : RevisionValue) → IsRevision r → (d : Data) → source_data (Some r) ≡ Some d → length (compact_text d) ≤ 63
+source_part r law d is =
+    let fits = are_read_back.parts_fit r law in
+    let its_number = number (unsigned (revision_number r)) in
+    just (object (members_from (source_parts r))) d 63 (object_most (members_from (source_parts r)) 62 (with_part (codes "epoch") (epoch_data (revision_epoch r)) (member (codes "revision") its_number no_members) 7 20 33 key_epoch (epoch_part (revision_epoch r) fits.0)
+    (with_member (codes "revision") its_number no_members 10 20 1 key_revision (whole_most (revision_number r) fits.1) no_more_members))) is
 
 -- the enterprise extension with this department, if there is one
 abbrev enterprise_data : Option (List ℕ) → Option Data
@@ -367,13 +380,13 @@ user_size : (row : UserFields) → IsUserRow row → length (compact_text (conte
 unfolding user_data user_front user_back
 user_size row law =
     let department = text_of row texts.Department in
-    let whole : length (compact_text (content_data (user_image row))) ≤ 8296 = object_most _ 8295 (with_part (codes "active") (Some (boolean row.active)) _ 8 5 8280 key_active (λ d is. just (boolean row.active) d 5 (boolean_most row.active) is)
-    (with_part (codes "emails") (emails_data (emails_of (text_of row texts.Mail))) _ 8 1582 6688 key_emails (emails_part (text_of row texts.Mail) (short_text row law texts.Mail))
-    (with_part (codes "externalId") (option_map string (present (text_of row texts.Number))) _ 12 1538 5136 key_external_id (present_most (text_of row texts.Number) (short_text row law texts.Number))
-    (with_part (codes "name") (object_if (members_from (name_parts (present (text_of row texts.Given)) (present (text_of row texts.Family))))) _ 6 3105 2023 key_name
+    let whole : length (compact_text (content_data (user_image row))) ≤ 8325 = object_most _ 8324 (with_part (codes "active") (Some (boolean row.active)) _ 8 5 8309 key_active (λ d is. just (boolean row.active) d 5 (boolean_most row.active) is)
+    (with_part (codes "emails") (emails_data (emails_of (text_of row texts.Mail))) _ 8 1582 6717 key_emails (emails_part (text_of row texts.Mail) (short_text row law texts.Mail))
+    (with_part (codes "externalId") (option_map string (present (text_of row texts.Number))) _ 12 1538 5165 key_external_id (present_most (text_of row texts.Number) (short_text row law texts.Number))
+    (with_part (codes "name") (object_if (members_from (name_parts (present (text_of row texts.Given)) (present (text_of row texts.Family))))) _ 6 3105 2052 key_name
     (name_part (present (text_of row texts.Given)) (present (text_of row texts.Family)) (present_most (text_of row texts.Given) (short_text row law texts.Given)) (present_most (text_of row texts.Family) (short_text row law texts.Family)))
-    (with_part (codes "schemas") (Some (array (schemas_data core_user (extended (has_some (image_texts row) (Department ∷ [])))))) _ 9 163 1849 key_schemas (user_schemas_part (has_some (image_texts row) (Department ∷ [])))
-    (with_part source_extension (source_data (Some row.revision)) _ 54 34 1759 extension_length (revision_part row.revision law.revision)
+    (with_part (codes "schemas") (Some (array (schemas_data core_user (extended (has_some (image_texts row) (Department ∷ [])))))) _ 9 163 1878 key_schemas (user_schemas_part (has_some (image_texts row) (Department ∷ [])))
+    (with_part source_extension (source_data (Some row.revision)) _ 54 63 1759 extension_length (source_part row.revision law.revision)
     (with_part enterprise_extension (enterprise_data (present department)) _ 60 1554 143 enterprise_length (enterprise_part department (short_text row law texts.Department))
     (with_part (codes "userName") (Some (string row.login)) no_members 10 130 1 key_user_name
     (λ d is. just (string row.login) d 130 (login_most row.login law.login) is) no_more_members)))))))) in
@@ -407,11 +420,11 @@ group_size : (row : GroupFields) (ids : List (List ℕ)) → IsGroupRow row → 
     → length (compact_text (content_data (group_image ids row))) < 21_000
 unfolding group_data
 group_size row ids law all few =
-    let whole : length (compact_text (content_data (group_image ids row))) ≤ 20604 = object_most _ 20603 (with_part (codes "displayName") (Some (string row.name)) _ 13 770 19818 key_display_name
+    let whole : length (compact_text (content_data (group_image ids row))) ≤ 20633 = object_most _ 20632 (with_part (codes "displayName") (Some (string row.name)) _ 13 770 19847 key_display_name
     (λ d is. just (string row.name) d 770 (omega (arith, quoted_most row.name, group_name_short row.name law.name)) is)
-    (with_part (codes "members") (group_members_data (once ids)) _ 9 19602 205 key_members (members_part (once ids) all few)
-    (with_part (codes "schemas") (Some (array (schemas_data core_group sourced))) _ 9 103 91 key_schemas (schemas_part core_group 45 (omega (arith, core_group_length)))
-    (with_part source_extension (source_data (Some row.revision)) no_members 54 34 1 extension_length (revision_part row.revision law.revision) no_more_members)))) in
+    (with_part (codes "members") (group_members_data (once ids)) _ 9 19602 234 key_members (members_part (once ids) all few)
+    (with_part (codes "schemas") (Some (array (schemas_data core_group sourced))) _ 9 103 120 key_schemas (schemas_part core_group 45 (omega (arith, core_group_length)))
+    (with_part source_extension (source_data (Some row.revision)) no_members 54 63 1 extension_length (source_part row.revision law.revision) no_more_members)))) in
     omega (arith, whole)
 
 -- ---- the ids of members
