@@ -95,26 +95,28 @@ class Journal:
     sizes = (1_000, 10_000, 99_000)
     tables = """
 CREATE TABLE IF NOT EXISTS journal_format (one INTEGER PRIMARY KEY CHECK (one = 1), number INTEGER NOT NULL);
-INSERT INTO journal_format (one, number) VALUES (1, 2);
+INSERT INTO journal_format (one, number) VALUES (1, 3);
 CREATE TABLE user_entry (name_key TEXT PRIMARY KEY NOT NULL, login TEXT NOT NULL, revision INTEGER NOT NULL, number TEXT NOT NULL, given TEXT NOT NULL, family TEXT NOT NULL, mail TEXT NOT NULL, active INTEGER NOT NULL, confirmed INTEGER NOT NULL, id TEXT);
 CREATE TABLE group_entry (name_key TEXT PRIMARY KEY NOT NULL, name TEXT NOT NULL, revision INTEGER NOT NULL, members TEXT NOT NULL, confirmed INTEGER NOT NULL, id TEXT);
 CREATE TABLE user_entry_2 (name_key TEXT PRIMARY KEY NOT NULL, login TEXT NOT NULL, revision INTEGER NOT NULL, number TEXT NOT NULL, given TEXT NOT NULL, family TEXT NOT NULL, mail TEXT NOT NULL, department TEXT NOT NULL, active INTEGER NOT NULL, confirmed INTEGER NOT NULL, id TEXT);
+CREATE TABLE user_entry_3 (name_key TEXT PRIMARY KEY NOT NULL, login TEXT NOT NULL, revision INTEGER NOT NULL, number TEXT NOT NULL, given TEXT NOT NULL, family TEXT NOT NULL, mail TEXT NOT NULL, department TEXT NOT NULL, active INTEGER NOT NULL, confirmed INTEGER NOT NULL, id TEXT, epoch INTEGER NOT NULL, confirmed_epoch INTEGER NOT NULL);
+CREATE TABLE group_entry_3 (name_key TEXT PRIMARY KEY NOT NULL, name TEXT NOT NULL, revision INTEGER NOT NULL, members TEXT NOT NULL, confirmed INTEGER NOT NULL, id TEXT, epoch INTEGER NOT NULL, confirmed_epoch INTEGER NOT NULL);
 """
-    columns = "name_key, login, revision, number, given, family, mail, department, active, confirmed, id"
-    users = f"SELECT {columns} FROM user_entry_2"
-    groups = "SELECT name_key, name, revision, members, confirmed, id FROM group_entry"
-    insert = f"INSERT INTO user_entry_2 ({columns}) VALUES (?1, ?2, ?3, ?4, ?5, ?6, ?7, ?8, ?9, ?10, ?11)"
-    update = ("UPDATE user_entry_2 SET login = ?2, revision = ?3, number = ?4, given = ?5, family = ?6, "
-              "mail = ?7, department = ?8, active = ?9, confirmed = ?10, id = ?11 WHERE name_key = ?1")
+    columns = "name_key, login, revision, number, given, family, mail, department, active, confirmed, id, epoch, confirmed_epoch"
+    users = f"SELECT {columns} FROM user_entry_3"
+    groups = "SELECT name_key, name, revision, members, confirmed, id, epoch, confirmed_epoch FROM group_entry_3"
+    insert = f"INSERT INTO user_entry_3 ({columns}) VALUES (?1, ?2, ?3, ?4, ?5, ?6, ?7, ?8, ?9, ?10, ?11, ?12, ?13)"
+    update = ("UPDATE user_entry_3 SET login = ?2, revision = ?3, number = ?4, given = ?5, family = ?6, "
+              "mail = ?7, department = ?8, active = ?9, confirmed = ?10, id = ?11, epoch = ?12, confirmed_epoch = ?13 WHERE name_key = ?1")
 
     def row(self, number, name, revision=1):
-        return (name, name, revision, str(number), "", "", f"{name}@example.com", "", 1, 0, None)
+        return (name, name, revision, str(number), "", "", f"{name}@example.com", "", 1, 0, None, 0, 0)
 
     def open(self, connection, _users):
         """The statements of an opening, and of a load."""
         connection.execute("SELECT number FROM journal_format").fetchall()
-        connection.execute("SELECT rowid FROM user_entry_2 ORDER BY rowid").fetchall()
-        connection.execute("SELECT rowid FROM group_entry ORDER BY rowid").fetchall()
+        connection.execute("SELECT rowid FROM user_entry_3 ORDER BY rowid").fetchall()
+        connection.execute("SELECT rowid FROM group_entry_3 ORDER BY rowid").fetchall()
         for _ in range(2):
             connection.execute(f"{self.users} ORDER BY name_key").fetchall()
             connection.execute(f"{self.groups} ORDER BY name_key").fetchall()

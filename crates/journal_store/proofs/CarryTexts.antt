@@ -1,89 +1,131 @@
 -- What the statements mean that carry a journal over.
-use Rattle.std.proofs.Common.{◌≡◌, pos, List, [], ◌∷◌, ◌++◌, map, refl, IsPermutation, subst}
-use Rattle.sqlite_value.specs.declared.keys.Collation.TheVariants.{Binary}
+use Rattle.std.proofs.Common.{◌≡◌, ℕ, pos, List, [], ◌∷◌, ◌++◌, map, refl}
 use Rattle.sqlite_value.specs.declared.keys.Order.{Order}
 use Rattle.sqlite_value.specs.declared.value.Value.TheVariants.{Null, Int, Text}
-use Rattle.sqlite_value.specs.Order.{Row}
-use Rattle.sqlite_sql.specs.Program.{overlay}
-use Rattle.sqlite_sql.specs.Query.{IsAnswerAs, Query as Asked}
 use Rattle.sqlite_sql.specs.Term.{Term, lit, col, op2}
 use Rattle.sqlite_sql.specs.declared.ops.BinaryOp.TheVariants.{Compare}
-use Rattle.sqlite_sql.specs.declared.ops.CompareOp.TheVariants.{Eq}
-use Rattle.sqlite_schema.specs.declared.command.Command.{Command}
-use Rattle.sqlite_schema.specs.declared.command.Command.TheVariants.{Insert, Update, Delete}
-use Rattle.sqlite_schema.specs.declared.command.Source.TheVariants.{Query}
+use Rattle.sqlite_sql.specs.declared.ops.CompareOp.TheVariants.{Le}
+use Rattle.sqlite_value.specs.declared.keys.Collation.TheVariants.{Binary}
+use Rattle.sqlite_schema.specs.declared.schema.Schema.{Schema}
 use Rattle.sqlite_catalog.specs.Change.{created}
 use Rattle.sqlite_tied.specs.Compute.{everything}
-use Rattle.sqlite.specs.Effect.{Answers, Database}
 use Rattle.sqlite.specs.Listing.{understood}
-use Rattle.scim_key.specs.declared.records.Kind.TheVariants.{User}
-use Rattle.sql_tables.proofs.Answering.{every}
+use Rattle.scim_key.specs.declared.records.Kind.{Kind}
+use Rattle.scim_key.specs.declared.records.Kind.TheVariants.{User, Group}
+use Rattle.sql_tables.specs.Layouts.{format_table}
 use Rattle.sql_tables.proofs.Editing.{IsWrite}
 use Rattle.sql_tables.proofs.Making.{IsTable}
-use Rattle.sql_tables.proofs.Queries.{query}
-use Rattle.sql_tables.proofs.Selecting.{selected_over, shows}
-use Rattle.journal_store.specs.Format.{FirstForm, copy_text, create_text, empty_text, entry_table, first_schema, journal_schema, places, remark_text}
+use Rattle.journal_store.specs.Carrying.{moved_from}
+use Rattle.journal_store.specs.Format.{FirstForm, Form, SecondForm, copy_part_text, copy_text, create_second_text, create_text, empty_part_text, empty_text, first_groups, first_schema, first_users, format_name, index_of, journal_schema, places, remark_text, second_count, second_schema, second_users, table_of, third_groups, third_users}
+use Rattle.journal_store.specs.declared.making.Moved.{Moved}
+use Rattle.journal_store.specs.declared.making.Moved.TheVariants.{FirstUsers, SecondGroups, SecondUsers}
+use Rattle.journal_store.proofs.Carrying.{HasNoKeys, copy_command, empty_command, number_command}
 
--- ---- the table of the users
+-- ---- from the first format to the second one
 
-pub users_made : (f : FirstForm) → (order : Order) × IsTable (create_text User) (first_schema f) (record (entry_table User order) { tree = 0 })
+pub second_made : (f : FirstForm) → (order : Order) × IsTable create_second_text (first_schema f) (record (table_of second_users order) { tree = 0 })
+unfolding understood everything
+second_made f = (_, (refl, refl, (refl, refl), refl))
+
+pub second_created : (f : FirstForm) (o : Order) → created (first_schema f) (record (table_of second_users o) { tree = 0 }) ≡ second_schema (record { first = f; users = o })
+unfolding everything
+second_created f o = refl
+
+pub second_alone : (f : SecondForm) → HasNoKeys (second_schema f)
+second_alone f tree olds news = refl
+
+pub remark_second_is : IsWrite second_schema remark_text number_command
+unfolding understood everything
+remark_second_is = record { means = λ f. refl; plain = λ f. (refl, refl) }
+
+-- ---- from the second format to the current one
+
+-- the schema before the last table
+abbrev pub users_schema : SecondForm → Order → Schema
+users_schema form users =
+    record {
+      tables =
+          format_table format_name form.first.format_checks ∷ table_of first_users form.first.users ∷ table_of first_groups form.first.groups
+          ∷ table_of second_users form.users ∷ table_of third_users users ∷ [];
+      indexes =
+          index_of first_users form.first.users ∷ index_of first_groups form.first.groups ∷ index_of second_users form.users ∷ index_of third_users users ∷ [];
+      views = [];
+    }
+
+pub users_made : (f : SecondForm) → (order : Order) × IsTable (create_text User) (second_schema f) (record (table_of third_users order) { tree = 0 })
 unfolding understood everything
 users_made f = (_, (refl, refl, (refl, refl), refl))
 
-pub users_created : (f : FirstForm) (o : Order) → created (first_schema f) (record (entry_table User o) { tree = 0 }) ≡ journal_schema (record { first = f; users = o })
+pub users_created : (f : SecondForm) (o : Order) → created (second_schema f) (record (table_of third_users o) { tree = 0 }) ≡ users_schema f o
 unfolding everything
 users_created f o = refl
 
--- ---- the rows are copied
-
--- the columns of a user of the first format, with an empty department
-abbrev pub copy_terms : List Term
-copy_terms = lit Null ∷ (map (col 1) (places 1 7) ++ lit (Text []) ∷ map (col 1) (places 8 3))
-
-abbrev pub copy_query : Asked
-copy_query = record (query 1 [] copy_terms []) { collations = map (λ (t : Term). Binary) copy_terms }
-
-abbrev pub copy_command : Command
-copy_command = Insert 3 (Query (record { lets = []; body = copy_query }))
-
-pub copy_is : IsWrite journal_schema copy_text copy_command
+pub groups_made : (f : SecondForm) (o : Order) → (order : Order) × IsTable (create_text Group) (users_schema f o) (record (table_of third_groups order) { tree = 0 })
 unfolding understood everything
-copy_is = record { means = λ f. refl; plain = λ f. (refl, refl) }
+groups_made f o = (_, (refl, refl, (refl, refl), refl))
 
--- without DISTINCT the collations mean nothing
-pub copied_rows : (db : Database) (rows : List Row) → Answers db (record { lets = []; body = copy_query }) [] rows → IsPermutation (map (shows copy_terms []) (db.trees 1)) rows
-copied_rows db rows h =
-    let plain : Answers db (record { lets = []; body = query 1 [] copy_terms [] }) [] rows = record {
-      typed = h.typed;
-      answer = λ lost.
-          let a : IsAnswerAs lost copy_query (overlay db.trees []) [] rows = h.answer lost in
-          record { staged = a.staged; grouped = a.grouped; kept = a.kept; distinct = a.distinct; ordered = a.ordered; same = a.same; sorted = a.sorted; shown = a.shown };
-    } in
-    subst (λ l. IsPermutation (map (shows copy_terms []) l) rows) (every (db.trees 1) []) (selected_over 1 [] copy_terms [] [] (λ _. refl) db rows plain)
+pub groups_created : (f : SecondForm) (o p : Order) → created (users_schema f o) (record (table_of third_groups p) { tree = 0 }) ≡ journal_schema (record { second = f; users = o; groups = p })
+unfolding everything
+groups_created f o p = refl
 
--- ---- the old rows are deleted
-
-abbrev pub empty_terms : List Term
-empty_terms = col 1 0 ∷ []
-
-abbrev pub empty_command : Command
-empty_command = Delete 1 (record { lets = []; body = query 1 [] empty_terms [] })
-
-pub empty_is : IsWrite journal_schema empty_text empty_command
-unfolding understood everything
-empty_is = record { means = λ f. refl; plain = λ f. (refl, refl) }
-
--- ---- the number of the format is set
-
-abbrev pub one_is : Term
-one_is = op2 (Compare Eq Binary) (col 1 0) (lit (Int (pos 1)))
-
-abbrev pub remark_terms : List Term
-remark_terms = col 1 0 ∷ col 1 0 ∷ lit Null ∷ col 0 0 ∷ []
-
-abbrev pub remark_command : Command
-remark_command = Update 0 (record { lets = []; body = query 0 (one_is ∷ []) remark_terms [] })
-
-pub remark_is : IsWrite journal_schema remark_text remark_command
+pub remark_is : IsWrite journal_schema remark_text number_command
 unfolding understood everything
 remark_is = record { means = λ f. refl; plain = λ f. (refl, refl) }
+
+pub journal_alone : (f : Form) → HasNoKeys (journal_schema f)
+journal_alone f tree olds news = refl
+
+-- ---- the rows of a table are moved
+
+-- the forms of the schema that has both tables
+abbrev pub FormOf : Moved → Type 0
+FormOf FirstUsers = SecondForm
+FormOf SecondUsers = Form
+FormOf SecondGroups = Form
+
+abbrev pub layout_of : (table : Moved) → FormOf table → Schema
+layout_of FirstUsers = second_schema
+layout_of SecondUsers = journal_schema
+layout_of SecondGroups = journal_schema
+
+-- the places of both tables among the tables
+abbrev pub from_place : Moved → ℕ
+from_place FirstUsers = 1
+from_place SecondUsers = 3
+from_place SecondGroups = 2
+
+abbrev pub into_place : Moved → ℕ
+into_place FirstUsers = 3
+into_place SecondUsers = 4
+into_place SecondGroups = 5
+
+-- the columns of an entry of the second format, with epochs of 0
+abbrev second_terms : Kind → List Term
+second_terms kind = lit Null ∷ (map (col 1) (places 1 (second_count kind)) ++ lit (Int (pos 0)) ∷ lit (Int (pos 0)) ∷ [])
+
+-- the columns of a row that is moved: those of a user of the first format, with an empty department, among them
+abbrev pub copy_terms : Moved → List Term
+copy_terms FirstUsers = lit Null ∷ (map (col 1) (places 1 7) ++ lit (Text []) ∷ map (col 1) (places 8 3))
+copy_terms SecondUsers = second_terms User
+copy_terms SecondGroups = second_terms Group
+
+-- the number of the row is at most the parameter
+abbrev pub part_tests : List Term
+part_tests = op2 (Compare Le Binary) (col 1 0) (col 0 0) ∷ []
+
+-- the texts copy the rows that pass the tests, and delete them
+pub record AreMoving (table : Moved) (tests : List Term) (copy drop : List ℕ) : Type 0 where
+  pub copies : IsWrite (layout_of table) copy (copy_command (into_place table) (moved_from table) tests (copy_terms table))
+  pub empties : IsWrite (layout_of table) drop (empty_command (from_place table) (moved_from table) tests)
+
+pub part_is : (table : Moved) → AreMoving table part_tests (copy_part_text table) (empty_part_text table)
+unfolding understood everything
+part_is FirstUsers = record { copies = record { means = λ f. refl; plain = λ f. (refl, refl) }; empties = record { means = λ f. refl; plain = λ f. (refl, refl) } }
+part_is SecondUsers = record { copies = record { means = λ f. refl; plain = λ f. (refl, refl) }; empties = record { means = λ f. refl; plain = λ f. (refl, refl) } }
+part_is SecondGroups = record { copies = record { means = λ f. refl; plain = λ f. (refl, refl) }; empties = record { means = λ f. refl; plain = λ f. (refl, refl) } }
+
+pub rest_is : (table : Moved) → AreMoving table [] (copy_text table) (empty_text table)
+unfolding understood everything
+rest_is FirstUsers = record { copies = record { means = λ f. refl; plain = λ f. (refl, refl) }; empties = record { means = λ f. refl; plain = λ f. (refl, refl) } }
+rest_is SecondUsers = record { copies = record { means = λ f. refl; plain = λ f. (refl, refl) }; empties = record { means = λ f. refl; plain = λ f. (refl, refl) } }
+rest_is SecondGroups = record { copies = record { means = λ f. refl; plain = λ f. (refl, refl) }; empties = record { means = λ f. refl; plain = λ f. (refl, refl) } }

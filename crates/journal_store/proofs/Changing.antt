@@ -7,6 +7,7 @@ use Rattle.sqlite_trees.specs.declared.store.Store.{Ghosts}
 use Rattle.sqlite.specs.Effect.{Database}
 use Rattle.sqlite.specs.Held.{state}
 use Rattle.sqlite.specs.State.{State}
+use Rattle.scim_key.proofs.RevisionLaws.{are_read_back}
 use Rattle.scim_key.specs.Revisions.{RevisionValue, IsNoneOrRevision, no_revision}
 use Rattle.scim_key.specs.declared.records.Kind.TheVariants as kind
 use Rattle.scim_key.specs.declared.records.RecordName.{RecordName}
@@ -21,7 +22,7 @@ use Rattle.journal_store.specs.Rows.{entries_in, entry_in, row_of, shown_row}
 use Rattle.journal_store.specs.Connections.{Finds, FindsIf, ListsAll}
 use Rattle.journal_store.specs.Kept.{Kept, IsFaithful, IsHonest, MayHold, kept_entries}
 use Rattle.journal_store.proofs.Calls.{fault_as}
-use Rattle.journal_store.proofs.Decoding.{confirmed_back, known_from, reads_back}
+use Rattle.journal_store.proofs.Decoding.{known_from, reads_back}
 use Rattle.journal_store.proofs.Loading.{lists_both}
 use Rattle.journal_store.proofs.Putting.{found_entry, found_some}
 
@@ -33,8 +34,8 @@ known_found db name (Some x) finds e is = let same : x ≡ e = cc in subst (λ (
 -- an entry that is put reads back from its columns
 pub spelled : (row : source.Row) (held : Option Entry) → ((e : Entry) → held ≡ Some e → IsNoneOrRevision e.confirmed) → IsRow (entry_with row held).row
     → entry_in (row_name (entry_with row held).row).kind (row_of (entry_with row held)) ≡ Some (entry_with row held)
-spelled row None known lawful = reads_back row no_revision None lawful (confirmed_back no_revision (inl refl))
-spelled row (Some e) known lawful = reads_back row e.confirmed e.id lawful (confirmed_back e.confirmed (known e refl))
+spelled row None known lawful = reads_back row no_revision None lawful (are_read_back.confirmed_from_parts no_revision (inl refl))
+spelled row (Some e) known lawful = reads_back row e.confirmed e.id lawful (are_read_back.confirmed_from_parts e.confirmed (known e refl))
 
 -- and is that of the entries with its row
 pub wanted : (m : EntryMap) (row : source.Row) (held : Option Entry) → get m (row_name row) ≡ held → insert m (row_name (entry_with row held).row) (entry_with row held) ≡ with_row m row
@@ -84,7 +85,7 @@ module _ {S : Type 0} (g : Ghosts S) where
 
     pub learnt_spelled : CanPutLearnt (kept_entries g old) name confirmed → IsRow e.row
         → entry_in (row_name e.row).kind (row_of (record { row = e.row; confirmed = confirmed; id = Some id })) ≡ Some (record { row = e.row; confirmed = confirmed; id = Some id })
-    learnt_spelled can lawful = reads_back e.row confirmed (Some id) lawful (confirmed_back confirmed (inr can.confirms))
+    learnt_spelled can lawful = reads_back e.row confirmed (Some id) lawful (are_read_back.confirmed_from_parts confirmed (inr can.confirms))
 
     pub learnt_wanted : insert (kept_entries g mid) (row_name e.row) (record { row = e.row; confirmed = confirmed; id = Some id }) ≡ with_learnt (kept_entries g old) name confirmed id
     learnt_wanted =

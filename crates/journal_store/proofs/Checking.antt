@@ -1,5 +1,5 @@
 -- What the checks of an opening show, and what they leave.
-use Rattle.std.proofs.Common.{ℕ, ◌≡◌, ◌≢◌, ◌⊎◌, ◌≤◌, false, List, [], ◌∷◌, map, Result, Ok, Err, IsTrue, OnOk, IfErr, IsErrAnd, refl, sym, ◌∙◌, subst, inl, inr, IsPermutation}
+use Rattle.std.proofs.Common.{ℕ, ◌≡◌, ◌≢◌, ◌≤◌, List, [], ◌∷◌, map, Result, Ok, Err, IsTrue, OnOk, IfErr, IsErrAnd, refl, sym, ◌∙◌, subst, inl, IsPermutation}
 use Rattle.sqlite_value.specs.Order.{Row}
 use Rattle.sqlite_trees.specs.Tree.{rowid}
 use Rattle.sqlite.specs.Effect.{Database}
@@ -15,7 +15,7 @@ use Rattle.sql_tables.specs.Faults.{HasFailed}
 use Rattle.sql_tables.proofs.Failing.{failed_since}
 use Rattle.journal_store.specs.Connections.{AreNumbered, HasNumbersBy, Lists, ListsAllBy, Shows}
 use Rattle.journal_store.specs.Rows.{entries_by}
-use Rattle.journal_store.specs.Opening.{AreInOrder, AreLawful, AreRising, HoldsEntriesBy, IsCause, IsDamaged, IsFor, IsNewer, IsNotLaid, IsOfRows, IsSpoilt, keys_of, open_fault, IsStoreBy, OpenFailsFor, IsFirst}
+use Rattle.journal_store.specs.Opening.{AreInOrder, AreLawful, AreRising, HasFormatTable, HoldsEntriesBy, IsCause, IsFirst, IsFor, IsJournal, IsNewer, IsOfRows, IsSecond, IsStoreBy, OpenFailsFor, keys_of, open_fault}
 use Rattle.journal_store.specs.Faults.{FailsFor, HasCause}
 use Rattle.journal_store.specs.declared.statements.TableFault.{TableFault}
 use Rattle.journal_store.specs.declared.statements.TableFault.TheVariants as table
@@ -160,10 +160,8 @@ store_found number tree columns old marked numbered new r first laid second thir
 
 -- ---- what is refused
 
--- if there are tables and no transaction is open, tables that aren't laid out are foreign
-pub opening_cause : {T : Type 0} (s : State) (r : Result T JournalOpenFault) → s.now.schema ≢ no_schema → (IsFirst s.now.schema → ⊥) → s.in_transaction ≡ false → IfErr r (IsFor (IsNewer s) (IsNotLaid s ⊎ IsSpoilt s)) → IfErr r (IsCause s)
-opening_cause s r stand older outside = if_err r (λ fault it. is_for {P = IsNewer s} {Q = IsNewer s} (λ newer. newer) step fault it)
-  where
-    step : IsNotLaid s ⊎ IsSpoilt s → IsDamaged s
-    step (inl other) = inl (record { stand = stand; other = λ journal. absurd (let clash = sym outside ∙ other journal in cc); older = older })
-    step (inr spoilt) = inr (inl spoilt)
+-- tables that are of no format are foreign
+pub foreign_cause : {T : Type 0} (s : State) (r : Result T JournalOpenFault) → s.now.schema ≢ no_schema → (IsJournal s.now.schema → ⊥) → (IsSecond s.now.schema → ⊥) → (IsFirst s.now.schema → ⊥)
+    → IfErr r (IsFor (IsNewer s) (HasFormatTable s.now.schema → IsNewer s → ⊥)) → IfErr r (IsCause s)
+foreign_cause s r stand other second first =
+    if_err r (λ fault it. is_for {P = IsNewer s} {Q = IsNewer s} (λ newer. newer) (λ older. inl (record { stand = stand; other = other; second = second; first = first; older = older })) fault it)

@@ -1,5 +1,5 @@
 -- What is written of an entry is read as that entry.
-use Rattle.std.proofs.Common.{◌≡◌, ◌==◌, ◌<◌, ℕ, zero, suc, ℤ, Bool, true, false, List, [], ◌∷◌, ◌++◌, ◌+◌, get_or, length, take, nat_lt, All, Option, Some, None, refl, sym, ap, ◌∙◌, subst, inl, inr, arith}
+use Rattle.std.proofs.Common.{◌≡◌, ◌==◌, ◌<◌, ℕ, zero, suc, ℤ, Bool, true, false, List, [], ◌∷◌, ◌++◌, ◌+◌, get_or, length, take, nat_lt, All, Option, Some, None, refl, sym, ap, ◌∙◌, inl, inr, arith}
 use Rattle.std.proofs.lemmas.Bool.{cases_Bool, eqb-true, false_from_ne_true}
 use Rattle.std.proofs.lemmas.List.{append_assoc, take_more}
 use Rattle.std.proofs.lemmas.List.Folds.{list_all_at}
@@ -14,7 +14,7 @@ use Rattle.scim_key.proofs.RecordLaws.{same as same_names}
 use Rattle.scim_key.proofs.RevisionLaws.{are_read_back}
 use Rattle.scim_key.specs.Names.{IsUserName, is_user_name_byte, user_name_fault}
 use Rattle.scim_key.specs.Records.{same_name}
-use Rattle.scim_key.specs.Revisions.{RevisionValue, IsNoneOrRevision, IsRevision, is_revision, no_revision, revision_number, revision_of_number}
+use Rattle.scim_key.specs.Revisions.{RevisionValue, IsNoneOrRevision, confirmed_of_parts, revision_epoch, revision_number}
 use Rattle.scim_key.specs.declared.records.Kind.{Kind}
 use Rattle.scim_key.specs.declared.records.Kind.TheVariants as kind
 use Rattle.scim_key.specs.declared.records.RecordName.{RecordName}
@@ -27,7 +27,7 @@ use Rattle.source_csv.specs.declared.texts.TheConstants.{TEXT_FIELD_COUNT}
 use Rattle.source_csv.specs.declared.rows.Row.TheVariants.{User, Group}
 use Rattle.journal_core.proofs.Trees.{name_from_test}
 use Rattle.journal_core.specs.declared.entries.Entry.{Entry}
-use Rattle.journal_store.specs.Rows.{id_value, id_in, active_number, active_of, members_text, row_by, confirmed_in, confirmed_of, entry_by, entry_in, fields_in, group_in, keyed, number_in, text_columns, text_in, texts_in, shown_row, user_in}
+use Rattle.journal_store.specs.Rows.{id_value, id_in, active_number, active_of, members_text, row_by, confirmed_in, entry_by, entry_in, fields_in, group_in, keyed, number_in, text_columns, text_in, texts_in, shown_row, user_in}
 use Rattle.journal_store.proofs.UserTexts.{row_texts, text_from}
 use Rattle.journal_store.specs.Connections.{stored_row}
 
@@ -41,25 +41,11 @@ id_back : (id : Option (List ℕ)) → id_in (id_value id) ≡ Some id
 id_back None = refl
 id_back (Some id) = refl
 
--- none and a valid revision are read back from the column of what is confirmed
-pub confirmed_back : (r : RevisionValue) → IsNoneOrRevision r → confirmed_of (revision_number r) ≡ Some r
-unfolding revision_number
-confirmed_back zero known = refl
-confirmed_back (suc n) (inl none) = absurd (cc)
-confirmed_back (suc n) (inr lawful) = are_read_back.from_number (suc n) lawful
-
--- the column shows none or a valid revision
-said_known : (n : ℕ) (r : RevisionValue) → confirmed_of n ≡ Some r → IsNoneOrRevision r
-unfolding revision_of_number
-said_known zero r is = inl (let none : r ≡ no_revision = cc in none)
-said_known (suc n) r is = elim (cases_Bool (is_revision (suc n))) [
-  | inl lawful ↦ inr (let same : suc n ≡ r = cc (rw lawful at is) in subst IsRevision same lawful)
-  | inr other ↦ absurd (cc (rw other at is))
-]
-
-column_known : (o : Option ℕ) (r : RevisionValue) → option_and_then confirmed_of o ≡ Some r → IsNoneOrRevision r
-column_known None r is = absurd (cc)
-column_known (Some n) r is = said_known n r is
+-- the columns show none or a valid revision
+columns_known : (epoch number : Option ℕ) (r : RevisionValue) → option_and_then (λ e. option_and_then (confirmed_of_parts e) number) epoch ≡ Some r → IsNoneOrRevision r
+columns_known None number r is = absurd (cc)
+columns_known (Some e) None r is = absurd (cc)
+columns_known (Some e) (Some n) r is = are_read_back.known_from_parts e n r is
 
 -- ---- members
 
@@ -104,13 +90,13 @@ members_back (key ∷ keys) are = pieces-some (members_text (key ∷ keys)) (not
 same_self : (name : RecordName) → same_name name name ≡ true
 same_self name = (same_names name name).1 refl
 
-pub reads_back : (row : source.Row) (confirmed : RevisionValue) (id : Option (List ℕ)) → IsRow row → confirmed_of (revision_number confirmed) ≡ Some confirmed
+pub reads_back : (row : source.Row) (confirmed : RevisionValue) (id : Option (List ℕ)) → IsRow row → confirmed_of_parts (revision_epoch confirmed) (revision_number confirmed) ≡ Some confirmed
     → entry_in (row_name row).kind (row_by row confirmed id) ≡ Some (record { row = row; confirmed = confirmed; id = id })
 unfolding texts_in text_columns
 reads_back (User u) confirmed id lawful confirms =
-    rw (row_texts u lawful.count, are_read_back.from_number u.revision lawful.revision, active_back u.active, confirms, id_back id, same_self (row_name (User u))) refl
+    rw (row_texts u lawful.count, are_read_back.from_parts u.revision lawful.revision, active_back u.active, confirms, id_back id, same_self (row_name (User u))) refl
 reads_back (Group g) confirmed id lawful confirms =
-    rw (are_read_back.from_number g.revision lawful.revision, members_back g.members lawful.keys, confirms, id_back id, same_self (row_name (Group g))) refl
+    rw (are_read_back.from_parts g.revision lawful.revision, members_back g.members lawful.keys, confirms, id_back id, same_self (row_name (Group g))) refl
 
 pub shown_stored : (n : ℤ) (row : source.Row) (confirmed : RevisionValue) (id : Option (List ℕ)) → shown_row (row_name row).kind (Int n ∷ row_by row confirmed id) ≡ row_by row confirmed id
 shown_stored n (User u) confirmed id = refl
@@ -152,10 +138,13 @@ confirmed_from (Some s) (Some r) None e is = absurd (cc)
 confirmed_from (Some s) (Some r) (Some given) e is = let same : record { row = s; confirmed = r; id = given } ≡ e = cc in ap (λ (x : Entry). Some x.confirmed) same
 
 fields_known : (type : Kind) (shown : Row) (e : Entry) → fields_in type shown ≡ Some e → IsNoneOrRevision e.confirmed
-fields_known kind.User shown e is = column_known (number_in (column shown (4 + TEXT_FIELD_COUNT))) e.confirmed (confirmed_from (user_in shown) (confirmed_in (column shown (4 + TEXT_FIELD_COUNT))) (id_in (column shown (5 + TEXT_FIELD_COUNT))) e is)
-fields_known kind.Group shown e is = column_known (number_in (column shown 4)) e.confirmed (confirmed_from (group_in shown) (confirmed_in (column shown 4)) (id_in (column shown 5)) e is)
+fields_known kind.User shown e is =
+    columns_known (number_in (column shown (7 + TEXT_FIELD_COUNT))) (number_in (column shown (4 + TEXT_FIELD_COUNT))) e.confirmed
+    (confirmed_from (user_in shown) (confirmed_in (column shown (7 + TEXT_FIELD_COUNT)) (column shown (4 + TEXT_FIELD_COUNT))) (id_in (column shown (5 + TEXT_FIELD_COUNT))) e is)
+fields_known kind.Group shown e is =
+    columns_known (number_in (column shown 7)) (number_in (column shown 4)) e.confirmed (confirmed_from (group_in shown) (confirmed_in (column shown 7) (column shown 4)) (id_in (column shown 5)) e is)
 
-keyed_same : (type : Kind) (key : List ℕ) (o : Option Entry) (e : Entry) → keyed type key o ≡ Some e → o ≡ Some e
+pub keyed_same : (type : Kind) (key : List ℕ) (o : Option Entry) (e : Entry) → keyed type key o ≡ Some e → o ≡ Some e
 keyed_same type key None e is = absurd (cc)
 keyed_same type key (Some x) e is = elim (cases_Bool (same_name (row_name x.row) (record { kind = type; key = key }))) [
   | inl same ↦ (let found : x ≡ e = cc (rw same at is) in ap Some found)

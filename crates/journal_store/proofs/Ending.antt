@@ -1,18 +1,20 @@
 -- What a commit leaves of a journal that was made or carried over.
-use Rattle.std.proofs.Common.{◌≡◌, [], false, map, refl, sym, ap, ◌∙◌, subst}
+use Rattle.std.proofs.Common.{◌≡◌, ℕ, [], false, map, refl, sym, ap, ◌∙◌, subst}
 use Rattle.sqlite_value.specs.Order.{Row, column}
 use Rattle.sqlite_trees.specs.Tree.{Trees}
+use Rattle.sqlite_schema.specs.declared.schema.Schema.{Schema}
 use Rattle.sqlite.specs.Effect.{Database}
 use Rattle.sqlite.specs.State.{State, Shows}
+use Rattle.scim_key.specs.declared.records.Kind.{Kind}
 use Rattle.journal_core.specs.Entries.{EntryMap}
 use Rattle.journal_store.specs.Batches.{settled}
 use Rattle.journal_store.specs.Connections.{HasNumbers}
-use Rattle.journal_store.specs.Opening.{HoldsEntries, IsFirstStore, IsStore}
+use Rattle.journal_store.specs.Opening.{HoldsEntries, IsStore, IsStoreBy}
 use Rattle.journal_store.specs.Rows.{entries_in}
 
 -- at the beginning of a transaction
-pub first_settled : (s : State) (entries : EntryMap) → IsFirstStore s entries → IsFirstStore (settled s) entries
-first_settled s entries it = record {
+pub begun_store : {Form : Type 0} {layout : Form → Schema} {number : ℕ} {tree : Kind → ℕ} {columns : Kind → Row → Row} (s : State) (entries : EntryMap) → IsStoreBy layout number tree columns s entries → IsStoreBy layout number tree columns (settled s) entries
+begun_store s entries it = record {
   laid = record { form = it.laid.form; schema = it.laid.schema; committed = refl; autocommit = refl };
   format = it.format;
   numbers = it.numbers;
@@ -35,6 +37,6 @@ store_kept last end entries it shows = record {
   are = ap (λ (d : Database). entries_in d.trees) shows.now_is ∙ it.are;
 }
 
--- a stop at the commit leaves the entries in the tables of the format
-pub stop_leaves : (last : State) (entries : EntryMap) (db : Trees) → IsStore (settled last) entries → last.now.trees 1 ≡ [] → db ≡ last.now.trees → (entries_in db ≡ entries) × (db 1 ≡ [])
-stop_leaves last entries db it none is = (ap (λ (t : Trees). entries_in t) is ∙ it.are, ap (λ (t : Trees). t 1) is ∙ none)
+-- a stop at the commit leaves the entries in the tables of the current format, and none in those of the older one
+pub stop_leaves : (last : State) (tree : Kind → ℕ) (entries : EntryMap) (db : Trees) → IsStore (settled last) entries → ((kind : Kind) → last.now.trees (tree kind) ≡ []) → db ≡ last.now.trees → (entries_in db ≡ entries) × ((kind : Kind) → db (tree kind) ≡ [])
+stop_leaves last tree entries db it none is = (ap (λ (t : Trees). entries_in t) is ∙ it.are, λ kind. ap (λ (t : Trees). t (tree kind)) is ∙ none kind)

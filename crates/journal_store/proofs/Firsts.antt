@@ -19,20 +19,21 @@ use Rattle.journal_store.specs.Connections.{Lists}
 use Rattle.journal_store.specs.Format.{FirstForm, first_all_text, first_numbers_text, first_schema, first_tree, marked_text, places}
 use Rattle.journal_store.specs.Rows.{first_row}
 use Rattle.journal_store.proofs.Finding.{lists_by}
-use Rattle.journal_store.proofs.Texts.{all_order, names, number_order, number_shown, shown_terms}
+use Rattle.journal_store.proofs.Seconds.{no_epoch_heads, no_epoch_terms, second_heads, second_terms}
+use Rattle.journal_store.proofs.Texts.{all_order, number_order, number_shown}
 
 -- ---- what they mean
 
 -- each row in the form of the current format
 abbrev pub first_terms : Kind → List Term
-first_terms User = map (col 1) (places 1 7) ++ lit (Text []) ∷ map (col 1) (places 8 3)
-first_terms Group = shown_terms Group
+first_terms User = map (col 1) (places 1 7) ++ lit (Text []) ∷ map (col 1) (places 8 3) ++ no_epoch_terms
+first_terms Group = second_terms Group
 
 abbrev first_heads : Kind → List (List ℕ)
 first_heads User =
     codes "name_key" ∷ codes "login" ∷ codes "revision" ∷ codes "number" ∷ codes "given" ∷ codes "family" ∷ codes "mail" ∷ codes "''" ∷ codes "active"
-    ∷ codes "confirmed" ∷ codes "id" ∷ []
-first_heads Group = names Group
+    ∷ codes "confirmed" ∷ codes "id" ∷ no_epoch_heads
+first_heads Group = second_heads Group
 
 pub first_all_is : (kind : Kind) → IsSelect first_schema (first_all_text kind) (first_tree kind) [] (first_terms kind) all_order (first_heads kind) 0
 unfolding understood everything

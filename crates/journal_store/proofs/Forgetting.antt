@@ -1,12 +1,13 @@
 -- What a reset makes of the entries.
-use Rattle.std.proofs.Common.{◌≡◌, ℕ, zero, suc, true, false, ◌&&◌, cond, T, List, [], ◌∷◌, map, Some, refl, sym, ap, ◌∙◌, subst, inl, arith}
+use Rattle.std.proofs.Common.{◌≡◌, ℕ, zero, suc, true, false, ◌&&◌, ◌||◌, cond, T, List, [], ◌∷◌, map, Some, refl, sym, ap, ◌∙◌, subst, inl, arith}
 use Rattle.std.specs.FinMap.{entries, entries_sorted, entries-from_sorted, find, from_entries, from_sorted, get, get-entries, get-from_entries, get-from_sorted, is_sorted, same_map}
 use Rattle.std.specs.FinMap.Entries.{below_all}
 use Rattle.std.specs.List.{All, AllByRecursion, list_all}
 use Rattle.std.specs.Option.{option_map}
 use Rattle.std.specs.Ordering.{is_eq, is_lt}
 use Rattle.std.proofs.lemmas.List.{length-map}
-use Rattle.scim_key.proofs.RevisionLaws.{none_first}
+use Rattle.scim_key.proofs.RevisionLaws.{none_first, same}
+use Rattle.scim_key.specs.Revisions.{no_revision}
 use Rattle.scim_key.specs.RecordOrder.{names_total}
 use Rattle.scim_key.specs.Records.{name_cmp}
 use Rattle.scim_key.specs.declared.records.RecordName.{RecordName}
@@ -74,7 +75,7 @@ list_unlearnt m list is = record { whole = entries_forgotten m ∙ ap (map at_na
 
 identified : (list : List Entry) → list_all is_identified (map unlearnt list) ≡ true
 identified [] = refl
-identified (e ∷ list) = identified list
+identified (e ∷ list) = ap (λ b. (b || false) && list_all is_identified (map unlearnt list)) ((same no_revision no_revision).1 refl) ∙ identified list
 
 keys_still : (list : List Entry) → keys_of (map unlearnt list) ≡ keys_of list
 keys_still [] = refl

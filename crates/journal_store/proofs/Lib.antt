@@ -2,6 +2,7 @@ pub mod Texts
 pub mod CarryTexts
 pub mod Copying
 pub mod Carrying
+pub mod Keeping
 pub mod Carried
 pub mod Ending
 pub mod Failing
@@ -10,9 +11,11 @@ pub mod Values
 pub mod Selecting
 pub mod Writing
 pub mod Decoding
+pub mod Casting
 pub mod Standing
 pub mod Putting
 pub mod Finding
+pub mod Seconds
 pub mod Firsts
 pub mod Written
 pub mod Reading
@@ -22,6 +25,7 @@ pub mod Changing
 pub mod Batching
 pub mod MakingTexts
 pub mod Made
+pub mod Moving
 pub mod Numbering
 pub mod Members
 pub mod Checking
@@ -36,3 +40,4 @@ pub mod Forgetting
 pub mod Resetting
 pub mod Unlearning
 pub mod Undertaking
+pub mod Unknown

@@ -13,7 +13,7 @@ use Rattle.sql_tables.specs.Layouts.{format_schema, format_table, no_schema}
 use Rattle.sql_tables.proofs.Making.{creates, marks}
 use Rattle.journal_store.specs.Batches.{settled}
 use Rattle.journal_store.specs.Connections.{AreNumbered, HasNumbersBy, ListsAllBy, Shows}
-use Rattle.journal_store.specs.Format.{create_first_text, create_text, entry_table, first_number, first_table, first_tree, format_name, format_text, mark_text}
+use Rattle.journal_store.specs.Format.{create_first_text, first_groups, first_number, first_tree, first_users, format_name, format_text, mark_text, table_of}
 use Rattle.journal_store.specs.Opening.{HoldsEntriesBy, IsFirstStore}
 use Rattle.journal_store.specs.Rows.{entries_by, first_row}
 use Rattle.journal_store.proofs.MakingTexts.{format_made, groups_created, groups_made, mark_is, users_created, users_made, users_schema}
@@ -51,15 +51,15 @@ holds_none db users groups = record {
 
 -- the tables are there: the one of the format with its number, the others empty
 pub first_made : (b m1 m2 m3 m4 : State) (n1 n2 n3 n4 : ℕ) → b.now.schema ≡ no_schema → Executes format_text [] b m1 (Ok n1) → Executes mark_text (Int (pos first_number) ∷ []) m1 m2 (Ok n2)
-    → Executes create_first_text [] m2 m3 (Ok n3) → Executes (create_text Group) [] m3 m4 (Ok n4) → IsFirstStore (settled m4) empty
+    → Executes (create_first_text User) [] m2 m3 (Ok n3) → Executes (create_first_text Group) [] m3 m4 (Ok n4) → IsFirstStore (settled m4) empty
 first_made b m1 m2 m3 m4 n1 n2 n3 n4 blank one two three four =
     let a = format_made.0 in
     let first = creates format_text no_schema (format_table format_name a) b m1 n1 format_made.1 refl blank one in
     let second = marks format_name mark_text a m1 m2 (pos first_number) n2 (mark_is a) first.0 first.1 two in
     let u = users_made a in
-    let third = creates create_first_text (format_schema format_name a) (record (first_table u.0) { tree = 0 }) m2 m3 n3 u.1 refl second.0 three in
+    let third = creates (create_first_text User) (format_schema format_name a) (record (table_of first_users u.0) { tree = 0 }) m2 m3 n3 u.1 refl second.0 three in
     let g = groups_made a u.0 in
-    let fourth = creates (create_text Group) (users_schema a u.0) (record (entry_table Group g.0) { tree = 0 }) m3 m4 n4 g.1 refl (third.0 ∙ users_created a u.0) four in
+    let fourth = creates (create_first_text Group) (users_schema a u.0) (record (table_of first_groups g.0) { tree = 0 }) m3 m4 n4 g.1 refl (third.0 ∙ users_created a u.0) four in
     let users : m4.now.trees 1 ≡ [] = fourth.2.1.0 ∙ third.1 in
     let groups : m4.now.trees 3 ≡ [] = fourth.1 in
     record {

@@ -113,14 +113,14 @@ put_numbered new n rows number none numbered x there = elim (put_has new rows x 
       (it.0, it.1, put_other (has_rowid it.0) new rows (rowid_is new n it.0 number ∙ int_apart it.0 n apart) none ∙ it.2)
 ]
 
-without_numbered : (n : ℤ) (rows : List Row) → AreNumbered rows → AreNumbered (without_rowid n rows)
+pub without_numbered : (n : ℤ) (rows : List Row) → AreNumbered rows → AreNumbered (without_rowid n rows)
 without_numbered n rows numbered x there =
     let was = without_has n rows x there in
     let it = numbered x was.0 in
     (it.0, it.1, without_rest (has_rowid it.0) n rows (λ y here is. subst (λ z. has_rowid n z ≡ false) (sym (only_one (filter (has_rowid it.0) rows) x y it.2 (has_kept (has_rowid it.0) rows y here is))) was.1) ∙ it.2)
 
 -- the one row with a number
-numbered_one : (rows : List Row) (r x : Row) (n : ℤ) → AreNumbered rows → Has rows r → rowid r ≡ Int n → Has rows x → has_rowid n x ≡ true → x ≡ r
+pub numbered_one : (rows : List Row) (r x : Row) (n : ℤ) → AreNumbered rows → Has rows r → rowid r ≡ Int n → Has rows x → has_rowid n x ≡ true → x ≡ r
 numbered_one rows r x n numbered there number here has =
     let it = numbered r there in
     let same : it.0 ≡ n = (let e : Int it.0 ≡ Int n = sym it.1 ∙ number in cc) in

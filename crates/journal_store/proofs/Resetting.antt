@@ -1,19 +1,17 @@
 -- What the update of all rows makes of a table.
-use Rattle.std.proofs.Common.{◌≡◌, ◌+◌, ◌-◌, ℕ, ℤ, pos, true, false, not, ◌||◌, List, [], ◌∷◌, ◌++◌, drop, map, Option, Some, None, Ok, Ordering, Less, Equal, Greater, refl, sym, ap, ◌∙◌, subst, inl, inr, IsPermutation, arith}
+use Rattle.std.proofs.Common.{◌≡◌, ◌+◌, ℕ, ℤ, true, false, not, ◌||◌, List, [], ◌∷◌, ◌++◌, drop, map, Option, Some, None, Ok, Ordering, Less, Equal, Greater, refl, sym, ap, ◌∙◌, subst, inl, inr, IsPermutation, arith}
 use Rattle.std.specs.List.{AllByRecursion}
 use Rattle.std.specs.Option.{option_and_then}
 use Rattle.std.specs.Ordering.{is_eq, match_ordering}
 use Rattle.std.proofs.lemmas.Bool.{and_parts, cases_Bool}
 use Rattle.std.proofs.lemmas.List.{append-nil}
 use Rattle.std.proofs.lemmas.List.Sorted.{IsPermutation-append_left, IsPermutation-cons, IsPermutation-middle, IsPermutation-refl, IsPermutation-sym, IsPermutation-trans}
-use Rattle.sqlite_value.specs.declared.value.Value.{Value}
-use Rattle.sqlite_value.specs.declared.value.Value.TheVariants.{Null, Int, Real, Text, Blob}
+use Rattle.sqlite_value.specs.declared.value.Value.TheVariants.{Null, Int}
 use Rattle.sqlite_value.specs.Order.{Row, column, value_cmp}
 use Rattle.sqlite_value.specs.declared.keys.Order.{Order}
 use Rattle.sqlite_sql.specs.Term.{Term, col, lit}
 use Rattle.sqlite_trees.specs.Tree.{Trees, rowid, has_rowid, put_row, without_rowid}
 use Rattle.sqlite_trees.proofs.ListLemmas.{IsPermutation-same}
-use Rattle.sqlite_schema.specs.declared.schema.Column.{Column}
 use Rattle.sqlite_schema.specs.declared.schema.Keys.TheVariants.{Enforced}
 use Rattle.sqlite_schema.specs.declared.schema.Kind.TheVariants as column_kind
 use Rattle.sqlite_schema.specs.declared.schema.Schema.{Schema}
@@ -21,7 +19,7 @@ use Rattle.sqlite_schema.specs.declared.schema.Table.{Table}
 use Rattle.sqlite_schema.specs.declared.command.Command.{Command}
 use Rattle.sqlite_schema.specs.declared.command.Command.TheVariants.{Update}
 use Rattle.sqlite_rules.specs.Calls.{ids_of}
-use Rattle.sqlite_rules.specs.Cast.{cast, cast_all, cast_row}
+use Rattle.sqlite_rules.specs.Cast.{cast, cast_row}
 use Rattle.sqlite_rules.specs.Edit.{are_fresh, edit_of, edited, id_in as id_value_in, is_taken, left_by, numbered, put_all, without_all}
 use Rattle.sqlite_rules.specs.declared.error.Rowids.TheVariants.{Given}
 use Rattle.sqlite_rules.specs.Lists.{Has}
@@ -32,9 +30,9 @@ use Rattle.sqlite.specs.Effect.{Database}
 use Rattle.sqlite.specs.Listing.{understood}
 use Rattle.sqlite.specs.Rows.{Written}
 use Rattle.sqlite.proofs.Callers.{one_step}
-use Rattle.scim_key.proofs.RevisionLaws.{none_first}
+use Rattle.scim_key.proofs.RevisionLaws.{are_read_back, none_first}
 use Rattle.scim_key.specs.Records.{same_name}
-use Rattle.scim_key.specs.Revisions.{RevisionValue, no_revision, revision_of_number}
+use Rattle.scim_key.specs.Revisions.{RevisionValue, confirmed_of_parts, no_revision, revision_epoch, revision_number}
 use Rattle.scim_key.specs.declared.records.Kind.{Kind}
 use Rattle.scim_key.specs.declared.records.Kind.TheVariants.{User, Group}
 use Rattle.source_csv.specs.Records.{row_name, row_revision}
@@ -48,9 +46,10 @@ use Rattle.sql_tables.proofs.Queries.{query}
 use Rattle.sql_tables.proofs.Selecting.{mapped, shows}
 use Rattle.sql_tables.proofs.Values.{cast_int}
 use Rattle.journal_store.specs.Connections.{AreNumbered, Shows}
-use Rattle.journal_store.specs.Format.{Form, entry_columns, entry_place, entry_table, entry_tree, journal_schema, places}
-use Rattle.journal_store.specs.Resets.{ResetsOne, kept_count, reset_row, reset_text, unlearnt}
-use Rattle.journal_store.specs.Rows.{IsReadable, active_in, active_of, all_texts, confirmed_in, entry_by, entry_in, fields_in, group_in, id_in, keyed, members_in, number_in, revision_in, shown_row, source_in, text_columns, text_in, texts_in, texts_of, user_in}
+use Rattle.journal_store.specs.Format.{Form, entry_place, entry_tables, entry_tree, journal_schema, places, table_of, third_groups, third_users}
+use Rattle.journal_store.specs.Resets.{ResetsOne, kept_count, none_values, reset_row, reset_text, unlearnt}
+use Rattle.journal_store.specs.Rows.{IsReadable, confirmed_in, entry_by, epoch_value, entry_in, fields_in, group_in, id_in, keyed, revision_value, shown_row, text_columns, text_in, texts_in, texts_of, user_in}
+use Rattle.journal_store.proofs.Casting.{columns_kept, some_then}
 use Rattle.journal_store.proofs.Loading.{map_has, permuted}
 use Rattle.journal_store.proofs.Putting.{not_true, own_number}
 use Rattle.journal_store.proofs.Selecting.{selected}
@@ -58,7 +57,7 @@ use Rattle.journal_store.proofs.Selecting.{selected}
 -- ---- the statement
 
 abbrev pub reset_terms : Kind → List Term
-reset_terms kind = col 1 0 ∷ (map (col 1) (places 0 (1 + kept_count kind)) ++ lit (Int (pos 0)) ∷ lit Null ∷ [])
+reset_terms kind = col 1 0 ∷ (map (col 1) (places 0 (1 + kept_count kind)) ++ col 0 0 ∷ lit Null ∷ col 1 (3 + kept_count kind) ∷ col 0 1 ∷ [])
 
 abbrev pub reset_command : Kind → Command
 reset_command kind = Update (entry_place kind) (record { lets = []; body = query (entry_tree kind) [] (reset_terms kind) [] })
@@ -138,68 +137,44 @@ module _ (it : Table) (db : Trees) (shown renewed : Row → Row) (rows : List Ro
       (subst (λ l. IsPermutation l (map cast_of rows)) (renew (db it.tree) made) (mapped cast_of (map shown (db it.tree)) rows all))
       (put_every [] (map cast_of rows) free))
 
--- ---- a row that shows an entry keeps its columns
+-- ---- a row that shows an entry, once it is reset
 
-pub some_then : {A B : Type 0} (o : Option A) (f : A → Option B) (b : B) → option_and_then f o ≡ Some b → (a : A) × (o ≡ Some a) × (f a ≡ Some b)
-some_then None f b is = absurd (cc)
-some_then (Some a) f b is = (a, refl, is)
-
-pub text_kept : (v : Value) (t : List ℕ) → text_in v ≡ Some t → cast column_kind.Text v ≡ v
-text_kept Null t is = absurd (cc)
-text_kept (Int n) t is = absurd (cc)
-text_kept (Real x) t is = absurd (cc)
-text_kept (Text s) t is = refl
-text_kept (Blob b) t is = absurd (cc)
-
-number_kept : (v : Value) (n : ℕ) → number_in v ≡ Some n → cast column_kind.Integer v ≡ v
-number_kept Null n is = absurd (cc)
-number_kept (Int m) n is = cast_int m
-number_kept (Real x) n is = absurd (cc)
-number_kept (Text s) n is = absurd (cc)
-number_kept (Blob b) n is = absurd (cc)
-
-pub number_cast : {A : Type 0} (v : Value) (f : ℕ → Option A) (a : A) → option_and_then f (number_in v) ≡ Some a → cast column_kind.Integer v ≡ v
-number_cast v f a is = let it = some_then (number_in v) f a is in number_kept v it.0 it.1
-
-members_cast : (v : Value) (members : List (List ℕ)) → members_in v ≡ Some members → cast column_kind.Text v ≡ v
-members_cast Null members is = absurd (cc)
-members_cast (Int n) members is = absurd (cc)
-members_cast (Real x) members is = absurd (cc)
-members_cast (Text s) members is = refl
-members_cast (Blob b) members is = absurd (cc)
-
--- an entry that a row shows has a row of the source
-source_there : (type : Kind) (key : List ℕ) (row : Option source.Row) (confirmed : Option RevisionValue) (id : Option (Option (List ℕ))) (e : Entry)
-    → keyed type key (entry_by row confirmed id) ≡ Some e → (row ≡ Some e.row) × (keyed type key (entry_by row (Some no_revision) (Some None)) ≡ Some (unlearnt e))
-source_there type key None confirmed id e is = absurd (cc)
-source_there type key (Some row) None id e is = absurd (cc)
-source_there type key (Some row) (Some confirmed) None e is = absurd (cc)
-source_there type key (Some row) (Some confirmed) (Some id) e is = elim (cases_Bool (same_name (row_name row) (record { kind = type; key = key }))) [
+-- an entry that columns show, without its confirmed revision and its id
+unlearnt_there : (type : Kind) (key : List ℕ) (row : Option source.Row) (confirmed : Option RevisionValue) (id : Option (Option (List ℕ))) (e : Entry)
+    → keyed type key (entry_by row confirmed id) ≡ Some e → keyed type key (entry_by row (Some no_revision) (Some None)) ≡ Some (unlearnt e)
+unlearnt_there type key None confirmed id e is = absurd (cc)
+unlearnt_there type key (Some row) None id e is = absurd (cc)
+unlearnt_there type key (Some row) (Some confirmed) None e is = absurd (cc)
+unlearnt_there type key (Some row) (Some confirmed) (Some id) e is = elim (cases_Bool (same_name (row_name row) (record { kind = type; key = key }))) [
   | inl same ↦
       let found : ◌≡◌ {A = Entry} (record { row = row; confirmed = confirmed; id = id }) e = cc (rw same at is) in
-      (ap (λ (x : Entry). Some x.row) found, rw same (ap (λ (x : Entry). Some (unlearnt x)) found))
+      rw same (ap (λ (x : Entry). Some (unlearnt x)) found)
   | inr other ↦ absurd (cc (rw other at is))
 ]
 
 -- what a query shows of a row that was reset
 abbrev pub reset_shown : Kind → Row → Row
-reset_shown kind s = map (column s) (places 0 (kept_count kind)) ++ Int (pos 0) ∷ Null ∷ []
+reset_shown kind s = map (column s) (places 0 (kept_count kind)) ++ revision_value no_revision ∷ Null ∷ column s (2 + kept_count kind) ∷ epoch_value no_revision ∷ []
 
 pub shown_reset : (kind : Kind) (r : Row) → shown_row kind (reset_row kind r) ≡ reset_shown kind (shown_row kind r)
 shown_reset User r = refl
 shown_reset Group r = refl
 
--- the key and the row of the source
-parts : (kind : Kind) (s : Row) (e : Entry) → entry_in kind s ≡ Some e → (key : List ℕ) × (text_in (column s 0) ≡ Some key) × (source_in kind s ≡ Some e.row) × (entry_in kind (reset_shown kind s) ≡ Some (unlearnt e))
+none_back : confirmed_of_parts (revision_epoch no_revision) (revision_number no_revision) ≡ Some no_revision
+none_back = are_read_back.confirmed_from_parts no_revision (inl refl)
+
+unlearnt_shown : (kind : Kind) (s : Row) (e : Entry) → entry_in kind s ≡ Some e → entry_in kind (reset_shown kind s) ≡ Some (unlearnt e)
 unfolding texts_in text_columns
-parts User s e is =
+unlearnt_shown User s e is =
     let key = some_then (text_in (column s 0)) (λ k. keyed User k (fields_in User s)) e is in
-    let both = source_there User key.0 (user_in s) (confirmed_in (column s (4 + TEXT_FIELD_COUNT))) (id_in (column s (5 + TEXT_FIELD_COUNT))) e key.2 in
-    (key.0, key.1, both.0, ap (option_and_then (λ k. keyed User k (fields_in User (reset_shown User s)))) key.1 ∙ both.1)
-parts Group s e is =
+    let none = ap (λ confirmed. keyed User key.0 (entry_by (user_in s) confirmed (Some None))) none_back in
+    ap (option_and_then (λ k. keyed User k (fields_in User (reset_shown User s)))) key.1
+    ∙ none ∙ unlearnt_there User key.0 (user_in s) (confirmed_in (column s (7 + TEXT_FIELD_COUNT)) (column s (4 + TEXT_FIELD_COUNT))) (id_in (column s (5 + TEXT_FIELD_COUNT))) e key.2
+unlearnt_shown Group s e is =
     let key = some_then (text_in (column s 0)) (λ k. keyed Group k (fields_in Group s)) e is in
-    let both = source_there Group key.0 (group_in s) (confirmed_in (column s 4)) (id_in (column s 5)) e key.2 in
-    (key.0, key.1, both.0, ap (option_and_then (λ k. keyed Group k (fields_in Group (reset_shown Group s)))) key.1 ∙ both.1)
+    let none = ap (λ confirmed. keyed Group key.0 (entry_by (group_in s) confirmed (Some None))) none_back in
+    ap (option_and_then (λ k. keyed Group k (fields_in Group (reset_shown Group s)))) key.1
+    ∙ none ∙ unlearnt_there Group key.0 (group_in s) (confirmed_in (column s 7) (column s 4)) (id_in (column s 5)) e key.2
 
 same_key : (kind : Kind) (s : Row) → column (reset_shown kind s) 0 ≡ column s 0
 same_key User s = refl
@@ -212,7 +187,7 @@ same_texts Group s = refl
 
 pub shows_unlearnt : (kind : Kind) (s : Row) (e : Entry) → Shows kind s e → Shows kind (reset_shown kind s) (unlearnt e)
 shows_unlearnt kind s e it = record {
-  entry_is = (parts kind s e it.entry_is).3;
+  entry_is = unlearnt_shown kind s e it.entry_is;
   key = same_key kind s ∙ it.key;
   kind_is = it.kind_is;
   lawful = it.lawful;
@@ -221,48 +196,19 @@ shows_unlearnt kind s e it = record {
   within = none_first (row_revision e.row);
 }
 
-texts_kept : (vs : List Value) (texts : List (List ℕ)) → all_texts vs ≡ Some texts → map (cast column_kind.Text) vs ≡ vs
-texts_kept [] texts is = refl
-texts_kept (v ∷ vs) texts is =
-    let first = some_then (text_in v) _ texts is in
-    let later = some_then (all_texts vs) _ texts first.2 in
-    λ i. text_kept v first.0 first.1 i ∷ texts_kept vs later.0 later.1 i
-
--- the last two columns of a table
-abbrev last_columns : Kind → List Column
-last_columns kind = drop (kept_count kind) (entry_columns kind)
-
--- the columns of the row of the source are written as they are
-abbrev KeepsRow : Kind → Row → Row → Type 0
-KeepsRow kind s rest =
-    cast_all (entry_columns kind) (map (column s) (places 0 (kept_count kind)) ++ rest) ≡ cast column_kind.Text (column s 0) ∷ (map (column s) (places 1 (kept_count kind - 1)) ++ cast_all (last_columns kind) rest)
-
-pub user_casts : (s : Row) (row : source.Row) → user_in s ≡ Some row → (rest : Row) → KeepsRow User s rest
-unfolding texts_in text_columns
-user_casts s row is rest =
-    let login = some_then (text_in (column s 1)) _ row is in
-    let revision = some_then (revision_in (column s 2)) _ row login.2 in
-    let texts = some_then (texts_in s) _ row revision.2 in
-    let active = some_then (active_in (column s (3 + TEXT_FIELD_COUNT))) _ row texts.2 in
-    ap (λ l. cast column_kind.Text (column s 0) ∷ cast column_kind.Text (column s 1) ∷ cast column_kind.Integer (column s 2) ∷ (l ++ cast column_kind.Integer (column s (3 + TEXT_FIELD_COUNT)) ∷ cast_all (last_columns User) rest)) (texts_kept (text_columns s) texts.0 texts.1)
-    ∙ rw (text_kept (column s 1) login.0 login.1, number_cast (column s 2) revision_of_number revision.0 revision.1, number_cast (column s (3 + TEXT_FIELD_COUNT)) active_of active.0 active.1) refl
-
-group_casts : (s : Row) (row : source.Row) → group_in s ≡ Some row → (rest : Row) → KeepsRow Group s rest
-group_casts s row is rest =
-    let name = some_then (text_in (column s 1)) _ row is in
-    let revision = some_then (revision_in (column s 2)) _ row name.2 in
-    let members = some_then (members_in (column s 3)) _ row revision.2 in
-    rw (text_kept (column s 1) name.0 name.1, number_cast (column s 2) revision_of_number revision.0 revision.1, members_cast (column s 3) members.0 members.1) refl
-
 -- what the statement writes for a row
 pub writes_reset : (kind : Kind) (order : Order) (r : Row) (n : ℤ) (e : Entry) → rowid r ≡ Int n → entry_in kind (shown_row kind r) ≡ Some e
-    → cast_row (entry_table kind order) (drop 1 (shows (reset_terms kind) [] r)) ≡ reset_row kind r
+    → cast_row (table_of (entry_tables kind) order) (drop 1 (shows (reset_terms kind) none_values r)) ≡ reset_row kind r
 writes_reset User order r n e number is =
-    let it = parts User (shown_row User r) e is in
-    rw (number, cast_int n, user_casts (shown_row User r) e.row it.2 (Int (pos 0) ∷ Null ∷ []), text_kept (column r 1) it.0 it.1, cast_int (pos 0)) refl
+    let s = shown_row User r in
+    let number_is = ap (cast column_kind.Integer) number ∙ cast_int n ∙ sym number in
+    let columns_are = columns_kept User (reset_shown User s) (unlearnt e) (unlearnt_shown User s e is) in
+    λ i. number_is i ∷ columns_are i
 writes_reset Group order r n e number is =
-    let it = parts Group (shown_row Group r) e is in
-    rw (number, cast_int n, group_casts (shown_row Group r) e.row it.2 (Int (pos 0) ∷ Null ∷ []), text_kept (column r 1) it.0 it.1, cast_int (pos 0)) refl
+    let s = shown_row Group r in
+    let number_is = ap (cast column_kind.Integer) number ∙ cast_int n ∙ sym number in
+    let columns_are = columns_kept Group (reset_shown Group s) (unlearnt e) (unlearnt_shown Group s e is) in
+    λ i. number_is i ∷ columns_are i
 
 -- ---- the statement, over a table
 
@@ -274,50 +220,50 @@ module _ (limit : Option ℕ) (f : Form) (db after : Database) (tally : Tally) (
   abbrev schema : Schema
   schema = journal_schema f
 
-  resets_users : AreNumbered (db.trees 5) → AllShow User (db.trees 5) → Does limit plain_mode [] db sql None (reset_command User) (Ok (tally, after)) → (after.schema ≡ schema) × ResetsOne User db.trees after.trees
+  resets_users : AreNumbered (db.trees 7) → AllShow User (db.trees 7) → Does limit plain_mode none_values db sql None (reset_command User) (Ok (tally, after)) → (after.schema ≡ schema) × ResetsOne User db.trees after.trees
   resets_users numbers show does =
-      let done = went (subst (λ s. Does limit plain_mode [] (record db { schema = s }) sql None (reset_command User) (Ok (tally, after))) has does) in
+      let done = went (subst (λ s. Does limit plain_mode none_values (record db { schema = s }) sql None (reset_command User) (Ok (tally, after))) has does) in
       let now = ap (λ (t : Tally × Database). t.1) (same_value (went (went done.2).2).2) in
       let rows_given = went done.1 in
-      let all = selected User [] (reset_terms User) [] [] (record { schema = schema; trees = db.trees }) rows_given.0 rows_given.1 in
-      let every_row : IsPermutation (map (shows (reset_terms User) []) (db.trees 5)) rows_given.0 = subst (λ l. IsPermutation (map (shows (reset_terms User) []) l) rows_given.0) (every (db.trees 5) []) all in
+      let all = selected User [] (reset_terms User) [] none_values (record { schema = schema; trees = db.trees }) rows_given.0 rows_given.1 in
+      let every_row : IsPermutation (map (shows (reset_terms User) none_values) (db.trees 7)) rows_given.0 = subst (λ l. IsPermutation (map (shows (reset_terms User) none_values) l) rows_given.0) (every (db.trees 7) none_values) all in
       let written = went rows_given.2 in
       let trees : done.0.trees ≡ written.0 = ap (λ (it : Written). it.trees) (same_value written.2) in
-      let applied = one_step schema Enforced db.trees written.0 (edit_of db.trees (entry_table User f.users) (ids_of rows_given.0) Given 1 rows_given.0) refl written.1 in
-      let reset = all_renewed (entry_table User f.users) db.trees (shows (reset_terms User) []) (reset_row User) rows_given.0 numbers every_row (λ r. refl)
+      let applied = one_step schema Enforced db.trees written.0 (edit_of db.trees (table_of third_users f.users) (ids_of rows_given.0) Given 1 rows_given.0) refl written.1 in
+      let reset = all_renewed (table_of third_users f.users) db.trees (shows (reset_terms User) none_values) (reset_row User) rows_given.0 numbers every_row (λ r. refl)
       (λ r there. let n = numbers r there in let e = show r there in writes_reset User f.users r n.0 e.0 n.1 e.1) applied.fresh in
-      let is : after.trees 5 ≡ edited db.trees (edit_of db.trees (entry_table User f.users) (ids_of rows_given.0) Given 1 rows_given.0) =
-      ap (λ (d : Database). d.trees 5) now ∙ ap (λ (t : Trees). t 5) trees ∙ applied.rows in (
+      let is : after.trees 7 ≡ edited db.trees (edit_of db.trees (table_of third_users f.users) (ids_of rows_given.0) Given 1 rows_given.0) =
+      ap (λ (d : Database). d.trees 7) now ∙ ap (λ (t : Trees). t 7) trees ∙ applied.rows in (
         ap (λ (d : Database). d.schema) now,
         record {
-          resets = subst (IsPermutation (map (reset_row User) (db.trees 5))) (sym is) reset;
+          resets = subst (IsPermutation (map (reset_row User) (db.trees 7))) (sym is) reset;
           users = λ e. absurd (cc);
-          groups = λ _. ap (λ (d : Database). d.trees 3) now ∙ ap (λ (t : Trees). t 3) trees ∙ applied.tables.1.1.0 (λ (e : 3 ≡ 5). omega (arith, e));
+          groups = λ _. ap (λ (d : Database). d.trees 9) now ∙ ap (λ (t : Trees). t 9) trees ∙ applied.tables.1.1.1.1.1.0 (λ (e : 9 ≡ 7). omega (arith, e));
         },
       )
 
-  resets_groups : AreNumbered (db.trees 3) → AllShow Group (db.trees 3) → Does limit plain_mode [] db sql None (reset_command Group) (Ok (tally, after)) → (after.schema ≡ schema) × ResetsOne Group db.trees after.trees
+  resets_groups : AreNumbered (db.trees 9) → AllShow Group (db.trees 9) → Does limit plain_mode none_values db sql None (reset_command Group) (Ok (tally, after)) → (after.schema ≡ schema) × ResetsOne Group db.trees after.trees
   resets_groups numbers show does =
-      let done = went (subst (λ s. Does limit plain_mode [] (record db { schema = s }) sql None (reset_command Group) (Ok (tally, after))) has does) in
+      let done = went (subst (λ s. Does limit plain_mode none_values (record db { schema = s }) sql None (reset_command Group) (Ok (tally, after))) has does) in
       let now = ap (λ (t : Tally × Database). t.1) (same_value (went (went done.2).2).2) in
       let rows_given = went done.1 in
-      let all = selected Group [] (reset_terms Group) [] [] (record { schema = schema; trees = db.trees }) rows_given.0 rows_given.1 in
-      let every_row : IsPermutation (map (shows (reset_terms Group) []) (db.trees 3)) rows_given.0 = subst (λ l. IsPermutation (map (shows (reset_terms Group) []) l) rows_given.0) (every (db.trees 3) []) all in
+      let all = selected Group [] (reset_terms Group) [] none_values (record { schema = schema; trees = db.trees }) rows_given.0 rows_given.1 in
+      let every_row : IsPermutation (map (shows (reset_terms Group) none_values) (db.trees 9)) rows_given.0 = subst (λ l. IsPermutation (map (shows (reset_terms Group) none_values) l) rows_given.0) (every (db.trees 9) none_values) all in
       let written = went rows_given.2 in
       let trees : done.0.trees ≡ written.0 = ap (λ (it : Written). it.trees) (same_value written.2) in
-      let applied = one_step schema Enforced db.trees written.0 (edit_of db.trees (entry_table Group f.first.groups) (ids_of rows_given.0) Given 1 rows_given.0) refl written.1 in
-      let reset = all_renewed (entry_table Group f.first.groups) db.trees (shows (reset_terms Group) []) (reset_row Group) rows_given.0 numbers every_row (λ r. refl)
-      (λ r there. let n = numbers r there in let e = show r there in writes_reset Group f.first.groups r n.0 e.0 n.1 e.1) applied.fresh in
-      let is : after.trees 3 ≡ edited db.trees (edit_of db.trees (entry_table Group f.first.groups) (ids_of rows_given.0) Given 1 rows_given.0) =
-      ap (λ (d : Database). d.trees 3) now ∙ ap (λ (t : Trees). t 3) trees ∙ applied.rows in (
+      let applied = one_step schema Enforced db.trees written.0 (edit_of db.trees (table_of third_groups f.groups) (ids_of rows_given.0) Given 1 rows_given.0) refl written.1 in
+      let reset = all_renewed (table_of third_groups f.groups) db.trees (shows (reset_terms Group) none_values) (reset_row Group) rows_given.0 numbers every_row (λ r. refl)
+      (λ r there. let n = numbers r there in let e = show r there in writes_reset Group f.groups r n.0 e.0 n.1 e.1) applied.fresh in
+      let is : after.trees 9 ≡ edited db.trees (edit_of db.trees (table_of third_groups f.groups) (ids_of rows_given.0) Given 1 rows_given.0) =
+      ap (λ (d : Database). d.trees 9) now ∙ ap (λ (t : Trees). t 9) trees ∙ applied.rows in (
         ap (λ (d : Database). d.schema) now,
         record {
-          resets = subst (IsPermutation (map (reset_row Group) (db.trees 3))) (sym is) reset;
-          users = λ _. ap (λ (d : Database). d.trees 5) now ∙ ap (λ (t : Trees). t 5) trees ∙ applied.tables.1.1.1.0 (λ (e : 5 ≡ 3). omega (arith, e));
+          resets = subst (IsPermutation (map (reset_row Group) (db.trees 9))) (sym is) reset;
+          users = λ _. ap (λ (d : Database). d.trees 7) now ∙ ap (λ (t : Trees). t 7) trees ∙ applied.tables.1.1.1.1.0 (λ (e : 7 ≡ 9). omega (arith, e));
           groups = λ e. absurd (cc);
         },
       )
 
-  pub resets_by : (kind : Kind) → AreNumbered (db.trees (entry_tree kind)) → AllShow kind (db.trees (entry_tree kind)) → Does limit plain_mode [] db sql None (reset_command kind) (Ok (tally, after)) → (after.schema ≡ schema) × ResetsOne kind db.trees after.trees
+  pub resets_by : (kind : Kind) → AreNumbered (db.trees (entry_tree kind)) → AllShow kind (db.trees (entry_tree kind)) → Does limit plain_mode none_values db sql None (reset_command kind) (Ok (tally, after)) → (after.schema ≡ schema) × ResetsOne kind db.trees after.trees
   resets_by User numbers show does = resets_users numbers show does
   resets_by Group numbers show does = resets_groups numbers show does

@@ -16,7 +16,7 @@ use Rattle.scim_key.specs.declared.records.Kind.TheVariants.{User, Group}
 use Rattle.sql_tables.proofs.Queries.{IsSelect, query}
 use Rattle.sql_tables.proofs.Editing.{IsWrite}
 use Rattle.sql_tables.proofs.Marking.{marked_shown}
-use Rattle.journal_store.specs.Format.{journal_schema, column_count, entry_columns, places, entry_tree, entry_place, find_text, all_text, insert_text, update_text, marked_text, numbers_text}
+use Rattle.journal_store.specs.Format.{journal_schema, column_count, entry_tables, places, entry_tree, entry_place, find_text, all_text, insert_text, update_text, marked_text, numbers_text}
 use Rattle.sql_tables.specs.Layouts.{format_tree}
 
 abbrev pub key_is : Term
@@ -26,7 +26,7 @@ abbrev pub shown_terms : Kind → List Term
 shown_terms kind = map (col 1) (places 1 (column_count kind))
 
 abbrev pub names : Kind → List (List ℕ)
-names kind = map (λ (c : Column). c.name) (entry_columns kind)
+names kind = map (λ (c : Column). c.name) (entry_tables kind).columns
 
 pub find_is : (kind : Kind) → IsSelect journal_schema (find_text kind) (entry_tree kind) (key_is ∷ []) (shown_terms kind) [] (names kind) 1
 unfolding understood everything

@@ -1,5 +1,6 @@
 -- The calls of a reset.
-use Rattle.std.proofs.Common.{◌≡◌, ℕ, List, [], None, Ok, subst}
+use Rattle.std.proofs.Common.{◌≡◌, ℕ, List, None, Ok, subst}
+use Rattle.sqlite_value.specs.Order.{Row}
 use Rattle.sqlite.specs.Does.{Does}
 use Rattle.sqlite.specs.Listing.{understood}
 use Rattle.sqlite.specs.State.{State}
@@ -10,7 +11,7 @@ use Rattle.journal_core.specs.declared.journals.JournalFault.{JournalFault}
 use Rattle.sql_tables.specs.Statements.{Ran, plain_mode}
 use Rattle.sql_tables.proofs.Editing.{command_is, edits_by}
 use Rattle.journal_store.specs.Connections.{Commits, IsEditText, IsLaid}
-use Rattle.journal_store.specs.Resets.{IsListed, ResetsOne, reset_text}
+use Rattle.journal_store.specs.Resets.{IsListed, ResetsOne, none_values, reset_text}
 use Rattle.journal_store.proofs.Calls.{fault_as}
 use Rattle.journal_store.proofs.Resetting.{reset_is, resets_by}
 use Rattle.journal_store.proofs.Unlearning.{all_show}
@@ -20,11 +21,11 @@ use Rattle.journal_store.proofs.Unlearning.{all_show}
 pub reset_edits : (kind : Kind) → IsEditText (reset_text kind)
 reset_edits kind = edits_by (reset_is kind) tt
 
-pub reset_made : (old new : State) (kind : Kind) (sql : List ℕ) → sql ≡ reset_text kind → IsLaid old → IsListed kind old.now.trees → Ran sql [] old new → Commits (ResetsOne kind) old new
-reset_made old new kind sql text laid listed ran =
+pub reset_made : (old new : State) (kind : Kind) (sql : List ℕ) (params : Row) → sql ≡ reset_text kind → params ≡ none_values → IsLaid old → IsListed kind old.now.trees → Ran sql params old new → Commits (ResetsOne kind) old new
+reset_made old new kind sql params text none laid listed ran =
     let command = command_is (reset_is kind) old ran.compiled laid (subst (λ t. understood old.now.schema t ≡ Ok ran.compiled) text ran.is) in
     let made = resets_by ran.limit laid.form old.now new.now ran.tally ran.text laid.schema kind listed.numbered (all_show kind old.now.trees listed.list listed.shows)
-    (subst (λ k. Does ran.limit plain_mode [] old.now ran.text None k (Ok (ran.tally, new.now))) command ran.does) in
+    (subst (λ k. Does ran.limit plain_mode none_values old.now ran.text None k (Ok (ran.tally, new.now))) command (subst (λ p. Does ran.limit plain_mode p old.now ran.text None ran.compiled.command (Ok (ran.tally, new.now))) none ran.does)) in
     record {
       was_open = ran.was_open;
       is_open = ran.is_open;

@@ -16,12 +16,12 @@ use Rattle.sqlite.specs.Does.{Tally, Does}
 use Rattle.sqlite.specs.Rows.{Written}
 use Rattle.sqlite.proofs.Callers.{one_step, one_permutation}
 use Rattle.scim_key.specs.declared.records.Kind.TheVariants.{User, Group}
-use Rattle.scim_key.specs.Revisions.{RevisionValue, revision_number}
+use Rattle.scim_key.specs.Revisions.{RevisionValue, revision_epoch, revision_number}
 use Rattle.source_csv.specs.Records.{row_name}
 use Rattle.source_csv.specs.Rows.{GroupFields, UserFields}
 use Rattle.source_csv.specs.declared.rows.Row.TheVariants as source
 use Rattle.sqlite_rules.specs.Cast.{cast_all}
-use Rattle.journal_store.specs.Format.{Form, journal_schema, entry_columns, entry_table}
+use Rattle.journal_store.specs.Format.{Form, journal_schema, table_of, third_groups, third_users}
 use Rattle.sql_tables.specs.Statements.{plain_mode}
 use Rattle.sql_tables.proofs.Queries.{query}
 use Rattle.sql_tables.proofs.Values.{cast_int, cast_null}
@@ -52,47 +52,47 @@ module _ (limit : Option ℕ) (f : Form) (db after : Database) (tally : Tally) (
     abbrev user_key : List ℕ
     user_key = (row_name (source.User u)).key
 
-    user_cast : cast_all (entry_columns User) user_row ≡ user_row
-    user_cast = rw (cast_int (pos (revision_number u.revision)), cast_int (pos (active_number u.active)), cast_int (pos (revision_number confirmed)), cast_id id) refl
+    user_cast : cast_all third_users.columns user_row ≡ user_row
+    user_cast = rw (cast_int (pos (revision_number u.revision)), cast_int (pos (active_number u.active)), cast_int (pos (revision_number confirmed)), cast_id id, cast_int (pos (revision_epoch u.revision)), cast_int (pos (revision_epoch confirmed))) refl
 
-    pub inserts_user : Does limit plain_mode user_row db sql None (Insert 3 (Values (insert_terms User) (insert_width User))) (Ok (tally, after))
-        → (n : ℤ) × (after.schema ≡ schema) × (is_taken (db.trees 5) (Int n ∷ user_row) ≡ false) × (after.trees 5 ≡ put_row (Int n ∷ user_row) (db.trees 5)) × (after.trees 3 ≡ db.trees 3)
+    pub inserts_user : Does limit plain_mode user_row db sql None (Insert 4 (Values (insert_terms User) (insert_width User))) (Ok (tally, after))
+        → (n : ℤ) × (after.schema ≡ schema) × (is_taken (db.trees 7) (Int n ∷ user_row) ≡ false) × (after.trees 7 ≡ put_row (Int n ∷ user_row) (db.trees 7)) × (after.trees 9 ≡ db.trees 9)
     inserts_user does =
-        let done = went (subst (λ s. Does limit plain_mode user_row (record db { schema = s }) sql None (Insert 3 (Values (insert_terms User) (insert_width User))) (Ok (tally, after))) has does) in
+        let done = went (subst (λ s. Does limit plain_mode user_row (record db { schema = s }) sql None (Insert 4 (Values (insert_terms User) (insert_width User))) (Ok (tally, after))) has does) in
         let now = ap (λ (t : Tally × Database). t.1) (same_value (went (went done.2).2).2) in
         let rows_given = went done.1 in
         let written = went (went rows_given.2).2 in
         let counted = went written.2 in
         let trees : done.0.trees ≡ written.0 = ap (λ (it : Written). it.trees) (same_value counted.2) ∙ same_value counted.1 in
-        let applied = one_step schema Enforced db.trees written.0 (edit_of db.trees (entry_table User f.users) [] Chosen 0 rows_given.0) refl written.1 in
-        let news : (edit_of db.trees (entry_table User f.users) [] Chosen 0 rows_given.0).news ≡ (Int (next_rowid (db.trees 5)) ∷ user_row) ∷ [] =
-        ap (λ all. (edit_of db.trees (entry_table User f.users) [] Chosen 0 all).news) rows_given.1.1 ∙ rw (cast_null, user_cast) refl in (
-          next_rowid (db.trees 5),
+        let applied = one_step schema Enforced db.trees written.0 (edit_of db.trees (table_of third_users f.users) [] Chosen 0 rows_given.0) refl written.1 in
+        let news : (edit_of db.trees (table_of third_users f.users) [] Chosen 0 rows_given.0).news ≡ (Int (next_rowid (db.trees 7)) ∷ user_row) ∷ [] =
+        ap (λ all. (edit_of db.trees (table_of third_users f.users) [] Chosen 0 all).news) rows_given.1.1 ∙ rw (cast_null, user_cast) refl in (
+          next_rowid (db.trees 7),
           ap (λ (d : Database). d.schema) now,
-          fresh_one (is_taken (db.trees 5) (Int (next_rowid (db.trees 5)) ∷ user_row)) (subst (λ (l : List Row). are_fresh (db.trees 5) l ≡ true) news applied.fresh),
-          ap (λ (d : Database). d.trees 5) now ∙ ap (λ (t : Trees). t 5) trees ∙ applied.rows ∙ ap (put_all (db.trees 5)) news,
-          ap (λ (d : Database). d.trees 3) now ∙ ap (λ (t : Trees). t 3) trees ∙ applied.tables.1.1.0 (λ (e : 3 ≡ 5). omega (arith, e)),
+          fresh_one (is_taken (db.trees 7) (Int (next_rowid (db.trees 7)) ∷ user_row)) (subst (λ (l : List Row). are_fresh (db.trees 7) l ≡ true) news applied.fresh),
+          ap (λ (d : Database). d.trees 7) now ∙ ap (λ (t : Trees). t 7) trees ∙ applied.rows ∙ ap (put_all (db.trees 7)) news,
+          ap (λ (d : Database). d.trees 9) now ∙ ap (λ (t : Trees). t 9) trees ∙ applied.tables.1.1.1.1.1.0 (λ (e : 9 ≡ 7). omega (arith, e)),
         )
 
-    pub updates_user : (r : Row) (n : ℤ) → filter (has_key user_key) (db.trees 5) ≡ r ∷ [] → rowid r ≡ Int n → column r 1 ≡ Text user_key
-        → Does limit plain_mode user_row db sql None (Update 3 (record { lets = []; body = query 5 (key_is ∷ []) (update_terms User) [] })) (Ok (tally, after))
-        → (after.schema ≡ schema) × (after.trees 5 ≡ put_row (Int n ∷ user_row) (without_rowid n (db.trees 5))) × (after.trees 3 ≡ db.trees 3)
+    pub updates_user : (r : Row) (n : ℤ) → filter (has_key user_key) (db.trees 7) ≡ r ∷ [] → rowid r ≡ Int n → column r 1 ≡ Text user_key
+        → Does limit plain_mode user_row db sql None (Update 4 (record { lets = []; body = query 7 (key_is ∷ []) (update_terms User) [] })) (Ok (tally, after))
+        → (after.schema ≡ schema) × (after.trees 7 ≡ put_row (Int n ∷ user_row) (without_rowid n (db.trees 7))) × (after.trees 9 ≡ db.trees 9)
     updates_user r n only number_is key_at does =
-        let command = Update 3 (record { lets = []; body = query 5 (key_is ∷ []) (update_terms User) [] }) in
+        let command = Update 4 (record { lets = []; body = query 7 (key_is ∷ []) (update_terms User) [] }) in
         let done = went (subst (λ s. Does limit plain_mode user_row (record db { schema = s }) sql None command (Ok (tally, after))) has does) in
         let now = ap (λ (t : Tally × Database). t.1) (same_value (went (went done.2).2).2) in
         let rows_given = went done.1 in
         let all = selected User (key_is ∷ []) (update_terms User) [] user_row (record { schema = schema; trees = db.trees }) rows_given.0 rows_given.1 in
         let one : rows_given.0 ≡ (Int n ∷ Int n ∷ user_row) ∷ [] =
-        one_permutation _ rows_given.0 (subst (λ l. IsPermutation l rows_given.0) (ap (map (shows (update_terms User) user_row)) (found_one user_key (drop 1 user_row) (db.trees 5) r only) ∙ rw (number_is, key_at) refl) all) in
+        one_permutation _ rows_given.0 (subst (λ l. IsPermutation l rows_given.0) (ap (map (shows (update_terms User) user_row)) (found_one user_key (drop 1 user_row) (db.trees 7) r only) ∙ rw (number_is, key_at) refl) all) in
         let written = went rows_given.2 in
         let trees : done.0.trees ≡ written.0 = ap (λ (it : Written). it.trees) (same_value written.2) in
-        let applied = one_step schema Enforced db.trees written.0 (edit_of db.trees (entry_table User f.users) (ids_of rows_given.0) Given 1 rows_given.0) refl written.1 in
-        let edit : edited db.trees (edit_of db.trees (entry_table User f.users) (ids_of rows_given.0) Given 1 rows_given.0) ≡ put_row (Int n ∷ user_row) (without_rowid n (db.trees 5)) =
-        ap (λ all. edited db.trees (edit_of db.trees (entry_table User f.users) (ids_of all) Given 1 all)) one ∙ rw (cast_int n, user_cast) refl in (
+        let applied = one_step schema Enforced db.trees written.0 (edit_of db.trees (table_of third_users f.users) (ids_of rows_given.0) Given 1 rows_given.0) refl written.1 in
+        let edit : edited db.trees (edit_of db.trees (table_of third_users f.users) (ids_of rows_given.0) Given 1 rows_given.0) ≡ put_row (Int n ∷ user_row) (without_rowid n (db.trees 7)) =
+        ap (λ all. edited db.trees (edit_of db.trees (table_of third_users f.users) (ids_of all) Given 1 all)) one ∙ rw (cast_int n, user_cast) refl in (
           ap (λ (d : Database). d.schema) now,
-          ap (λ (d : Database). d.trees 5) now ∙ ap (λ (t : Trees). t 5) trees ∙ applied.rows ∙ edit,
-          ap (λ (d : Database). d.trees 3) now ∙ ap (λ (t : Trees). t 3) trees ∙ applied.tables.1.1.0 (λ (e : 3 ≡ 5). omega (arith, e)),
+          ap (λ (d : Database). d.trees 7) now ∙ ap (λ (t : Trees). t 7) trees ∙ applied.rows ∙ edit,
+          ap (λ (d : Database). d.trees 9) now ∙ ap (λ (t : Trees). t 9) trees ∙ applied.tables.1.1.1.1.1.0 (λ (e : 9 ≡ 7). omega (arith, e)),
         )
 
   module _ (g : GroupFields) (confirmed : RevisionValue) (id : Option (List ℕ)) where
@@ -102,45 +102,45 @@ module _ (limit : Option ℕ) (f : Form) (db after : Database) (tally : Tally) (
     abbrev group_key : List ℕ
     group_key = (row_name (source.Group g)).key
 
-    group_cast : cast_all (entry_columns Group) group_row ≡ group_row
-    group_cast = rw (cast_int (pos (revision_number g.revision)), cast_int (pos (revision_number confirmed)), cast_id id) refl
+    group_cast : cast_all third_groups.columns group_row ≡ group_row
+    group_cast = rw (cast_int (pos (revision_number g.revision)), cast_int (pos (revision_number confirmed)), cast_id id, cast_int (pos (revision_epoch g.revision)), cast_int (pos (revision_epoch confirmed))) refl
 
-    pub inserts_group : Does limit plain_mode group_row db sql None (Insert 2 (Values (insert_terms Group) (insert_width Group))) (Ok (tally, after))
-        → (n : ℤ) × (after.schema ≡ schema) × (is_taken (db.trees 3) (Int n ∷ group_row) ≡ false) × (after.trees 3 ≡ put_row (Int n ∷ group_row) (db.trees 3)) × (after.trees 5 ≡ db.trees 5)
+    pub inserts_group : Does limit plain_mode group_row db sql None (Insert 5 (Values (insert_terms Group) (insert_width Group))) (Ok (tally, after))
+        → (n : ℤ) × (after.schema ≡ schema) × (is_taken (db.trees 9) (Int n ∷ group_row) ≡ false) × (after.trees 9 ≡ put_row (Int n ∷ group_row) (db.trees 9)) × (after.trees 7 ≡ db.trees 7)
     inserts_group does =
-        let done = went (subst (λ s. Does limit plain_mode group_row (record db { schema = s }) sql None (Insert 2 (Values (insert_terms Group) (insert_width Group))) (Ok (tally, after))) has does) in
+        let done = went (subst (λ s. Does limit plain_mode group_row (record db { schema = s }) sql None (Insert 5 (Values (insert_terms Group) (insert_width Group))) (Ok (tally, after))) has does) in
         let now = ap (λ (t : Tally × Database). t.1) (same_value (went (went done.2).2).2) in
         let rows_given = went done.1 in
         let written = went (went rows_given.2).2 in
         let counted = went written.2 in
         let trees : done.0.trees ≡ written.0 = ap (λ (it : Written). it.trees) (same_value counted.2) ∙ same_value counted.1 in
-        let applied = one_step schema Enforced db.trees written.0 (edit_of db.trees (entry_table Group f.first.groups) [] Chosen 0 rows_given.0) refl written.1 in
-        let news : (edit_of db.trees (entry_table Group f.first.groups) [] Chosen 0 rows_given.0).news ≡ (Int (next_rowid (db.trees 3)) ∷ group_row) ∷ [] =
-        ap (λ all. (edit_of db.trees (entry_table Group f.first.groups) [] Chosen 0 all).news) rows_given.1.1 ∙ rw (cast_null, group_cast) refl in (
-          next_rowid (db.trees 3),
+        let applied = one_step schema Enforced db.trees written.0 (edit_of db.trees (table_of third_groups f.groups) [] Chosen 0 rows_given.0) refl written.1 in
+        let news : (edit_of db.trees (table_of third_groups f.groups) [] Chosen 0 rows_given.0).news ≡ (Int (next_rowid (db.trees 9)) ∷ group_row) ∷ [] =
+        ap (λ all. (edit_of db.trees (table_of third_groups f.groups) [] Chosen 0 all).news) rows_given.1.1 ∙ rw (cast_null, group_cast) refl in (
+          next_rowid (db.trees 9),
           ap (λ (d : Database). d.schema) now,
-          fresh_one (is_taken (db.trees 3) (Int (next_rowid (db.trees 3)) ∷ group_row)) (subst (λ (l : List Row). are_fresh (db.trees 3) l ≡ true) news applied.fresh),
-          ap (λ (d : Database). d.trees 3) now ∙ ap (λ (t : Trees). t 3) trees ∙ applied.rows ∙ ap (put_all (db.trees 3)) news,
-          ap (λ (d : Database). d.trees 5) now ∙ ap (λ (t : Trees). t 5) trees ∙ applied.tables.1.1.1.0 (λ (e : 5 ≡ 3). omega (arith, e)),
+          fresh_one (is_taken (db.trees 9) (Int (next_rowid (db.trees 9)) ∷ group_row)) (subst (λ (l : List Row). are_fresh (db.trees 9) l ≡ true) news applied.fresh),
+          ap (λ (d : Database). d.trees 9) now ∙ ap (λ (t : Trees). t 9) trees ∙ applied.rows ∙ ap (put_all (db.trees 9)) news,
+          ap (λ (d : Database). d.trees 7) now ∙ ap (λ (t : Trees). t 7) trees ∙ applied.tables.1.1.1.1.0 (λ (e : 7 ≡ 9). omega (arith, e)),
         )
 
-    pub updates_group : (r : Row) (n : ℤ) → filter (has_key group_key) (db.trees 3) ≡ r ∷ [] → rowid r ≡ Int n → column r 1 ≡ Text group_key
-        → Does limit plain_mode group_row db sql None (Update 2 (record { lets = []; body = query 3 (key_is ∷ []) (update_terms Group) [] })) (Ok (tally, after))
-        → (after.schema ≡ schema) × (after.trees 3 ≡ put_row (Int n ∷ group_row) (without_rowid n (db.trees 3))) × (after.trees 5 ≡ db.trees 5)
+    pub updates_group : (r : Row) (n : ℤ) → filter (has_key group_key) (db.trees 9) ≡ r ∷ [] → rowid r ≡ Int n → column r 1 ≡ Text group_key
+        → Does limit plain_mode group_row db sql None (Update 5 (record { lets = []; body = query 9 (key_is ∷ []) (update_terms Group) [] })) (Ok (tally, after))
+        → (after.schema ≡ schema) × (after.trees 9 ≡ put_row (Int n ∷ group_row) (without_rowid n (db.trees 9))) × (after.trees 7 ≡ db.trees 7)
     updates_group r n only number_is key_at does =
-        let command = Update 2 (record { lets = []; body = query 3 (key_is ∷ []) (update_terms Group) [] }) in
+        let command = Update 5 (record { lets = []; body = query 9 (key_is ∷ []) (update_terms Group) [] }) in
         let done = went (subst (λ s. Does limit plain_mode group_row (record db { schema = s }) sql None command (Ok (tally, after))) has does) in
         let now = ap (λ (t : Tally × Database). t.1) (same_value (went (went done.2).2).2) in
         let rows_given = went done.1 in
         let all = selected Group (key_is ∷ []) (update_terms Group) [] group_row (record { schema = schema; trees = db.trees }) rows_given.0 rows_given.1 in
         let one : rows_given.0 ≡ (Int n ∷ Int n ∷ group_row) ∷ [] =
-        one_permutation _ rows_given.0 (subst (λ l. IsPermutation l rows_given.0) (ap (map (shows (update_terms Group) group_row)) (found_one group_key (drop 1 group_row) (db.trees 3) r only) ∙ rw (number_is, key_at) refl) all) in
+        one_permutation _ rows_given.0 (subst (λ l. IsPermutation l rows_given.0) (ap (map (shows (update_terms Group) group_row)) (found_one group_key (drop 1 group_row) (db.trees 9) r only) ∙ rw (number_is, key_at) refl) all) in
         let written = went rows_given.2 in
         let trees : done.0.trees ≡ written.0 = ap (λ (it : Written). it.trees) (same_value written.2) in
-        let applied = one_step schema Enforced db.trees written.0 (edit_of db.trees (entry_table Group f.first.groups) (ids_of rows_given.0) Given 1 rows_given.0) refl written.1 in
-        let edit : edited db.trees (edit_of db.trees (entry_table Group f.first.groups) (ids_of rows_given.0) Given 1 rows_given.0) ≡ put_row (Int n ∷ group_row) (without_rowid n (db.trees 3)) =
-        ap (λ all. edited db.trees (edit_of db.trees (entry_table Group f.first.groups) (ids_of all) Given 1 all)) one ∙ rw (cast_int n, group_cast) refl in (
+        let applied = one_step schema Enforced db.trees written.0 (edit_of db.trees (table_of third_groups f.groups) (ids_of rows_given.0) Given 1 rows_given.0) refl written.1 in
+        let edit : edited db.trees (edit_of db.trees (table_of third_groups f.groups) (ids_of rows_given.0) Given 1 rows_given.0) ≡ put_row (Int n ∷ group_row) (without_rowid n (db.trees 9)) =
+        ap (λ all. edited db.trees (edit_of db.trees (table_of third_groups f.groups) (ids_of all) Given 1 all)) one ∙ rw (cast_int n, group_cast) refl in (
           ap (λ (d : Database). d.schema) now,
-          ap (λ (d : Database). d.trees 3) now ∙ ap (λ (t : Trees). t 3) trees ∙ applied.rows ∙ edit,
-          ap (λ (d : Database). d.trees 5) now ∙ ap (λ (t : Trees). t 5) trees ∙ applied.tables.1.1.1.0 (λ (e : 5 ≡ 3). omega (arith, e)),
+          ap (λ (d : Database). d.trees 9) now ∙ ap (λ (t : Trees). t 9) trees ∙ applied.rows ∙ edit,
+          ap (λ (d : Database). d.trees 7) now ∙ ap (λ (t : Trees). t 7) trees ∙ applied.tables.1.1.1.1.0 (λ (e : 7 ≡ 9). omega (arith, e)),
         )

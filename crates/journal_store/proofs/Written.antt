@@ -21,7 +21,7 @@ use Rattle.journal_core.specs.declared.entries.Entry.{Entry}
 use Rattle.journal_store.specs.Format.{journal_schema, entry_place, entry_tree}
 use Rattle.sql_tables.specs.Statements.{IsEdit, IsEditText, MayLeave, Ran, plain_mode}
 use Rattle.sql_tables.proofs.Queries.{query}
-use Rattle.journal_store.specs.Rows.{id_value, members_text, revision_value, row_by, row_of}
+use Rattle.journal_store.specs.Rows.{epoch_value, id_value, members_text, revision_value, row_by, row_of}
 use Rattle.journal_store.specs.Connections.{IsLaid, IsThere, Makes, PutsIn, put_text}
 use Rattle.journal_store.proofs.Texts.{key_is, insert_terms, insert_width, insert_is, update_terms, update_is}
 use Rattle.sql_tables.proofs.Editing.{IsWrite, command_is, edits_by}
@@ -108,9 +108,9 @@ put_stops old new is_there entry lawful laid there it =
 
 -- ---- what is bound is the row
 
-pub group_bound : (g : GroupFields) (confirmed : RevisionValue) (id : Option (List ℕ)) {k l r m c i : Value} → k ≡ Text (row_name (Group g)).key → l ≡ Text g.name → r ≡ revision_value g.revision → m ≡ Text (members_text g.members)
-    → c ≡ revision_value confirmed → i ≡ id_value id → ◌≡◌ {A = Row} (k ∷ l ∷ r ∷ m ∷ c ∷ i ∷ []) (row_by (Group g) confirmed id)
-group_bound g confirmed id k l r m c i = λ j. k j ∷ l j ∷ r j ∷ m j ∷ c j ∷ i j ∷ []
+pub group_bound : (g : GroupFields) (confirmed : RevisionValue) (id : Option (List ℕ)) {k l r m c i e d : Value} → k ≡ Text (row_name (Group g)).key → l ≡ Text g.name → r ≡ revision_value g.revision → m ≡ Text (members_text g.members)
+    → c ≡ revision_value confirmed → i ≡ id_value id → e ≡ epoch_value g.revision → d ≡ epoch_value confirmed → ◌≡◌ {A = Row} (k ∷ l ∷ r ∷ m ∷ c ∷ i ∷ e ∷ d ∷ []) (row_by (Group g) confirmed id)
+group_bound g confirmed id k l r m c i e d = λ j. k j ∷ l j ∷ r j ∷ m j ∷ c j ∷ i j ∷ e j ∷ d j ∷ []
 
 -- ---- the same, of a row of one type
 

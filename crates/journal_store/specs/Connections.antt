@@ -45,12 +45,12 @@ pub record ShowsSource (kind : Kind) (shown : Row) (row : source.Row) : Type 0 w
   pub texts : AllByRecursion IsReadable (texts_of kind shown)
 
 -- from this column on, the row shows the rest of the entry with this source row: its confirmed revision, which isn't
--- above the source row's, and its id
+-- above the source row's, and its id; the epochs of both revisions come last
 pub record ShowsRest (kind : Kind) (shown : Row) (row : source.Row) (after : ℕ) (entry : Entry) : Type 0 where
   pub row_is : entry.row ≡ row
   pub key : column shown 0 ≡ Text (row_name row).key
   pub kind_is : (row_name row).kind ≡ kind
-  pub confirmed : confirmed_in (column shown after) ≡ Some entry.confirmed
+  pub confirmed : confirmed_in (column shown (after + 3)) (column shown after) ≡ Some entry.confirmed
   pub id_is : id_in (column shown (after + 1)) ≡ Some entry.id
   pub id : IsLawfulId entry.id
   pub within : entry.confirmed ≼ row_revision row

@@ -7,3 +7,4 @@ pub mod Opening
 pub mod Kept
 pub mod KeptLaws
 pub mod Resets
+pub mod Carrying

@@ -23,10 +23,10 @@ use Rattle.journal_core.specs.Entries.{EntryMap, most_records}
 use Rattle.journal_core.specs.declared.entries.Entry.{Entry}
 use Rattle.journal_core.specs.declared.journals.JournalFault.{JournalFault}
 use Rattle.journal_core.specs.declared.journals.JournalFault.TheVariants as journal
-use Rattle.journal_store.specs.Format.{journal_schema, format_number, entry_tree, first_number, first_schema, first_tree, key_places, keyed_index, keyed_table}
+use Rattle.journal_store.specs.Format.{EntryTable, entry_tree, first_number, first_schema, first_tree, format_number, index_of, journal_schema, key_places, marked_schema, second_number, second_schema, second_tree, table_of}
 use Rattle.sql_tables.specs.Layouts.{IsBlank, IsFormat, IsLaid as IsLaidBy, IsOne, IsPlainTable, no_schema}
 use Rattle.sql_tables.specs.Faults.{HasFailed}
-use Rattle.journal_store.specs.Rows.{entries_by, entries_in, first_row, shown_row}
+use Rattle.journal_store.specs.Rows.{entries_by, entries_in, first_row, second_row, shown_row}
 use Rattle.journal_store.specs.Connections.{FailsToRise, HasNumbersBy, ListsAllBy, Shows}
 use Rattle.journal_store.specs.declared.statements.TableFault.{TableFault}
 use Rattle.journal_store.specs.declared.statements.TableFault.TheVariants as table
@@ -50,17 +50,25 @@ pub record IsEntryTable (name : List ℕ) (tree : ℕ) (columns : List Column) (
   pub columns_are : it.columns ≡ columns
   pub keyed : IsKeyed it
 
--- the table of entries with this name, tree and columns, and the index of its keys
-abbrev pub IsKeyedTable : (name index : List ℕ) (tree : ℕ) (columns : List Column) → Table → Index → Type 0
-IsKeyedTable name index tree columns table keys = (table ≡ keyed_table name tree columns keys.order) × (keys ≡ keyed_index index tree keys.order)
+-- this table of entries, and the index of its keys
+abbrev pub IsKeyedTable : EntryTable → Table → Index → Type 0
+IsKeyedTable entries table keys = (table ≡ table_of entries keys.order) × (keys ≡ index_of entries keys.order)
 
 -- the schema has exactly the tables of the format
 abbrev pub IsJournal : Schema → Type 0
 IsJournal = IsOne journal_schema
 
+-- the schema has exactly the tables of the second format
+abbrev pub IsSecond : Schema → Type 0
+IsSecond = IsOne second_schema
+
 -- the schema has exactly the tables of the first format
 abbrev pub IsFirst : Schema → Type 0
 IsFirst = IsOne first_schema
+
+-- the first table of the schema is that of the format
+abbrev pub HasFormatTable : Schema → Type 0
+HasFormatTable = IsOne marked_schema
 
 -- ---- faults
 
@@ -161,21 +169,35 @@ pub record IsStoreBy {Form : Type 0} (layout : Form → Schema) (number : ℕ) (
 abbrev pub IsStore : State → EntryMap → Type 0
 IsStore = IsStoreBy journal_schema format_number entry_tree shown_row
 
+-- the tables are of the second format, and hold these entries
+abbrev pub IsSecondStore : State → EntryMap → Type 0
+IsSecondStore = IsStoreBy second_schema second_number second_tree second_row
+
 -- the tables are of the first format, and hold these entries
 abbrev pub IsFirstStore : State → EntryMap → Type 0
 IsFirstStore = IsStoreBy first_schema first_number first_tree first_row
 
--- what is in a store: the entries of its tables, of the current format or of the first one, or none if there are no tables
+-- the tables are of an older format, and hold these entries
+abbrev pub IsOlderStore : State → EntryMap → Type 0
+IsOlderStore s entries = IsSecondStore s entries ⊎ IsFirstStore s entries
+
+-- what is in a store: the entries of its tables, of the current format or of an older one, or none if there are no tables
 abbrev pub Stands : State → EntryMap → Type 0
-Stands s entries = IsStore s entries ⊎ (IsFirstStore s entries ⊎ (IsBlank s × (entries ≡ empty)))
+Stands s entries = IsStore s entries ⊎ (IsOlderStore s entries ⊎ (IsBlank s × (entries ≡ empty)))
 
 -- ---- what is refused
 
--- there are tables, but not those of a format
+-- the table of the format has a number that is newer than the current format's
+abbrev pub IsNewer : State → Type 0
+IsNewer s = (number : ℕ) × (format_number < number) × IsFormat s number
+
+-- there are tables, but not those of a format; a table of the format shows no number that is newer than the current format's
 pub record IsForeign (s : State) : Type 0 where
   pub stand : s.now.schema ≢ no_schema
   pub other : IsJournal s.now.schema → ⊥
-  pub older : IsFirst s.now.schema → ⊥
+  pub second : IsSecond s.now.schema → ⊥
+  pub first : IsFirst s.now.schema → ⊥
+  pub older : HasFormatTable s.now.schema → IsNewer s → ⊥
 
 -- the tables aren't those of the format with this layout, or a transaction is open
 abbrev pub IsNotLaidBy : {Form : Type 0} → (Form → Schema) → State → Type 0
@@ -220,34 +242,37 @@ IsSpoiltBy layout number tree columns s = IsOne layout s.now.schema × ShowsDama
 abbrev pub IsSpoilt : State → Type 0
 IsSpoilt = IsSpoiltBy journal_schema format_number entry_tree shown_row
 
+abbrev pub IsSecondSpoilt : State → Type 0
+IsSecondSpoilt = IsSpoiltBy second_schema second_number second_tree second_row
+
 abbrev pub IsFirstSpoilt : State → Type 0
 IsFirstSpoilt = IsSpoiltBy first_schema first_number first_tree first_row
 
 -- the tables aren't a valid journal
 abbrev pub IsDamaged : State → Type 0
-IsDamaged s = IsForeign s ⊎ (IsSpoilt s ⊎ IsFirstSpoilt s)
-
--- the table of the format has a number that is newer than the current format's
-abbrev pub IsNewer : State → Type 0
-IsNewer s = (number : ℕ) × (format_number < number) × IsFormat s number
+IsDamaged s = IsForeign s ⊎ (IsSpoilt s ⊎ (IsSecondSpoilt s ⊎ IsFirstSpoilt s))
 
 -- why an opening refuses a store
 abbrev pub IsCause : State → JournalOpenFault → Type 0
 IsCause s = IsFor (IsNewer s) (IsDamaged s)
 
 -- why an opening says that the store failed: a transaction was open, the tables weren't there and couldn't be made, those of
--- the first format couldn't be carried over, or a statement that checks them failed
+-- an older format couldn't be carried over, or a statement that checks them failed
 abbrev pub OpeningFails : (old new : State) → Type 0
-OpeningFails old new = IsTrue old.in_transaction ⊎ ((old.now.schema ≡ no_schema) ⊎ (IsFirst old.now.schema ⊎ HasFailed old new))
+OpeningFails old new = IsTrue old.in_transaction ⊎ ((old.now.schema ≡ no_schema) ⊎ ((IsSecond old.now.schema ⊎ IsFirst old.now.schema) ⊎ HasFailed old new))
 
 -- a stop leaves no entry
 abbrev pub LeavesNone : Trees → Type 0
 LeavesNone db = entries_in db ≡ empty
 
--- a stop leaves the entries of the tables of the first format, carried over
-abbrev pub LeavesCarried : State → Trees → Type 0
-LeavesCarried s db = (entries : EntryMap) × IsFirstStore s entries × (entries_in db ≡ entries)
+-- a stop leaves the entries of the tables of the format with this layout and this number, carried over
+abbrev pub LeavesCarriedBy : {Form : Type 0} → (Form → Schema) → (number : ℕ) (tree : Kind → ℕ) (columns : Kind → Row → Row) → State → Trees → Type 0
+LeavesCarriedBy layout number tree columns s db = (entries : EntryMap) × IsStoreBy layout number tree columns s entries × (entries_in db ≡ entries)
 
--- a stop leaves what stood: no entry if there were no tables, or else the entries of the first format
+-- a stop leaves the entries of the tables of an older format, carried over
+abbrev pub LeavesCarried : State → Trees → Type 0
+LeavesCarried s db = (entries : EntryMap) × IsOlderStore s entries × (entries_in db ≡ entries)
+
+-- a stop leaves what stood: no entry if there were no tables, or else the entries of the older format
 abbrev pub LeavesStanding : State → Trees → Type 0
 LeavesStanding s db = ((s.now.schema ≡ no_schema) × LeavesNone db) ⊎ LeavesCarried s db

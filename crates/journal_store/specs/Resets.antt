@@ -1,9 +1,9 @@
 -- What a reset leaves: the row of each record, and nothing that was learnt of the provider.
-use Rattle.std.specs.Prelude.{◌≡◌, ◌+◌, ◌-◌, ℕ, pos, Bool, not, ◌||◌, List, [], ◌∷◌, ◌++◌, None, codes, is_some, map, IsPermutation}
+use Rattle.std.specs.Prelude.{◌≡◌, ◌+◌, ◌-◌, ℕ, Bool, not, ◌||◌, List, [], ◌∷◌, ◌++◌, None, codes, is_some, map, IsPermutation}
 use Rattle.std.specs.FinMap.{entries, from_entries, get, values}
 use Rattle.std.specs.List.{count_by}
 use Rattle.std.specs.Option.{option_map}
-use Rattle.sqlite_value.specs.declared.value.Value.TheVariants.{Int, Null}
+use Rattle.sqlite_value.specs.declared.value.Value.TheVariants.{Null}
 use Rattle.sqlite_value.specs.Order.{Row, column}
 use Rattle.sqlite_trees.specs.Tree.{Trees}
 use Rattle.scim_key.specs.Revisions.{no_revision, same_revision}
@@ -13,6 +13,7 @@ use Rattle.scim_key.specs.declared.records.RecordName.{RecordName}
 use Rattle.journal_core.specs.Entries.{EntryMap, IsListOf}
 use Rattle.journal_core.specs.declared.entries.Entry.{Entry}
 use Rattle.journal_store.specs.Format.{column_count, entry_tree, places}
+use Rattle.journal_store.specs.Rows.{epoch_value, revision_value}
 use Rattle.journal_store.specs.Connections.{AreNumbered, ListsAll}
 use Rattle.journal_store.specs.Opening.{AreLawful}
 
@@ -45,16 +46,20 @@ pub record ForgetsOnly : Type 0 where
 
 -- the statement that resets the entries of a type
 abbrev pub reset_text : Kind → List ℕ
-reset_text User = codes "UPDATE user_entry_2 SET confirmed = 0, id = NULL"
-reset_text Group = codes "UPDATE group_entry SET confirmed = 0, id = NULL"
+reset_text User = codes "UPDATE user_entry_3 SET confirmed = ?1, id = NULL, confirmed_epoch = ?2"
+reset_text Group = codes "UPDATE group_entry_3 SET confirmed = ?1, id = NULL, confirmed_epoch = ?2"
 
--- how many columns of a type's table a reset keeps: all but the last two
+-- what is written of no revision: its number and its epoch, both 0
+abbrev pub none_values : Row
+none_values = revision_value no_revision ∷ epoch_value no_revision ∷ []
+
+-- how many columns of a type's table come before those that a reset changes: all but the last four
 abbrev pub kept_count : Kind → ℕ
-kept_count kind = column_count kind - 2
+kept_count kind = column_count kind - 4
 
--- the row with its number and the columns that a reset keeps, and with 0 and NULL in the last two
+-- the row with its number, its columns before the confirmed revision, and its epoch; no revision is confirmed, and the id is NULL
 abbrev pub reset_row : Kind → Row → Row
-reset_row kind r = map (column r) (places 0 (1 + kept_count kind)) ++ Int (pos 0) ∷ Null ∷ []
+reset_row kind r = map (column r) (places 0 (1 + kept_count kind)) ++ revision_value no_revision ∷ Null ∷ column r (3 + kept_count kind) ∷ epoch_value no_revision ∷ []
 
 -- the table of a type has its rows, each reset
 abbrev pub Resets : Kind → (old new : Trees) → Type 0

@@ -9,7 +9,7 @@ use Rattle.sqlite_value.specs.declared.value.Value.TheVariants.{Null, Int, Real,
 use Rattle.sqlite_value.specs.Order.{Row, column}
 use Rattle.sqlite_trees.specs.Tree.{Trees}
 use Rattle.scim_key.specs.Identifiers.{IsId}
-use Rattle.scim_key.specs.Revisions.{RevisionValue, no_revision, revision_number, revision_of_number}
+use Rattle.scim_key.specs.Revisions.{RevisionValue, confirmed_of_parts, revision_epoch, revision_number, revision_of_parts}
 use Rattle.scim_key.specs.Records.{same_name}
 use Rattle.scim_key.specs.declared.records.Kind.{Kind}
 use Rattle.scim_key.specs.declared.records.Kind.TheVariants as kind
@@ -22,7 +22,7 @@ use Rattle.source_csv.specs.declared.rows.Row.TheVariants.{User, Group}
 use Rattle.source_csv.specs.declared.texts.TheConstants.{TEXT_FIELD_COUNT}
 use Rattle.journal_core.specs.Entries.{EntryMap, named}
 use Rattle.journal_core.specs.declared.entries.Entry.{Entry}
-use Rattle.journal_store.specs.Format.{column_count, entry_tree, first_tree, places}
+use Rattle.journal_store.specs.Format.{column_count, entry_tree, places, second_count}
 use Rattle.journal_store.specs.declared.format.TheConstants.{TEXT_ORDER}
 
 -- ---- how an entry is written
@@ -32,9 +32,12 @@ abbrev pub id_value : Option (List ℕ) → Value
 id_value None = Null
 id_value (Some id) = Text id
 
--- a number, 0 for no revision
+-- the number of a revision, and its epoch; both are 0 for no revision
 abbrev pub revision_value : RevisionValue → Value
 revision_value r = Int (pos (revision_number r))
+
+abbrev pub epoch_value : RevisionValue → Value
+epoch_value r = Int (pos (revision_epoch r))
 
 abbrev pub active_number : Bool → ℕ
 active_number true = 1
@@ -44,13 +47,14 @@ active_number false = 0
 abbrev pub members_text : List (List ℕ) → List ℕ
 members_text keys = join_with_byte 32 keys
 
--- the key, the fields of the row, the confirmed revision, and the id
+-- the key, the fields of the row, the confirmed revision, the id, and the epochs of both revisions
 abbrev pub row_by : source.Row → RevisionValue → Option (List ℕ) → Row
 row_by (User u) confirmed id =
     Text (row_name (User u)).key ∷ Text u.login ∷ revision_value u.revision
-    ∷ (map (λ which. Text (text_of u which)) TEXT_ORDER ++ Int (pos (active_number u.active)) ∷ revision_value confirmed ∷ id_value id ∷ [])
+    ∷ (map (λ which. Text (text_of u which)) TEXT_ORDER ++ Int (pos (active_number u.active)) ∷ revision_value confirmed ∷ id_value id ∷ epoch_value u.revision ∷ epoch_value confirmed ∷ [])
 row_by (Group g) confirmed id =
-    Text (row_name (Group g)).key ∷ Text g.name ∷ revision_value g.revision ∷ Text (members_text g.members) ∷ revision_value confirmed ∷ id_value id ∷ []
+    Text (row_name (Group g)).key ∷ Text g.name ∷ revision_value g.revision ∷ Text (members_text g.members)
+    ∷ revision_value confirmed ∷ id_value id ∷ epoch_value g.revision ∷ epoch_value confirmed ∷ []
 
 abbrev pub row_of : Entry → Row
 row_of e = row_by e.row e.confirmed e.id
@@ -75,16 +79,16 @@ number_in (Real x) = None
 number_in (Text t) = None
 number_in (Blob b) = None
 
-abbrev pub revision_in : Value → Option RevisionValue
-revision_in v = option_and_then revision_of_number (number_in v)
+-- the revision that is made of both parts, if each is a number
+abbrev pub parts_in : (epoch number : Value) → (ℕ → ℕ → Option RevisionValue) → Option RevisionValue
+parts_in epoch number of = option_and_then (λ e. option_and_then (of e) (number_in number)) (number_in epoch)
 
--- 0 is no revision
-abbrev pub confirmed_of : ℕ → Option RevisionValue
-confirmed_of zero = Some no_revision
-confirmed_of (suc n) = revision_of_number (suc n)
+abbrev pub revision_in : (epoch number : Value) → Option RevisionValue
+revision_in epoch number = parts_in epoch number revision_of_parts
 
-abbrev pub confirmed_in : Value → Option RevisionValue
-confirmed_in v = option_and_then confirmed_of (number_in v)
+-- 0 and 0 are no revision
+abbrev pub confirmed_in : (epoch number : Value) → Option RevisionValue
+confirmed_in epoch number = parts_in epoch number confirmed_of_parts
 
 abbrev pub active_of : ℕ → Option Bool
 active_of zero = Some false
@@ -131,7 +135,7 @@ texts_in r = all_texts (text_columns r)
 abbrev pub user_in : Row → Option source.Row
 user_in r = do
   login ← text_in (column r 1)
-  revision ← revision_in (column r 2)
+  revision ← revision_in (column r (6 + TEXT_FIELD_COUNT)) (column r 2)
   texts ← texts_in r
   active ← active_in (column r (3 + TEXT_FIELD_COUNT))
   Some (User (record { login = login; revision = revision; texts = texts; active = active }))
@@ -139,7 +143,7 @@ user_in r = do
 abbrev pub group_in : Row → Option source.Row
 group_in r = do
   name ← text_in (column r 1)
-  revision ← revision_in (column r 2)
+  revision ← revision_in (column r 6) (column r 2)
   members ← members_in (column r 3)
   Some (Group (record { name = name; revision = revision; members = members }))
 
@@ -156,8 +160,8 @@ entry_by row confirmed id = do
   Some (record { row = source; confirmed = revision; id = given })
 
 abbrev pub fields_in : Kind → Row → Option Entry
-fields_in kind.User r = entry_by (user_in r) (confirmed_in (column r (4 + TEXT_FIELD_COUNT))) (id_in (column r (5 + TEXT_FIELD_COUNT)))
-fields_in kind.Group r = entry_by (group_in r) (confirmed_in (column r 4)) (id_in (column r 5))
+fields_in kind.User r = entry_by (user_in r) (confirmed_in (column r (7 + TEXT_FIELD_COUNT)) (column r (4 + TEXT_FIELD_COUNT))) (id_in (column r (5 + TEXT_FIELD_COUNT)))
+fields_in kind.Group r = entry_by (group_in r) (confirmed_in (column r 7) (column r 4)) (id_in (column r 5))
 
 -- the entry, if it is of the record with this key
 abbrev pub keyed : Kind → List ℕ → Option Entry → Option Entry
@@ -194,10 +198,18 @@ IsLawfulId (Some id) = IsId id × IsUtf8 id
 abbrev pub shown_row : Kind → Row → Row
 shown_row type r = columns_at (places 1 (column_count type)) r
 
--- the columns of a row of the first format, as the queries show them: a user has an empty department
+-- the epochs that the queries of the older formats show
+abbrev pub no_epochs : Row
+no_epochs = Int (pos 0) ∷ Int (pos 0) ∷ []
+
+-- the columns of a row of the second format, as the queries show them: the epochs of its revisions are 0
+abbrev pub second_row : Kind → Row → Row
+second_row type r = columns_at (places 1 (second_count type)) r ++ no_epochs
+
+-- the columns of a row of the first format, as the queries show them: a user also has an empty department
 abbrev pub first_row : Kind → Row → Row
-first_row kind.User r = columns_at (places 1 7) r ++ Text [] ∷ columns_at (places 8 3) r
-first_row kind.Group r = shown_row kind.Group r
+first_row kind.User r = columns_at (places 1 7) r ++ Text [] ∷ columns_at (places 8 3) r ++ no_epochs
+first_row kind.Group r = second_row kind.Group r
 
 abbrev pub named_if : Option Entry → List (RecordName × Entry)
 named_if None = []
@@ -217,7 +229,3 @@ named_in type = named_by (shown_row type) type
 -- the entries of both tables
 abbrev pub entries_in : Trees → EntryMap
 entries_in = entries_by entry_tree shown_row
-
--- the entries of both tables of the first format
-abbrev pub first_entries : Trees → EntryMap
-first_entries = entries_by first_tree first_row

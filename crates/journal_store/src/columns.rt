@@ -66,27 +66,34 @@ fn value_of(alloc: Global, cell: ValueRef<'_>) -> Result<FieldValue, TableFault>
     }
 }
 
-fn revision_at(row: &Row, at: usize) -> Result<Revision, TableFault>
-    ensures value { IfOk result (λ revision. revision_in (column row.now at) ≡ Some revision) }
+/// The revision whose epoch and number are in these columns.
+fn revision_at(row: &Row, epoch: usize, number: usize) -> Result<Revision, TableFault>
+    ensures value { IfOk result (λ revision. revision_in (column row.now epoch) (column row.now number) ≡ Some revision) }
     ensures lawful { IfOk result (λ revision. IsRevision revision) }
-    ensures none { OnErr result (revision_in (column row.now at) ≡ None) }
+    ensures none { OnErr result (revision_in (column row.now epoch) (column row.now number) ≡ None) }
     ensures fault { IfErr result (λ fault. fault ≡ Damaged) }
 {
-    match number_at(row, at).and_then(Revision::of_number) {
+    let (Some(epoch), Some(number)) = (number_at(row, epoch), number_at(row, number)) else {
+        return Err(TableFault::Damaged);
+    };
+    match Revision::of_parts(epoch, number) {
         Some(revision) => Ok(revision),
         None => Err(TableFault::Damaged),
     }
 }
 
-/// The confirmed revision; 0 means none.
-fn confirmed_at(row: &Row, at: usize) -> Result<Revision, TableFault>
-    ensures some { IfOk result (λ revision. confirmed_in (column row.now at) ≡ Some revision) }
-    ensures none { OnErr result (confirmed_in (column row.now at) ≡ None) }
+/// The confirmed revision whose epoch and number are in these columns; 0 and 0 mean none.
+fn confirmed_at(row: &Row, epoch: usize, number: usize) -> Result<Revision, TableFault>
+    ensures some { IfOk result (λ revision. confirmed_in (column row.now epoch) (column row.now number) ≡ Some revision) }
+    ensures none { OnErr result (confirmed_in (column row.now epoch) (column row.now number) ≡ None) }
     ensures fault { IfErr result (λ fault. fault ≡ Damaged) }
 {
-    match number_at(row, at) {
-        Some(0) => Ok(Revision::none()),
-        _ => revision_at(row, at),
+    let (Some(epoch), Some(number)) = (number_at(row, epoch), number_at(row, number)) else {
+        return Err(TableFault::Damaged);
+    };
+    match Revision::confirmed_of_parts(epoch, number) {
+        Some(revision) => Ok(revision),
+        None => Err(TableFault::Damaged),
     }
 }
 
@@ -171,7 +178,7 @@ fn user_at(alloc: Global, row: &Row) -> Result<SourceRow, TableFault>
     ensures read { IfErr result IsOfRow }
 {
     let login = UserName::read(alloc, text_at(row, 1)?)?;
-    let revision = revision_at(row, 2)?;
+    let revision = revision_at(row, 6 + TEXT_FIELD_COUNT, 2)?;
     let texts = texts_at(alloc, row)?;
     let active = active_at(row, 3 + TEXT_FIELD_COUNT)?;
     match UserRow::new(login, revision, texts, active) {
@@ -187,7 +194,7 @@ fn group_at(alloc: Global, row: &Row) -> Result<SourceRow, TableFault>
     ensures read { IfErr result IsOfRow }
 {
     let name = GroupName::read(alloc, text_at(row, 1)?)?;
-    let revision = revision_at(row, 2)?;
+    let revision = revision_at(row, 6, 2)?;
     let members = members_of(alloc, text_at(row, 3)?)?;
     match GroupRow::new(name, revision, members) {
         Some(group) => Ok(SourceRow::Group(group)),
@@ -221,7 +228,7 @@ fn entry_of(
     ensures none { IfErr result (HasCause ((entry : _) → ShowsRest kind row.now source after entry → ⊥)) }
     ensures read { IfErr result IsOfRow }
 {
-    let confirmed = confirmed_at(row, after)?;
+    let confirmed = confirmed_at(row, after + 3, after)?;
     let id = id_at(alloc, row, after + 1)?;
     if !has_its_key(alloc, kind, row, &source)? || source.revision().is_before(confirmed) {
         return Err(TableFault::Damaged);

@@ -1,24 +1,55 @@
 //! The formats of a journal: their numbers, their tables, and the check of a schema at run time.
 ghost use Rattle.std.specs.Prelude.{◌≡◌, ◌<◌, [], ◌∷◌, IsTrue, map};
-ghost use Rattle.journal_store.specs.Format.{column_of, entry_columns, entry_name, entry_tree, first_columns, first_index_name, first_name, first_tree, index_name, key_places, keyed_index};
-ghost use Rattle.journal_store.specs.Opening.{IsEntryTable, IsFirst, IsJournal, IsKeyed, IsKeyedTable};
+ghost use Rattle.journal_store.specs.Format.{column_of, first_groups, first_users, key_places, keyed_index, second_users, third_groups, third_users};
+ghost use Rattle.journal_store.specs.Opening.{IsEntryTable, IsFirst, IsJournal, HasFormatTable, IsKeyed, IsKeyedTable, IsSecond};
 
-use scim_key::Kind as RecordKind;
 use source_csv::{TEXT_FIELD_COUNT, TextField};
 use sql_tables::{Layout, has_order, is_column, is_format, is_plain};
 use sqlite_schema::schema::{Column, Index, Kind, Schema, Table};
 
 /// The number of the format that is written.
-pub(crate) const FORMAT: u64 = 2;
+pub(crate) const FORMAT: u64 = 3;
 
-/// The number of the first format, from which a journal is carried over.
+/// The number of the second format, from which a journal is carried over.
+pub(crate) const SECOND_FORMAT: u64 = 2;
+
+/// The number of the first format, from which a journal is carried over to the second.
 pub(crate) const FIRST_FORMAT: u64 = 1;
 
 /// A column of a table of entries: its name, its type, and whether it may not be NULL.
 type EntryColumn = (&'static str, Kind, bool);
 
 /// The columns of the table of users.
-const USER_COLUMNS: [EntryColumn; 6 + TEXT_FIELD_COUNT] = [
+const USER_COLUMNS: [EntryColumn; 8 + TEXT_FIELD_COUNT] = [
+    ("name_key", Kind::Text, true),
+    ("login", Kind::Text, true),
+    ("revision", Kind::Integer, true),
+    ("number", Kind::Text, true),
+    ("given", Kind::Text, true),
+    ("family", Kind::Text, true),
+    ("mail", Kind::Text, true),
+    ("department", Kind::Text, true),
+    ("active", Kind::Integer, true),
+    ("confirmed", Kind::Integer, true),
+    ("id", Kind::Text, false),
+    ("epoch", Kind::Integer, true),
+    ("confirmed_epoch", Kind::Integer, true),
+];
+
+/// The columns of the table of groups.
+const GROUP_COLUMNS: [EntryColumn; 8] = [
+    ("name_key", Kind::Text, true),
+    ("name", Kind::Text, true),
+    ("revision", Kind::Integer, true),
+    ("members", Kind::Text, true),
+    ("confirmed", Kind::Integer, true),
+    ("id", Kind::Text, false),
+    ("epoch", Kind::Integer, true),
+    ("confirmed_epoch", Kind::Integer, true),
+];
+
+/// The columns of the table of users of the second format.
+const SECOND_USER_COLUMNS: [EntryColumn; 6 + TEXT_FIELD_COUNT] = [
     ("name_key", Kind::Text, true),
     ("login", Kind::Text, true),
     ("revision", Kind::Integer, true),
@@ -33,7 +64,7 @@ const USER_COLUMNS: [EntryColumn; 6 + TEXT_FIELD_COUNT] = [
 ];
 
 /// The columns of the table of users of the first format.
-const FIRST_COLUMNS: [EntryColumn; 10] = [
+const FIRST_USER_COLUMNS: [EntryColumn; 10] = [
     ("name_key", Kind::Text, true),
     ("login", Kind::Text, true),
     ("revision", Kind::Integer, true),
@@ -46,8 +77,8 @@ const FIRST_COLUMNS: [EntryColumn; 10] = [
     ("id", Kind::Text, false),
 ];
 
-/// The columns of the table of groups.
-const GROUP_COLUMNS: [EntryColumn; 6] = [
+/// The columns of the table of groups of both these formats.
+const FIRST_GROUP_COLUMNS: [EntryColumn; 6] = [
     ("name_key", Kind::Text, true),
     ("name", Kind::Text, true),
     ("revision", Kind::Integer, true),
@@ -76,6 +107,17 @@ impl Layout for Journal {
     ghost layout = { journal_schema };
 }
 
+/// The tables of the second format.
+pub(crate) struct Second;
+
+impl Layout for Second {
+    ghost use Rattle.journal_store.specs.Format.{SecondForm, second_schema};
+
+    ghost form = { SecondForm };
+
+    ghost layout = { second_schema };
+}
+
 /// The tables of the first format.
 pub(crate) struct First;
 
@@ -87,11 +129,49 @@ impl Layout for First {
     ghost layout = { first_schema };
 }
 
+/// The table of the format, and any tables after it: those of a format that isn't known.
+pub(crate) struct Unknown;
+
+impl Layout for Unknown {
+    ghost use Rattle.journal_store.specs.Format.{MarkedForm, marked_schema};
+
+    ghost form = { MarkedForm };
+
+    ghost layout = { marked_schema };
+}
+
 /// Whether the tables are those of the format. The CHECK of the format's table may have any terms, because
 /// its row is checked.
 pub(crate) fn is_journal(schema: &Schema) -> bool
     ensures is { IsTrue result → IsJournal schema.now }
     ensures known { IsJournal schema.now → IsTrue result }
+{
+    let [format, firsts, old_groups, seconds, users, groups] = schema.tables.as_slice() else {
+        return false;
+    };
+    let [
+        first_keys,
+        old_group_keys,
+        second_keys,
+        user_keys,
+        group_keys,
+    ] = schema.indexes.as_slice()
+    else {
+        return false;
+    };
+    schema.views.is_empty()
+        && is_format(format, b"journal_format")
+        && is_first_users(firsts, first_keys)
+        && is_first_groups(old_groups, old_group_keys)
+        && is_second_users(seconds, second_keys)
+        && is_users(users, user_keys)
+        && is_groups(groups, group_keys)
+}
+
+/// Whether the tables are those of the second format.
+pub(crate) fn is_second(schema: &Schema) -> bool
+    ensures is { IsTrue result → IsSecond schema.now }
+    ensures known { IsSecond schema.now → IsTrue result }
 {
     let [format, firsts, groups, users] = schema.tables.as_slice() else {
         return false;
@@ -102,8 +182,8 @@ pub(crate) fn is_journal(schema: &Schema) -> bool
     schema.views.is_empty()
         && is_format(format, b"journal_format")
         && is_first_users(firsts, first_keys)
-        && is_entries(RecordKind::Group, groups, group_keys)
-        && is_entries(RecordKind::User, users, user_keys)
+        && is_first_groups(groups, group_keys)
+        && is_second_users(users, user_keys)
 }
 
 /// Whether the tables are those of the first format.
@@ -120,30 +200,62 @@ pub(crate) fn is_first(schema: &Schema) -> bool
     schema.views.is_empty()
         && is_format(format, b"journal_format")
         && is_first_users(users, user_keys)
-        && is_entries(RecordKind::Group, groups, group_keys)
+        && is_first_groups(groups, group_keys)
 }
 
-/// Whether the table and the index of its keys are those of the entries of a type.
-fn is_entries(kind: RecordKind, table: &Table, keys: &Index) -> bool
-    ensures is { IsTrue result → IsKeyedTable (entry_name kind) (index_name kind) (entry_tree kind) (entry_columns kind) table.now keys.now }
-    ensures known { IsKeyedTable (entry_name kind) (index_name kind) (entry_tree kind) (entry_columns kind) table.now keys.now → IsTrue result }
+/// Whether the first table is that of the format.
+pub(crate) fn has_format_table(schema: &Schema) -> bool
+    ensures is { IsTrue result → HasFormatTable schema.now }
+    ensures known { HasFormatTable schema.now → IsTrue result }
 {
-    is_table(
-        entry_name(kind),
-        entry_tree(kind),
-        entry_columns(kind),
-        table,
-    ) && is_key_index(index_name(kind), entry_tree(kind), keys)
+    let tables = schema.tables.as_slice();
+    !tables.is_empty() && is_format(&tables[0], b"journal_format")
+}
+
+// ---- the tables of entries, each with the index of its keys
+
+fn is_users(table: &Table, keys: &Index) -> bool
+    ensures is { IsTrue result → IsKeyedTable third_users table.now keys.now }
+    ensures known { IsKeyedTable third_users table.now keys.now → IsTrue result }
+{
+    is_table(b"user_entry_3", 7, &USER_COLUMNS, table)
+        && is_key_index(b"sqlite_autoindex_user_entry_3_1", 7, keys)
         && has_order(table, keys)
 }
 
-/// Whether the table and the index of its keys are those of the users of the first format.
-fn is_first_users(table: &Table, keys: &Index) -> bool
-    ensures is { IsTrue result → IsKeyedTable first_name first_index_name (first_tree RecordKind.User) first_columns table.now keys.now }
-    ensures known { IsKeyedTable first_name first_index_name (first_tree RecordKind.User) first_columns table.now keys.now → IsTrue result }
+fn is_groups(table: &Table, keys: &Index) -> bool
+    ensures is { IsTrue result → IsKeyedTable third_groups table.now keys.now }
+    ensures known { IsKeyedTable third_groups table.now keys.now → IsTrue result }
 {
-    is_table(b"user_entry", 1, &FIRST_COLUMNS, table)
+    is_table(b"group_entry_3", 9, &GROUP_COLUMNS, table)
+        && is_key_index(b"sqlite_autoindex_group_entry_3_1", 9, keys)
+        && has_order(table, keys)
+}
+
+fn is_second_users(table: &Table, keys: &Index) -> bool
+    ensures is { IsTrue result → IsKeyedTable second_users table.now keys.now }
+    ensures known { IsKeyedTable second_users table.now keys.now → IsTrue result }
+{
+    is_table(b"user_entry_2", 5, &SECOND_USER_COLUMNS, table)
+        && is_key_index(b"sqlite_autoindex_user_entry_2_1", 5, keys)
+        && has_order(table, keys)
+}
+
+fn is_first_users(table: &Table, keys: &Index) -> bool
+    ensures is { IsTrue result → IsKeyedTable first_users table.now keys.now }
+    ensures known { IsKeyedTable first_users table.now keys.now → IsTrue result }
+{
+    is_table(b"user_entry", 1, &FIRST_USER_COLUMNS, table)
         && is_key_index(b"sqlite_autoindex_user_entry_1", 1, keys)
+        && has_order(table, keys)
+}
+
+fn is_first_groups(table: &Table, keys: &Index) -> bool
+    ensures is { IsTrue result → IsKeyedTable first_groups table.now keys.now }
+    ensures known { IsKeyedTable first_groups table.now keys.now → IsTrue result }
+{
+    is_table(b"group_entry", 3, &FIRST_GROUP_COLUMNS, table)
+        && is_key_index(b"sqlite_autoindex_group_entry_1", 3, keys)
         && has_order(table, keys)
 }
 
@@ -168,34 +280,6 @@ fn is_keyed(table: &Table) -> bool
         && has_unique(table)
         && table.checks.roots.is_empty()
         && is_plain(table)
-}
-
-fn entry_name(kind: RecordKind) -> &'static [u8]
-    ensures { result.now ≡ entry_name kind }
-{
-    match kind {
-        RecordKind::User => b"user_entry_2",
-        RecordKind::Group => b"group_entry",
-    }
-}
-
-fn entry_tree(kind: RecordKind) -> u32
-    ensures value { result ≡ entry_tree kind }
-    ensures within { result < 6 }
-{
-    match kind {
-        RecordKind::User => 5,
-        RecordKind::Group => 3,
-    }
-}
-
-fn entry_columns(kind: RecordKind) -> &'static [EntryColumn]
-    ensures { map column_of result.now ≡ entry_columns kind }
-{
-    match kind {
-        RecordKind::User => &USER_COLUMNS,
-        RecordKind::Group => &GROUP_COLUMNS,
-    }
 }
 
 /// Whether the columns of a table are these.
@@ -226,18 +310,9 @@ fn has_unique(table: &Table) -> bool
     }
 }
 
-fn index_name(kind: RecordKind) -> &'static [u8]
-    ensures { result.now ≡ index_name kind }
-{
-    match kind {
-        RecordKind::User => b"sqlite_autoindex_user_entry_2_1",
-        RecordKind::Group => b"sqlite_autoindex_group_entry_1",
-    }
-}
-
 /// Whether the index is that of the keys of the table in this tree.
 fn is_key_index(name: &[u8], tree: u32, index: &Index) -> bool
-    requires { tree < 6 }
+    requires { tree < 10 }
     ensures is { IsTrue result → index.now ≡ keyed_index name.now tree index.now.order }
     ensures known { index.now ≡ keyed_index name.now tree index.now.order → IsTrue result }
 {

@@ -8,18 +8,75 @@ ghost use Rattle.sql_tables.specs.Statements.{IsGiven, IsQuery, ShowsFormat};
 ghost use Rattle.journal_store.specs.Connections.{Lists};
 ghost use Rattle.journal_store.specs.Format.{format_number};
 
-use crate::format::{FIRST_FORMAT, FORMAT, First, Journal, is_first, is_journal};
+use crate::format::{
+    FIRST_FORMAT, FORMAT, First, Journal, SECOND_FORMAT, Second, Unknown, has_format_table,
+    is_first, is_journal, is_second,
+};
 use crate::tables::{
     all_statement, first_all_statement, first_numbers_statement, marked_statement,
-    numbers_statement,
+    numbers_statement, second_all_statement, second_numbers_statement,
 };
 use scim_key::Kind;
 use sql_tables::Layout;
 use sqlite_schema::schema::Schema;
 
+/// Tables of which the first is that of the format.
+pub(crate) trait Marked: Layout {
+    /// Whether the tables are laid out so.
+    fn is_laid_out(schema: &Schema) -> bool
+        ensures is { IsTrue result → IsOne Self.layout schema.now }
+        ensures known { IsOne Self.layout schema.now → IsTrue result };
+
+    /// The query for the number in the table of the format.
+    fn marked_statement() -> &'static str
+        ensures query { IsQuery Self.layout result.now }
+        ensures given { IsGiven Self.layout result.now [] }
+        ensures shows { ShowsFormat Self.layout result.now };
+}
+
+impl Marked for Journal {
+    fn is_laid_out(schema: &Schema) -> bool {
+        is_journal(schema)
+    }
+
+    fn marked_statement() -> &'static str {
+        marked_statement()
+    }
+}
+
+impl Marked for Second {
+    fn is_laid_out(schema: &Schema) -> bool {
+        is_second(schema)
+    }
+
+    fn marked_statement() -> &'static str {
+        marked_statement()
+    }
+}
+
+impl Marked for First {
+    fn is_laid_out(schema: &Schema) -> bool {
+        is_first(schema)
+    }
+
+    fn marked_statement() -> &'static str {
+        marked_statement()
+    }
+}
+
+impl Marked for Unknown {
+    fn is_laid_out(schema: &Schema) -> bool {
+        has_format_table(schema)
+    }
+
+    fn marked_statement() -> &'static str {
+        marked_statement()
+    }
+}
+
 /// A format of the journal: its number, and how the entries in its tables are listed. A row that is listed has
 /// the columns of the current format.
-pub(crate) trait Format: Layout {
+pub(crate) trait Format: Marked {
     ghost number: { ℕ };
 
     ghost tree: { KindData → ℕ };
@@ -30,17 +87,6 @@ pub(crate) trait Format: Layout {
     fn number() -> u64
         ensures number { result ≡ number }
         ensures known { number ≤ format_number };
-
-    /// Whether the tables are those of the format.
-    fn is_laid_out(schema: &Schema) -> bool
-        ensures is { IsTrue result → IsOne Self.layout schema.now }
-        ensures known { IsOne Self.layout schema.now → IsTrue result };
-
-    /// The query for the number in the table of the format.
-    fn marked_statement() -> &'static str
-        ensures query { IsQuery Self.layout result.now }
-        ensures given { IsGiven Self.layout result.now [] }
-        ensures shows { ShowsFormat Self.layout result.now };
 
     /// The query that lists the numbers of the rows of a type.
     fn numbers_statement(kind: Kind) -> &'static str
@@ -69,20 +115,35 @@ impl Format for Journal {
         FORMAT
     }
 
-    fn is_laid_out(schema: &Schema) -> bool {
-        is_journal(schema)
-    }
-
-    fn marked_statement() -> &'static str {
-        marked_statement()
-    }
-
     fn numbers_statement(kind: Kind) -> &'static str {
         numbers_statement(kind)
     }
 
     fn list_statement(kind: Kind) -> &'static str {
         all_statement(kind)
+    }
+}
+
+impl Format for Second {
+    ghost use Rattle.journal_store.specs.Format.{second_number, second_tree};
+    ghost use Rattle.journal_store.specs.Rows.{second_row};
+
+    ghost number = { second_number };
+
+    ghost tree = { second_tree };
+
+    ghost columns = { second_row };
+
+    fn number() -> u64 {
+        SECOND_FORMAT
+    }
+
+    fn numbers_statement(kind: Kind) -> &'static str {
+        second_numbers_statement(kind)
+    }
+
+    fn list_statement(kind: Kind) -> &'static str {
+        second_all_statement(kind)
     }
 }
 
@@ -98,14 +159,6 @@ impl Format for First {
 
     fn number() -> u64 {
         FIRST_FORMAT
-    }
-
-    fn is_laid_out(schema: &Schema) -> bool {
-        is_first(schema)
-    }
-
-    fn marked_statement() -> &'static str {
-        marked_statement()
     }
 
     fn numbers_statement(kind: Kind) -> &'static str {

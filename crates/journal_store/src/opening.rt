@@ -1,4 +1,4 @@
-//! Opens a store: makes its tables, or checks them and each of their rows, and carries the first format over.
+//! Opens a store: makes its tables, or checks them and each of their rows, and carries an older format over.
 ghost use Rattle.std.specs.Prelude.{◌≡◌, ◌⊎◌, ◌<◌, ◌≤◌, ℕ, false, IfErr, IfOk, MatchOption, OnErr, OnOk, IsTrue};
 ghost use Rattle.std.specs.Ordering.{int_cmp, is_lt};
 ghost use Rattle.std.specs.declared.cmp.Ordering.TheVariants.{Less};
@@ -9,12 +9,12 @@ ghost use Rattle.journal_store.specs.Connections.{AreNumbered, HasNumbersBy};
 ghost use Rattle.sql_tables.specs.Faults.{HasFailed};
 ghost use Rattle.sql_tables.specs.Layouts.{IsFormat, IsLaid as IsLaidBy, IsMark, IsOne};
 ghost use Rattle.sql_tables.specs.Statements.{LeavesStore, Looks};
-ghost use Rattle.journal_store.specs.Opening.{AreRising, HoldsEntriesBy, IsCause, IsFirst, IsFirstSpoilt, IsFirstStore, IsFor, IsNewer, IsNotLaidBy, IsOfRows, IsSpoiltBy, IsStore, IsStoreBy, IsUnmarkedBy, IsUnnumbered, LeavesCarried, LeavesStanding, OpenFailsFor, OpeningFails, ShowsDamageBy, Stands};
+ghost use Rattle.journal_store.specs.Opening.{AreRising, HasFormatTable, HoldsEntriesBy, IsCause, IsFor, IsNewer, IsNotLaidBy, IsOfRows, IsSpoiltBy, IsStore, IsStoreBy, IsUnmarkedBy, IsUnnumbered, LeavesCarriedBy, LeavesStanding, OpenFailsFor, OpeningFails, ShowsDamageBy, Stands};
 
-use crate::format::{FORMAT, First, Journal, is_first};
-use crate::formats::Format;
+use crate::format::{FORMAT, First, Journal, Second, Unknown, is_first, is_journal, is_second};
+use crate::formats::{Format, Marked};
 use crate::lawful::check_lists;
-use crate::making::{carry, make_tables};
+use crate::making::{Older, carry, make_tables};
 use crate::statements::TableFault;
 use crate::tables::list_entries;
 use scim_key::Kind;
@@ -78,7 +78,7 @@ impl From<Error> for JournalOpenFault {
 // ---- the number of the format
 
 /// What the number in the table of the format means for the format with this number.
-fn mark_of<S: Alter, F: Format>(
+fn mark_of<S: Alter, F: Marked>(
     conn: &mut Connection<S>,
     number: u64,
 ) -> Result<Mark, JournalOpenFault>
@@ -228,7 +228,7 @@ fn check_laid<S: Alter, F: Format>(
 }
 
 /// Whether the tables are laid out and no transaction is open.
-fn is_laid<S: Alter, F: Format>(conn: &Connection<S>) -> bool
+fn is_laid<S: Alter, F: Marked>(conn: &Connection<S>) -> bool
     ensures is { IsTrue result → IsTrue (state S.Store conn.now).is_open → IsLaidBy F.layout (state S.Store conn.now) }
     ensures one { IsTrue result → IsOne F.layout (state S.Store conn.now).now.schema }
     ensures not { result ≡ false → IsNotLaidBy F.layout (state S.Store conn.now) }
@@ -255,27 +255,49 @@ pub(crate) fn check_tables<S: Alter, F: Format>(
     }
 }
 
-/// Checks the tables of the first format, and carries them over.
-fn open_first<S: Alter>(alloc: Global, conn: &mut Connection<S>) -> Result<(), JournalOpenFault>
+/// Checks the tables of an older format, and carries them over.
+fn open_older<S: Alter, F: Older>(
+    alloc: Global,
+    conn: &mut Connection<S>,
+) -> Result<(), JournalOpenFault>
     requires outside { (state S.Store conn.old).in_transaction ≡ false }
-    requires first { IsFirst (state S.Store conn.old).now.schema }
-    ensures stands { HasCleanDisk (state S.Store conn.new) → OnOk result ((entries : EntryMap) × IsFirstStore (state S.Store conn.old) entries × IsStore (state S.Store conn.new) entries) }
-    ensures cause { HasCleanDisk (state S.Store conn.new) → IfErr result (IsFor (IsNewer (state S.Store conn.old)) (IsFirstSpoilt (state S.Store conn.old))) }
+    requires older { IsOne F.layout (state S.Store conn.old).now.schema }
+    ensures stands { HasCleanDisk (state S.Store conn.new) → OnOk result ((entries : EntryMap) × IsStoreBy F.layout F.number F.tree F.columns (state S.Store conn.old) entries × IsStore (state S.Store conn.new) entries) }
+    ensures cause { HasCleanDisk (state S.Store conn.new) → IfErr result (IsFor (IsNewer (state S.Store conn.old)) (IsSpoiltBy F.layout F.number F.tree F.columns (state S.Store conn.old))) }
     ensures open { HasCleanDisk (state S.Store conn.new) → OnOk result (IsTrue (state S.Store conn.new).is_open) }
     ensures left { HasCleanDisk (state S.Store conn.new) → OnErr result (LeavesStore (state S.Store conn.old) (state S.Store conn.new)) }
-    ensures stop { Survives (state S.Store conn.old) (state S.Store conn.new) (LeavesCarried (state S.Store conn.old)) }
+    ensures stop { Survives (state S.Store conn.old) (state S.Store conn.new) (LeavesCarriedBy F.layout F.number F.tree F.columns (state S.Store conn.old)) }
 {
-    check_tables::<S, First>(alloc, conn)?;
+    check_tables::<S, F>(alloc, conn)?;
     if !conn.is_autocommit() {
         return Err(JournalOpenFault::Store);
     }
-    match carry(conn) {
+    match carry::<S, F>(conn) {
         Ok(()) => Ok(()),
         Err(error) => Err(JournalOpenFault::from(error)),
     }
 }
 
-/// Makes the tables if there are none, and carries those of the first format over. Otherwise it checks them.
+/// Refuses tables that are of no known format: they may be those of a newer one.
+fn refuse_foreign<S: Alter>(conn: &mut Connection<S>) -> Result<(), JournalOpenFault>
+    requires outside { (state S.Store conn.old).in_transaction ≡ false }
+    ensures refused { OnOk result ⊥ }
+    ensures cause { HasCleanDisk (state S.Store conn.new) → IfErr result (IsFor (IsNewer (state S.Store conn.old)) (HasFormatTable (state S.Store conn.old).now.schema → IsNewer (state S.Store conn.old) → ⊥)) }
+    ensures failed { HasCleanDisk (state S.Store conn.new) → IfErr result (OpenFailsFor (HasFailed (state S.Store conn.old) (state S.Store conn.new))) }
+    ensures looks { Looks (state S.Store conn.old) (state S.Store conn.new) }
+    ensures left { HasCleanDisk (state S.Store conn.new) → LeavesStore (state S.Store conn.old) (state S.Store conn.new) }
+{
+    if !is_laid::<S, Unknown>(conn) {
+        return Err(JournalOpenFault::Damaged);
+    }
+    match mark_of::<S, Unknown>(conn, FORMAT) {
+        Ok(Mark::Newer) => Err(JournalOpenFault::Newer),
+        Ok(Mark::Own | Mark::Unmarked) => Err(JournalOpenFault::Damaged),
+        Err(fault) => Err(fault),
+    }
+}
+
+/// Makes the tables if there are none, and carries those of an older format over. Otherwise it checks them.
 pub(crate) fn open_tables<S: Alter>(
     alloc: Global,
     conn: &mut Connection<S>,
@@ -291,10 +313,16 @@ pub(crate) fn open_tables<S: Alter>(
         return Err(JournalOpenFault::Store);
     }
     if is_first(conn.schema()) {
-        return open_first(alloc, conn);
+        return open_older::<S, First>(alloc, conn);
+    }
+    if is_second(conn.schema()) {
+        return open_older::<S, Second>(alloc, conn);
+    }
+    if is_journal(conn.schema()) {
+        return check_tables::<S, Journal>(alloc, conn);
     }
     if !is_blank(conn.schema()) {
-        return check_tables::<S, Journal>(alloc, conn);
+        return refuse_foreign(conn);
     }
     match make_tables(conn) {
         Ok(()) => Ok(()),

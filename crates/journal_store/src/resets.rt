@@ -3,17 +3,20 @@ ghost use Rattle.std.specs.Prelude.{◌≡◌, IsTrue, OnErr, OnOk};
 ghost use Rattle.std.specs.List.{count_by};
 ghost use Rattle.sqlite.specs.Held.{state};
 ghost use Rattle.sqlite.specs.State.{HasCleanDisk, Survives};
+ghost use Rattle.sqlite.specs.Values.{bound};
 ghost use Rattle.scim_key.specs.declared.records.Kind.TheVariants.{Group, User};
 ghost use Rattle.sql_tables.specs.Statements.{Keeps, LeavesStore};
 ghost use Rattle.journal_store.specs.Batches.{IsUnderWay, settled};
 ghost use Rattle.journal_store.specs.Connections.{Commits, IsLaid};
-ghost use Rattle.journal_store.specs.Resets.{AreListed, ForgetsOnly, IsListed, ResetsAll, ResetsOne, is_learnt, reset_text};
+ghost use Rattle.journal_store.specs.Resets.{AreListed, ForgetsOnly, IsListed, ResetsAll, ResetsOne, is_learnt, none_values, reset_text};
 
 use crate::batches::write_in;
 use crate::statements::TableFault;
+use crate::tables::{epoch_param, revision_param};
 use journal_core::Entry;
 use scim_key::{Kind, Revision};
 use sqlite::{Alter, Connection, Transaction};
+use sqlite_value::value::ValueRef;
 
 // ---- what a reset changes
 
@@ -37,9 +40,17 @@ fn reset_statement(kind: Kind) -> &'static str
     ensures { result.now ≡ reset_text kind }
 {
     match kind {
-        Kind::User => "UPDATE user_entry_2 SET confirmed = 0, id = NULL",
-        Kind::Group => "UPDATE group_entry SET confirmed = 0, id = NULL",
+        Kind::User => "UPDATE user_entry_3 SET confirmed = ?1, id = NULL, confirmed_epoch = ?2",
+        Kind::Group => "UPDATE group_entry_3 SET confirmed = ?1, id = NULL, confirmed_epoch = ?2",
     }
+}
+
+/// The number and the epoch of no revision.
+fn none_params() -> [ValueRef<'static>; 2]
+    ensures { bound result ≡ none_values }
+{
+    let none = Revision::none();
+    [revision_param(none), epoch_param(none)]
 }
 
 /// Resets the entries of one type.
@@ -52,7 +63,7 @@ fn reset_in<S: Alter>(tables: &mut Transaction<'_, S>, kind: Kind) -> Result<(),
     ensures left { HasCleanDisk (state S.Store tables.new.conn.now) → LeavesStore (state S.Store tables.old.conn.now) (state S.Store tables.new.conn.now) }
     ensures quiet { Survives (state S.Store tables.old.conn.now) (state S.Store tables.new.conn.now) (λ _. ⊥) }
 {
-    write_in(tables, reset_statement(kind), &[])
+    write_in(tables, reset_statement(kind), &none_params())
 }
 
 /// Resets the entries of both types.

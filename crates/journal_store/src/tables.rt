@@ -17,9 +17,9 @@ ghost use Rattle.sql_tables.specs.Statements.{Keeps, MayLeave, Ran};
 ghost use Rattle.sql_tables.specs.Faults.{HasFailed};
 ghost use Rattle.sql_tables.specs.Layouts.{IsLaid as IsLaidBy};
 ghost use Rattle.journal_store.specs.Faults.{FailsFor, HasCause, IsOfRow};
-ghost use Rattle.journal_store.specs.Format.{all_text, find_text, first_all_text, first_numbers_text, marked_text, numbers_text};
+ghost use Rattle.journal_store.specs.Format.{all_text, find_text, first_all_text, first_numbers_text, marked_text, numbers_text, second_all_text, second_numbers_text};
 ghost use Rattle.journal_store.specs.declared.format.TheConstants.{TEXT_ORDER};
-ghost use Rattle.journal_store.specs.Rows.{active_number, id_value, members_text, row_by};
+ghost use Rattle.journal_store.specs.Rows.{active_number, epoch_value, id_value, members_text, revision_value, row_by};
 
 use crate::columns::read_entry;
 use crate::format::{Journal, TEXT_ORDER};
@@ -55,6 +55,20 @@ fn id_param(id: &Option<ResourceId>) -> ValueRef<'_>
         Some(id) => text_param(id.as_str()),
         None => ValueRef::Null,
     }
+}
+
+/// The number of a revision.
+pub(crate) fn revision_param(revision: Revision) -> ValueRef<'static>
+    ensures { bound_value (owned result) ≡ revision_value revision }
+{
+    number_param(revision.number())
+}
+
+/// The epoch of a revision.
+pub(crate) fn epoch_param(revision: Revision) -> ValueRef<'static>
+    ensures { bound_value (owned result) ≡ epoch_value revision }
+{
+    number_param(revision.epoch())
 }
 
 fn active_param(active: bool) -> ValueRef<'static>
@@ -101,10 +115,10 @@ pub(crate) fn find_statement(kind: Kind) -> &'static str
 {
     match kind {
         Kind::User => {
-            "SELECT name_key, login, revision, number, given, family, mail, department, active, confirmed, id FROM user_entry_2 WHERE name_key = ?1"
+            "SELECT name_key, login, revision, number, given, family, mail, department, active, confirmed, id, epoch, confirmed_epoch FROM user_entry_3 WHERE name_key = ?1"
         }
         Kind::Group => {
-            "SELECT name_key, name, revision, members, confirmed, id FROM group_entry WHERE name_key = ?1"
+            "SELECT name_key, name, revision, members, confirmed, id, epoch, confirmed_epoch FROM group_entry_3 WHERE name_key = ?1"
         }
     }
 }
@@ -157,16 +171,16 @@ pub(crate) fn put_statement(kind: Kind, is_there: bool) -> &'static str
 {
     match (kind, is_there) {
         (Kind::User, false) => {
-            "INSERT INTO user_entry_2 (name_key, login, revision, number, given, family, mail, department, active, confirmed, id) VALUES (?1, ?2, ?3, ?4, ?5, ?6, ?7, ?8, ?9, ?10, ?11)"
+            "INSERT INTO user_entry_3 (name_key, login, revision, number, given, family, mail, department, active, confirmed, id, epoch, confirmed_epoch) VALUES (?1, ?2, ?3, ?4, ?5, ?6, ?7, ?8, ?9, ?10, ?11, ?12, ?13)"
         }
         (Kind::Group, false) => {
-            "INSERT INTO group_entry (name_key, name, revision, members, confirmed, id) VALUES (?1, ?2, ?3, ?4, ?5, ?6)"
+            "INSERT INTO group_entry_3 (name_key, name, revision, members, confirmed, id, epoch, confirmed_epoch) VALUES (?1, ?2, ?3, ?4, ?5, ?6, ?7, ?8)"
         }
         (Kind::User, true) => {
-            "UPDATE user_entry_2 SET login = ?2, revision = ?3, number = ?4, given = ?5, family = ?6, mail = ?7, department = ?8, active = ?9, confirmed = ?10, id = ?11 WHERE name_key = ?1"
+            "UPDATE user_entry_3 SET login = ?2, revision = ?3, number = ?4, given = ?5, family = ?6, mail = ?7, department = ?8, active = ?9, confirmed = ?10, id = ?11, epoch = ?12, confirmed_epoch = ?13 WHERE name_key = ?1"
         }
         (Kind::Group, true) => {
-            "UPDATE group_entry SET name = ?2, revision = ?3, members = ?4, confirmed = ?5, id = ?6 WHERE name_key = ?1"
+            "UPDATE group_entry_3 SET name = ?2, revision = ?3, members = ?4, confirmed = ?5, id = ?6, epoch = ?7, confirmed_epoch = ?8 WHERE name_key = ?1"
         }
     }
 }
@@ -203,12 +217,14 @@ pub(crate) fn user_params<'a>(
     let front = [
         text_param(key.as_str()),
         text_param(user.login().as_str()),
-        number_param(revision.number()),
+        revision_param(revision),
     ];
     let back = [
         active_param(user.is_active()),
-        number_param(confirmed.number()),
+        revision_param(confirmed),
         id_param(id),
+        epoch_param(revision),
+        epoch_param(confirmed),
     ];
     let mut params = Vec::new(alloc);
     params.extend_from_slice(&front)?;
@@ -226,7 +242,7 @@ pub(crate) fn group_params<'a>(
     revision: Revision,
     confirmed: Revision,
     id: &'a Option<ResourceId>,
-) -> [ValueRef<'a>; 6]
+) -> [ValueRef<'a>; 8]
     requires key { key.now ≡ (row_name (Group group.now)).key }
     requires revision { revision ≡ group.now.revision }
     requires members { members.now ≡ members_text group.now.members }
@@ -235,10 +251,12 @@ pub(crate) fn group_params<'a>(
     [
         text_param(key.as_str()),
         text_param(group.name().as_str()),
-        number_param(revision.number()),
+        revision_param(revision),
         text_param(members),
-        number_param(confirmed.number()),
+        revision_param(confirmed),
         id_param(id),
+        epoch_param(revision),
+        epoch_param(confirmed),
     ]
 }
 
@@ -328,8 +346,8 @@ pub(crate) fn numbers_statement(kind: Kind) -> &'static str
     ensures { result.now ≡ numbers_text kind }
 {
     match kind {
-        Kind::User => "SELECT rowid FROM user_entry_2 ORDER BY rowid",
-        Kind::Group => "SELECT rowid FROM group_entry ORDER BY rowid",
+        Kind::User => "SELECT rowid FROM user_entry_3 ORDER BY rowid",
+        Kind::Group => "SELECT rowid FROM group_entry_3 ORDER BY rowid",
     }
 }
 
@@ -338,22 +356,44 @@ pub(crate) fn all_statement(kind: Kind) -> &'static str
 {
     match kind {
         Kind::User => {
-            "SELECT name_key, login, revision, number, given, family, mail, department, active, confirmed, id FROM user_entry_2 ORDER BY name_key"
+            "SELECT name_key, login, revision, number, given, family, mail, department, active, confirmed, id, epoch, confirmed_epoch FROM user_entry_3 ORDER BY name_key"
         }
         Kind::Group => {
-            "SELECT name_key, name, revision, members, confirmed, id FROM group_entry ORDER BY name_key"
+            "SELECT name_key, name, revision, members, confirmed, id, epoch, confirmed_epoch FROM group_entry_3 ORDER BY name_key"
         }
     }
 }
 
-// ---- all entries of the first format
+// ---- all entries of the older formats
+
+pub(crate) fn second_numbers_statement(kind: Kind) -> &'static str
+    ensures { result.now ≡ second_numbers_text kind }
+{
+    match kind {
+        Kind::User => "SELECT rowid FROM user_entry_2 ORDER BY rowid",
+        Kind::Group => "SELECT rowid FROM group_entry ORDER BY rowid",
+    }
+}
+
+pub(crate) fn second_all_statement(kind: Kind) -> &'static str
+    ensures { result.now ≡ second_all_text kind }
+{
+    match kind {
+        Kind::User => {
+            "SELECT name_key, login, revision, number, given, family, mail, department, active, confirmed, id, 0, 0 FROM user_entry_2 ORDER BY name_key"
+        }
+        Kind::Group => {
+            "SELECT name_key, name, revision, members, confirmed, id, 0, 0 FROM group_entry ORDER BY name_key"
+        }
+    }
+}
 
 pub(crate) fn first_numbers_statement(kind: Kind) -> &'static str
     ensures { result.now ≡ first_numbers_text kind }
 {
     match kind {
         Kind::User => "SELECT rowid FROM user_entry ORDER BY rowid",
-        Kind::Group => numbers_statement(Kind::Group),
+        Kind::Group => second_numbers_statement(Kind::Group),
     }
 }
 
@@ -362,9 +402,9 @@ pub(crate) fn first_all_statement(kind: Kind) -> &'static str
 {
     match kind {
         Kind::User => {
-            "SELECT name_key, login, revision, number, given, family, mail, '', active, confirmed, id FROM user_entry ORDER BY name_key"
+            "SELECT name_key, login, revision, number, given, family, mail, '', active, confirmed, id, 0, 0 FROM user_entry ORDER BY name_key"
         }
-        Kind::Group => all_statement(Kind::Group),
+        Kind::Group => second_all_statement(Kind::Group),
     }
 }
 

@@ -1,6 +1,5 @@
 use Rattle.std.proofs.Common.{◌≡◌, [], ◌∙◌, sym, rules, tests}
-use Rattle.scim_key.specs.declared.records.Kind.TheVariants.{User}
-use Rattle.journal_store.specs.Format.{first_columns, first_index_name, first_name, first_tree, format_name}
+use Rattle.journal_store.specs.Format.{first_users, format_name}
 use Rattle.sql_tables.specs.Layouts.{format_table}
 use Rattle.sql_tables.proofs.Items.{two_items, three_items}
 use Rattle.journal_store.specs.Opening.{IsKeyedTable}
@@ -17,6 +16,6 @@ returns-then-is_first_users-clause-is c is =
     let tables = three_items c.as_slice.result.now format users groups c.in-len3.len_at_least c.in-len3.len_below c.format-item.is c.users-item.is c.groups-item.is in
     let indexes = two_items c.as_slice-2.result.now user_keys group_keys c.in-len2.len_at_least c.in-len2.len_below c.user_keys-item.is c.group_keys-item.is in
     let views : c.args.schema.now.views ≡ [] = search (rules, tests) in
-    let is_format : format ≡ format_table format_name format.checks = search (rules, tests) in
-    let is_users : IsKeyedTable first_name first_index_name (first_tree User) first_columns users user_keys = search (rules, tests) in
-    first_fields c.args.schema.now views format users groups user_keys group_keys (sym c.as_slice.ensures ∙ tables) (sym c.as_slice-2.ensures ∙ indexes) is_format is_users (c.is_entries.ensures.is is)
+    let known : format ≡ format_table format_name format.checks = search (rules, tests) in
+    let are_users : IsKeyedTable first_users users user_keys = search (rules, tests) in
+    first_fields c.args.schema.now views format known users groups user_keys group_keys (sym c.as_slice.ensures ∙ tables) (sym c.as_slice-2.ensures ∙ indexes) are_users (c.is_first_groups.ensures.is is)

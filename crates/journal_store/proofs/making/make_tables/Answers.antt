@@ -12,8 +12,8 @@ use Rattle.journal_store.specs.Rows.{entries_in}
 use Rattle.journal_store.proofs.Ending.{store_kept}
 use Rattle.journal_store.proofs.making.make_tables.Goals as goal
 
-pub carry_over-requires-clause-first : goal.carry_over-requires-clause-first
-carry_over-requires-clause-first g c clean opened = (empty, c.in_ok-make_first.ensures.made clean)
+pub carry_over-requires-clause-older : goal.carry_over-requires-clause-older
+carry_over-requires-clause-older g c clean opened = (empty, c.in_ok-make_first.ensures.made clean)
 
 pub returns-clause-made : goal.returns-clause-made
 returns-clause-made g c clean =

@@ -1,7 +1,7 @@
 use Rattle.sql_tables.proofs.Marking.{shows_format}
 use Rattle.journal_store.proofs.Giving.{marked_given}
 use Rattle.journal_store.proofs.Texts.{marked_is}
-use Rattle.journal_store.proofs.formats.JournalFormat.marked_statement.Goals as goal
+use Rattle.journal_store.proofs.formats.JournalMarked.marked_statement.Goals as goal
 
 pub returns-clause-query : goal.returns-clause-query
 returns-clause-query c = rw c.marked_statement.ensures marked_is.reads

@@ -1,6 +1,6 @@
 use Rattle.sql_tables.proofs.Marking.{shows_format}
 use Rattle.journal_store.proofs.Firsts.{first_marked_given, first_marked_is}
-use Rattle.journal_store.proofs.formats.FirstFormat.marked_statement.Goals as goal
+use Rattle.journal_store.proofs.formats.FirstMarked.marked_statement.Goals as goal
 
 pub returns-clause-query : goal.returns-clause-query
 returns-clause-query c = rw c.marked_statement.ensures first_marked_is.reads
