@@ -5,6 +5,7 @@ from support import (
 )
 
 PERSONNEL = EXAMPLES / "personnel.csv"
+NO_REVISIONS = ["1000000:1", ":5", "1:", "1:0", "1:2000000001", "1:1:1", "1: 1", "0:0"]
 
 
 class MapTest(ProgramTest):
@@ -37,11 +38,31 @@ class MapTest(ProgramTest):
         images = [department_text("bob", 2, "Sales"), user_text("ann")]
         self.assert_prints(run, *images, status=1, errors=["users record 3: S2", "users record 4: S6"])
 
+    def test_revisions_with_an_epoch(self):
+        records = ["ann,0:5,,,,,active", "bob,999999:2000000000,,,,,active", *(f"cid,{it},,,,,active" for it in NO_REVISIONS)]
+        images = [user_text("ann", 5), user_text("bob", **{SOURCE: {"epoch": 999_999, "revision": 2_000_000_000}})]
+        errors = [f"users record {number}: S5" for number in range(3, 3 + len(NO_REVISIONS))]
+        self.assert_prints(scimlink("map", self.write(text(USERS_HEADER, *records))), *images, status=1, errors=errors)
+
     def test_rejected_records(self):
         records = ["ann,1", "\xff,1,,,,,active", "bob,1,,,,,active", "c d,1,,,,,active", "cid,1,,,,,gone"]
         run = scimlink("map", self.write(text(USERS_HEADER, *records)))
         errors = [f"users record {number}: {code}" for number, code in [(1, "S2"), (2, "S3"), (4, "S4"), (5, "S6")]]
         self.assert_prints(run, user_text("bob"), status=1, errors=errors)
+
+    def test_reports_by_kind(self):
+        records = ['bob,1,,Bob,"Ray\nRay",,active', "c d,1,,,,,active", "cid,1,,,,,active"]
+        run = scimlink("map", self.write(text(USERS_HEADER, *records)))
+        told = "users record 1: a quoted field goes over 2 lines; is a quote missing?"
+        self.assert_reports(run, 1, "users record 2: S4", told)
+        self.assertEqual(len(run.lines), 2)
+
+    def test_a_pipe(self):
+        records = ["ann,1,,,,,active", "c d,1,,,,,active"]
+        run = scimlink("map", "/dev/stdin", stdin=text(USERS_HEADER, *records).encode())
+        self.assert_prints(run, user_text("ann"), status=1, errors=["users record 2: S4"])
+        run = scimlink("map", "/dev/stdin", stdin=b"name\n")
+        self.assert_prints(run, status=1, errors=["users: S1"])
 
     def test_files_that_cannot_be_read(self):
         for path in (self.folder / "absent", self.folder):

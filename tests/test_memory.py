@@ -3,8 +3,8 @@ import os
 import subprocess
 
 from support import (
-    CREATE_BOB, EXAMPLES, NOWHERE, PROGRAM, ProgramTest,
-    limited_memory, make_first_journal, make_journal, make_store, scimlink, text, user_entry, user_resource,
+    CREATE_BOB, EXAMPLES, NOWHERE, OLDER_FORMS, PROGRAM, ProgramTest,
+    limited_memory, make_journal, make_store, scimlink, text, user_entry, user_resource,
 )
 
 # Enough to start, and far too little for what is asked for here
@@ -36,10 +36,17 @@ class MemoryTest(ProgramTest):
     def test_input_files(self):
         self.site.write_users(*(f"{name},1,,,,,active" for name in NAMES))
         users = self.site.users
-        self.assert_starves(users, "map", users)
         self.assert_starves(users, "loop", "--users", users)
         journal = make_journal(self.site.journal)
         self.assert_starves(journal, "push", "--users", users, "--journal", journal, "--to", NOWHERE)
+
+    def test_map_holds_one_record_at_a_time(self):
+        self.site.write_users(*(f"{name},1,,,,,active" for name in NAMES))
+        run = scimlink("map", self.site.users, **STARVED)
+        self.assert_reports(run, 0)
+        self.assertEqual(len(run.lines), len(NAMES))
+        self.site.write_users("ann,1,,,,,active", f"bob,1,,{'b' * 20_000_000},,,active")
+        self.assert_starves(self.site.users, "map", self.site.users)
 
     def test_a_schedule(self):
         schedule = self.folder / "schedule"
@@ -53,14 +60,16 @@ class MemoryTest(ProgramTest):
         self.assert_starves(journal, "push", *MONDAY, "--journal", journal, "--to", NOWHERE)
         self.assert_starves(journal, "loop", *MONDAY, "--journal", journal)
 
-    def test_a_journal_of_format_1(self):
+    def test_journals_of_older_formats(self):
         entries = [user_entry(name, confirmed=1, id=name) for name in NAMES]
-        first = make_first_journal(self.folder / "first", entries)
-        self.assert_starves(first, "show", "--journal", first)
-        self.assert_starves(first, "reset", "--journal", first)
-        # with memory again, it is carried over: for a moment there are the users of both formats
         journal = make_journal(self.site.journal, entries)
-        self.assertLess(peak("show", "--journal", first), 2.5 * peak("show", "--journal", journal))
+        for form in OLDER_FORMS:
+            with self.subTest(form=form.number):
+                older = make_journal(self.folder / f"format {form.number}", entries, form=form)
+                self.assert_starves(older, "show", "--journal", older)
+                self.assert_starves(older, "reset", "--journal", older)
+                # with memory again, it is carried over: for a moment there are the users of both formats
+                self.assertLess(peak("show", "--journal", older), 2.5 * peak("show", "--journal", journal))
 
     def test_a_store(self):
         rows = (user_resource(number, name) for number, name in enumerate(NAMES, 1))

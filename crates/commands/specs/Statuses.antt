@@ -24,6 +24,8 @@ use Rattle.source_csv.specs.declared.faults.RowFault.{RowFault}
 use Rattle.source_csv.specs.declared.faults.SourceFault.{SourceFault}
 use Rattle.source_csv.specs.declared.faults.SourceFault.TheVariants as source
 use Rattle.source_csv.specs.declared.rows.Row.{Row}
+use Rattle.source_csv.specs.declared.streams.ReadFault.{ReadFault}
+use Rattle.source_csv.specs.declared.streams.ReadFault.TheVariants as read
 use Rattle.mapping.specs.declared.lines.WriteFault.{WriteFault}
 use Rattle.mapping.specs.declared.lines.WriteFault.TheVariants as write
 use Rattle.scim_key.specs.Revisions.{same_revision}
@@ -41,6 +43,7 @@ use Rattle.provisioning.specs.declared.faults.LoopFault.TheVariants as looping
 use Rattle.commands.specs.declared.status.CommandFault.{CommandFault}
 use Rattle.commands.specs.declared.status.CommandFault.TheVariants as fault
 use Rattle.commands.specs.declared.status.Part.{Part}
+use Rattle.commands.specs.declared.status.Part.TheVariants as parts
 use Rattle.commands.specs.declared.status.Status.{Status}
 use Rattle.commands.specs.declared.status.Status.TheVariants.{Done, Refused, Usage, Fault}
 
@@ -139,6 +142,11 @@ abbrev pub users_fault : SourceFault → CommandFault
 users_fault source.Header = fault.Users source.Header
 users_fault source.Memory = fault.Memory
 
+-- the fault of a file of users that isn't read to its end
+abbrev pub file_fault : ReadFault → CommandFault
+file_fault (read.Source why) = users_fault why
+file_fault (read.Input error) = unread_fault parts.File error
+
 -- the fault of lines that couldn't be written whole
 abbrev pub lines_fault : WriteFault → CommandFault
 lines_fault write.Memory = fault.Memory
@@ -149,8 +157,11 @@ abbrev pub are_rows : List (Result Row RowFault) → Bool
 are_rows records = list_all is_ok records
 
 -- everything is done if no record of a file is rejected
+abbrev pub status_of_rows : Bool → Status
+status_of_rows all_rows = if all_rows then Done else Refused
+
 abbrev pub records_status : List (Result Row RowFault) → Status
-records_status records = if are_rows records then Done else Refused
+records_status records = status_of_rows (are_rows records)
 
 -- the fault of a schedule that gives no events
 abbrev pub schedule_fault : ScheduleFault → CommandFault

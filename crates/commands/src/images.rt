@@ -1,43 +1,87 @@
 //! The images of the rows of a users file, and the exit status after them.
 ghost use Rattle.std.specs.Prelude.{◌≡◌, IfErr, IfOk, OnOk};
-ghost use Rattle.std.specs.Io.KnownBytes.{Appends};
-ghost use Rattle.mapping.specs.Lines.{lines_of};
-ghost use Rattle.mapping.specs.declared.lines.WriteFault.{WriteFault};
-ghost use Rattle.commands.specs.Statuses.{are_rows, lines_fault, records_status};
+ghost use Rattle.std.specs.Io.KnownBytes.{Appends, Keeps};
+ghost use Rattle.mapping.specs.Lines.{record_line};
+ghost use Rattle.commands.specs.Images.{IsMapFault, Prints, PrintsNext};
+ghost use Rattle.commands.specs.Statuses.{status_of_rows};
 
 use crate::status::{CommandFault, Status};
-use mapping::write_images;
-use source_csv::{Row, RowFault};
+use mapping::{WriteFault, row_line};
+use source_csv::{Row, RowFault, RowReader};
 use std::alloc::Global;
-use std::io::Write;
+use std::io::{Read, Write};
 
-/// Prints the images of all these records, and returns the exit status.
-pub fn print_images<W: Write>(
+/// Prints the images of all records that are left, a line each, and returns the exit status. It holds one
+/// record and one line. More records than `u64` counts are out of memory.
+pub fn print_images<R: Read + Drop, W: Write>(
     alloc: Global,
-    records: &[Result<Row, RowFault>],
+    rows: &mut RowReader<R>,
     out: &mut W,
 ) -> Result<Status, CommandFault>
-    ensures lines { OnOk result
-        (Appends (W.contents out.old) (W.contents out.new) (lines_of records.now)) }
-    ensures status { IfOk result (λ status. status ≡ records_status records.now) }
-    ensures fault { IfErr result (λ fault. (why : WriteFault) × (fault ≡ lines_fault why)) }
+    ensures prints { IfOk result (Prints rows.old (W.contents out.old) (W.contents out.new)) }
+    ensures fault { IfErr result IsMapFault }
 {
-    write_images(alloc, records, out)?;
-    Ok(records_status(records))
+    let mut are_rows = true;
+    for _ in 0..u64::MAX {
+        match print_next(alloc, rows, out)? {
+            Some(is_row) => are_rows = are_rows && is_row,
+            None => {
+                flush(out)?;
+                return Ok(status_of_rows(are_rows));
+            }
+        }
+    }
+    Err(CommandFault::Memory)
 }
 
-/// Whether every record was read as a row.
-fn are_rows(records: &[Result<Row, RowFault>]) -> bool
-    ensures { result ≡ are_rows records.now }
+/// Prints the image of the next record, and returns whether it was read as a row. `None` if no record is
+/// left.
+fn print_next<R: Read + Drop, W: Write>(
+    alloc: Global,
+    rows: &mut RowReader<R>,
+    out: &mut W,
+) -> Result<Option<bool>, CommandFault>
+    ensures prints { IfOk result (PrintsNext rows.old rows.new (W.contents out.old) (W.contents out.new)) }
+    ensures fault { IfErr result IsMapFault }
 {
-    records.iter().all(|record| record.is_ok())
+    if !rows.read_next()? {
+        return Ok(None);
+    }
+    let row = rows.row()?;
+    write_record(alloc, &row, out)?;
+    Ok(Some(row.is_ok()))
 }
 
-/// The exit status of a run that printed the images of these records.
-fn records_status(records: &[Result<Row, RowFault>]) -> Status
-    ensures { result ≡ records_status records.now }
+/// Prints the line of a record, if it was read as a row.
+#[tactic(auto, unfolding(mapping::specs::Lines::record_line))]
+fn write_record<W: Write>(
+    alloc: Global,
+    given: &Result<Row, RowFault>,
+    out: &mut W,
+) -> Result<(), WriteFault>
+    ensures { OnOk result (Appends (W.contents out.old) (W.contents out.new) (record_line given.now)) }
 {
-    if are_rows(records) {
+    match given {
+        Ok(Row::User(row)) => {
+            let line = row_line(alloc, row)?;
+            Ok(out.write_all(line.as_slice())?)
+        }
+        Ok(Row::Group(_)) | Err(_) => Ok(()),
+    }
+}
+
+/// Flushes what was printed.
+fn flush<W: Write>(out: &mut W) -> Result<(), WriteFault>
+    ensures { Keeps (W.contents out.old) (W.contents out.new) }
+{
+    Ok(out.flush()?)
+}
+
+/// The exit status of a run that printed the images of records, given whether each was read as a row.
+fn status_of_rows(are_rows: bool) -> Status
+    ensures { result ≡ status_of_rows are_rows }
+{
+    if are_rows {
         Status::Done
     } else {
         Status::Refused

@@ -2,7 +2,7 @@
 ghost use Rattle.std.specs.Prelude.{◌≡◌};
 ghost use Rattle.std.specs.IoError.{error_kind};
 ghost use Rattle.commands.specs.Causes.{error_of, part_of, source_part};
-ghost use Rattle.commands.specs.Statuses.{fault_status, journal_fault, lines_fault, loop_fault, schedule_fault, show_fault, show_journal_fault, status_code, store_fault, unless_memory, unread_fault, users_fault, words_fault, world_fault};
+ghost use Rattle.commands.specs.Statuses.{fault_status, file_fault, journal_fault, lines_fault, loop_fault, schedule_fault, show_fault, show_journal_fault, status_code, store_fault, unless_memory, unread_fault, users_fault, words_fault, world_fault};
 ghost use Rattle.commands.specs.declared.status.CommandFault.TheVariants.{Memory, Output, Unopened};
 
 use crate::simulating::EventsFault;
@@ -13,7 +13,7 @@ use provider_file::ShowStoreFault;
 use provider_store::RegistryOpenFault;
 use provisioning::{LoopFault, RunFault, UnreadFile};
 use scim_key::Kind;
-use source_csv::SourceFault;
+use source_csv::{ReadFault, SourceFault};
 use std::alloc::{AllocError, AllocFailed};
 use std::io;
 use std::io::ErrorKind;
@@ -258,6 +258,18 @@ impl From<SourceFault> for CommandFault {
         match fault {
             SourceFault::Header => CommandFault::Users(fault),
             SourceFault::Memory => CommandFault::Memory,
+        }
+    }
+}
+
+/// The fault of a file of users that isn't read to its end.
+impl From<ReadFault> for CommandFault {
+    ghost from_gives = { λ file fault. fault ≡ file_fault file };
+
+    fn from(fault: ReadFault) -> CommandFault {
+        match fault {
+            ReadFault::Source(fault) => CommandFault::from(fault),
+            ReadFault::Input(error) => unread_fault(Part::File, error),
         }
     }
 }

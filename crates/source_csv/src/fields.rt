@@ -14,15 +14,19 @@ use crate::texts::{FieldValue, TEXT_FIELD_COUNT, TEXT_FIELDS, VALUE_LIMIT};
 use csv::{ByteRecord, StringRecord};
 use scim_key::{GroupName, NameFault, Revision, UserName};
 use std::alloc::Global;
+use std::mem;
 
-/// The record as text.
+/// The record as text, which takes its buffer. A record that isn't text keeps it.
 #[tactic(auto, unfolding(crate::specs::Fields::read_texts))]
-pub(crate) fn texts_of(raw: ByteRecord) -> Result<StringRecord, RowCode>
-    ensures { MatchResult result (λ texts. read_texts (fields_of raw) ≡ Ok (fields_of texts)) (λ code. read_texts (fields_of raw) ≡ Err code) }
+pub(crate) fn texts_of(alloc: Global, raw: &mut ByteRecord) -> Result<StringRecord, RowCode>
+    ensures { MatchResult result (λ texts. read_texts (fields_of raw.old) ≡ Ok (fields_of texts)) (λ code. read_texts (fields_of raw.old) ≡ Err code) }
 {
-    match StringRecord::from_byte_record(raw) {
+    match StringRecord::from_byte_record(mem::replace(raw, ByteRecord::new(alloc))) {
         Ok(texts) => Ok(texts),
-        Err(_) => Err(RowCode::NotUtf8),
+        Err(fault) => {
+            *raw = fault.into_byte_record();
+            Err(RowCode::NotUtf8)
+        }
     }
 }
 

@@ -119,7 +119,7 @@ fn header_among(
 }
 
 /// The columns of a file of this kind with this header. `None` if no file of this kind has it.
-fn columns_of(kind: Kind, header: &ByteRecord) -> Option<&'static [&'static str]>
+pub(crate) fn columns_of(kind: Kind, header: &ByteRecord) -> Option<&'static [&'static str]>
     ensures { option_map (λ columns. named columns.now) result ≡ columns_of kind (fields_of header.now) }
 {
     match kind {
@@ -130,8 +130,13 @@ fn columns_of(kind: Kind, header: &ByteRecord) -> Option<&'static [&'static str]
 
 /// Reads a record of a file of this kind with these columns.
 #[tactic(auto, unfolding(crate::specs::Files::read_row))]
-fn read_row(alloc: Global, kind: Kind, columns: &[&str], raw: ByteRecord) -> Result<Row, Refusal>
-    ensures { Reads result (read_row kind (named columns.now) (fields_of raw)) }
+fn read_row(
+    alloc: Global,
+    kind: Kind,
+    columns: &[&str],
+    raw: &mut ByteRecord,
+) -> Result<Row, Refusal>
+    ensures { Reads result (read_row kind (named columns.now) (fields_of raw.old)) }
 {
     match kind {
         Kind::User => Ok(Row::User(read_user(alloc, columns, raw)?)),
@@ -140,14 +145,14 @@ fn read_row(alloc: Global, kind: Kind, columns: &[&str], raw: ByteRecord) -> Res
 }
 
 /// The row or the fault of the record at a place.
-fn row_at(
+pub(crate) fn row_at(
     alloc: Global,
     kind: Kind,
     columns: &[&str],
     place: usize,
-    raw: ByteRecord,
+    raw: &mut ByteRecord,
 ) -> Result<Result<Row, RowFault>, SourceFault>
-    ensures { MatchResult result (λ row. row ≡ at_place place (read_row kind (named columns.now) (fields_of raw))) (λ fault. fault ≡ SourceFault.Memory) }
+    ensures { MatchResult result (λ row. row ≡ at_place place (read_row kind (named columns.now) (fields_of raw.old))) (λ fault. fault ≡ SourceFault.Memory) }
 {
     match read_row(alloc, kind, columns, raw) {
         Ok(row) => Ok(Ok(row)),
@@ -192,8 +197,8 @@ fn read_rows(alloc: Global, kind: Kind, bytes: &[u8]) -> Result<SourceRows, Sour
     };
     let mut rows = Vec::new(alloc);
     for fields in records {
-        let raw = record_of(fields)?;
-        rows.push(row_at(alloc, kind, columns, rows.len() + 1, raw)?)?;
+        let mut raw = record_of(fields)?;
+        rows.push(row_at(alloc, kind, columns, rows.len() + 1, &mut raw)?)?;
     }
     Ok(SourceRows { rows })
 }

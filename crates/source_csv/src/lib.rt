@@ -6,6 +6,7 @@ mod fields;
 mod files;
 mod groups;
 mod rows;
+mod streams;
 mod texts;
 mod users;
 
@@ -16,5 +17,6 @@ pub use files::{
 };
 pub use groups::{GroupRow, MEMBER_LIMIT};
 pub use rows::{Row, keys_are_of_names};
+pub use streams::{ReadFault, RowReader};
 pub use texts::{FieldValue, TEXT_FIELD_COUNT, TEXT_FIELDS, TextField, VALUE_LIMIT};
 pub use users::UserRow;

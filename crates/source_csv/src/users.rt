@@ -65,14 +65,17 @@ fn user_of(alloc: Global, columns: &[&str], texts: &StringRecord) -> Result<User
 pub(crate) fn read_user(
     alloc: Global,
     columns: &[&str],
-    raw: ByteRecord,
+    raw: &mut ByteRecord,
 ) -> Result<UserRow, Refusal>
-    ensures { Reads result (read_user (named columns.now) (fields_of raw)) }
+    ensures { Reads result (read_user (named columns.now) (fields_of raw.old)) }
 {
     if raw.len() != columns.len() {
         return Err(Refusal::Refused(RowCode::FieldCount));
     }
-    user_of(alloc, columns, &texts_of(raw)?)
+    let texts = texts_of(alloc, raw)?;
+    let row = user_of(alloc, columns, &texts);
+    *raw = texts.into_byte_record();
+    row
 }
 
 impl UserRow {

@@ -1,5 +1,5 @@
 -- How many lines the fields of a record have.
-use Rattle.std.specs.Prelude.{ℕ, ◌+◌, ◌==◌, Bool, false, not, ◌&&◌, ◌||◌, List, [], ◌∷◌, ◌++◌, map, max, nat_lt, codes, Option, Some, if◌then◌else◌}
+use Rattle.std.specs.Prelude.{ℕ, ◌+◌, ◌==◌, Bool, false, not, ◌&&◌, ◌||◌, List, [], ◌∷◌, ◌++◌, map, max, nat_lt, codes, Option, Some, None, if◌then◌else◌}
 use Rattle.std.specs.Fmt.{decimal}
 use Rattle.source_csv.specs.Fields.{Record}
 use Rattle.source_lines.specs.declared.files.Multiline.{Multiline}
@@ -23,6 +23,10 @@ field_lines field = 1 + line_ends false field
 abbrev pub record_lines : Record → ℕ
 record_lines [] = 0
 record_lines (field ∷ fields) = max (field_lines field) (record_lines fields)
+
+-- the record at this place, if its longest field has more than one line
+abbrev pub multiline_at : (place : ℕ) → Record → Option Multiline
+multiline_at place fields = if nat_lt 1 (record_lines fields) then Some (record { place = place; lines = record_lines fields }) else None
 
 -- ---- a file
 

@@ -7,7 +7,7 @@ ghost use Rattle.csv.specs.declared.parser.State.TheVariants.{StartRecord};
 ghost use Rattle.source_csv.specs.Fields.{Record};
 ghost use Rattle.source_csv.specs.Files.{AreRecordsOf};
 ghost use Rattle.source_csv.specs.Reader.{IsAt};
-ghost use Rattle.source_lines.specs.Lines.{lines_after_header, multiline_from, multiline_of};
+ghost use Rattle.source_lines.specs.Lines.{lines_after_header, multiline_at, multiline_from, multiline_of};
 
 use crate::lengths::record_lines;
 use csv::{ByteRecord, ByteRecordsIntoIter, ReaderBuilder};
@@ -34,6 +34,18 @@ impl fmt::Display for Multiline {
             f,
             "record {place}: a quoted field goes over {lines} lines; is a quote missing?"
         )
+    }
+}
+
+/// The record at this place, if it has a field over several lines.
+pub fn multiline_at(place: usize, raw: &ByteRecord) -> Option<Multiline>
+    ensures { result ≡ multiline_at place (fields_of raw.now) }
+{
+    let lines = record_lines(raw);
+    if lines > 1 {
+        Some(Multiline { place, lines })
+    } else {
+        None
     }
 }
 

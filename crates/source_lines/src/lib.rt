@@ -4,4 +4,4 @@
 mod files;
 mod lengths;
 
-pub use files::{Multiline, multiline_records};
+pub use files::{Multiline, multiline_at, multiline_records};

@@ -1,0 +1,54 @@
+-- A file of the source, read one record at a time.
+use Rattle.std.specs.Prelude.{◌≡◌, ℕ, ◌+◌, Bool, true, false, List, [], ◌∷◌, Option, Some, Result}
+use Rattle.csv.specs.Reading.{AreRecords, Ready, default_config, is_flexible, reader_config, reader_trim}
+use Rattle.csv.specs.declared.parser.State.{State}
+use Rattle.csv.specs.declared.reader.Reader.{Reader}
+use Rattle.csv.specs.declared.reader.Trim.TheVariants as trim
+use Rattle.scim_key.specs.declared.records.Kind.{Kind}
+use Rattle.source_csv.specs.Fields.{Record}
+use Rattle.source_csv.specs.Files.{at_place, read_row, rows_from}
+use Rattle.source_csv.specs.declared.faults.RowFault.{RowFault}
+use Rattle.source_csv.specs.declared.rows.Row.{Row}
+
+-- a reader that gives each record as it is, with any number of fields
+pub record IsPlain {R : Type 0} (reader : Reader R) : Type 0 where
+  pub trim : reader_trim reader ≡ trim.None
+  pub ready : Ready reader
+  pub config : reader_config reader ≡ default_config
+  pub flexible : is_flexible reader ≡ true
+
+-- Where a reader of rows stands: the columns as the header names them, the place of the last record and its fields, the
+-- state of the grammar after it, and the bytes that are left, if they are known.
+pub record Standing : Type 0 where
+  pub kind : Kind
+  pub columns : Record
+  pub place : ℕ
+  pub fields : Record
+  pub state : State
+  pub remaining : Option (List ℕ)
+
+-- the known bytes that are left have these records
+abbrev pub Leaves : (remaining : Option (List ℕ)) → State → List Record → Type 0
+Leaves remaining state records = (bytes : List ℕ) × (remaining ≡ Some bytes) × AreRecords default_config state bytes records
+
+-- these records are left
+abbrev pub HasLeft : Standing → List Record → Type 0
+HasLeft rows records = Leaves rows.remaining rows.state records
+
+-- A step over these records: it took the first of them, with these fields, and the others are left. Or there were none.
+abbrev pub Takes : (found : Bool) → (fields : Record) → (remaining : Option (List ℕ)) → State → List Record → Type 0
+Takes true fields remaining state records = (rest : List Record) × (records ≡ fields ∷ rest) × Leaves remaining state rest
+Takes false fields remaining state records = records ≡ []
+
+-- the place after a step
+abbrev pub place_after : (found : Bool) → ℕ → ℕ
+place_after true place = place + 1
+place_after false place = place
+
+-- what the last record says
+abbrev pub last_row : Standing → Result Row RowFault
+last_row rows = at_place rows.place (read_row rows.kind rows.columns rows.fields)
+
+-- what these records say, if they come next
+abbrev pub rows_next : Standing → List Record → List (Result Row RowFault)
+rows_next rows records = rows_from rows.kind rows.columns (rows.place + 1) records

@@ -1,0 +1,177 @@
+//! Files of the source, read one record at a time.
+ghost use Rattle.std.specs.Prelude.{◌≡◌, ℕ, Bool, List, IfErr, IfOk, MatchResult, Some, false, true};
+ghost use Rattle.csv.specs.Reading.{error_kind, has_failed, reader_state, source_of, stops_reader, strip_bom};
+ghost use Rattle.csv.specs.Records.{fields_of};
+ghost use Rattle.csv.specs.declared.parser.State.TheVariants.{StartRecord};
+ghost use Rattle.std.specs.Option.{option_map};
+ghost use Rattle.source_csv.specs.Fields.{Record};
+ghost use Rattle.source_csv.specs.Files.{AreRecordsOf};
+ghost use Rattle.source_csv.specs.Opening.{IsReadFault, Opens, read_fault};
+ghost use Rattle.source_csv.specs.Streams.{HasLeft, IsPlain, Leaves, Takes, last_row, place_after};
+
+use crate::faults::{RowFault, SourceFault};
+use crate::files::{columns_of, row_at};
+use crate::rows::Row;
+use csv::{ByteRecord, ErrorKind, Reader, ReaderBuilder};
+use scim_key::Kind;
+use std::alloc::Global;
+use std::io;
+use std::io::Read;
+use std::marker::Model;
+use thiserror::Error;
+
+/// Why a file wasn't read to its end.
+#[derive(Clone, Copy, Debug, Error)]
+pub enum ReadFault {
+    #[error("{0}")]
+    Source(SourceFault),
+    /// A read failed; the error is the system's.
+    #[error("{0}")]
+    Input(io::Error),
+}
+
+/// A file of the source, read one record at a time. It holds one record, and reads ahead by 8 KiB.
+#[derive(Drop)]
+pub struct RowReader<R: Read + Drop> {
+    alloc: Global,
+    kind: Kind,
+    columns: &'static [&'static str],
+    place: usize,
+    raw: ByteRecord,
+    reader: Reader<R>,
+}
+
+impl<R: Read + Drop> Model for RowReader<R> {
+    ghost use Rattle.std.specs.Prelude.{◌≡◌, false};
+    ghost use Rattle.csv.specs.Reading.{has_failed, reader_state, source_of};
+    ghost use Rattle.csv.specs.Records.{fields_of};
+    ghost use Rattle.source_csv.specs.Fields.{named};
+    ghost use Rattle.source_csv.specs.Streams.{IsPlain, Standing};
+
+    ghost Value = { Standing };
+
+    ghost view = { λ s. record {
+      kind = s.kind;
+      columns = named s.columns.now;
+      place = s.place;
+      fields = fields_of s.raw;
+      state = reader_state s.reader;
+      remaining = source_of R.remaining s.reader;
+    } };
+
+    ghost invariant = { λ s. has_failed s.reader ≡ false → IsPlain s.reader };
+}
+
+/// The fault of an error that stops a reader. Records of any number of fields, which needn't be text, give
+/// no other error.
+fn fault_of(error: csv::Error) -> ReadFault
+    requires { stops_reader (error_kind error) ≡ true }
+    ensures { result ≡ read_fault (error_kind error) }
+{
+    match error.into_kind() {
+        ErrorKind::Io(error) => ReadFault::Input(error),
+        _ => ReadFault::Source(SourceFault::Memory),
+    }
+}
+
+/// A reader of all records, the header among them.
+fn reader_over<R: Read>(alloc: Global, source: R) -> Reader<R>
+    ensures plain { IsPlain result }
+    ensures state { reader_state result ≡ StartRecord }
+    ensures source { source_of R.remaining result ≡ option_map strip_bom (R.remaining source) }
+{
+    ReaderBuilder::new()
+        .has_headers(false)
+        .flexible(true)
+        .from_reader(alloc, source)
+}
+
+/// Reads the next record into `raw`, and returns whether there was one.
+fn read_into<R: Read>(reader: &mut Reader<R>, raw: &mut ByteRecord) -> Result<bool, ReadFault>
+    requires { has_failed reader.old ≡ false → IsPlain reader.old }
+    ensures plain { has_failed reader.new ≡ false → IsPlain reader.new }
+    ensures records { (records : List Record)
+        → Leaves (source_of R.remaining reader.old) (reader_state reader.old) records
+        → IfOk result (λ found. Takes found (fields_of raw.new) (source_of R.remaining reader.new) (reader_state reader.new) records) }
+    ensures fault { IfErr result IsReadFault }
+{
+    match reader.read_byte_record(raw) {
+        Ok(found) => Ok(found),
+        Err(error) => Err(fault_of(error)),
+    }
+}
+
+impl<R: Read + Drop> RowReader<R> {
+    /// Reads the header of a file of this kind.
+    pub fn open(alloc: Global, kind: Kind, source: R) -> Result<RowReader<R>, ReadFault>
+        ensures rows { IfOk result (λ rows. (rows.kind ≡ kind) × (rows.place ≡ 0)) }
+        ensures records { (bytes : List ℕ) → R.remaining source ≡ Some bytes
+            → (records : List Record) → AreRecordsOf bytes records → Opens kind records result }
+    {
+        let mut reader = reader_over(alloc, source);
+        let mut raw = ByteRecord::new(alloc);
+        if !read_into(&mut reader, &mut raw)? {
+            return Err(ReadFault::Source(SourceFault::Header));
+        }
+        match columns_of(kind, &raw) {
+            Some(columns) => Ok(RowReader {
+                alloc,
+                kind,
+                columns,
+                place: 0,
+                raw,
+                reader,
+            }),
+            None => Err(ReadFault::Source(SourceFault::Header)),
+        }
+    }
+
+    /// Reads the next record, and returns whether there was one. More records than `usize` counts are out of
+    /// memory.
+    pub fn read_next(&mut self) -> Result<bool, ReadFault>
+        ensures kind { self.new.kind ≡ self.old.kind }
+        ensures columns { self.new.columns ≡ self.old.columns }
+        ensures place { IfOk result (λ found. self.new.place ≡ place_after found self.old.place) }
+        ensures records { (records : List Record) → HasLeft self.old records
+            → IfOk result (λ found. Takes found self.new.fields self.new.remaining self.new.state records) }
+        ensures fault { IfErr result IsReadFault }
+    {
+        let found = read_into(&mut self.reader, &mut self.raw)?;
+        if found {
+            self.place = match self.place.checked_add(1) {
+                Some(place) => place,
+                None => return Err(ReadFault::Source(SourceFault::Memory)),
+            };
+        }
+        Ok(found)
+    }
+
+    /// The place of the last record, from 1 after the header.
+    pub fn place(&self) -> usize
+        ensures { result ≡ self.now.place }
+    {
+        self.place
+    }
+
+    /// The last record, or the header if none was read.
+    pub fn record(&self) -> &ByteRecord
+        ensures { fields_of result.now ≡ self.now.fields }
+    {
+        &self.raw
+    }
+
+    /// The row or the fault of the last record. Call it once for each record: one that isn't text may be left
+    /// with other fields.
+    pub fn row(&mut self) -> Result<Result<Row, RowFault>, SourceFault>
+        ensures row { MatchResult result (λ row. row ≡ last_row self.old) (λ fault. fault ≡ SourceFault.Memory) }
+        ensures rest { self.new ≡ record self.old { fields = self.new.fields } }
+    {
+        row_at(
+            self.alloc,
+            self.kind,
+            self.columns,
+            self.place,
+            &mut self.raw,
+        )
+    }
+}
