@@ -23,6 +23,7 @@ import sys
 import tempfile
 import threading
 import time
+import typing
 import unittest
 
 ROOT = pathlib.Path(__file__).resolve().parent.parent
@@ -339,7 +340,7 @@ def make_file(path, statements, tables):
     return path
 
 
-# The statements of the store's format and of both formats of the journal
+# The statements of the store's format
 STORE_FORMAT = """CREATE TABLE IF NOT EXISTS provider_format (
   one INTEGER PRIMARY KEY CHECK (one = 1), number INTEGER NOT NULL)"""
 RESOURCE = """CREATE TABLE resource (
@@ -349,25 +350,75 @@ RESOURCE = """CREATE TABLE resource (
   version INTEGER NOT NULL CHECK (version >= 1),
   content TEXT NOT NULL,
   UNIQUE (kind, name_key))"""
-JOURNAL_FORMAT = """CREATE TABLE IF NOT EXISTS journal_format (
-  one INTEGER PRIMARY KEY CHECK (one = 1), number INTEGER NOT NULL)"""
-FIRST_USER_ENTRY = """CREATE TABLE user_entry (
+# The tables of a journal, by their names
+TABLES = {
+    "journal_format": """CREATE TABLE IF NOT EXISTS journal_format (
+  one INTEGER PRIMARY KEY CHECK (one = 1), number INTEGER NOT NULL)""",
+    "user_entry": """CREATE TABLE user_entry (
   name_key TEXT PRIMARY KEY NOT NULL, login TEXT NOT NULL,
   revision INTEGER NOT NULL, number TEXT NOT NULL, given TEXT NOT NULL,
   family TEXT NOT NULL, mail TEXT NOT NULL, active INTEGER NOT NULL,
-  confirmed INTEGER NOT NULL, id TEXT)"""
-GROUP_ENTRY = """CREATE TABLE group_entry (
+  confirmed INTEGER NOT NULL, id TEXT)""",
+    "group_entry": """CREATE TABLE group_entry (
   name_key TEXT PRIMARY KEY NOT NULL, name TEXT NOT NULL,
   revision INTEGER NOT NULL, members TEXT NOT NULL,
-  confirmed INTEGER NOT NULL, id TEXT)"""
-USER_ENTRY = """CREATE TABLE user_entry_2 (
+  confirmed INTEGER NOT NULL, id TEXT)""",
+    "user_entry_2": """CREATE TABLE user_entry_2 (
   name_key TEXT PRIMARY KEY NOT NULL, login TEXT NOT NULL,
   revision INTEGER NOT NULL, number TEXT NOT NULL, given TEXT NOT NULL,
   family TEXT NOT NULL, mail TEXT NOT NULL, department TEXT NOT NULL,
-  active INTEGER NOT NULL, confirmed INTEGER NOT NULL, id TEXT)"""
-# The tables of a journal in their order
-FIRST_JOURNAL = (JOURNAL_FORMAT, FIRST_USER_ENTRY, GROUP_ENTRY)
-JOURNAL = (*FIRST_JOURNAL, USER_ENTRY)
+  active INTEGER NOT NULL, confirmed INTEGER NOT NULL, id TEXT)""",
+    "user_entry_3": """CREATE TABLE user_entry_3 (
+  name_key TEXT PRIMARY KEY NOT NULL, login TEXT NOT NULL,
+  revision INTEGER NOT NULL, number TEXT NOT NULL, given TEXT NOT NULL,
+  family TEXT NOT NULL, mail TEXT NOT NULL, department TEXT NOT NULL,
+  active INTEGER NOT NULL, confirmed INTEGER NOT NULL, id TEXT,
+  epoch INTEGER NOT NULL, confirmed_epoch INTEGER NOT NULL)""",
+    "group_entry_3": """CREATE TABLE group_entry_3 (
+  name_key TEXT PRIMARY KEY NOT NULL, name TEXT NOT NULL,
+  revision INTEGER NOT NULL, members TEXT NOT NULL,
+  confirmed INTEGER NOT NULL, id TEXT,
+  epoch INTEGER NOT NULL, confirmed_epoch INTEGER NOT NULL)""",
+}
+
+
+def without_epochs(entry):
+    """The row of an entry in a journal of format 2, and that of a group in one of format 1."""
+    return entry[:-2]
+
+
+def without_department(entry):
+    """The row of a user in a journal of format 1."""
+    return without_epochs(entry[:7] + entry[8:])
+
+
+class Form(typing.NamedTuple):
+    """A format of the journal: its number, its tables in their order, those with entries, and an entry as a row."""
+
+    number: int
+    tables: tuple
+    users: str
+    groups: str
+    user_row: typing.Callable = tuple
+    group_row: typing.Callable = tuple
+
+    def statements(self, **other):
+        """The statements that make the tables, but for other ones."""
+        return [(TABLES | other)[name] for name in self.tables]
+
+    def has(self, damage):
+        """Whether an entry of this format can be damaged so: a word of what only later formats have isn't in it."""
+        return not (self.number < 3 and "epoch" in damage or self.number < 2 and "department" in damage)
+
+
+FIRST = ("journal_format", "user_entry", "group_entry")
+SECOND = (*FIRST, "user_entry_2")
+FORMS = (
+    Form(1, FIRST, "user_entry", "group_entry", without_department, without_epochs),
+    Form(2, SECOND, "user_entry_2", "group_entry", without_epochs, without_epochs),
+    Form(3, (*SECOND, "user_entry_3", "group_entry_3"), "user_entry_3", "group_entry_3"),
+)
+*OLDER_FORMS, CURRENT = FORMS
 
 
 def make_store(path, resources=(), number=1, statements=(STORE_FORMAT, RESOURCE)):
@@ -376,17 +427,11 @@ def make_store(path, resources=(), number=1, statements=(STORE_FORMAT, RESOURCE)
     return make_file(path, statements, {"provider_format": numbers, "resource": resources})
 
 
-def make_journal(path, users=(), groups=(), number=2, statements=JOURNAL):
-    """A journal that SQLite made, with the tables of format 2 and this number."""
-    numbers = [(1, number)] if number is not None else []
-    return make_file(path, statements, {"journal_format": numbers, "user_entry_2": users, "group_entry": groups})
-
-
-def make_first_journal(path, users=(), groups=(), number=1, statements=FIRST_JOURNAL):
-    """A journal that SQLite made, with the tables of format 1 and this number. Its users have no department."""
-    numbers = [(1, number)] if number is not None else []
-    users = map(without_department, users)
-    return make_file(path, statements, {"journal_format": numbers, "user_entry": users, "group_entry": groups})
+def make_journal(path, users=(), groups=(), form=CURRENT, numbers=None, statements=None):
+    """A journal that SQLite made in this format; of an older one, its entries lack what that format hasn't."""
+    numbers = [form.number] if numbers is None else numbers
+    rows = {form.users: map(form.user_row, users), form.groups: map(form.group_row, groups)}
+    return make_file(path, statements or form.statements(), {"journal_format": enumerate(numbers, 1), **rows})
 
 
 def compact(content):
@@ -418,17 +463,13 @@ def user_resource(number, key, **other):
 def user_entry(key, **other):
     """The row of a user in a journal: at revision 1, nothing confirmed, but for other columns."""
     row = {"name_key": key, "login": key, "revision": 1, "number": "", "given": "", "family": "", "mail": ""}
-    return tuple((row | {"department": "", "active": 1, "confirmed": 0, "id": None} | other).values())
-
-
-def without_department(entry):
-    """The row of a user in a journal of format 1."""
-    return entry[:7] + entry[8:]
+    last = {"department": "", "active": 1, "confirmed": 0, "id": None, "epoch": 0, "confirmed_epoch": 0}
+    return tuple((row | last | other).values())
 
 
 def group_entry(key, members="", **other):
     row = {"name_key": key, "name": key, "revision": 1, "members": members, "confirmed": 0, "id": None}
-    return tuple((row | other).values())
+    return tuple((row | {"epoch": 0, "confirmed_epoch": 0} | other).values())
 
 
 def store_commands(path):

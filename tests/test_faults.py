@@ -12,7 +12,7 @@ import unittest
 from faults import ENDED, Fault, build_shim, tell_all
 from support import (
     BOB_CREATED, CREATE_BOB, EXAMPLES, ROOT, Provider, Running, Site,
-    make_first_journal, resource_id, scimlink, sql, user_entry, without_causes,
+    OLDER_FORMS, group_entry, make_journal, resource_id, scimlink, sql, user_entry, without_causes,
 )
 
 UNDONE = (
@@ -142,18 +142,33 @@ def map_users(_, fault):
     check_lines(scimlink("map", RECORDS, **fault.options), fault, lines, 1, ["users record 3: S5"])
 
 
-def carry_over(folder, fault):
-    """A journal of format 1 is shown with a fault, and then without one, which shows all that was in it."""
+def carry_over(form, folder, fault):
+    """A journal of an older format is shown with a fault, and then without one, which shows all that was in it."""
     confirmed = {"revision": 3, "confirmed": 2, "id": resource_id(1)}
     users = [user_entry("ann", login="Ann", mail="ann@example.com"), user_entry("bob", active=0, **confirmed)]
-    journal = make_first_journal(folder / "journal", users)
-    lines = ["user ann wanted=1 confirmed=0 id=-", f"user bob wanted=3 confirmed=2 id={resource_id(1)}"]
+    groups = [group_entry("crew", "ann bob", confirmed=1, id=resource_id(2))]
+    journal = make_journal(folder / "journal", users, groups, form)
+    lines = [
+        "user ann wanted=1 confirmed=0 id=-",
+        f"user bob wanted=3 confirmed=2 id={resource_id(1)}",
+        f"group crew wanted=1 confirmed=1 id={resource_id(2)}",
+    ]
     run = scimlink("show", "--journal", journal, **fault.options)
     check_ending(run, fault)
     check(run.lines, lines[: len(run.lines)], "lines")
     check(show("--journal", journal), lines, "entries in the end")
-    check(sql(journal, "SELECT * FROM user_entry_2 ORDER BY name_key"), users, "rows in the end")
-    check(sql(journal, "SELECT * FROM user_entry"), [], "rows of format 1 in the end")
+    check(sql(journal, "SELECT * FROM user_entry_3 ORDER BY name_key"), users, "users in the end")
+    check(sql(journal, "SELECT * FROM group_entry_3"), groups, "groups in the end")
+    for table in ("user_entry", "group_entry", "user_entry_2"):
+        check(sql(journal, f"SELECT * FROM {table}"), [], f"rows of {table} in the end")
+
+
+def carry_over_1(folder, fault):
+    carry_over(OLDER_FORMS[0], folder, fault)
+
+
+def carry_over_2(folder, fault):
+    carry_over(OLDER_FORMS[1], folder, fault)
 
 
 # ---- stories of both ends
@@ -384,10 +399,11 @@ class FaultsTest(unittest.TestCase):
     def test_memory_of_reset(self):
         self.refuse("ALLOCATION", self.leaver.reset)
 
-    def test_a_journal_of_format_1(self):
-        self.refuse("ALLOCATION", carry_over, step=STEP)
-        self.refuse("WRITE", carry_over, ways=WRITE_FAULTS)
-        self.refuse("READ", carry_over, ways=["5"])
+    def test_journals_of_older_formats(self):
+        for story in carry_over_1, carry_over_2:
+            self.refuse("ALLOCATION", story, step=STEP)
+            self.refuse("WRITE", story, ways=WRITE_FAULTS)
+            self.refuse("READ", story, ways=["5"])
 
     def test_memory_of_push(self):
         self.refuse_memory_after(

@@ -1,5 +1,5 @@
 """The connector's journals: entries that SQLite reads and writes, entries that are refused, and runs that stop; and
-journals of format 1, which are carried over.
+journals of older formats, which are carried over.
 
 What is refused of any file, as a text or a locked one, is in test_openings.py.
 """
@@ -7,13 +7,13 @@ import shutil
 import time
 
 from support import (
-    DEPARTMENTS_HEADER, FIRST_JOURNAL, FIRST_USER_ENTRY, GROUP_ENTRY, JOURNAL, JOURNAL_FORMAT, NOWHERE, ROOT, USER_ENTRY,
+    CURRENT, DEPARTMENTS_HEADER, FORMS, NOWHERE, OLDER_FORMS, ROOT, TABLES,
     ProgramTest, Running,
-    contents, group_entry, journal_commands, limited_files, make_first_journal, make_journal, resource_id, scimlink,
-    silent_provider, sql, user_entry, wait_until, without_department,
+    contents, group_entry, journal_commands, limited_files, make_journal, resource_id, scimlink, silent_provider, sql,
+    user_entry, wait_until,
 )
 
-LAST_REVISION = 2_000_000_000
+LAST_EPOCH, LAST_REVISION = 999_999, 2_000_000_000
 ANN, BOB = user_entry("ann"), user_entry("bob")
 
 # Users that are invalid beside ann
@@ -31,6 +31,16 @@ DAMAGED_USERS = {
     "bytes as a value": user_entry("bob", given=b"Bob"),
     "a long department": user_entry("bob", department=257 * "d"),
     "bytes as a department": user_entry("bob", department=b"Sales"),
+    "an epoch that is too large": user_entry("bob", epoch=LAST_EPOCH + 1),
+    "an epoch below 0": user_entry("bob", epoch=-1),
+    "an epoch in words": user_entry("bob", epoch="one"),
+    "an epoch in parts": user_entry("bob", epoch=1.5),
+    "revision 0 of an epoch": user_entry("bob", epoch=1, revision=0),
+    "an epoch with nothing confirmed": user_entry("bob", epoch=1, confirmed_epoch=1, id="b"),
+    "a confirmed epoch below 0": user_entry("bob", confirmed=1, confirmed_epoch=-1, id="b"),
+    "a confirmed epoch in words": user_entry("bob", confirmed=1, confirmed_epoch="none", id="b"),
+    "confirmed in a later epoch": user_entry("bob", revision=2, confirmed=1, confirmed_epoch=1, id="b"),
+    "confirmed above the revision in its epoch": user_entry("bob", epoch=1, confirmed=2, confirmed_epoch=1, id="b"),
     "active 2": user_entry("bob", active=2),
     "confirmed above the revision": user_entry("bob", confirmed=2, id="b"),
     "confirmed below 0": user_entry("bob", confirmed=-1, id="b"),
@@ -46,6 +56,8 @@ DAMAGED_GROUPS = {
     "a group at revision 0": group_entry("crew", revision=0),
     "a group confirmed above its revision": group_entry("crew", confirmed=2, id="c"),
     "a group confirmed without an id": group_entry("crew", confirmed=1),
+    "a group whose epoch is too large": group_entry("crew", epoch=LAST_EPOCH + 1),
+    "a group confirmed in a later epoch": group_entry("crew", confirmed=1, confirmed_epoch=1, id="c"),
     "members out of order": group_entry("crew", "bob ann"),
     "a member twice": group_entry("crew", "ann ann"),
     "a member that is no user": group_entry("crew", "ann zoe"),
@@ -67,23 +79,24 @@ class JournalTest(ProgramTest):
 
     def entries(self):
         """The entries of both tables, as SQLite reads them."""
-        tables = ("user_entry_2", "group_entry")
-        return [sql(self.site.journal, f"SELECT * FROM {table} ORDER BY name_key") for table in tables]
+        return [sql(self.site.journal, f"SELECT * FROM {table} ORDER BY name_key") for table in (CURRENT.users, CURRENT.groups)]
 
     def remove_journal(self):
         for file in self.folder.glob("journal*"):
             file.unlink()
 
-    def assert_format_2(self):
-        """The journal has the number of the format, and nothing in the table of format 1."""
-        self.assertEqual(sql(self.site.journal, "SELECT one, number FROM journal_format"), [(1, 2)])
-        self.assertEqual(sql(self.site.journal, "SELECT * FROM user_entry"), [])
+    def assert_current(self):
+        """The journal has the number of the current format, and nothing in the tables of older ones."""
+        self.assertEqual(sql(self.site.journal, "SELECT one, number FROM journal_format"), [(1, 3)])
+        for form in OLDER_FORMS:
+            for table in form.users, form.groups:
+                self.assertEqual(sql(self.site.journal, f"SELECT * FROM {table}"), [])
         self.assertEqual(sql(self.site.journal, "PRAGMA integrity_check"), [("ok",)])
 
-    def refuses(self, name, users=(), groups=(), make=make_journal, fault="journal fault J2", **options):
+    def refuses(self, name, users=(), groups=(), form=CURRENT, fault="journal fault J2", **options):
         """No command opens a journal with these entries."""
-        with self.subTest(name, make=make.__name__):
-            path = make(self.folder / f"{name} {make.__name__}", users, groups, **options)
+        with self.subTest(name, form=form.number):
+            path = make_journal(self.folder / f"{name} {form.number}", users, groups, form, **options)
             self.assert_refused(path, journal_commands(path), fault)
 
 
@@ -93,39 +106,41 @@ class EntryTest(JournalTest):
             user_entry("zoe", login="Zoe", revision=LAST_REVISION, confirmed=LAST_REVISION, id="z"),
             user_entry("bob", number="1002", given="Bob", family="Ray, Jr.", mail="bob@example.com", active=0),
             user_entry("ann", revision=7, department="Sales", confirmed=5, id=resource_id(1)),
+            user_entry("dan", epoch=LAST_EPOCH, revision=1, confirmed_epoch=3, confirmed=LAST_REVISION, id="d"),
         ]
         groups = [
             group_entry("night crew", "ann bob zoe", name="Night Crew"),
-            group_entry("crew", revision=2, id=resource_id(3)),
+            group_entry("crew", epoch=1, revision=2, id=resource_id(3)),
         ]
         make_journal(self.site.journal, users, groups)
         self.assert_shows(
             f"user ann wanted=7 confirmed=5 id={resource_id(1)}",
             "user bob wanted=1 confirmed=0 id=-",
+            f"user dan wanted={LAST_EPOCH}:1 confirmed=3:{LAST_REVISION} id=d",
             f"user zoe wanted={LAST_REVISION} confirmed={LAST_REVISION} id=z",
-            f"group crew wanted=2 confirmed=0 id={resource_id(3)}",
+            f"group crew wanted=1:2 confirmed=0 id={resource_id(3)}",
             "group night crew wanted=1 confirmed=0 id=-",
         )
 
     def test_what_the_program_writes_sqlite_reads(self):
         self.assert_shows()
         self.assertEqual(self.entries(), [[], []])
-        self.site.write_users('Bob,3,1002,Bob,"Ray, Jr.",bob@example.com,left', "ann,7,,,,,active")
-        self.site.write_groups("Crew,1,Bob ann")
+        self.site.write_users('Bob,3,1002,Bob,"Ray, Jr.",bob@example.com,left', "ann,2:7,,,,,active")
+        self.site.write_groups("Crew,1:1,Bob ann")
         with self.serving(6, "--store", self.site.store) as provider:
             run = self.site.push(provider.address)
-            self.assert_prints(run, "user ann confirmed 7", "user bob confirmed 3", "group crew confirmed 1")
-        ann = user_entry("ann", revision=7, confirmed=7, id=resource_id(1))
+            self.assert_prints(run, "user ann confirmed 2:7", "user bob confirmed 3", "group crew confirmed 1:1")
+        ann = user_entry("ann", epoch=2, revision=7, confirmed_epoch=2, confirmed=7, id=resource_id(1))
         person = {"number": "1002", "given": "Bob", "family": "Ray, Jr.", "mail": "bob@example.com", "active": 0}
         bob = user_entry("bob", login="Bob", revision=3, confirmed=3, id=resource_id(2), **person)
-        crew = group_entry("crew", "ann bob", name="Crew", confirmed=1, id=resource_id(3))
+        crew = group_entry("crew", "ann bob", name="Crew", epoch=1, confirmed_epoch=1, confirmed=1, id=resource_id(3))
         self.assertEqual(self.entries(), [[ann, bob], [crew]])
         # rows that are accepted and not carried, as no provider is there
-        self.site.write_users("bob,4,,,,,active", "zoe,1,,,,,active")
+        self.site.write_users("bob,1:1,,,,,active", "zoe,1,,,,,active")
         self.assert_reports(self.site.push(NOWHERE), 3, "connection fault")
-        bob = user_entry("bob", revision=4, confirmed=3, id=resource_id(2))
+        bob = user_entry("bob", epoch=1, revision=1, confirmed=3, id=resource_id(2))
         self.assertEqual(self.entries(), [[ann, bob, user_entry("zoe")], [crew]])
-        self.assert_format_2()
+        self.assert_current()
 
     def test_a_department_is_kept(self):
         self.site.write_users("bob,1,,,,,active,Sales", header=DEPARTMENTS_HEADER)
@@ -133,12 +148,13 @@ class EntryTest(JournalTest):
         self.assertEqual(self.entries(), [[user_entry("bob", department="Sales")], []])
 
     def test_damaged_entries_are_refused(self):
-        for make in make_journal, make_first_journal:
+        for form in FORMS:
             for name, entry in DAMAGED_USERS.items():
-                if make == make_journal or "department" not in name:
-                    self.refuses(name, [ANN, entry], make=make)
+                if form.has(name):
+                    self.refuses(name, [ANN, entry], form=form)
             for name, entry in DAMAGED_GROUPS.items():
-                self.refuses(name, [ANN, BOB], [entry], make=make)
+                if form.has(name):
+                    self.refuses(name, [ANN, BOB], [entry], form=form)
         make_journal(self.site.journal, [ANN, BOB], [group_entry("crew", "ann bob")])
         self.assert_shows(*unconfirmed("user ann", "user bob", "group crew"))
 
@@ -158,66 +174,70 @@ class EntryTest(JournalTest):
     def test_a_row_number_twice_is_refused(self):
         path = make_journal(self.site.journal, [ANN, BOB])
         content = bytearray(path.read_bytes())
-        # bob's row in its page: its length, its number, twelve bytes on its columns, and their texts
-        at = content.index(b"bobbob") - 14
-        self.assertEqual(content[at + 1 : at + 3], bytes([2, 12]))
+        # bob's row in its page: its length, its number, fourteen bytes on its columns, and their texts
+        at = content.index(b"bobbob") - 16
+        self.assertEqual(content[at + 1 : at + 3], bytes([2, 14]))
         content[at + 1] = 1
         path.write_bytes(content)
         self.assert_refused(path, journal_commands(path), "journal fault J1")
 
     def test_other_formats_are_refused(self):
-        for make, other in (make_journal, 1), (make_first_journal, 2):
-            for number in 3, 2_000_000_000:
-                self.refuses(f"number {number}", [ANN], make=make, number=number, fault="journal fault J4")
-            self.refuses("the number of the other format", [ANN], make=make, number=other)
-            self.refuses("number 0", [ANN], make=make, number=0)
-            self.refuses("no number", [ANN], make=make, number=None)
-        users = USER_ENTRY.replace("given TEXT", "first TEXT")
-        first_users = FIRST_USER_ENTRY.replace("given TEXT", "first TEXT")
-        groups = GROUP_ENTRY.replace("id TEXT", "id TEXT, more TEXT")
-        for name, statements in {
-            "another column": [*FIRST_JOURNAL, users],
-            "another column in the old table": [JOURNAL_FORMAT, first_users, GROUP_ENTRY, USER_ENTRY],
-            "a column more": [JOURNAL_FORMAT, FIRST_USER_ENTRY, groups, USER_ENTRY],
-            "no key": [*FIRST_JOURNAL, USER_ENTRY.replace(" PRIMARY KEY", "")],
-            "another order": [JOURNAL_FORMAT, USER_ENTRY, FIRST_USER_ENTRY, GROUP_ENTRY],
-            "no old table": [JOURNAL_FORMAT, GROUP_ENTRY, USER_ENTRY],
+        for form in FORMS:
+            for number in 4, 2_000_000_000:
+                self.refuses(f"number {number}", [ANN], form=form, numbers=[number], fault="journal fault J4")
+            for number in {0, 1, 2, 3} - {form.number}:
+                self.refuses(f"number {number}", [ANN], form=form, numbers=[number])
+            self.refuses("no number", [ANN], form=form, numbers=[])
+
+    def test_later_formats_are_told_by_their_number_alone(self):
+        first, entries = TABLES["journal_format"], "CREATE TABLE person (id INTEGER PRIMARY KEY, name TEXT NOT NULL)"
+        view = "CREATE VIEW leaver AS SELECT name FROM person"
+        for name, tables in {
+            "other tables": [first, entries, view],
+            "a table more": [*CURRENT.statements(), entries],
+            "no other tables": [first],
         }.items():
-            self.refuses(name, statements=statements)
-        for name, statements in {
-            "another column": [JOURNAL_FORMAT, first_users, GROUP_ENTRY],
-            "a column more": [JOURNAL_FORMAT, FIRST_USER_ENTRY, groups],
-            "no key": [JOURNAL_FORMAT, FIRST_USER_ENTRY.replace(" PRIMARY KEY", ""), GROUP_ENTRY],
-            "another order": [JOURNAL_FORMAT, GROUP_ENTRY, FIRST_USER_ENTRY],
-        }.items():
-            self.refuses(name, make=make_first_journal, statements=statements)
+            for numbers, fault in ([4], "J4"), ([3], "J2"), ([0], "J2"), ([], "J2"):
+                with self.subTest(name, numbers=numbers):
+                    path = self.folder / f"{name} {numbers}"
+                    sql(path, *tables, *(f"INSERT INTO journal_format VALUES (1, {number})" for number in numbers))
+                    self.assert_refused(path, journal_commands(path), f"journal fault {fault}")
+
+    def test_tables_in_another_form_are_refused(self):
+        for form in FORMS:
+            for name in form.tables[1:]:
+                table = TABLES[name]
+                for change, other in {
+                    "another column": table.replace("revision INTEGER", "version INTEGER"),
+                    "a column more": table.replace("id TEXT", "id TEXT, more TEXT"),
+                    "no key": table.replace(" PRIMARY KEY", ""),
+                }.items():
+                    self.refuses(f"{change} in {name}", form=form, statements=form.statements(**{name: other}))
+            first, *rest = form.statements()
+            self.refuses("another order", form=form, statements=[first, *reversed(rest)])
+            self.refuses("two tables less", form=form, statements=[first, *rest[:-2]])
 
     def test_other_tables_are_refused(self):
-        for number, made, users in (2, JOURNAL, "user_entry_2"), (1, FIRST_JOURNAL, "user_entry"):
-            tables = [*made, f"INSERT INTO journal_format VALUES (1, {number})"]
-            free = [made[0].replace(" CHECK (one = 1)", ""), *tables[1:]]
+        for form in FORMS:
+            tables = [*form.statements(), f"INSERT INTO journal_format VALUES (1, {form.number})"]
+            free = [tables[0].replace(" CHECK (one = 1)", ""), *tables[1:]]
             for name, statements in {
-                "two formats": [*free, f"INSERT INTO journal_format VALUES (2, {number})"],
+                "two formats": [*free, f"INSERT INTO journal_format VALUES (2, {form.number})"],
                 "another one alone": ["CREATE TABLE note (id INTEGER PRIMARY KEY, title TEXT NOT NULL)"],
-                "the users alone": [made[-1]],
+                "the users alone": [TABLES[form.users]],
                 "another one beside": [*tables, "CREATE TABLE note (id INTEGER PRIMARY KEY)"],
-                "an index beside": [*tables, f"CREATE INDEX by_revision ON {users} (revision)"],
-                "a view beside": [*tables, f"CREATE VIEW leaver AS SELECT login FROM {users} WHERE active = 0"],
+                "an index beside": [*tables, f"CREATE INDEX by_revision ON {form.users} (revision)"],
+                "a view beside": [*tables, f"CREATE VIEW leaver AS SELECT login FROM {form.users} WHERE active = 0"],
             }.items():
-                with self.subTest(name, number=number):
-                    path = self.folder / f"{name} {number}"
+                with self.subTest(name, form=form.number):
+                    path = self.folder / f"{name} {form.number}"
                     sql(path, *statements)
                     self.assert_refused(path, journal_commands(path), "journal fault J2")
 
 
-class FirstFormatTest(JournalTest):
-    """A journal of format 1, which each command carries over: its entries stay, and have no department."""
+class OlderFormatTest(JournalTest):
+    """A journal of an older format, which each command carries over: its entries stay, at epoch 0."""
 
-    USERS = [
-        user_entry("ann", revision=7, confirmed=5, id=resource_id(1), number="1001", given="Ann", family="Lee"),
-        user_entry("bob", login="Bob", revision=2, id=resource_id(2), mail="bob@example.com", active=0),
-        user_entry("zoe"),
-    ]
     GROUPS = [
         group_entry("crew", "ann bob", name="Crew", revision=4, confirmed=4, id=resource_id(3)),
         group_entry("night crew"),
@@ -230,6 +250,24 @@ class FirstFormatTest(JournalTest):
         "group night crew wanted=1 confirmed=0 id=-",
     ]
 
+    def each_form(self):
+        """Each older format, with users that it can have: only those of format 2 have departments."""
+        for form in OLDER_FORMS:
+            department = "Sales" if form.number == 2 else ""
+            person = {"number": "1001", "given": "Ann", "family": "Lee", "department": department}
+            users = [
+                user_entry("ann", revision=7, confirmed=5, id=resource_id(1), **person),
+                user_entry("bob", login="Bob", revision=2, id=resource_id(2), mail="bob@example.com", active=0),
+                user_entry("zoe"),
+            ]
+            with self.subTest(form=form.number):
+                yield form, users
+            self.remove_journal()
+
+    def assert_carried(self, users, groups):
+        self.assertTrue(self.entries() == [users, groups], "other entries")
+        self.assert_current()
+
     def assert_stays(self):
         """A second opening shows the entries, and leaves the file as it was."""
         before = contents(self.site.journal)
@@ -237,94 +275,98 @@ class FirstFormatTest(JournalTest):
         self.assertEqual(contents(self.site.journal), before)
 
     def test_a_show(self):
-        make_first_journal(self.site.journal, self.USERS, self.GROUPS)
-        self.assert_shows(*self.LINES)
-        self.assertEqual(self.entries(), [self.USERS, self.GROUPS])
-        self.assert_format_2()
-        self.assert_stays()
+        for form, users in self.each_form():
+            make_journal(self.site.journal, users, self.GROUPS, form)
+            self.assert_shows(*self.LINES)
+            self.assert_carried(users, self.GROUPS)
+            self.assert_stays()
 
     def test_each_command_that_then_finds_no_source(self):
-        for command in journal_commands(self.site.journal):
-            if "nowhere" not in command:
-                continue
-            with self.subTest(command[0]):
-                make_first_journal(self.site.journal, self.USERS, self.GROUPS)
+        commands = [command for command in journal_commands(self.site.journal) if "nowhere" in command]
+        for form, users in self.each_form():
+            for command in commands:
+                make_journal(self.site.journal, users, self.GROUPS, form)
                 self.assert_fault(scimlink(*command), "file fault")
-                self.assertEqual(self.entries(), [self.USERS, self.GROUPS])
-                self.assert_format_2()
+                self.assert_carried(users, self.GROUPS)
                 self.assert_stays()
                 self.remove_journal()
 
     def test_a_reset(self):
-        make_first_journal(self.site.journal, self.USERS, self.GROUPS)
-        self.assert_prints(self.site.reset(), "reset 3 records")
-        forgotten = [[(*entry[:-2], 0, None) for entry in table] for table in (self.USERS, self.GROUPS)]
-        self.assertEqual(self.entries(), forgotten)
-        self.assert_format_2()
+        for form, users in self.each_form():
+            make_journal(self.site.journal, users, self.GROUPS, form)
+            self.assert_prints(self.site.reset(), "reset 3 records")
+            self.assert_carried(*([(*entry[:-4], 0, None, 0, 0) for entry in table] for table in (users, self.GROUPS)))
 
     def test_a_push(self):
-        self.site.write_users("bob,1,,,,,active")
-        with self.serving(2, "--store", self.site.store) as provider:
-            self.assert_prints(self.site.push(provider.address), "user bob confirmed 1")
-        self.remove_journal()
-        make_first_journal(self.site.journal, [user_entry("bob", confirmed=1, id=resource_id(1))])
-        self.site.write_users("bob,2,,,,,active,Sales", header=DEPARTMENTS_HEADER)
-        with self.serving(2, "--store", self.site.store) as provider:
-            self.assert_prints(self.site.push(provider.address), "user bob confirmed 2")
-        bob = user_entry("bob", revision=2, department="Sales", confirmed=2, id=resource_id(1))
-        self.assertEqual(self.entries(), [[bob], []])
-        self.assert_format_2()
+        for form, _ in self.each_form():
+            store = self.folder / f"store {form.number}"
+            self.site.write_users("bob,1,,,,,active")
+            with self.serving(2, "--store", store) as provider:
+                self.assert_prints(self.site.push(provider.address), "user bob confirmed 1")
+            self.remove_journal()
+            make_journal(self.site.journal, [user_entry("bob", confirmed=1, id=resource_id(1))], form=form)
+            self.site.write_users("bob,1:1,,,,,active,Sales", header=DEPARTMENTS_HEADER)
+            with self.serving(2, "--store", store) as provider:
+                self.assert_prints(self.site.push(provider.address), "user bob confirmed 1:1")
+            first = {"epoch": 1, "revision": 1, "confirmed_epoch": 1, "confirmed": 1}
+            self.assert_carried([user_entry("bob", department="Sales", id=resource_id(1), **first)], [])
 
-    def test_one_that_the_program_made(self):
-        # by two runs, when it knew format 1 alone: `loop` confirmed ann at revision 7, bob, whom the file calls Bob,
-        # and crew; `push` found no provider, and accepted ann at revision 8, zoe and night crew
-        original = shutil.copy(ROOT / "tests/format-1.journal", self.folder / "original")
-        users = [(*row[:7], "", *row[7:]) for row in sql(original, "SELECT * FROM user_entry ORDER BY name_key")]
-        groups = sql(original, "SELECT * FROM group_entry ORDER BY name_key")
-        shutil.copy(ROOT / "tests/format-1.journal", self.site.journal)
-        self.assert_shows(
-            f"user ann wanted=8 confirmed=7 id={resource_id(1)}",
-            f"user bob wanted=3 confirmed=3 id={resource_id(2)}",
-            "user zoe wanted=1 confirmed=0 id=-",
-            f"group crew wanted=1 confirmed=1 id={resource_id(3)}",
-            "group night crew wanted=2 confirmed=0 id=-",
-        )
-        self.assertEqual(self.entries(), [users, groups])
-        self.assertEqual([user[:2] for user in users], [("ann", "ann"), ("bob", "Bob"), ("zoe", "Zoe")])
-        self.assert_format_2()
+    def test_those_that_the_program_made(self):
+        # each by two runs, when the program knew no later format: `loop` confirmed ann at revision 7, bob, whom the
+        # file calls Bob, and crew; `push` found no provider, and accepted ann at revision 8, zoe and night crew
+        for form, _ in self.each_form():
+            made = ROOT / f"tests/format-{form.number}.journal"
+            original = shutil.copy(made, self.folder / "original")
+            department = ("",) if form.number == 1 else ()
+            users = [
+                (*row[:7], *department, *row[7:], 0, 0)
+                for row in sql(original, f"SELECT * FROM {form.users} ORDER BY name_key")
+            ]
+            groups = [(*row, 0, 0) for row in sql(original, f"SELECT * FROM {form.groups} ORDER BY name_key")]
+            shutil.copy(made, self.site.journal)
+            self.assert_shows(
+                f"user ann wanted=8 confirmed=7 id={resource_id(1)}",
+                f"user bob wanted=3 confirmed=3 id={resource_id(2)}",
+                "user zoe wanted=1 confirmed=0 id=-",
+                f"group crew wanted=1 confirmed=1 id={resource_id(3)}",
+                "group night crew wanted=2 confirmed=0 id=-",
+            )
+            self.assertEqual([user[:2] for user in users], [("ann", "ann"), ("bob", "Bob"), ("zoe", "Zoe")])
+            self.assertEqual([user[7] for user in users], ["Sales", "", "Sales"] if form.number == 2 else ["", "", ""])
+            self.assert_carried(users, groups)
 
-    def test_an_empty_one(self):
-        make_first_journal(self.site.journal)
-        self.assert_shows()
-        self.assertEqual(self.entries(), [[], []])
-        self.assert_format_2()
+    def test_empty_ones(self):
+        for form, _ in self.each_form():
+            make_journal(self.site.journal, form=form)
+            self.assert_shows()
+            self.assert_carried([], [])
 
     def test_a_full_disk(self):
         users = [user_entry(f"u{place:05}", confirmed=1, id=resource_id(place)) for place in range(1, 1_001)]
-        path = make_first_journal(self.site.journal, users, self.GROUPS[1:])
-        # the copy of the users is longer than this
-        limit = limited_files(path.stat().st_size // 2)
-        for command in journal_commands(path):
-            with self.subTest(command[0]):
+        groups = self.GROUPS[1:]
+        for form, _ in self.each_form():
+            path = make_journal(self.site.journal, users, groups, form)
+            # the copy of the users is longer than this
+            limit = limited_files(path.stat().st_size // 2)
+            for command in journal_commands(path):
                 self.assert_fault(scimlink(*command, **limit), "journal fault J1")
-                self.assertEqual(sql(path, "SELECT number FROM journal_format"), [(1,)])
-                left = sql(path, "SELECT * FROM user_entry ORDER BY name_key")
-                self.assertTrue(left == list(map(without_department, users)), "other users")
-                self.assertEqual(sql(path, "SELECT * FROM group_entry"), self.GROUPS[1:])
-                self.assertEqual(sql(path, "SELECT name FROM sqlite_schema WHERE name = 'user_entry_2'"), [])
-        self.assert_reports(self.site.show_journal(), 0)
-        self.assertTrue(self.entries() == [users, self.GROUPS[1:]], "other entries")
-        self.assert_format_2()
+                self.assertEqual(sql(path, "SELECT number FROM journal_format"), [(form.number,)])
+                left = [sql(path, f"SELECT * FROM {table} ORDER BY name_key") for table in (form.users, form.groups)]
+                self.assertTrue(left == [list(map(form.user_row, users)), list(map(form.group_row, groups))], "other rows")
+                self.assertEqual(sql(path, "SELECT name FROM sqlite_schema WHERE name LIKE '%entry_3'"), [])
+            self.assert_reports(self.site.show_journal(), 0)
+            self.assert_carried(users, groups)
 
-    def test_as_many_users_as_a_journal_may_have(self):
+    def test_as_many_records_as_a_journal_may_have(self):
         users = [user_entry(f"u{place:06}", confirmed=1, id=resource_id(place)) for place in range(1, 100_001)]
-        make_first_journal(self.site.journal, users)
-        start = time.monotonic()
-        run = self.site.show_journal()
-        print(f"100,000 users carried over and shown: {time.monotonic() - start:.1f} s", flush=True)
-        self.assert_reports(run, 0)
-        self.assertTrue(self.entries() == [users, []], "other entries")
-        self.assert_format_2()
+        groups = [group_entry(f"g{place:05}", "u000001 u000002") for place in range(1, 10_001)]
+        for form, _ in self.each_form():
+            make_journal(self.site.journal, users, groups, form)
+            start = time.monotonic()
+            run = self.site.show_journal()
+            print(f"110,000 records of format {form.number} carried over and shown: {time.monotonic() - start:.1f} s", flush=True)
+            self.assert_reports(run, 0)
+            self.assert_carried(users, groups)
 
 
 class ManyRowsTest(JournalTest):

@@ -90,14 +90,23 @@ class RowsTest(LoopTest):
         )
 
     def test_records_that_are_skipped(self):
-        revisions = ["0", "2000000001", "07x", "2000000000"]
+        revisions = ["0", "2000000001", "07x", "2000000000", "1000000:1", ":5", "1:", "1:0", "999999:2000000000"]
         self.writes([f"ann,{revision},,,,,active" for revision in revisions], ["crew,1,ann Ann", "crew,1,ann  bob"])
         self.assert_loop(
             "1 new",
+            "2 new",
             "settled in 2 exchanges",
-            "user ann wanted=2000000000 confirmed=2000000000 held=2000000000 version=1 active=true",
+            "user ann wanted={0} confirmed={0} held={0} version=1 active=true".format("999999:2000000000"),
             status=1,
-            errors=[*(f"users record {n}: S5" for n in (1, 2, 3)), "groups record 1: S9", "groups record 2: S4"],
+            errors=[*(f"users record {n}: S5" for n in (1, 2, 3, 5, 6, 7, 8)), "groups record 1: S9", "groups record 2: S4"],
+        )
+
+    def test_a_source_that_counts_anew(self):
+        self.writes(["bob,57,,,,,active", "bob,1:1,,,,,left", "bob,2000000000,,,,,active", "bob,0:58,,,,,active"])
+        self.assert_loop(
+            *["1 new", "2 new", "3 older", "4 older"],
+            "settled in 2 exchanges",
+            "user bob wanted=1:1 confirmed=1:1 held=1:1 version=1 active=false",
         )
 
     def test_a_file_with_another_header_has_no_rows(self):

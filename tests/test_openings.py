@@ -5,8 +5,8 @@ import subprocess
 import sys
 
 from support import (
-    CREATE_BOB, PROGRAM, ProgramTest, Running,
-    is_locked, journal_commands, make_first_journal, make_journal, make_store, scimlink, silent_provider, sql,
+    CREATE_BOB, CURRENT, FORMS, PROGRAM, ProgramTest, Running,
+    is_locked, journal_commands, make_journal, make_store, scimlink, silent_provider, sql,
     store_commands, user_entry, user_resource,
 )
 
@@ -98,11 +98,13 @@ class StoreOpeningsTest(Openings, ProgramTest):
 
 class JournalOpeningsTest(Openings, ProgramTest):
     failed, damaged, newer = "journal fault J1", "journal fault J2", "journal fault J4"
-    format, newer_number, shown = "journal_format", 3, "user bob wanted=1 confirmed=0 id=-"
+    format, newer_number, shown = "journal_format", 4, "user bob wanted=1 confirmed=0 id=-"
     commands = staticmethod(journal_commands)
 
+    form = CURRENT
+
     def make(self):
-        return make_journal(self.site.journal, [user_entry("bob")])
+        return make_journal(self.site.journal, [user_entry("bob")], form=self.form)
 
     def make_other(self):
         return make_store(self.site.store)
@@ -121,8 +123,13 @@ class JournalOpeningsTest(Openings, ProgramTest):
 class FirstJournalOpeningsTest(JournalOpeningsTest):
     """The same of a journal of format 1, which an opening that succeeds carries over."""
 
-    def make(self):
-        return make_first_journal(self.site.journal, [user_entry("bob")])
+    form = FORMS[0]
+
+
+class SecondJournalOpeningsTest(JournalOpeningsTest):
+    """The same of a journal of format 2."""
+
+    form = FORMS[1]
 
 
 class OrderTest(ProgramTest):

@@ -62,6 +62,18 @@ class RecordTest(PushTest):
         self.site.write_users("bob,2,,,,,active")
         self.pushes(0, ANN_CONFIRMED, "user bob confirmed 2", status=1, errors=["users record 1: S7"])
 
+    def test_a_source_that_counts_anew(self):
+        self.join()
+        self.site.write_users("bob,57,,,,,active", "ann,1,,,,,active")
+        self.pushes(2, ANN_CONFIRMED, "user bob confirmed 57")
+        # the new personnel system begins at 1 again; a row of the old one comes late
+        self.site.write_users("bob,1:1,,,,,left", "bob,58,,,,,active", "ann,1:1,,,,,active")
+        self.pushes(4, "user ann confirmed 1:1", "user bob confirmed 1:1")
+        held = [f"user {name} held=1:1 version={version} active={on}" for name, version, on in (("ann", 2, "true"), ("bob", 3, "false"))]
+        self.assert_prints(self.site.show_store(), *held)
+        wanted = [f"user {name} wanted=1:1 confirmed=1:1 id={resource_id(number)}" for number, name in enumerate(("ann", "bob"), 1)]
+        self.assert_prints(self.site.show_journal(), *wanted)
+
     def test_a_department(self):
         content = "SELECT content FROM resource"
         self.site.write_users("bob,1,,,,,active,Sales", header=DEPARTMENTS_HEADER)
@@ -132,7 +144,7 @@ class RejectedTest(PushTest):
 class FaultTest(PushTest):
     def test_a_journal_that_cannot_grow(self):
         limits = limited_files(300 * 1024)
-        self.site.write_users(*(f"u{place:04},1,,,,,active" for place in range(5_000)))
+        self.site.write_users(*(f"u{place:04},1,,,,,active" for place in range(8_000)))
         self.assert_fault(self.site.push(NOWHERE, **limits), "journal fault J1")
         self.assert_prints(self.site.show_journal())
         names = [f"u{place:03}" for place in range(200)]

@@ -8,6 +8,7 @@ USERS = [
     # a late answer has shown the id, and no revision is confirmed
     user_entry("bob", login="Bob", revision=2, id=resource_id(2), mail="bob@example.com", active=0),
     user_entry("cid"),
+    user_entry("dan", epoch=2, revision=1, confirmed_epoch=1, confirmed=9, id=resource_id(4)),
 ]
 GROUPS = [
     group_entry("band", confirmed=1, id=resource_id(3)),
@@ -16,14 +17,15 @@ GROUPS = [
 
 
 def forgotten(entry):
-    """The entry with nothing confirmed and no id, which are its last columns."""
-    return (*entry[:-2], 0, None)
+    """The entry with nothing confirmed and no id; its revision stays."""
+    *rest, _confirmed, _id, epoch, _confirmed_epoch = entry
+    return (*rest, 0, None, epoch, 0)
 
 
 class JournalTest(ProgramTest):
     def entries(self):
         """The entries of both tables, as SQLite reads them."""
-        tables = ("user_entry_2", "group_entry")
+        tables = ("user_entry_3", "group_entry_3")
         return [sql(self.site.journal, f"SELECT * FROM {table} ORDER BY name_key") for table in tables]
 
 
@@ -33,7 +35,7 @@ class ResetTest(JournalTest):
 
     def test_rows_stay(self):
         make_journal(self.site.journal, USERS, GROUPS)
-        self.assert_prints(self.site.reset(), "reset 3 records")
+        self.assert_prints(self.site.reset(), "reset 4 records")
         self.assert_forgotten()
         self.assertEqual(sql(self.site.journal, "PRAGMA integrity_check"), [("ok",)])
 
@@ -45,7 +47,7 @@ class ResetTest(JournalTest):
 
     def test_the_line_is_one_write(self):
         make_journal(self.site.journal, USERS)
-        self.assertEqual(writes_of("reset", "--journal", self.site.journal), ["reset 2 records\n"])
+        self.assertEqual(writes_of("reset", "--journal", self.site.journal), ["reset 3 records\n"])
 
     def test_no_entries(self):
         make_journal(self.site.journal)
@@ -67,9 +69,9 @@ class ResetTest(JournalTest):
         names = [f"u{place:06}" for place in range(100_000)]
         make_journal(self.site.journal, (user_entry(name, confirmed=1, id=name) for name in names))
         self.assert_prints(self.site.reset(), "reset 100000 records")
-        learnt = "SELECT count(*) FROM user_entry_2 WHERE confirmed <> 0 OR id IS NOT NULL"
+        learnt = "SELECT count(*) FROM user_entry_3 WHERE confirmed <> 0 OR confirmed_epoch <> 0 OR id IS NOT NULL"
         self.assertEqual(sql(self.site.journal, learnt), [(0,)])
-        self.assertEqual(sql(self.site.journal, "SELECT count(*) FROM user_entry_2"), [(100_000,)])
+        self.assertEqual(sql(self.site.journal, "SELECT count(*) FROM user_entry_3"), [(100_000,)])
 
 
 class LostStoreTest(JournalTest):

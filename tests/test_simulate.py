@@ -53,7 +53,7 @@ class SimulateTest(ProgramTest):
 
     def test_schedules(self):
         schedules = sorted(SCHEDULES.glob("*.schedule"))
-        self.assertEqual(len(schedules), 11)
+        self.assertEqual(len(schedules), 12)
         for schedule in schedules:
             lines = schedule.with_suffix(".out").read_text().splitlines()
             # a rejected row, or a record that isn't confirmed, is status 1

@@ -18,7 +18,7 @@ fn service(rt: &impl Abort, alloc: Global) -> ScimService {
 /// The content of bob at a revision.
 fn bob(rt: &impl Abort, alloc: Global, revision: u64) -> Content {
     let name = UserName::read(alloc, "bob").expect(rt, "a name");
-    Content::User(User::new(alloc, name, true, Revision::of_number(revision)))
+    Content::User(User::new(alloc, name, true, Revision::of_parts(0, revision)))
 }
 
 fn bob_id(rt: &impl Abort, alloc: Global) -> ResourceId {

@@ -16,6 +16,8 @@ mod creating;
 #[cfg(test)]
 mod departments;
 #[cfg(test)]
+mod epochs;
+#[cfg(test)]
 mod exchanges;
 #[cfg(test)]
 mod grouping;

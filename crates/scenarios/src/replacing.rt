@@ -201,7 +201,7 @@ fn a_lower_revision_replaces_too(rt: HostRuntime) {
 fn with_bob_before_last(rt: &impl Abort, alloc: Global) -> Provider<MemoryRegistry> {
     let mut registry = MemoryRegistry::new(alloc);
     let name = UserName::read(alloc, "bob").expect(rt, "a name");
-    let content = Content::User(User::new(alloc, name, true, Revision::of_number(1)));
+    let content = Content::User(User::new(alloc, name, true, Revision::of_parts(0, 1)));
     registry
         .insert(Stored::new(1, 9_007_199_254_740_990, content))
         .expect(rt, "memory");

@@ -62,7 +62,7 @@ fn only_tag<'a>(rt: &impl Abort, tags: &'a TagList) -> &'a str {
 
 /// A content as its name, its revision, and the ids of a group's members.
 fn content_told(rt: &impl Abort, alloc: Global, what: &str, content: &Content) -> String {
-    let revision = content.revision().expect(rt, "no revision").number();
+    let revision = content.revision().expect(rt, "no revision");
     let name = content.spelled_name();
     let mut text = format!(in alloc; "{what} {name} {revision}").expect(rt, "memory");
     for member in content.members() {

@@ -6,7 +6,7 @@ use crate::connector::offers::{
 use crate::support::assert_same;
 use connector_core::Connector;
 use journal_core::{MemoryJournal, kind_word};
-use scim_key::Kind;
+use scim_key::{Kind, Revision};
 use std::alloc::Global;
 use std::process::Abort;
 
@@ -21,6 +21,12 @@ static USERS: &[Offer<'static>] = &[
     ("ANN,2000000000,,,,,active\n", "S7"),
     ("bob,1,,,,,active\n", "new"),
     ("Bob,2,,,,,left\n", "new"),
+    ("eve,2000000000,,,,,active\n", "new"),
+    ("eve,1:1,,,,,left\n", "new"),
+    ("eve,1:1,,,,,left\n", "known"),
+    ("eve,1:1,,,,,active\n", "S7"),
+    ("eve,1,,,,,active\n", "older"),
+    ("eve,0:2000000000,,,,,active\n", "older"),
 ];
 
 static GROUPS: &[Offer<'static>] = &[
@@ -38,16 +44,16 @@ fn wants(
     rt: &impl Abort,
     alloc: Global,
     connector: &Connector<MemoryJournal>,
-    wanted: &[(Kind, &str, u32)],
+    wanted: &[(Kind, &str, &str)],
 ) {
     for (kind, key, revision) in wanted {
         let name = named(rt, alloc, *kind, key);
-        let (wanted, confirmed) = (connector.wanted(&name), connector.confirmed(&name));
-        assert_same(
-            rt,
-            (*key, wanted.number(), confirmed.number()),
-            (*key, *revision, 0),
-        );
+        let wanted = connector
+            .wanted(&name)
+            .to_string(alloc)
+            .expect(rt, "memory");
+        assert_same(rt, (*key, wanted.as_str()), (*key, *revision));
+        assert_same(rt, connector.confirmed(&name), Revision::none());
     }
 }
 
@@ -87,12 +93,13 @@ fn each_row_has_its_verdict(rt: HostRuntime) {
 }
 
 /// What the connector wants after USERS and GROUPS.
-static WANTED: &[(Kind, &str, u32)] = &[
-    (Kind::User, "ann", 2_000_000_000),
-    (Kind::User, "bob", 2),
-    (Kind::Group, "crew", 2),
-    (Kind::User, "crew", 0),
-    (Kind::User, "zoe", 0),
+static WANTED: &[(Kind, &str, &str)] = &[
+    (Kind::User, "ann", "2000000000"),
+    (Kind::User, "bob", "2"),
+    (Kind::User, "eve", "1:1"),
+    (Kind::Group, "crew", "2"),
+    (Kind::User, "crew", "0"),
+    (Kind::User, "zoe", "0"),
 ];
 
 /// The records of these offers, as a file has them.
@@ -184,7 +191,7 @@ fn rows_stand_over_a_restart(rt: HostRuntime) {
         &rt,
         alloc,
         &connector,
-        &[(Kind::User, "ann", 2), (Kind::Group, "crew", 1)],
+        &[(Kind::User, "ann", "2"), (Kind::Group, "crew", "1")],
     );
     says_of_users(
         &rt,

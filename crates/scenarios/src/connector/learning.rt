@@ -29,9 +29,9 @@ fn bob(rt: &impl Abort, alloc: Global) -> RecordName {
     }
 }
 
-/// The row of bob that the source wants.
-fn wanted(rt: &impl Abort, alloc: Global) -> Row {
-    match read_users(alloc, BOB)
+/// The row of a file with one user.
+fn row_of(rt: &impl Abort, alloc: Global, file: &[u8]) -> Row {
+    match read_users(alloc, file)
         .expect(rt, "a file")
         .as_slice()
         .first()
@@ -48,10 +48,12 @@ fn opened(rt: &impl Abort, alloc: Global) -> Connector<MemoryJournal> {
     }
 }
 
-/// A connector that wants bob.
-fn wanting(rt: &impl Abort, alloc: Global) -> Connector<MemoryJournal> {
+/// A connector that wants the user of this file.
+fn wanting(rt: &impl Abort, alloc: Global, file: &[u8]) -> Connector<MemoryJournal> {
     let mut connector = opened(rt, alloc);
-    connector.change(wanted(rt, alloc)).expect(rt, "a verdict");
+    connector
+        .change(row_of(rt, alloc, file))
+        .expect(rt, "a verdict");
     connector
 }
 
@@ -70,7 +72,7 @@ fn taught(
 
 /// A connector that wants bob, after these answers to these requests.
 fn after(rt: &impl Abort, alloc: Global, lessons: &[(&str, &str)]) -> Connector<MemoryJournal> {
-    let mut connector = wanting(rt, alloc);
+    let mut connector = wanting(rt, alloc, BOB);
     for (asked, answered) in lessons {
         taught(rt, alloc, &mut connector, asked, answered).expect(rt, "it is learnt");
     }
@@ -219,6 +221,7 @@ static SHOWN: &[(&str, [&str; 4])] = &[
     ("bob c 3 -", ["C2", "C2", "C1", "C1"]),
     ("bob b 3 -", ["C2"; 4]),
     ("bob b 4 u", ["C1"; 4]),
+    ("bob b 1:1 u", ["C1"; 4]),
     ("bob b 4 -", ["C1"; 4]),
     ("bob b 0 u", ["C1"; 4]),
     ("ann b 3 u", ["C1"; 4]),
@@ -239,6 +242,20 @@ fn a_shown_resource_confirms_its_own_revision(rt: HostRuntime) {
     learns_from_shown(&rt, alloc, SEARCH, "list 1");
     learns_from_shown(&rt, alloc, REPLACE, "replaced");
     learns_from_shown(&rt, alloc, "replace bob", "replaced")
+}
+
+/// Bob at the last revision of the first epoch.
+static BOB_LAST: &[u8] =
+    b"login,revision,number,given,family,mail,status\nbob,2000000000,,,,,active\n";
+
+#[test]
+fn a_resource_of_a_later_epoch_is_not_wanted(rt: HostRuntime) {
+    let alloc = rt.alloc();
+    let mut connector = wanting(&rt, alloc, BOB_LAST);
+    let learnt = taught(&rt, alloc, &mut connector, SEARCH, "list 1 bob b 1:1 t");
+    assert_same(&rt, learnt, Err(LearnFault::Unfit));
+    let known = known_text(&rt, alloc, connector);
+    assert_same(&rt, known.as_str(), "unknown, - 0");
 }
 
 /// An answer without a resource, and what is learnt from it in each state.

@@ -45,7 +45,7 @@ fn a_user_with_the_longest_fields(rt: HostRuntime) {
     let login = repeated(&rt, alloc, "A", 128);
     let field = repeated(&rt, alloc, "f", 256);
     let text = format!(in alloc;
-        "login,revision,number,given,family,mail,status,department\n{login},2000000000,{field},{field},{field},{field},active,{field}\n"
+        "login,revision,number,given,family,mail,status,department\n{login},999999:2000000000,{field},{field},{field},{field},active,{field}\n"
     ).expect(&rt, "memory");
     let rows = read_users(alloc, text.as_bytes()).expect(&rt, "a file");
     let record = rows.as_slice().first().expect(&rt, "no record");
@@ -53,7 +53,7 @@ fn a_user_with_the_longest_fields(rt: HostRuntime) {
     assert_same(&rt, said.as_str(), "new");
     let name = named(&rt, alloc, Kind::User, login.as_str());
     let said = created(&rt, alloc, &mut connector, &mut provider, &name);
-    let expected = format!(in alloc; "create {login} 2000000000").expect(&rt, "memory");
+    let expected = format!(in alloc; "create {login} 999999:2000000000").expect(&rt, "memory");
     assert_same(&rt, said.as_str(), expected.as_str());
     is_settled(&rt, alloc, connector, &mut provider, &name)
 }

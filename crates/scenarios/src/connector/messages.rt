@@ -10,6 +10,16 @@ use serde_json::Value;
 use std::alloc::Global;
 use std::process::Abort;
 
+/// The members of a source extension with this revision, `N` or `E:N`.
+fn revision_members(rt: &impl Abort, alloc: Global, revision: &str) -> String {
+    match revision.split_once(":") {
+        Some((epoch, number)) => {
+            format!(in alloc; "\"epoch\":{epoch},\"revision\":{number}").expect(rt, "memory")
+        }
+        None => format!(in alloc; "\"revision\":{revision}").expect(rt, "memory"),
+    }
+}
+
 /// A user as JSON, with an id, a revision (0 for none) and a tag (- for none).
 fn resource_text(
     rt: &impl Abort,
@@ -24,7 +34,8 @@ fn resource_text(
     let extension = if revision == "0" {
         String::new(alloc)
     } else {
-        format!(in alloc; ",\"{source}\":{{\"revision\":{revision}}}").expect(rt, "memory")
+        let members = revision_members(rt, alloc, revision);
+        format!(in alloc; ",\"{source}\":{{{members}}}").expect(rt, "memory")
     };
     let meta = if tag == "-" {
         String::new(alloc)

@@ -181,6 +181,26 @@ static RUNS: &[Run] = &[
         &["user bob wanted=4 confirmed=4 held=4 version=2 active=false"],
     ),
     (
+        "a source that counts anew has a higher epoch",
+        &[
+            &[("user bob,2000000000,,,,,active", "new")],
+            SENT,
+            &[
+                ("deliver 3", "answer 4 201"),
+                ("deliver 4", "confirmed 2000000000"),
+                ("user bob,1:1,,,,,left", "new"),
+                ("send user bob", "replace 5"),
+                ("deliver 5", "answer 6 200"),
+                ("deliver 6", "confirmed 1:1"),
+                ("deliver 4", "seen"),
+                ("user bob,1999999999,,,,,active", "older"),
+                ("restart connector", "restarted"),
+                ("send user bob", "nothing"),
+            ],
+        ],
+        &["user bob wanted=1:1 confirmed=1:1 held=1:1 version=2 active=false"],
+    ),
+    (
         "a group waits for its members",
         &[
             &[

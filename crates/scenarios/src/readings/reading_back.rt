@@ -7,11 +7,20 @@ use scim_resource::{Content, ContentFault, Shown};
 use std::alloc::Global;
 use std::process::Abort;
 
-/// Texts of revisions, their numbers, and how these are written.
-static REVISIONS: &[(&str, u64, &str)] = &[
-    ("1", 1, "1"),
-    ("000000000000000007", 7, "7"),
-    ("2000000000", 2_000_000_000, "2000000000"),
+/// Texts of revisions, their epochs and numbers, and how they are written.
+static REVISIONS: &[(&str, u64, u64, &str)] = &[
+    ("1", 0, 1, "1"),
+    ("000000000000000007", 0, 7, "7"),
+    ("2000000000", 0, 2_000_000_000, "2000000000"),
+    ("0:5", 0, 5, "5"),
+    ("1:1", 1, 1, "1:1"),
+    ("000000000000000001:000000000000000007", 1, 7, "1:7"),
+    (
+        "999999:2000000000",
+        999_999,
+        2_000_000_000,
+        "999999:2000000000",
+    ),
 ];
 
 /// Asserts that a revision is read from a text, and from the text that is written for it.
@@ -23,22 +32,52 @@ fn is_revision(rt: &impl Abort, alloc: Global, revision: Revision, text: &str, w
 }
 
 #[test]
-fn revisions_by_text_and_number(rt: HostRuntime) {
-    for (text, number, written) in REVISIONS {
-        let revision = Revision::of_number(*number).expect(&rt, "no revision");
-        assert_same(&rt, revision.number() as u64, *number);
+fn revisions_by_text_and_parts(rt: HostRuntime) {
+    for (text, epoch, number, written) in REVISIONS {
+        let revision = Revision::of_parts(*epoch, *number).expect(&rt, "no revision");
+        let parts = (revision.epoch() as u64, revision.number() as u64);
+        assert_same(&rt, parts, (*epoch, *number));
         is_revision(&rt, rt.alloc(), revision, text, written);
     }
 }
 
+/// Texts of no revision.
+static NO_REVISIONS: &[&str] = &[
+    "",
+    "0",
+    "+1",
+    "2000000001",
+    "0000000000000000001",
+    ":5",
+    "1:",
+    ":",
+    "1:0",
+    "1000000:1",
+    "1:2000000001",
+    "1:1:1",
+    "1: 1",
+    "1;1",
+    "0000000000000000001:1",
+    "1:0000000000000000001",
+];
+
 #[test]
 fn no_revisions(rt: HostRuntime) {
-    for text in ["", "0", "+1", "2000000001", "0000000000000000001"] {
+    for text in NO_REVISIONS {
         assert_same(&rt, Revision::read(text), None);
     }
-    assert_same(&rt, Revision::of_number(0), None);
-    assert_same(&rt, Revision::of_number(2_000_000_001), None);
-    assert_same(&rt, Revision::none().number(), 0);
+    for (epoch, number) in [(0, 0), (1, 0), (0, 2_000_000_001), (1_000_000, 1)] {
+        assert_same(&rt, Revision::of_parts(epoch, number), None);
+    }
+    let none = Revision::none();
+    assert_same(&rt, (none.epoch(), none.number()), (0, 0));
+    assert_same(&rt, Revision::confirmed_of_parts(0, 0), Some(none));
+    assert_same(&rt, Revision::confirmed_of_parts(1, 0), None);
+    assert_same(
+        &rt,
+        Revision::confirmed_of_parts(1, 7),
+        Revision::read("1:7"),
+    );
 }
 
 #[test]

@@ -87,8 +87,9 @@ pub fn group<'a>(rt: &impl Abort, record: Option<&'a Result<Row, RowFault>>) -> 
     }
 }
 
-fn has_revision(rt: &impl Abort, record: Option<&Result<Row, RowFault>>, number: u32) {
-    assert_same(rt, row(rt, record).revision().number(), number);
+fn has_revision(rt: &impl Abort, record: Option<&Result<Row, RowFault>>, epoch: u32, number: u32) {
+    let revision = row(rt, record).revision();
+    assert_same(rt, (revision.epoch(), revision.number()), (epoch, number));
 }
 
 static REVISIONS: &[(usize, RowCode)] = &[
@@ -107,8 +108,30 @@ fn revisions_have_their_range(rt: HostRuntime) {
     let rows = rows.as_slice();
     assert_same(&rt, rows.len(), 7);
     are_refused(&rt, rows, REVISIONS);
-    has_revision(&rt, rows.get(3), 2_000_000_000);
-    has_revision(&rt, rows.get(4), 7);
+    has_revision(&rt, rows.get(3), 0, 2_000_000_000);
+    has_revision(&rt, rows.get(4), 0, 7);
+}
+
+static EPOCHS: &[(usize, RowCode)] = &[
+    (1, RowCode::Revision),
+    (2, RowCode::Revision),
+    (3, RowCode::Revision),
+    (4, RowCode::Revision),
+];
+
+#[test]
+fn epochs_have_their_range(rt: HostRuntime) {
+    let records =
+        "ann,1000000:1,,,,,active\nann,:5,,,,,active\nann,1:,,,,,active\nann,1:0,,,,,active\nann,999999:2000000000,,,,,active\nann,0:5,,,,,active\n";
+    let rows = users(&rt, rt.alloc(), records);
+    let rows = rows.as_slice();
+    assert_same(&rt, rows.len(), 6);
+    are_refused(&rt, rows, EPOCHS);
+    has_revision(&rt, rows.get(4), 999_999, 2_000_000_000);
+    has_revision(&rt, rows.get(5), 0, 5);
+    let crew = groups(&rt, rt.alloc(), "crew,1:7,ann\ncrew,1:0,ann\n");
+    has_revision(&rt, crew.as_slice().first(), 1, 7);
+    are_refused(&rt, crew.as_slice(), &[(2, RowCode::Revision)]);
 }
 
 /// Asserts the verdict on each row after the first.
@@ -147,6 +170,16 @@ fn a_higher_revision_is_new(rt: HostRuntime) {
         &rt,
         rows.as_slice(),
         &[Ok(Verdict::Known), Ok(Verdict::New)],
+    );
+    let epochs = users(
+        &rt,
+        rt.alloc(),
+        "ann,1:5,,,,,active\nann,2:1,,,,,active\nann,9,,,,,active\n",
+    );
+    become_of(
+        &rt,
+        epochs.as_slice(),
+        &[Ok(Verdict::Known), Ok(Verdict::New), Ok(Verdict::Older)],
     );
     let first = row(&rt, rows.as_slice().first());
     assert_same(&rt, accept(None, first, None), Ok(Verdict::New));
@@ -357,7 +390,7 @@ fn longest_row(rt: &impl Abort, alloc: Global) -> String {
     let login = repeated(rt, alloc, "a", 128);
     let field = repeated(rt, alloc, "\x01", 256);
     format!(in alloc;
-        "login,revision,number,given,family,mail,status,department\n{login},2000000000,{field},{field},{field},{field},active,{field}\n"
+        "login,revision,number,given,family,mail,status,department\n{login},999999:2000000000,{field},{field},{field},{field},active,{field}\n"
     ).expect(rt, "memory")
 }
 
@@ -365,7 +398,7 @@ fn longest_line(rt: &impl Abort, alloc: Global) -> String {
     let login = repeated(rt, alloc, "a", 128);
     let written = repeated(rt, alloc, "\\u0001", 256);
     format!(in alloc;
-        "{{\"active\":true,\"emails\":[{{\"primary\":true,\"type\":\"work\",\"value\":\"{written}\"}}],\"externalId\":\"{written}\",\"name\":{{\"familyName\":\"{written}\",\"givenName\":\"{written}\"}},\"schemas\":[\"urn:ietf:params:scim:schemas:core:2.0:User\",\"urn:ietf:params:scim:schemas:extension:enterprise:2.0:User\",\"urn:example:params:scim:schemas:extension:source:1.0\"],\"urn:example:params:scim:schemas:extension:source:1.0\":{{\"revision\":2000000000}},\"urn:ietf:params:scim:schemas:extension:enterprise:2.0:User\":{{\"department\":\"{written}\"}},\"userName\":\"{login}\"}}\n"
+        "{{\"active\":true,\"emails\":[{{\"primary\":true,\"type\":\"work\",\"value\":\"{written}\"}}],\"externalId\":\"{written}\",\"name\":{{\"familyName\":\"{written}\",\"givenName\":\"{written}\"}},\"schemas\":[\"urn:ietf:params:scim:schemas:core:2.0:User\",\"urn:ietf:params:scim:schemas:extension:enterprise:2.0:User\",\"urn:example:params:scim:schemas:extension:source:1.0\"],\"urn:example:params:scim:schemas:extension:source:1.0\":{{\"epoch\":999999,\"revision\":2000000000}},\"urn:ietf:params:scim:schemas:extension:enterprise:2.0:User\":{{\"department\":\"{written}\"}},\"userName\":\"{login}\"}}\n"
     ).expect(rt, "memory")
 }
 

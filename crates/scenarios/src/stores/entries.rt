@@ -1,5 +1,5 @@
-//! The connector's journal: its entries are kept, an opening that is refused leaves them, and a journal of the
-//! first format is carried over with its entries.
+//! The connector's journal: its entries are kept, an opening that is refused leaves them, and a journal of an
+//! older format is carried over with its entries.
 use crate::stores::connections::{limit, run, shown};
 use crate::stores::exchanges::{Run, entries, runs};
 use crate::support::assert_same;
@@ -17,9 +17,9 @@ static RUNS: &[Run] = &[
         "Crew,1,Bob ann\n",
         true,
     ),
-    ("bob,2,,,,,left\n", "crew,3,\n", true),
+    ("bob,2,,,,,left\n", "crew,1:3,\n", true),
     (
-        "Zoe,2000000000,1003,,,,active\nann,3,,Ann,Lee,ann@example.com,active\n",
+        "Zoe,2000000000,1003,,,,active\nann,1:3,,Ann,Lee,ann@example.com,active\n",
         "band,7,zoe ann\n",
         false,
     ),
@@ -27,13 +27,13 @@ static RUNS: &[Run] = &[
 
 /// The entries at the end; the last run confirmed none.
 static KEPT: &str =
-    "ann|ann|3||Ann|Lee|ann@example.com||1|2|5c1a0000-0000-8000-8000-000000000001\nbob|bob|2||||||0|2|5c1a0000-0000-8000-8000-000000000002\nzoe|Zoe|2000000000|1003|||||1|0|-\nband|band|7|ann zoe|0|-\ncrew|crew|3||3|5c1a0000-0000-8000-8000-000000000003\n";
+    "ann|ann|3||Ann|Lee|ann@example.com||1|2|5c1a0000-0000-8000-8000-000000000001|1|0\nbob|bob|2||||||0|2|5c1a0000-0000-8000-8000-000000000002|0|0\nzoe|Zoe|2000000000|1003|||||1|0|-|0|0\nband|band|7|ann zoe|0|-|0|0\ncrew|crew|3||3|5c1a0000-0000-8000-8000-000000000003|1|1\n";
 
 static USERS: &str =
-    "SELECT name_key || '|' || login || '|' || revision || '|' || number || '|' || given || '|' || family || '|' || mail || '|' || department || '|' || active || '|' || confirmed || '|' || ifnull(id, '-') FROM user_entry_2 ORDER BY name_key";
+    "SELECT name_key || '|' || login || '|' || revision || '|' || number || '|' || given || '|' || family || '|' || mail || '|' || department || '|' || active || '|' || confirmed || '|' || ifnull(id, '-') || '|' || epoch || '|' || confirmed_epoch FROM user_entry_3 ORDER BY name_key";
 
 static GROUPS: &str =
-    "SELECT name_key || '|' || name || '|' || revision || '|' || members || '|' || confirmed || '|' || ifnull(id, '-') FROM group_entry ORDER BY name_key";
+    "SELECT name_key || '|' || name || '|' || revision || '|' || members || '|' || confirmed || '|' || ifnull(id, '-') || '|' || epoch || '|' || confirmed_epoch FROM group_entry_3 ORDER BY name_key";
 
 /// The rows of both tables, one on each line.
 fn rows<S: Alter>(rt: &impl Abort, alloc: Global, conn: &mut Connection<S>) -> String {
@@ -156,11 +156,27 @@ fn entries_are_kept_where_a_journal_is_reopened(rt: HostRuntime) {
 /// What damages the journal with those entries, and the fault of its opening.
 static SPOILS: &[(&str, JournalOpenFault)] = &[
     (
-        "UPDATE user_entry_2 SET confirmed = 4 WHERE name_key = 'ann'",
+        "UPDATE user_entry_3 SET confirmed = 4, confirmed_epoch = 1 WHERE name_key = 'ann'",
         JournalOpenFault::Damaged,
     ),
     (
-        "UPDATE group_entry SET members = 'zoe ann' WHERE name_key = 'band'",
+        "UPDATE user_entry_3 SET confirmed_epoch = 1 WHERE name_key = 'bob'",
+        JournalOpenFault::Damaged,
+    ),
+    (
+        "UPDATE user_entry_3 SET confirmed_epoch = 1 WHERE name_key = 'zoe'",
+        JournalOpenFault::Damaged,
+    ),
+    (
+        "UPDATE user_entry_3 SET epoch = 1000000 WHERE name_key = 'zoe'",
+        JournalOpenFault::Damaged,
+    ),
+    (
+        "UPDATE user_entry_3 SET epoch = -1 WHERE name_key = 'zoe'",
+        JournalOpenFault::Damaged,
+    ),
+    (
+        "UPDATE group_entry_3 SET members = 'zoe ann' WHERE name_key = 'band'",
         JournalOpenFault::Damaged,
     ),
     ("DELETE FROM journal_format", JournalOpenFault::Damaged),
@@ -169,7 +185,19 @@ static SPOILS: &[(&str, JournalOpenFault)] = &[
         JournalOpenFault::Damaged,
     ),
     (
-        "UPDATE journal_format SET number = 3",
+        "UPDATE journal_format SET number = 2",
+        JournalOpenFault::Damaged,
+    ),
+    (
+        "UPDATE journal_format SET number = 4",
+        JournalOpenFault::Newer,
+    ),
+    (
+        "CREATE TABLE note (id INTEGER PRIMARY KEY)",
+        JournalOpenFault::Damaged,
+    ),
+    (
+        "CREATE TABLE note (id INTEGER PRIMARY KEY); UPDATE journal_format SET number = 4",
         JournalOpenFault::Newer,
     ),
     ("BEGIN", JournalOpenFault::Store),
@@ -222,36 +250,83 @@ fn a_journal_that_failed_once_is_opened(rt: HostRuntime) {
     assert_same(&rt, rows.as_str(), KEPT);
 }
 
-// ---- the first format
+// ---- the older formats
 
-/// A journal of the first format, in which bob is confirmed.
-static FIRST: &str =
-    "CREATE TABLE IF NOT EXISTS journal_format (one INTEGER PRIMARY KEY CHECK (one = 1), number INTEGER NOT NULL); INSERT INTO journal_format (one, number) VALUES (1, 1); CREATE TABLE user_entry (name_key TEXT PRIMARY KEY NOT NULL, login TEXT NOT NULL, revision INTEGER NOT NULL, number TEXT NOT NULL, given TEXT NOT NULL, family TEXT NOT NULL, mail TEXT NOT NULL, active INTEGER NOT NULL, confirmed INTEGER NOT NULL, id TEXT); CREATE TABLE group_entry (name_key TEXT PRIMARY KEY NOT NULL, name TEXT NOT NULL, revision INTEGER NOT NULL, members TEXT NOT NULL, confirmed INTEGER NOT NULL, id TEXT); INSERT INTO user_entry (name_key, login, revision, number, given, family, mail, active, confirmed, id) VALUES ('bob', 'bob', 1, '', '', '', '', 1, 1, '5c1a0000-0000-8000-8000-000000000001')";
+/// A journal of the first format, in which bob and the crew are confirmed.
+const FIRST: &str =
+    "CREATE TABLE IF NOT EXISTS journal_format (one INTEGER PRIMARY KEY CHECK (one = 1), number INTEGER NOT NULL); INSERT INTO journal_format (one, number) VALUES (1, 1); CREATE TABLE user_entry (name_key TEXT PRIMARY KEY NOT NULL, login TEXT NOT NULL, revision INTEGER NOT NULL, number TEXT NOT NULL, given TEXT NOT NULL, family TEXT NOT NULL, mail TEXT NOT NULL, active INTEGER NOT NULL, confirmed INTEGER NOT NULL, id TEXT); CREATE TABLE group_entry (name_key TEXT PRIMARY KEY NOT NULL, name TEXT NOT NULL, revision INTEGER NOT NULL, members TEXT NOT NULL, confirmed INTEGER NOT NULL, id TEXT); INSERT INTO user_entry (name_key, login, revision, number, given, family, mail, active, confirmed, id) VALUES ('bob', 'bob', 1, '', '', '', '', 1, 1, '5c1a0000-0000-8000-8000-000000000001'); INSERT INTO group_entry (name_key, name, revision, members, confirmed, id) VALUES ('crew', 'Crew', 4, 'bob', 2, '5c1a0000-0000-8000-8000-000000000002')";
 
-static FIRST_USERS: &str =
+/// The same in the second format; bob has a department.
+const SECOND: &str =
+    "CREATE TABLE IF NOT EXISTS journal_format (one INTEGER PRIMARY KEY CHECK (one = 1), number INTEGER NOT NULL); INSERT INTO journal_format (one, number) VALUES (1, 2); CREATE TABLE user_entry (name_key TEXT PRIMARY KEY NOT NULL, login TEXT NOT NULL, revision INTEGER NOT NULL, number TEXT NOT NULL, given TEXT NOT NULL, family TEXT NOT NULL, mail TEXT NOT NULL, active INTEGER NOT NULL, confirmed INTEGER NOT NULL, id TEXT); CREATE TABLE group_entry (name_key TEXT PRIMARY KEY NOT NULL, name TEXT NOT NULL, revision INTEGER NOT NULL, members TEXT NOT NULL, confirmed INTEGER NOT NULL, id TEXT); CREATE TABLE user_entry_2 (name_key TEXT PRIMARY KEY NOT NULL, login TEXT NOT NULL, revision INTEGER NOT NULL, number TEXT NOT NULL, given TEXT NOT NULL, family TEXT NOT NULL, mail TEXT NOT NULL, department TEXT NOT NULL, active INTEGER NOT NULL, confirmed INTEGER NOT NULL, id TEXT); INSERT INTO user_entry_2 (name_key, login, revision, number, given, family, mail, department, active, confirmed, id) VALUES ('bob', 'bob', 1, '', '', '', '', 'Sales', 1, 1, '5c1a0000-0000-8000-8000-000000000001'); INSERT INTO group_entry (name_key, name, revision, members, confirmed, id) VALUES ('crew', 'Crew', 4, 'bob', 2, '5c1a0000-0000-8000-8000-000000000002')";
+
+const FIRST_USERS: &str =
     "SELECT name_key || '|' || revision || '|' || confirmed || '|' || id FROM user_entry";
 
-/// What that query shows before the journal is carried over.
-static FIRST_KEPT: &str = "bob|1|1|5c1a0000-0000-8000-8000-000000000001\n";
+const SECOND_USERS: &str =
+    "SELECT name_key || '|' || revision || '|' || confirmed || '|' || id FROM user_entry_2";
 
-/// The entries after it.
-static CARRIED_OVER: &str = "bob|bob|1||||||1|1|5c1a0000-0000-8000-8000-000000000001\n";
+static OLDER_GROUPS: &str =
+    "SELECT name_key || '|' || revision || '|' || confirmed || '|' || id FROM group_entry";
 
-fn of_first_format(rt: &impl Abort, alloc: Global) -> Connection<MemStore> {
+/// What these queries show before the journal is carried over.
+static OLDER_KEPT: &str =
+    "bob|1|1|5c1a0000-0000-8000-8000-000000000001\ncrew|4|2|5c1a0000-0000-8000-8000-000000000002\n";
+
+/// An older format: the statements that make a journal of it, the query for its users, and the entries after the
+/// journal was carried over.
+type Older = (&'static str, &'static str, &'static str);
+
+static OLDER: &[Older] = &[
+    (
+        FIRST,
+        FIRST_USERS,
+        "bob|bob|1||||||1|1|5c1a0000-0000-8000-8000-000000000001|0|0\ncrew|Crew|4|bob|2|5c1a0000-0000-8000-8000-000000000002|0|0\n",
+    ),
+    (
+        SECOND,
+        SECOND_USERS,
+        "bob|bob|1|||||Sales|1|1|5c1a0000-0000-8000-8000-000000000001|0|0\ncrew|Crew|4|bob|2|5c1a0000-0000-8000-8000-000000000002|0|0\n",
+    ),
+];
+
+fn of_older(rt: &impl Abort, alloc: Global, made: &str) -> Connection<MemStore> {
     let mut conn = Connection::open_in_memory(alloc).expect(rt, "a connection");
-    run(&mut conn, FIRST).expect(rt, "a run");
+    run(&mut conn, made).expect(rt, "a run");
     conn
 }
 
+/// The rows of the older tables.
+fn older_rows(
+    rt: &impl Abort,
+    alloc: Global,
+    conn: &mut Connection<MemStore>,
+    users: &str,
+) -> String {
+    let mut lines = shown(rt, alloc, conn, users);
+    lines
+        .push_str(shown(rt, alloc, conn, OLDER_GROUPS).as_str())
+        .expect(rt, "memory");
+    lines
+}
+
+/// Asserts that a journal has these entries, and nothing in the older tables.
+fn is_carried(rt: &impl Abort, alloc: Global, conn: &mut Connection<MemStore>, older: &Older) {
+    let (_, users, kept) = older;
+    let now = rows(rt, alloc, conn);
+    assert_same(rt, now.as_str(), *kept);
+    let left = older_rows(rt, alloc, conn, users);
+    assert_same(rt, left.as_str(), "");
+}
+
 #[test]
-fn a_journal_of_the_first_format_is_carried_over(rt: HostRuntime) {
-    let mut conn = of_first_format(&rt, rt.alloc());
-    for _ in 0..2 {
-        conn = close(opened(&rt, rt.alloc(), conn));
-        let rows = rows(&rt, rt.alloc(), &mut conn);
-        assert_same(&rt, rows.as_str(), CARRIED_OVER);
-        let first = shown(&rt, rt.alloc(), &mut conn, FIRST_USERS);
-        assert_same(&rt, first.as_str(), "");
+fn a_journal_of_an_older_format_is_carried_over(rt: HostRuntime) {
+    for older in OLDER {
+        let mut conn = of_older(&rt, rt.alloc(), older.0);
+        for _ in 0..2 {
+            conn = close(opened(&rt, rt.alloc(), conn));
+            is_carried(&rt, rt.alloc(), &mut conn, older);
+        }
     }
 }
 
@@ -274,18 +349,25 @@ fn opens_within(
     (is_open, conn)
 }
 
-#[test]
-fn an_opening_that_fails_leaves_the_first_format(rt: HostRuntime) {
-    let mut conn = of_first_format(&rt, rt.alloc());
+/// Opens a journal of an older format under rising limits, until it is opened.
+fn opens_at_last(rt: &impl Abort, alloc: Global, older: &Older) {
+    let (made, users, _) = older;
+    let mut conn = of_older(rt, alloc, made);
     for steps in 1..1_000 {
-        let (is_open, left) = opens_within(&rt, rt.alloc(), conn, steps);
+        let (is_open, left) = opens_within(rt, alloc, conn, steps);
         conn = left;
         if is_open {
             break;
         }
-        let users = shown(&rt, rt.alloc(), &mut conn, FIRST_USERS);
-        assert_same(&rt, users.as_str(), FIRST_KEPT);
+        let stay = older_rows(rt, alloc, &mut conn, users);
+        assert_same(rt, stay.as_str(), OLDER_KEPT);
     }
-    let rows = rows(&rt, rt.alloc(), &mut conn);
-    assert_same(&rt, rows.as_str(), CARRIED_OVER);
+    is_carried(rt, alloc, &mut conn, older);
+}
+
+#[test]
+fn an_opening_that_fails_leaves_the_older_format(rt: HostRuntime) {
+    for older in OLDER {
+        opens_at_last(&rt, rt.alloc(), older);
+    }
 }
