@@ -401,7 +401,8 @@ class FaultsTest(unittest.TestCase):
 
     def test_journals_of_older_formats(self):
         for story in carry_over_1, carry_over_2:
-            self.refuse("ALLOCATION", story, step=STEP)
+            # each has some 60,000 allocations
+            self.refuse("ALLOCATION", story, step=8 * STEP)
             self.refuse("WRITE", story, ways=WRITE_FAULTS)
             self.refuse("READ", story, ways=["5"])
 
