@@ -341,6 +341,31 @@ class OlderFormatTest(JournalTest):
             self.assert_shows()
             self.assert_carried([], [])
 
+    def test_rows_beside_the_end_of_a_part(self):
+        # 1,000 rows are moved at a time, by their numbers
+        for form, _ in self.each_form():
+            for count in 999, 1_000, 1_001, 2_000:
+                users = [user_entry(f"u{place:05}", confirmed=1, id=resource_id(place)) for place in range(1, count + 1)]
+                make_journal(self.site.journal, users, self.GROUPS[1:], form)
+                self.assert_reports(self.site.show_journal(), 0)
+                self.assert_carried(users, self.GROUPS[1:])
+                self.remove_journal()
+
+    def test_rows_with_other_numbers(self):
+        users = [user_entry(f"u{place:05}", confirmed=1, id=resource_id(place)) for place in range(1, 1_501)]
+        for numbers in "rowid + 5000", "-rowid", "rowid * 4000000000", "CASE WHEN rowid < 9 THEN rowid ELSE rowid + 9000 END":
+            for form, _ in self.each_form():
+                path = make_journal(self.site.journal, users, self.GROUPS[1:], form)
+                # numbers are changed by way of others, since no two rows may have one for a moment
+                sql(path, f"CREATE TEMP TABLE copy AS SELECT {numbers} AS place, * FROM {form.users}",
+                    f"DELETE FROM {form.users}",
+                    f"INSERT INTO {form.users} (rowid, {', '.join(self.columns(path, form.users))}) SELECT * FROM copy")
+                self.assert_reports(self.site.show_journal(), 0)
+                self.assert_carried(users, self.GROUPS[1:])
+
+    def columns(self, path, table):
+        return [row[1] for row in sql(path, f"PRAGMA table_info({table})")]
+
     def test_a_full_disk(self):
         users = [user_entry(f"u{place:05}", confirmed=1, id=resource_id(place)) for place in range(1, 1_001)]
         groups = self.GROUPS[1:]

@@ -81,6 +81,14 @@ class PushPeersTest(ProgramTest):
             self.assert_prints(run, *lines, status=status, errors=errors)
         return peer.requests
 
+    def test_a_provider_that_drops_the_epoch(self):
+        # it answers with the number of the revision alone, which is a lower revision than the wanted one
+        self.site.write_users("bob,1:1,,,,,active")
+        steps = [hits(user("bob", 1)), answer(200, user("bob", 1, '"v2"')), answer(200, user("bob", 1, '"v3"'))]
+        requests = self.meets(steps, "user bob unconfirmed -", status=1)
+        self.assertEqual(asked(requests), [FIND_BOB, REPLACE_BOB, REPLACE_BOB])
+        self.assert_prints(self.site.show_journal(), "user bob wanted=1:1 confirmed=1 id=7")
+
     def confirm_bob(self):
         """A push after which revision 1 of bob is confirmed, and a file that has revision 2."""
         self.meets([hits(user("bob", 1))], "user bob confirmed 1")
