@@ -7,6 +7,7 @@ ghost use Rattle.scim_json.specs.Attributes as spec;
 use serde_json::{Map, Value};
 use std::alloc::{AllocError, Global};
 use std::collections::BTreeSet;
+use std::collections::btree_map::Iter;
 
 /// The attribute with this name in any case. `null` and the empty text count as absent.
 pub fn attribute<'v>(members: &'v Map<String, Value>, name: &str) -> Option<&'v Value>
@@ -49,9 +50,50 @@ fn is_empty(value: &Value) -> bool
     }
 }
 
+/// An object with at most so many names is looked through without memory.
+const FEW_NAMES: usize = 16;
+
 /// Whether two names of the object are equal in lower case.
-#[tactic(auto, unfolding(crate::specs::Attributes::repeats))]
 pub fn repeats(alloc: Global, members: &Map<String, Value>) -> Result<bool, AllocError>
+    ensures { IfOk result (λ b. b ≡ spec.repeats (members_view members.now.entries)) }
+{
+    if members.len() <= FEW_NAMES {
+        repeats_one_of_few(members)
+    } else {
+        repeats_one_of_many(alloc, members)
+    }
+}
+
+/// Compares each name with each later one.
+#[tactic(auto, unfolding(crate::specs::Attributes::repeats))]
+fn repeats_one_of_few(members: &Map<String, Value>) -> Result<bool, AllocError>
+    ensures { IfOk result (λ b. b ≡ spec.repeats (members_view members.now.entries)) }
+{
+    let mut later = members.iter();
+    while let Some((key, _)) = later.next() {
+        if has_name(key.as_str(), later.clone()?) {
+            return Ok(true);
+        }
+    }
+    Ok(false)
+}
+
+/// Whether one of these members has the name, in any case.
+#[tactic(auto, unfolding(crate::specs::Attributes::has_name))]
+fn has_name(name: &str, members: Iter<'_, String, Value>) -> bool
+    ensures { result ≡ spec.has_name name.now (members_view members.entry) }
+{
+    for (key, _) in members {
+        if same_name(name, key.as_str()) {
+            return true;
+        }
+    }
+    false
+}
+
+/// Keeps the names so far in lower case.
+#[tactic(auto, unfolding(crate::specs::Attributes::repeats))]
+fn repeats_one_of_many(alloc: Global, members: &Map<String, Value>) -> Result<bool, AllocError>
     ensures { IfOk result (λ b. b ≡ spec.repeats (members_view members.now.entries)) }
 {
     let mut seen = BTreeSet::new(alloc);

@@ -2,7 +2,7 @@ use Rattle.std.proofs.Common.{◌≡◌, ◌||◌}
 use Rattle.serde_json.specs.View.{members_view}
 use Rattle.scim_json.specs.Attributes as spec
 use Rattle.scim_json.proofs.RepeatedNames.{meets}
-use Rattle.scim_json.proofs.attributes.repeats.Given as goal
+use Rattle.scim_json.proofs.attributes.repeats_one_of_many.Given as goal
 
 abbrev pub invariant-loop-key : goal.invariant-loop-key
 invariant-loop-key l = (meets l.seen (members_view l.key-iterator) || spec.repeats (members_view l.key-iterator)) ≡ spec.repeats (members_view l.members.entries)

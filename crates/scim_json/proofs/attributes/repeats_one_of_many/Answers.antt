@@ -3,7 +3,7 @@ use Rattle.std.specs.BTreeSet.{contains_text}
 use Rattle.std.specs.Str.{str_to_ascii_lowercase}
 use Rattle.serde_json.specs.View.{view, members_view}
 use Rattle.scim_json.proofs.RepeatedNames.{repeats_start, repeats_more, new_name}
-use Rattle.scim_json.proofs.attributes.repeats.Goals as goal
+use Rattle.scim_json.proofs.attributes.repeats_one_of_many.Goals as goal
 
 pub loop-key-init : goal.loop-key-init
 loop-key-init c =
