@@ -1,9 +1,12 @@
 //! The URI of a resource.
-ghost use Rattle.std.specs.Prelude.{◌≡◌, ◌<◌, ◌++◌, ◌∷◌, [], IfOk, OnOk, string_bytes};
+ghost use Rattle.std.specs.Prelude.{◌≡◌, ◌<◌, ◌++◌, ◌∷◌, [], IfOk, IsTrue, OnOk, string_bytes};
 ghost use Rattle.scim_resource.specs.Locations as spec;
 
 use scim_key::{Base, Kind, ResourceId};
 use std::alloc::{AllocError, Global};
+
+/// The initial capacity of a URI, in bytes.
+const LOCATION_ROOM: usize = 128;
 
 /// The URI of a resource (RFC 7644 section 3.1).
 #[tactic(auto, unfolding(crate::specs::Locations::location_text))]
@@ -15,7 +18,8 @@ pub fn location(
 ) -> Result<String, AllocError>
     ensures { IfOk result (λ text. string_bytes text ≡ spec.location_text base.now kind id.now) }
 {
-    let mut text = String::from_str(alloc, base.as_str())?;
+    let mut text = String::with_capacity(alloc, LOCATION_ROOM)?;
+    text.push_str(base.as_str())?;
     text.push_str(collection_path(kind))?;
     push_escaped(&mut text, id.as_str())?;
     Ok(text)
@@ -43,10 +47,26 @@ fn collection_path(kind: Kind) -> &'static str
 fn push_escaped(out: &mut String, text: &str) -> Result<(), AllocError>
     ensures { OnOk result (string_bytes out.new ≡ string_bytes out.old ++ spec.escaped text.now) }
 {
+    if is_plain(text) {
+        return out.push_str(text);
+    }
     for byte in text.as_bytes() {
         push_byte(out, *byte)?;
     }
     Ok(())
+}
+
+/// Whether escaping changes nothing.
+#[tactic(auto, unfolding(crate::specs::Locations::escaped_byte))]
+fn is_plain(text: &str) -> bool
+    ensures { IsTrue result → spec.escaped text.now ≡ text.now }
+{
+    for byte in text.as_bytes() {
+        if !is_unreserved(*byte) {
+            return false;
+        }
+    }
+    true
 }
 
 #[tactic(auto, unfolding(crate::specs::Locations::escaped_byte))]
