@@ -1,13 +1,12 @@
 //! The images of the rows of a users file, and the exit status after them.
 ghost use Rattle.std.specs.Prelude.{◌≡◌, IfErr, IfOk, OnOk};
 ghost use Rattle.std.specs.Io.KnownBytes.{Appends, Keeps};
-ghost use Rattle.mapping.specs.Lines.{record_line};
 ghost use Rattle.commands.specs.Images.{IsMapFault, Prints, PrintsNext};
 ghost use Rattle.commands.specs.Statuses.{status_of_rows};
 
 use crate::status::{CommandFault, Status};
-use mapping::{WriteFault, row_line};
-use source_csv::{Row, RowFault, RowReader};
+use mapping::{WriteFault, write_record};
+use source_csv::RowReader;
 use std::alloc::Global;
 use std::io::{Read, Write};
 
@@ -50,24 +49,6 @@ fn print_next<R: Read + Drop, W: Write>(
     let row = rows.row()?;
     write_record(alloc, &row, out)?;
     Ok(Some(row.is_ok()))
-}
-
-/// Prints the line of a record, if it was read as a row.
-#[tactic(auto, unfolding(mapping::specs::Lines::record_line))]
-fn write_record<W: Write>(
-    alloc: Global,
-    given: &Result<Row, RowFault>,
-    out: &mut W,
-) -> Result<(), WriteFault>
-    ensures { OnOk result (Appends (W.contents out.old) (W.contents out.new) (record_line given.now)) }
-{
-    match given {
-        Ok(Row::User(row)) => {
-            let line = row_line(alloc, row)?;
-            Ok(out.write_all(line.as_slice())?)
-        }
-        Ok(Row::Group(_)) | Err(_) => Ok(()),
-    }
 }
 
 /// Flushes what was printed.

@@ -1,7 +1,7 @@
 //! The lines of a file's images, written by writers that follow a script.
 use crate::scripts::{Event, ScriptedWriter, Turn};
 use crate::support::{assert_same, assert_that};
-use mapping::{WriteFault, write_images};
+use mapping::{WriteFault, write_record};
 use source_csv::read_users;
 use std::alloc::Global;
 use std::io::{BufWriter, ErrorKind, Write};
@@ -14,7 +14,7 @@ static LINES: &[u8] =
     b"{\"active\":true,\"emails\":[{\"primary\":true,\"type\":\"work\",\"value\":\"ann@example.com\"}],\"externalId\":\"1001\",\"name\":{\"familyName\":\"Lee\",\"givenName\":\"Ann\"},\"schemas\":[\"urn:ietf:params:scim:schemas:core:2.0:User\",\"urn:example:params:scim:schemas:extension:source:1.0\"],\"urn:example:params:scim:schemas:extension:source:1.0\":{\"revision\":7},\"userName\":\"ann\"}\n{\"active\":false,\"schemas\":[\"urn:ietf:params:scim:schemas:core:2.0:User\",\"urn:example:params:scim:schemas:extension:source:1.0\"],\"urn:example:params:scim:schemas:extension:source:1.0\":{\"revision\":1},\"userName\":\"bob\"}\n";
 
 /// The most bytes of a write, what happens at which byte, the faults of the first flushes, how many bytes
-/// are written, and the result of `write_images`.
+/// are written, and the result.
 type Writing = (
     usize,
     &'static [Event],
@@ -48,10 +48,13 @@ static WRITINGS: &[Writing] = &[
     (1_000, &[], &[ErrorKind::OutOfMemory], 565, NO_MEMORY),
 ];
 
-/// The result of `write_images` for both users.
+/// Writes the lines of both users, and flushes.
 fn written<W: Write>(rt: &impl Abort, alloc: Global, out: &mut W) -> Result<(), WriteFault> {
     let rows = read_users(alloc, USERS).expect(rt, "a file");
-    write_images(alloc, rows.as_slice(), out)
+    for given in rows.as_slice() {
+        write_record(alloc, given, out)?;
+    }
+    Ok(out.flush()?)
 }
 
 fn writes(rt: &impl Abort, alloc: Global, writing: &Writing) {

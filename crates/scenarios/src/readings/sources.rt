@@ -1,6 +1,6 @@
 //! Files of the source: which records are rows, which rows count, and their images.
 use crate::support::{assert_same, assert_that, repeated};
-use mapping::{row_line, user_content, write_images};
+use mapping::{row_line, user_content, write_record};
 use scim_key::{Kind, Revision};
 use source_book::{BookFault, Verdict, accept};
 use source_csv::{
@@ -350,7 +350,9 @@ fn are_both_lines(rt: &impl Abort, images: &[u8]) {
 /// The images of records.
 fn images_of(rt: &impl Abort, alloc: Global, records: &[Result<Row, RowFault>]) -> Vec<u8> {
     let mut out = Vec::new(alloc);
-    write_images(alloc, records, &mut out).expect(rt, "images");
+    for given in records {
+        write_record(alloc, given, &mut out).expect(rt, "a line");
+    }
     out
 }
 
