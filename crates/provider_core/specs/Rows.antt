@@ -1,9 +1,8 @@
 -- The rows of a provider, in order of creation, and how one of them is found.
-use Rattle.std.specs.Prelude.{◌≡◌, ℕ, suc, Bool, true, false, ◌&&◌, ◌==◌, List, [], ◌∷◌, Option, Some, None, take, map, nat_lt, if◌then◌else◌}
+use Rattle.std.specs.Prelude.{◌≡◌, ℕ, suc, Bool, ◌==◌, List, [], ◌∷◌, Option, Some, None, length, take, map, nat_lt, if◌then◌else◌}
 use Rattle.std.specs.List.{find, filter, IsDistinct}
 use Rattle.std.specs.Str.{bytes_eq}
 use Rattle.scim_key.specs.declared.records.Kind.{Kind}
-use Rattle.scim_key.specs.declared.records.Kind.TheVariants.{User, Group}
 use Rattle.scim_key.specs.declared.records.RecordName.{RecordName}
 use Rattle.scim_key.specs.Identifiers.{id_text}
 pub use Rattle.scim_key.specs.Records.{same_kind, same_name}
@@ -17,6 +16,14 @@ is_named name row = same_name name (content_name row.content)
 -- the row of a record, if there is one
 abbrev pub row_named : RecordName → List StoredRecord → Option StoredRecord
 row_named name rows = find (is_named name) rows
+
+-- how many rows there are, if none of them is of the record
+abbrev pub count_if_none : Option StoredRecord → List StoredRecord → Option ℕ
+count_if_none None rows = Some (length rows)
+count_if_none (Some row) rows = None
+
+abbrev pub count_if_free : RecordName → List StoredRecord → Option ℕ
+count_if_free name rows = count_if_none (row_named name rows) rows
 
 -- whether a row has this id, byte for byte
 abbrev pub has_id : List ℕ → StoredRecord → Bool

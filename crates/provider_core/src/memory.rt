@@ -82,6 +82,13 @@ impl Registry for MemoryRegistry {
         }
     }
 
+    fn count_if_free(&mut self, name: &RecordName) -> Result<Option<u32>, RegistryFault> {
+        match self.numbers.get(name) {
+            Some(_) => Ok(None),
+            None => Ok(Some(self.rows.len() as u32)),
+        }
+    }
+
     fn by_id(&mut self, id: &ResourceId) -> Result<Option<Stored>, RegistryFault> {
         match id.number() {
             Some(number) => Ok(copy_at(self.rows.as_slice(), number)?),

@@ -119,10 +119,9 @@ impl<R: Registry> Provider<R> {
         ensures reads { Reads R.Registry self.old self.new result }
     {
         let name = content.name(alloc)?;
-        if self.registry.by_key(&name)?.is_some() {
+        let Some(count) = self.registry.count_if_free(&name)? else {
             return Ok(refusal(alloc, Refusal::NameTaken)?);
-        }
-        let count = self.registry.count()?;
+        };
         if count >= MOST_RESOURCES {
             return Ok(refusal(alloc, Refusal::LimitReached)?);
         }

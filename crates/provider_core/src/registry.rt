@@ -2,7 +2,7 @@
 ghost use Rattle.std.specs.Prelude.{◌≡◌, ℕ, ◌+◌, ◌≤◌, List, [], ◌∷◌, ◌++◌, length, IfOk, OnOk, None};
 ghost use Rattle.scim_resource.specs.Rows.{StoredRecord};
 ghost use Rattle.scim_resource.specs.Contents.{content_name};
-ghost use Rattle.provider_core.specs.Rows.{row_named, row_with_id, page_after, with_row, IsNumberedFrom, AreNamedApart};
+ghost use Rattle.provider_core.specs.Rows.{count_if_free, row_named, row_with_id, page_after, with_row, IsNumberedFrom, AreNamedApart};
 ghost use Rattle.provider_core.specs.Stores.{HasRisen, CountsFault, OnlyReads, WritesOnce, HoldsNumber};
 
 use scim_key::{RecordName, ResourceId};
@@ -68,6 +68,11 @@ pub trait Registry {
     fn by_key(&mut self, name: &RecordName) -> Result<Option<Stored>, RegistryFault>
         ensures ok { is_faithful self.new → IfOk result (λ row. row ≡ row_named name.now (rows self.old)) }
         ensures apart { is_faithful self.new → AreNamedApart (rows self.old) }
+        ensures reads { OnlyReads rows is_faithful is_honest may_hold faults writes CountsFault self.old self.new result };
+
+    /// How many rows there are, if none of them is of this record.
+    fn count_if_free(&mut self, name: &RecordName) -> Result<Option<u32>, RegistryFault>
+        ensures ok { is_faithful self.new → IfOk result (λ count. count ≡ count_if_free name.now (rows self.old)) }
         ensures reads { OnlyReads rows is_faithful is_honest may_hold faults writes CountsFault self.old self.new result };
 
     /// The row with this id, if there is one.

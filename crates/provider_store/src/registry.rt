@@ -2,7 +2,7 @@
 ghost use Rattle.std.specs.Prelude.{◌≡◌, ◌⊎◌, ℕ, ◌<◌, ◌≤◌, ◌+◌, ◌-◌, ◌↔◌, ◌++◌, ◌∷◌, [], length, min, None, Some, Ok, IfErr, IfOk, OnOk, IsTrue, slice_get};
 ghost use Rattle.std.specs.Result.{is_ok};
 ghost use Rattle.scim_resource.specs.Contents.{content_name};
-ghost use Rattle.provider_core.specs.Rows.{AreNamedApart, IsNumberedFrom, page_after, row_named, row_with_id, with_row};
+ghost use Rattle.provider_core.specs.Rows.{AreNamedApart, IsNumberedFrom, count_if_free, page_after, row_named, row_with_id, with_row};
 ghost use Rattle.provider_core.specs.Stores.{CountsFault, CountsFaults, HasRisen, HoldsNumber, OnlyReads, Reopens, WritesOnce};
 ghost use Rattle.provider_core.specs.declared.registry.RegistryFault.TheVariants.{Store};
 ghost use Rattle.provider_store.specs.Kept.{IsFaithful, IsHonest, IsRefused, MayHold, kept_rows};
@@ -185,6 +185,7 @@ impl<S: Alter> SqlRegistry<S> {
         ensures ok { IsFaithful S.Store self.new → IfOk result (λ row. row ≡ row_named name.now (kept_rows S.Store self.old)) }
         ensures reads { OnlyReads (kept_rows S.Store) (IsFaithful S.Store) (IsHonest S.Store) (MayHold S.Store) (λ k. k.faults) (λ k. k.writes) CountsFault self.old self.new result }
         ensures shut { IsRefused self.old result }
+        ensures counted { self.new.count ≡ self.old.count }
         ensures failed { IsTrue self.old.is_usable → IsHonest S.Store self.new → IfErr result (FailsFor (HasFailed (state S.Store self.old.conn) (state S.Store self.new.conn) ⊎ FindsName (resources (state S.Store self.old.conn)) name.now Damaged)) }
     {
         if !self.is_usable {
@@ -236,6 +237,18 @@ impl<S: Alter> Registry for SqlRegistry<S> {
         ensures failed { IsTrue self.old.is_usable → IsHonest S.Store self.new → IfErr result (FailsFor (HasFailed (state S.Store self.old.conn) (state S.Store self.new.conn) ⊎ FindsName (resources (state S.Store self.old.conn)) name.now Damaged)) }
     {
         self.row_of(name)
+    }
+
+    fn count_if_free(&mut self, name: &RecordName) -> Result<Option<u32>, RegistryFault>
+        ensures ok { IsFaithful S.Store self.new → IfOk result (λ count. count ≡ count_if_free name.now (kept_rows S.Store self.old)) }
+        ensures reads { OnlyReads (kept_rows S.Store) (IsFaithful S.Store) (IsHonest S.Store) (MayHold S.Store) (λ k. k.faults) (λ k. k.writes) CountsFault self.old self.new result }
+        ensures shut { IsRefused self.old result }
+        ensures failed { IsTrue self.old.is_usable → IsHonest S.Store self.new → IfErr result (FailsFor (HasFailed (state S.Store self.old.conn) (state S.Store self.new.conn) ⊎ FindsName (resources (state S.Store self.old.conn)) name.now Damaged)) }
+    {
+        match self.row_of(name)? {
+            Some(_) => Ok(None),
+            None => Ok(Some(self.count)),
+        }
     }
 
     fn by_id(&mut self, id: &ResourceId) -> Result<Option<Stored>, RegistryFault>

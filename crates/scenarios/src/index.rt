@@ -36,6 +36,10 @@ impl Registry for CountingRegistry {
         self.registry.by_key(name)
     }
 
+    fn count_if_free(&mut self, name: &RecordName) -> Result<Option<u32>, RegistryFault> {
+        self.registry.count_if_free(name)
+    }
+
     fn by_id(&mut self, id: &ResourceId) -> Result<Option<Stored>, RegistryFault> {
         self.registry.by_id(id)
     }

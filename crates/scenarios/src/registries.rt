@@ -38,6 +38,10 @@ impl Registry for FullRegistry {
         Ok(None)
     }
 
+    fn count_if_free(&mut self, _: &RecordName) -> Result<Option<u32>, RegistryFault> {
+        Ok(Some(self.count()?))
+    }
+
     fn by_id(&mut self, _: &ResourceId) -> Result<Option<Stored>, RegistryFault> {
         Ok(None)
     }
@@ -97,6 +101,10 @@ impl Registry for FaultyRegistry {
     }
 
     fn by_key(&mut self, _: &RecordName) -> Result<Option<Stored>, RegistryFault> {
+        self.fails()
+    }
+
+    fn count_if_free(&mut self, _: &RecordName) -> Result<Option<u32>, RegistryFault> {
         self.fails()
     }
 

@@ -81,6 +81,17 @@ impl Registry for FaultyRegistry {
         }
     }
 
+    fn count_if_free(&mut self, name: &RecordName) -> Result<Option<u32>, RegistryFault> {
+        let found = self.rows.count_if_free(name);
+        if self.is_failing() {
+            return Err(RegistryFault::Store);
+        }
+        match found {
+            Ok(count) => Ok(count),
+            Err(_) => Err(RegistryFault::Memory),
+        }
+    }
+
     fn by_id(&mut self, id: &ResourceId) -> Result<Option<Stored>, RegistryFault> {
         if self.is_failing() {
             return Err(RegistryFault::Store);
@@ -148,10 +159,10 @@ static ASKED: &[(&str, &str)] = &[
     ("GET /v2/Users", ""),
 ];
 
-/// A creation looks for the name, counts the rows and adds one; a replacement looks for the id and replaces the
+/// A creation counts the rows if the name is free, and adds one; a replacement looks for the id and replaces the
 /// row; a GET looks for the id; a search for a name looks for it; any other search counts the rows and reads
 /// them.
-const CALLS: u64 = 3 + 3 + 2 + 1 + 1 + 2;
+const CALLS: u64 = 2 + 2 + 2 + 1 + 1 + 2;
 
 /// What a provider answers to a request.
 fn answered<R: Registry>(

@@ -51,6 +51,13 @@ impl Registry for FailingRegistry {
         }
     }
 
+    fn count_if_free(&mut self, name: &RecordName) -> Result<Option<u32>, RegistryFault> {
+        match self.rows.count_if_free(name) {
+            Ok(count) => Ok(count),
+            Err(_) => Err(RegistryFault::Memory),
+        }
+    }
+
     fn by_id(&mut self, id: &ResourceId) -> Result<Option<Stored>, RegistryFault> {
         match self.rows.by_id(id) {
             Ok(row) => Ok(row),
