@@ -4,4 +4,6 @@ pub mod IndexLaws
 pub mod StoryLaws
 pub mod MemoryLaws
 pub mod Gathering
+pub mod PlaceLaws
+pub mod Paging
 pub mod TableLaws

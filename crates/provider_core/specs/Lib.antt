@@ -1,6 +1,7 @@
 pub mod Rows
 pub mod Searches
 pub mod Gathering
+pub mod Listing
 pub mod Outcomes
 pub mod Stories
 pub mod Stores

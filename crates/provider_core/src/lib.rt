@@ -1,7 +1,9 @@
 //! The provider over a registry: its answer to each request, and what it changes.
 #![tactic(auto)]
 
+mod kinds;
 mod laws;
+mod listing;
 mod memory;
 mod outcomes;
 mod pending;

@@ -1,14 +1,17 @@
 //! The provider over a registry.
-ghost use Rattle.std.specs.Prelude.{◌≡◌, take, drop, IfOk, OnOk};
+ghost use Rattle.std.specs.Prelude.{◌≡◌, ◌+◌, ◌++◌, ◌∷◌, [], length, take, drop, IfOk, OnOk};
 ghost use Rattle.std.specs.Option.{option_and_then};
 ghost use Rattle.scim_filter.specs.Names.{single_key};
+ghost use Rattle.scim_resource.specs.Contents.{content_name};
 ghost use Rattle.provider_core.specs.Outcomes.{outcome, changed_rows, IsChange, IsOutcome};
 ghost use Rattle.provider_core.specs.Gathering.{Gathers, GoesThrough};
-ghost use Rattle.provider_core.specs.Rows.{resource};
+ghost use Rattle.provider_core.specs.Rows.{resource, row_named};
 ghost use Rattle.provider_core.specs.Stores.{WritesOnce, Reopens, CountsFault, CountsProviderFault};
 ghost use Rattle.provider_core.specs.Calls.{Reads, Writes};
 ghost use Rattle.provider_core.specs.declared.provider.ProviderFault.TheVariants as provider_faults;
 
+use crate::kinds::{KindPlaces, add_kept};
+use crate::listing::list;
 use crate::outcomes::{MOST_RESOURCES, insertion, is_of_kind, refusal, replacement, retrieval};
 use crate::pending::{Change, Pending};
 use crate::registry::{Registry, RegistryFault};
@@ -24,7 +27,7 @@ use std::marker::Model;
 use thiserror::Error;
 
 /// How many rows a search reads from the store at a time.
-const ROWS_AT_ONCE: u32 = 200;
+pub(crate) const ROWS_AT_ONCE: u32 = 200;
 
 /// Why a request got no answer. Nothing was changed.
 #[derive(Clone, Copy, Debug, PartialEq, Eq, Error)]
@@ -60,12 +63,18 @@ impl From<RegistryFault> for ProviderFault {
 #[derive(Debug, Drop)]
 pub struct Provider<R: Registry> {
     registry: R,
+    /// The places of each type's rows, once a list without a filter has asked for them.
+    places: Option<KindPlaces>,
 }
 
 impl<R: Registry> Model for Provider<R> {
+    ghost use Rattle.provider_core.specs.Listing.{KeepsPlaces};
+
     ghost Value = { R };
 
     ghost view = { λ p. p.registry };
+
+    ghost invariant = { λ p. KeepsPlaces R.Registry p.registry p.places };
 }
 
 impl<R: Registry> Provider<R> {
@@ -73,14 +82,17 @@ impl<R: Registry> Provider<R> {
     pub fn new(registry: R) -> Provider<R>
         ensures { result ≡ registry }
     {
-        Provider { registry }
+        Provider {
+            registry,
+            places: None,
+        }
     }
 
     /// Gives the registry back.
     pub fn close(self) -> R
         ensures { result ≡ self }
     {
-        let Provider { registry } = self;
+        let Provider { registry, .. } = self;
         registry
     }
 
@@ -173,9 +185,34 @@ impl<R: Registry> Provider<R> {
             (λ pending. pending ≡ outcome (R.rows self.old) (Request.Search kind filter.now start count)) }
         ensures reads { Reads R.Registry self.old self.new result }
     {
+        if filter.is_none() {
+            return self.prepare_list(alloc, kind, start, count);
+        }
         let mut gathered = Gathered::new(alloc, first_place(start), page_size(count));
         self.gather(alloc, kind, filter, &mut gathered)?;
         Ok(gathered.into_pending())
+    }
+
+    fn prepare_list(
+        &mut self,
+        alloc: Global,
+        kind: Kind,
+        start: i64,
+        count: Option<i64>,
+    ) -> Result<Pending, ProviderFault>
+        ensures ok { R.is_faithful self.new →
+            IfOk result
+            (λ pending. pending ≡ outcome (R.rows self.old) (Request.Search kind None start count)) }
+        ensures reads { Reads R.Registry self.old self.new result }
+    {
+        list(
+            &mut self.registry,
+            &mut self.places,
+            alloc,
+            kind,
+            start,
+            count,
+        )
     }
 
     /// Looks for the rows of a type that a filter finds; by the index, if the filter names one record.
@@ -272,8 +309,8 @@ impl<R: Registry> Provider<R> {
         }
     }
 
-    /// Makes a prepared change on the current rows, and gives the answer. It writes at most once, and
-    /// allocates nothing itself.
+    /// Makes a prepared change on the current rows, and gives the answer. It writes at most once. If memory
+    /// is out for the place of a new row, the next list looks for the places anew.
     pub fn commit(&mut self, pending: Pending) -> Result<Answer, ProviderFault>
         requires { R.is_faithful self.old → IsOutcome (R.rows self.old) pending }
         ensures answer { IfOk result (λ answer. answer ≡ pending.answer) }
@@ -296,9 +333,25 @@ impl<R: Registry> Provider<R> {
     {
         match change {
             Change::Unchanged => Ok(()),
-            Change::Insert(row) => self.registry.insert(row),
+            Change::Insert(row) => self.insert(row),
             Change::Update(row) => self.registry.update(&row),
         }
+    }
+
+    /// Adds a row, and keeps its place.
+    fn insert(&mut self, row: Stored) -> Result<(), RegistryFault>
+        requires next { R.is_faithful self.old → row.number ≡ length (R.rows self.old) + 1 }
+        requires free { R.is_faithful self.old →
+            row_named (content_name row.content) (R.rows self.old) ≡ None }
+        ensures adds { WritesOnce R.rows R.is_faithful R.is_honest R.may_hold R.faults R.writes
+            CountsFault self.old self.new (R.rows self.old ++ row ∷ []) result }
+        ensures open { R.is_honest self.new → OnOk result (R.is_faithful self.new) }
+    {
+        let kind = row.content().kind();
+        let place = row.number() - 1;
+        self.registry.insert(row)?;
+        add_kept(&mut self.places, kind, place);
+        Ok(())
     }
 
     /// Answers a request and makes its change.
@@ -320,6 +373,7 @@ impl<R: Reopen> Provider<R> {
         ensures { Reopens R.rows R.is_faithful R.is_honest R.may_hold R.faults R.writes
             CountsProviderFault self.old self.new result }
     {
+        self.places = None;
         Ok(self.registry.reopen()?)
     }
 }

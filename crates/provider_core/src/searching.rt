@@ -3,6 +3,7 @@ ghost use Rattle.std.specs.Prelude.{◌≡◌, ◌∷◌, ◌++◌, [], IfOk, On
 ghost use Rattle.std.specs.Option.{option_and_then};
 ghost use Rattle.scim_filter.specs.Names as names;
 ghost use Rattle.scim_resource.specs.Rows.{shown};
+ghost use Rattle.scim_message.specs.declared.messages.Answer.TheVariants as answers;
 ghost use Rattle.provider_core.specs.Searches as spec;
 ghost use Rattle.provider_core.specs.Gathering.{Adds, GoesThrough, IsPlace, gathered, listed};
 ghost use Rattle.provider_core.specs.Outcomes.{replied};
@@ -125,15 +126,22 @@ impl Gathered {
             page,
             ..
         } = self;
-        let list = ListResponse {
-            total,
-            start: first,
-            resources: Resources::from_vec(page),
-        };
-        Pending {
-            change: Change::Unchanged,
-            answer: Answer::List(list),
-        }
+        listed(total, first, page)
+    }
+}
+
+/// A list of this many resources in all, and the page from this place on, without a change.
+pub(crate) fn listed(total: u64, first: u64, page: Vec<Shown>) -> Pending
+    ensures { result ≡ replied (answers.List (record { total = total; start = first; resources = page.items })) }
+{
+    let list = ListResponse {
+        total,
+        start: first,
+        resources: Resources::from_vec(page),
+    };
+    Pending {
+        change: Change::Unchanged,
+        answer: Answer::List(list),
     }
 }
 

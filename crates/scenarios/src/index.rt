@@ -1,68 +1,9 @@
 //! A Search for one name uses the index of names.
-ghost use Rattle.std.specs.Prelude.{◌≡◌, refl};
-
+use crate::registries::CountingRegistry;
 use crate::support::{CREATE_BOB, assert_same, ends, exchange, joined};
-use provider_core::{MemoryRegistry, Provider, Registry, RegistryFault};
-use scim_key::{RecordName, ResourceId};
-use scim_resource::Stored;
+use provider_core::Provider;
 use std::alloc::Global;
 use std::process::Abort;
-
-/// A registry in memory that counts how often its rows are scanned.
-#[derive(Drop)]
-struct CountingRegistry {
-    registry: MemoryRegistry,
-    scans: u64,
-}
-
-impl Registry for CountingRegistry {
-    ghost rows = { λ r. r.registry.rows };
-
-    ghost is_faithful = { λ _. Unit {0} };
-
-    ghost is_honest = { λ _. Unit {0} };
-
-    ghost may_hold = { λ r found. found ≡ r.registry.rows };
-
-    ghost faults = { λ _. 0 };
-
-    ghost writes = { λ r. r.registry.writes };
-
-    fn count(&mut self) -> Result<u32, RegistryFault> {
-        self.registry.count()
-    }
-
-    fn by_key(&mut self, name: &RecordName) -> Result<Option<Stored>, RegistryFault> {
-        self.registry.by_key(name)
-    }
-
-    fn count_if_free(&mut self, name: &RecordName) -> Result<Option<u32>, RegistryFault> {
-        self.registry.count_if_free(name)
-    }
-
-    fn by_id(&mut self, id: &ResourceId) -> Result<Option<Stored>, RegistryFault> {
-        self.registry.by_id(id)
-    }
-
-    fn scan(&mut self, after: u32, limit: usize) -> Result<Vec<Stored>, RegistryFault> {
-        self.scans = self.scans.saturating_add(1);
-        self.registry.scan(after, limit)
-    }
-
-    fn insert(&mut self, row: Stored) -> Result<(), RegistryFault> {
-        self.registry.insert(row)
-    }
-
-    fn update(&mut self, row: &Stored) -> Result<(), RegistryFault> {
-        self.registry.update(row)
-    }
-
-    ghost is_so = { λ _ faithful. faithful };
-
-    ghost settled = { λ _ _ _ holds. holds };
-
-    ghost stays = { λ _ _. refl };
-}
 
 /// The last answer to GET of a target, and how often the rows are scanned.
 type Found = (&'static str, &'static str, u64);
@@ -102,10 +43,7 @@ fn request(rt: &impl Abort, alloc: Global, target: &str) -> String {
 
 /// A provider with bob, over such a registry.
 fn with_bob(rt: &impl Abort, alloc: Global) -> Provider<CountingRegistry> {
-    let mut provider = Provider::new(CountingRegistry {
-        registry: MemoryRegistry::new(alloc),
-        scans: 0,
-    });
+    let mut provider = Provider::new(CountingRegistry::new(alloc, 0));
     exchange(rt, alloc, &mut provider, CREATE_BOB);
     provider
 }

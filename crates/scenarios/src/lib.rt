@@ -28,6 +28,8 @@ mod limits;
 #[cfg(test)]
 mod lines;
 #[cfg(test)]
+mod pages;
+#[cfg(test)]
 mod readings;
 #[cfg(test)]
 mod refusing;

@@ -160,9 +160,9 @@ static ASKED: &[(&str, &str)] = &[
 ];
 
 /// A creation counts the rows if the name is free, and adds one; a replacement looks for the id and replaces the
-/// row; a GET looks for the id; a search for a name looks for it; any other search counts the rows and reads
-/// them.
-const CALLS: u64 = 2 + 2 + 2 + 1 + 1 + 2;
+/// row; a GET looks for the id; a search for a name looks for it; the first list counts the rows, looks through
+/// them for their places, and reads its page.
+const CALLS: u64 = 2 + 2 + 2 + 1 + 1 + 3;
 
 /// What a provider answers to a request.
 fn answered<R: Registry>(
