@@ -1,7 +1,11 @@
 //! A database file of the host.
+ghost use Rattle.std.specs.Prelude.{IsTrue};
+
 use crate::reason::{DatabaseReason, failure_of};
-use sqlite::{Connection, Error, File, FileStore, Unknown};
+use sqlite::{Connection, Error, ErrorCode, File, FileStore, Files, Options, Unknown};
+use sqlite_disk::Disk;
 use std::fs::OpenOptions;
+use std::hash::{BuildHasher, RandomState};
 use std::io::ErrorKind;
 use std::rt::HostRuntime;
 
@@ -49,5 +53,35 @@ impl<'a> DatabaseFile<'a> {
                 _ => Some(DatabaseReason::System(error)),
             },
         }
+    }
+}
+
+/// Closes a connection, and connects to its files anew, which stay locked meanwhile. A connection keeps the memory
+/// that its largest transaction took; the new one has none of it. If this fails, the files are closed.
+pub fn renewed<D: Disk + Drop>(
+    rt: &HostRuntime,
+    conn: Connection<FileStore<D>>,
+) -> Result<Connection<FileStore<D>>, Error> {
+    match conn.close_files() {
+        Ok(files) => connected(rt, files),
+        Err((error, _store)) => Err(error),
+    }
+}
+
+/// Connects to files.
+fn connected<D: Disk + Drop>(
+    rt: &HostRuntime,
+    files: Files<D>,
+) -> Result<Connection<FileStore<D>>, Error>
+    requires log { IsTrue (D.Disk.is_usable files.log) }
+    requires db { IsTrue (D.Disk.is_usable files.db) }
+{
+    let Ok(hasher) = RandomState::new(rt) else {
+        return Err(Error::SqliteFailure(ErrorCode::CannotOpen));
+    };
+    let options = Options::new(hasher.hash_one(&0u8));
+    match Connection::open_files(rt.alloc(), files, options) {
+        Ok(conn) => Ok(conn),
+        Err((error, _left)) => Err(error),
     }
 }

@@ -4,5 +4,5 @@
 mod file;
 mod reason;
 
-pub use file::DatabaseFile;
+pub use file::{DatabaseFile, renewed};
 pub use reason::{DatabaseReason, failure_in, failure_since};
