@@ -10,15 +10,11 @@ the process is in neither. It ends with status 1 where a byte costs over twice a
 at 1 KB, where a malformed head of 15,206 bytes costs over ten times a whole one of 16,200, or where
 an answer isn't the one wanted.
 """
-import os
-import re
-import subprocess
 import sys
-import tempfile
 
 from built import program
+from parts import instructions
 
-PROGRAM = program()
 SIZES = (200, 1_024, 2_200, 4_096, 8_192, 16_200)
 
 
@@ -28,27 +24,28 @@ def head(size):
     return start + b"a" * (size - len(start) - len(end)) + end
 
 
-def instructions(request, status):
+def answered(request, status):
     """How many instructions one run takes that answers this request."""
-    with tempfile.TemporaryDirectory() as folder:
-        counts = os.path.join(folder, "counts")
-        done = subprocess.run(
-            ["valgrind", "--tool=callgrind", f"--callgrind-out-file={counts}", PROGRAM, "answer"],
-            input=request, stdout=subprocess.PIPE, stderr=subprocess.PIPE, check=True)
-        if not done.stdout.startswith(b"HTTP/1.1 %d " % status):
-            sys.exit(f"an answer of status {status} was wanted: {done.stdout[:40]!r}")
-        return int(re.search(r"^(?:summary|totals): (\d+)", open(counts).read(), re.M).group(1))
+    count, answer = instructions([program(), "answer"], sent=request)
+    if not answer.startswith(b"HTTP/1.1 %d " % status):
+        sys.exit(f"an answer of status {status} was wanted: {answer[:40]!r}")
+    return count
+
+
+def costs():
+    """The instructions for a byte of a head, by the size of the head; and those for the largest head."""
+    counted = [answered(head(size), 404) for size in SIZES]
+    pairs = zip(SIZES[1:], counted[1:])
+    return {size: (count - counted[0]) / (size - SIZES[0]) for size, count in pairs}, counted[-1]
 
 
 def main():
-    counted = [instructions(head(size), 404) for size in SIZES]
-    costs = {}
-    for size, count in zip(SIZES[1:], counted[1:]):
-        costs[size] = (count - counted[0]) / (size - SIZES[0])
-        print(f"{size:6,} bytes: {costs[size]:5.2f} instructions a byte")
-    malformed = instructions(head(16_200)[:15_205] + b"\0" + b"a" * 994, 400)
-    print(f"16,200 bytes: {counted[-1]:,} instructions; malformed at byte 15,206: {malformed:,}")
-    if costs[16_200] > 2 * costs[1_024] or malformed > 10 * counted[-1]:
+    found, whole = costs()
+    for size, cost in found.items():
+        print(f"{size:6,} bytes: {cost:5.2f} instructions a byte")
+    malformed = answered(head(16_200)[:15_205] + b"\0" + b"a" * 994, 400)
+    print(f"16,200 bytes: {whole:,} instructions; malformed at byte 15,206: {malformed:,}")
+    if found[16_200] > 2 * found[1_024] or malformed > 10 * whole:
         sys.exit("heads aren't read in linear work")
 
 

@@ -14,6 +14,7 @@ import tempfile
 import time
 
 from built import program
+from parts import write_users
 
 PROGRAM = program()
 PYTHON = """
@@ -41,13 +42,6 @@ sys.stdout.write("".join(line + "\\n" for line in out))
 """
 
 
-def rows(count):
-    yield "login,revision,number,given,family,mail,status\n"
-    for n in range(count):
-        status = "left" if n % 10 == 9 else "active"
-        yield f"user{n},{n % 1000 + 1},{n},Given{n},Family{n},user{n}@example.com,{status}\n"
-
-
 def best(command, times=5):
     found, text = None, b""
     for _ in range(times):
@@ -64,8 +58,7 @@ def main():
     with tempfile.TemporaryDirectory() as room:
         for count in (1_000, 10_000, 100_000):
             file = os.path.join(room, f"{count}.csv")
-            with open(file, "w", encoding="utf-8") as to:
-                to.writelines(rows(count))
+            write_users(file, count)
             ours, text = best([PROGRAM, "map", file])
             theirs, other = best([sys.executable, "-c", PYTHON, file])
             each[count] = ours / count
@@ -79,4 +72,5 @@ def main():
     return 0 if good else 1
 
 
-sys.exit(main())
+if __name__ == "__main__":
+    sys.exit(main())

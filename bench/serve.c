@@ -3,7 +3,7 @@
  *   serve load PORT CLIENTS COUNT STEP AMONG STATUS REQUEST
  *       asks so many times from so many clients at once, a connection each, wants this status each
  *       time, and prints the seconds. The n-th asking has the number (n * STEP) % AMONG; eight `@` in
- *       the request stand for it, and twelve `$` for the one after it in hexadecimal.
+ *       the request stand for it, eight `#` for the one after it, and twelve `$` for that in hexadecimal.
  *   serve wait PORT CLIENTS SECONDS STATUS REQUEST
  *       asks for so many seconds from so many clients, and prints how many were answered, and the
  *       milliseconds that 99 of 100 and that all of them took at most.
@@ -28,7 +28,7 @@
 #include <sqlite3.h>
 #endif
 
-enum { ROOM = 65536, MOST_CLIENTS = 64 };
+enum { ROOM = 65536, ANSWER_ROOM = 1048576, MOST_CLIENTS = 64 };
 
 struct text {
     char bytes[ROOM];
@@ -73,7 +73,7 @@ static void ask(const char *request, size_t length, char *taken, const char *wan
     int peer = socket(AF_INET, SOCK_STREAM, 0);
     if (connect(peer, (struct sockaddr *)&to, sizeof to) || write(peer, request, length) != (ssize_t)length) fail(3);
     size_t got = 0;
-    for (ssize_t more; (more = read(peer, taken + got, ROOM - got)) > 0;) got += more;
+    for (ssize_t more; (more = read(peer, taken + got, ANSWER_ROOM - got)) > 0;) got += more;
     close(peer);
     if (got < 12 || memcmp(taken + 9, wanted, 3)) {
         fprintf(stderr, "%.*s\nis answered by %.*s\n", (int)length, request, (int)got, taken);
@@ -82,12 +82,13 @@ static void ask(const char *request, size_t length, char *taken, const char *wan
 }
 
 static void *client(void *place) {
-    char *request = malloc(ROOM), *taken = malloc(ROOM);
+    char *request = malloc(ROOM), *taken = malloc(ANSWER_ROOM);
     if (!request || !taken) fail(2);
     memcpy(request, text.bytes, text.length);
     for (int n = (int)(long)place; n < count; n += clients) {
         long number = n * step % among;
         put(&text, request, "@@@@@@@@", "%08ld", number);
+        put(&text, request, "########", "%08ld", number + 1);
         put(&text, request, "$$$$$$$$$$$$", "%012lx", number + 1);
         ask(request, text.length, taken, status);
     }
@@ -113,7 +114,7 @@ static int answered;
 static double until;
 
 static void *waiting_client(void *unused) {
-    char *taken = malloc(ROOM);
+    char *taken = malloc(ANSWER_ROOM);
     if (!taken) fail(2);
     for (double begin = seconds(), end; begin < until; begin = end) {
         ask(text.bytes, text.length, taken, status);
@@ -192,7 +193,7 @@ static void offer(sqlite3 *journal, const struct text *row) {
 
 static int push(const char *find_name, const char *create_name, const char *path) {
     static struct text find, create;
-    char *request = malloc(ROOM), *taken = malloc(ROOM);
+    char *request = malloc(ROOM), *taken = malloc(ANSWER_ROOM);
     sqlite3_stmt *confirm;
     const char *sql = "UPDATE entry SET confirmed = 1, id = ?2 WHERE name = ?1";
     struct text id = {.bytes = "5c1a0000-0000-8000-8000-000000000001", .length = 36};

@@ -25,6 +25,7 @@ import sys
 import tempfile
 import time
 
+import parts
 from built import program
 
 PROGRAM = program()
@@ -56,26 +57,17 @@ def schedule(count):
             yield "restart connector" if number % 20 else "restart provider"
 
 
-def run(words):
-    """Runs a program. A schedule that leaves a record unconfirmed ends with status 1."""
-    status = subprocess.run(words, stdout=subprocess.DEVNULL, stderr=subprocess.DEVNULL,
-                            check=False).returncode
-    if status not in (0, 1):
-        sys.exit(f"{words[0]}: status {status}")
-
-
-def instructions(folder, arguments):
-    """How many instructions one run takes."""
-    counts = os.path.join(folder, "counts")
-    run(["valgrind", "--tool=callgrind", f"--callgrind-out-file={counts}", PROGRAM, "simulate", *arguments])
-    with open(counts, encoding="utf-8") as file:
-        return int(re.search(r"^(?:summary|totals): (\d+)", file.read(), re.M).group(1))
+def instructions(arguments):
+    """How many instructions one run takes. One that leaves a record unconfirmed ends with status 1."""
+    return parts.instructions([PROGRAM, "simulate", *arguments], statuses=(0, 1))[0]
 
 
 def seconds(path):
     """How long one run takes."""
     begin = time.monotonic()
-    run([PROGRAM, "simulate", path])
+    run = subprocess.run([PROGRAM, "simulate", path], stdout=subprocess.DEVNULL, check=False)
+    if run.returncode not in (0, 1):
+        sys.exit(f"{PROGRAM}: status {run.returncode}")
     return time.monotonic() - begin
 
 
@@ -86,11 +78,11 @@ def events():
         path = os.path.join(folder, "schedule")
         with open(path, "w", encoding="utf-8"):
             pass
-        start = instructions(folder, [path])
+        start = instructions([path])
         for count in SIZES:
             with open(path, "w", encoding="utf-8") as file:
                 file.writelines(line + "\n" for line in schedule(count))
-            costs[count] = (instructions(folder, [path]) - start) / count
+            costs[count] = (instructions([path]) - start) / count
             speed = count / seconds(path)
             print(f"{count:7,} events: {costs[count]:8,.0f} instructions each, "
                   f"{speed:9,.0f} a second", flush=True)
@@ -131,7 +123,7 @@ def exchanges():
         for count in SIZES:
             with open(path, "w", encoding="utf-8") as file:
                 file.writelines(f"user user{number},1,{number},Ann,Lee,ann@example.com,active\n" for number in range(count))
-            cost = instructions(folder, [path, "--settle"]) - instructions(folder, [path])
+            cost = instructions([path, "--settle"]) - instructions([path])
             costs[count] = cost / (2 * count)
             print(f"{count:7,} users: {costs[count]:8,.0f} instructions an exchange", flush=True)
     if costs[SIZES[-1]] > 2 * costs[SIZES[0]]:

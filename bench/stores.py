@@ -15,7 +15,6 @@ its caches are in the figures. The opening reads every row; it ends with status 
 costs over twice as much among the most users as among the fewest.
 """
 import os
-import re
 import shutil
 import sqlite3
 import subprocess
@@ -23,7 +22,8 @@ import sys
 import tempfile
 import time
 
-TOP = os.path.dirname(os.path.dirname(os.path.abspath(__file__)))
+import parts
+
 TIMES = 300
 PAGE = 200  # rows that an opening of a store reads by one query
 
@@ -40,7 +40,7 @@ class Provider:
     """The provider over its store."""
     name = "stores"
     libraries = ("scim_key scim_version scim_resource scim_filter scim_message provider_core "
-                 "provider_store").split()
+                 "provider_store sqlite anyhow").split()
     calls = ("find", "insert", "update")
     sizes = (1_000, 10_000, 100_000)
     tables = """
@@ -89,7 +89,7 @@ CREATE TABLE resource (number INTEGER PRIMARY KEY CHECK (number >= 1), kind INTE
 class Journal:
     """The connector over its journal."""
     name = "journals"
-    libraries = "source_csv journal_core journal_store connector_core".split()
+    libraries = "source_csv journal_core journal_store connector_core sqlite anyhow".split()
     calls = ("add", "change")
     # with the users that are added, the greatest stays within the limit of a journal
     sizes = (1_000, 10_000, 99_000)
@@ -141,68 +141,12 @@ def make_file(store, path, users):
     connection.close()
 
 
-def crates():
-    """What each crate of the repository stands on."""
-    with open(os.path.join(TOP, "crates.txt"), encoding="utf-8") as file:
-        lines = [line.split(":") for line in file if ":" in line and not line.startswith("#")]
-    return {name.split()[0]: below.split() for name, below in lines}
-
-
-def below(names, all_crates):
-    """These crates and all that they stand on."""
-    found, rest = set(), list(names)
-    while rest:
-        name = rest.pop()
-        if name in all_crates and name not in found:
-            found.add(name)
-            rest += all_crates[name]
-    return found
-
-
-def lay_out(room, stores):
-    """Copies the crates that the programs stand on into a folder, and the programs beside them."""
-    all_crates = crates()
-    wanted = below([name for store in stores for name in store.libraries], all_crates)
-    for name in wanted:
-        shutil.copytree(os.path.join(TOP, "crates", name), os.path.join(room, "crates", name))
-    with open(os.path.join(room, "crates.txt"), "w", encoding="utf-8") as file:
-        for name in wanted:
-            print(f"{name}: {' '.join(all_crates[name])}", file=file)
-        for store in stores:
-            print(f"{store.name}_bench: {' '.join(store.libraries)} sqlite anyhow", file=file)
-    shutil.copy(os.path.join(TOP, "HANDLES"), room)
-    for store in stores:
-        folder = os.path.join(room, "crates", f"{store.name}_bench")
-        os.makedirs(os.path.join(folder, "src"))
-        shutil.copy(os.path.join(TOP, f"bench/{store.name}.rattle"), os.path.join(folder, "src/main.rt"))
-
-
-def build(room, store):
-    """Builds a program, and says where it is."""
-    folder = os.path.join(room, "crates", f"{store.name}_bench")
-    first = os.path.join(room, f"first-{store.name}")
-    subprocess.run(["rt", "run", "--", store.calls[0], first, "0", "0"], cwd=folder,
-                   stdout=subprocess.DEVNULL, check=True)
-    return os.path.join(folder, "out", f"{store.name}_bench")
-
-
 def ours(program, call, path, users, times=TIMES):
     """How long the program takes to open a store, and for its calls, in microseconds."""
     words = [program, call, path, str(users), str(times)]
     text = subprocess.run(words, stdout=subprocess.PIPE, check=True).stdout
     opened, taken = text.split()
     return int(opened), int(taken)
-
-
-def instructions(program, call, path, users, times):
-    """How many instructions one run of the program takes."""
-    counts = path + ".counts"
-    subprocess.run(
-        ["valgrind", "--tool=callgrind", f"--callgrind-out-file={counts}", program, call, path,
-         str(users), str(times)],
-        stdout=subprocess.DEVNULL, stderr=subprocess.DEVNULL, check=True)
-    with open(counts, encoding="utf-8") as file:
-        return int(re.search(r"^(?:summary|totals): (\d+)", file.read(), re.M).group(1))
 
 
 def theirs(store, call, path, users):
@@ -244,11 +188,11 @@ def measure(store, program, room, users):
     source = os.path.join(room, f"{store.name}-{users}")
     make_file(store, source, users)
     start = over_a_copy(room, source,
-                        lambda path: instructions(program, store.calls[0], path, users, 0))
+                        lambda path: parts.instructions([program, store.calls[0], path, users, 0])[0])
     costs = {}
     for call in store.calls:
         many = over_a_copy(room, source,
-                           lambda path: instructions(program, call, path, users, TIMES))
+                           lambda path: parts.instructions([program, call, path, users, TIMES])[0])
         costs[call] = (many - start) / TIMES
         we = best(room, source, lambda path: ours(program, call, path, users))
         they = best(room, source, lambda path: theirs(store, call, path, users))
@@ -264,8 +208,9 @@ def main():
     with tempfile.TemporaryDirectory(prefix="stores-", dir=(sys.argv + [None])[1]) as room:
         programs = os.environ.get("PROGRAMS", "").split()
         if not programs:
-            lay_out(room, stores)
-            programs = [build(room, store) for store in stores]
+            parts.lay_out(room, {store.name: store.libraries for store in stores})
+            programs = [parts.build(room, store.name, [store.calls[0], os.path.join(room, store.name), "0", "0"])
+                        for store in stores]
         for store, program in zip(stores, programs):
             costs = [measure(store, program, room, users) for users in store.sizes]
             good = good and all(costs[-1][call] <= 2 * costs[0][call] for call in store.calls)
