@@ -1,4 +1,4 @@
-"""What the scripts here share: medians, memory, instructions, personnel files, and programs over the crates."""
+"""What the scripts here share: medians, instructions, personnel files, and programs over the crates."""
 import os
 import pathlib
 import re
@@ -18,18 +18,13 @@ def medians(rounds, one, other):
     return statistics.median(ratios), ratios[0], ratios[-1]
 
 
-def memory_of(pid):
-    """The most memory that a process had so far, in megabytes."""
-    lines = pathlib.Path(f"/proc/{pid}/status").read_text(encoding="utf-8").splitlines()
-    return int(next(line for line in lines if line.startswith("VmHWM:")).split()[1]) / 1024
-
-
 def instructions(words, statuses=(0,), sent=b""):
     """The instructions that one run takes, counted by valgrind, and what the run prints."""
     with tempfile.TemporaryDirectory() as folder:
         counts = pathlib.Path(folder) / "counts"
         command = ["valgrind", "--tool=callgrind", f"--callgrind-out-file={counts}", *map(str, words)]
-        run = subprocess.run(command, input=sent, stdout=subprocess.PIPE, stderr=subprocess.DEVNULL, check=False)
+        ends = {"stdout": subprocess.PIPE, "stderr": subprocess.DEVNULL}
+        run = subprocess.run(command, input=sent, check=False, **ends)
         if run.returncode not in statuses:
             sys.exit(f"{words[0]} ended with status {run.returncode}")
         text = counts.read_text(encoding="utf-8")
@@ -84,7 +79,7 @@ def lay_out(room, programs):
 
 
 def build(room, name, arguments):
-    """Proves and builds a program that was laid out, runs it once with these arguments, and says where it is."""
+    """Proves and builds a program that was laid out, runs it once with these arguments: where it is."""
     folder = pathlib.Path(room) / "crates" / f"{name}_bench"
     subprocess.run(["rt", "run", "--", *arguments], cwd=folder, stdout=subprocess.DEVNULL, check=True)
     return os.path.join(folder, "out", f"{name}_bench")

@@ -1,8 +1,9 @@
-"""The programs of peers/, in Rust, with which run.py compares scimlink. Cargo builds them of crates that Debian
-packages as sources, and downloads nothing. They need Rust 1.65 or later, and
+"""The programs of peers/, in Rust, with which run.py compares scimlink. Cargo builds them of crates that
+Debian packages as sources, and downloads nothing. They need Rust 1.65 or later, and
 
     apt-get install libsqlite3-dev librust-csv-dev librust-form-urlencoded-dev librust-httparse-dev \\
-        librust-hyper-dev librust-rusqlite-dev librust-serde-derive-dev librust-serde-json-dev librust-tokio-dev
+        librust-hyper-dev librust-rusqlite-dev librust-serde-derive-dev librust-serde-json-dev \\
+        librust-tokio-dev
 
 If something is missing, the program that needs it is left out, and what is missing is printed.
 """
@@ -37,7 +38,8 @@ def built(name):
         print(f"bench/peers/{name} is left out: apt-get install {' '.join(lacking)}", file=sys.stderr)
         return None
     words = ["cargo", "build", "--release", "--offline", "--quiet"]
-    if subprocess.run(words, cwd=folder, env=os.environ | {"CARGO_TARGET_DIR": str(BUILT)}, check=False).returncode:
+    run = subprocess.run(words, cwd=folder, env=os.environ | {"CARGO_TARGET_DIR": str(BUILT)}, check=False)
+    if run.returncode:
         print(f"bench/peers/{name} is left out: cargo doesn't build it", file=sys.stderr)
         return None
     return BUILT / "release" / name

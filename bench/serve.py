@@ -18,8 +18,8 @@ import sys
 import tempfile
 import time
 
-from parts import medians, memory_of, write_users
-from servers import HERE, MOST_REQUESTS, POST, SEARCH, WORKS, Servers, push_words, sync_cost
+from parts import medians, write_users
+from servers import HERE, MOST_REQUESTS, POST, SEARCH, WORKS, Servers, push_words, request, sync_cost
 
 SERVERS = ("serve", "http.server", "limit")
 COUNTS = {"memory": {"serve": 4_000, "http.server": 800, "limit": 4_000},
@@ -85,7 +85,7 @@ class Bench(Servers):
                 print(f"search by name, {where}, {clients} clients: {middle[SMALL]:.1f}us among {SMALL:,} users, "
                       f"{middle[LARGE]:.1f}us among {LARGE:,}, ratio {told(medians(found, LARGE, SMALL))}", flush=True)
             run, _, opened = servers[LARGE]
-            print(f"{where} with {LARGE:,} users: {memory_of(run.pid):.0f} MB at most"
+            print(f"{where} with {LARGE:,} users: {self.memory_of(run):.0f} MB at most"
                   + (f", opened in {opened:.1f}s" if has_store else ""), flush=True)
             for run, _, _ in servers.values():
                 run.kill()

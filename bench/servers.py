@@ -1,7 +1,7 @@
 """Servers over TCP, and what is asked of them, for serve.py and run.py.
 
-A server is `serve` of scimlink, http.server of Python, the limit in C, or a program of peers/. The client is a
-program in C too, `serve.c`: threads with a connection for each request.
+A server is `serve` of scimlink, http.server of Python, the limit in C, or a program of peers/. The client is
+a program in C too, `serve.c`: threads with a connection for each request.
 """
 import contextlib
 import os
@@ -17,7 +17,8 @@ from built import program
 
 HERE = pathlib.Path(__file__).resolve().parent
 SCIM = "application/scim+json"
-CORE, SOURCE = "urn:ietf:params:scim:schemas:core:2.0:User", "urn:example:params:scim:schemas:extension:source:1.0"
+CORE = "urn:ietf:params:scim:schemas:core:2.0:User"
+SOURCE = "urn:example:params:scim:schemas:extension:source:1.0"
 BODY = (f'{{"active":true,"emails":[{{"primary":true,"type":"work","value":"@@@@@@@@@example.com"}}],'
         f'"schemas":["{CORE}","{SOURCE}"],"{SOURCE}":{{"revision":%d}},"userName":"@@@@@@@@"}}')
 USER = "/v2/Users/5c1a0000-0000-8000-8000-$$$$$$$$$$$$"
@@ -32,8 +33,8 @@ def request(method, target, body="", more=""):
     return f"{head}\r\n{body}".encode()
 
 
-# Signs stand for the number of the asking: @ for decimal digits, # for those of the next number, $ for hexadecimal
-# digits of the next number
+# Signs stand for the number of the asking: @ for its decimal digits, # for those of the number after it, and
+# $ for hexadecimal digits of that
 GET = request("GET", USER)
 POST = request("POST", "/v2/Users", BODY % 1)
 PUT = request("PUT", USER, BODY % 2, 'If-Match: "1"\r\n')
@@ -51,12 +52,13 @@ def remove(path):
 
 
 class Servers:
-    """A folder for files, the client, and how each server is started. `peers` has programs of peers/ by name."""
+    """A folder for files, the client, and how each server is started. `peers` has those in Rust, by name."""
 
     def __init__(self, room, peers=None):
         self.room, self.peers, self.tool = room, peers or {}, room / "tool"
         build = ["cc", "-O2", "-pthread", "-o", self.tool, HERE / "serve.c"]
-        self.has_sqlite = not subprocess.run([*build, "-DSTORE", "-lsqlite3"], stderr=subprocess.DEVNULL).returncode
+        tried = subprocess.run([*build, "-DSTORE", "-lsqlite3"], stderr=subprocess.DEVNULL, check=False)
+        self.has_sqlite = not tried.returncode
         if not self.has_sqlite:
             subprocess.run(build, check=True)
 
@@ -67,11 +69,10 @@ class Servers:
             return path
         connection = stores.connect(path)
         connection.executescript(stores.Provider.tables)
-        body = (BODY % 1).replace("@@@@@@@@", "{0}")
-        head, tail = body.split('"value":"')
+        names = (f"{n:08}" for n in range(users))
         connection.execute("BEGIN")
         connection.executemany(stores.Provider.insert, (
-            (n + 1, 1, f"{n:08}", 1, head + '"value":"' + tail.replace("{0}", f"{n:08}")) for n in range(users)))
+            (n + 1, 1, name, 1, (BODY % 1).replace("@@@@@@@@", name)) for n, name in enumerate(names)))
         connection.execute("COMMIT")
         connection.close()
         return path
@@ -94,7 +95,8 @@ class Servers:
             return [sys.executable, HERE / "http_server.py", count, *files]
         if name in self.peers:
             return [self.peers[name], *files]
-        return [self.tool, "limit", count, self.room / "answer", *([store, kind, users] if store and kind else [])]
+        change = [store, kind, users] if store and kind else []
+        return [self.tool, "limit", count, self.room / "answer", *change]
 
     def start(self, words):
         """Starts a server: its run, and its port."""
@@ -111,6 +113,12 @@ class Servers:
             run.kill()
             run.wait()
             run.stdout.close()
+
+    @staticmethod
+    def memory_of(run):
+        """The most memory that a run had so far, in megabytes."""
+        lines = pathlib.Path(f"/proc/{run.pid}/status").read_text(encoding="utf-8").splitlines()
+        return int(next(line for line in lines if line.startswith("VmHWM:")).split()[1]) / 1024
 
     def load(self, port, clients, count, text, status, step=1, among=None):
         """Asks so many times: the seconds."""

@@ -6,6 +6,7 @@ import statistics
 import subprocess
 import time
 
+import peers
 import simulate
 from built import program
 from parts import TOP, write_users
@@ -23,14 +24,14 @@ BUDGET = 60
 class Sizes(Servers):
     """Costs by work, program and size."""
 
-    def __init__(self, room, programs, rounds):
-        servers = {"rust": programs["serve"]} if programs.get("serve") else {}
-        super().__init__(room, servers)
-        self.programs, self.rounds, self.costs = programs, rounds, {}
+    def __init__(self, room, rounds):
+        self.programs = {name: peers.built(name) for name in ("map", "push", "serve")}
+        super().__init__(room, {"rust": self.programs["serve"]} if self.programs["serve"] else {})
+        self.rounds, self.costs = rounds, {}
 
     def has(self, name):
         """scimlink, and the program in Rust, if there is one."""
-        return ["scimlink", "rust"] if self.programs.get(name) else ["scimlink"]
+        return ["scimlink", "rust"] if self.programs[name] else ["scimlink"]
 
     def note(self, size, names, measure):
         """Notes the medians of what is measured with each program in turn: times in seconds, by work."""
@@ -49,7 +50,7 @@ class Sizes(Servers):
     def map(self, size):
         users = self.room / "users.csv"
         write_users(users, size)
-        words = {"scimlink": [program(), "map", users], "rust": [self.programs.get("map"), users]}
+        words = {"scimlink": [program(), "map", users], "rust": [self.programs["map"], users]}
 
         def measure(name):
             begun = time.perf_counter()
@@ -63,7 +64,7 @@ class Sizes(Servers):
             return
         users, made = self.room / "users.csv", self.make_store(0)
         write_users(users, size)
-        words = {"scimlink": push_words(users), "rust": [self.programs.get("push"), users, "JOURNAL", "TO"]}
+        words = {"scimlink": push_words(users), "rust": [self.programs["push"], users, "JOURNAL", "TO"]}
         self.note(size, self.has("push"),
                   lambda name: {"push": self.pushed(words[name], size, self.fresh(made)) / size})
 

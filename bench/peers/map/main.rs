@@ -1,4 +1,4 @@
-//! The work of `scimlink map` by csv and serde: `map USERS` prints the SCIM user of each row as JSON, a line each.
+//! The work of `scimlink map` by csv and serde: `map USERS` prints the user of each row as JSON, a line each.
 use csv::{Reader, StringRecord};
 use std::error::Error;
 use std::io::{BufWriter, Write};
