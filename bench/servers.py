@@ -6,6 +6,7 @@ a program in C too, `serve.c`: threads with a connection for each request.
 import contextlib
 import os
 import pathlib
+import shutil
 import socket
 import statistics
 import subprocess
@@ -78,11 +79,13 @@ class Servers:
         return path
 
     def fresh(self, made):
-        """A copy of a store."""
+        """A copy of a store, which is on the disk."""
         path = self.room / "store"
         remove(path)
-        path.write_bytes(made.read_bytes())
-        os.sync()
+        with open(made, "rb") as source, open(path, "wb") as copy:
+            shutil.copyfileobj(source, copy)
+            copy.flush()
+            os.fsync(copy.fileno())
         return path
 
     def words(self, name, count, store=None, kind=None, users=None):
