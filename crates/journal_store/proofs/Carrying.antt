@@ -31,9 +31,8 @@ use Rattle.sqlite_schema.specs.declared.schema.Table.{Table}
 use Rattle.sqlite_rules.specs.Action.{Writes, works}
 use Rattle.sqlite_rules.specs.Calls.{ids_of}
 use Rattle.sqlite_rules.specs.Cast.{cast, cast_row}
-use Rattle.sqlite_rules.specs.Edit.{Applies, Edit, are_fresh, edit_of, edited, have_rowids, id_in as id_value_in, numbered, put_all, taken_by, without_all}
+use Rattle.sqlite_rules.specs.Edit.{Applies, Edit, are_fresh, edit_of, edited, id_in as id_value_in, numbered, put_all, taken_by, without_all}
 use Rattle.sqlite_rules.specs.declared.error.Rowids.TheVariants.{Chosen, Given}
-use Rattle.sqlite_rules.specs.Lists.{Has}
 use Rattle.sqlite.specs.Does.{AtPlace, Does, OnRows, Tally}
 use Rattle.sqlite.specs.Effect.{Answers, Database}
 use Rattle.sqlite.specs.Listing.{understood}
@@ -42,7 +41,7 @@ use Rattle.sqlite.specs.State.{State, Executes}
 use Rattle.sqlite.proofs.Callers.{one_permutation, one_step, runs_as, statement_of}
 use Rattle.sql_tables.specs.Layouts.{format_table}
 use Rattle.sql_tables.specs.Statements.{plain_mode}
-use Rattle.sql_tables.proofs.Answering.{every, nothing}
+use Rattle.sql_tables.proofs.Answering.{nothing}
 use Rattle.sql_tables.proofs.Editing.{IsWrite, same_value, went}
 use Rattle.sql_tables.proofs.Queries.{query}
 use Rattle.sql_tables.proofs.Selecting.{and_true, passes, selected_over, shows}

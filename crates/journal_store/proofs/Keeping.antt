@@ -3,7 +3,6 @@ use Rattle.std.proofs.Common.{◌≡◌, List, ◌∷◌, ◌++◌, take, refl, 
 use Rattle.sqlite_value.specs.declared.keys.Order.{Order}
 use Rattle.sqlite_value.specs.declared.value.Value.{Value}
 use Rattle.sqlite_value.specs.Order.{Row}
-use Rattle.scim_key.specs.declared.records.Kind.{Kind}
 use Rattle.scim_key.specs.declared.records.Kind.TheVariants.{User, Group}
 use Rattle.journal_store.specs.Carrying.{ShowsEach, kept_row, moved_into, moved_kind, sent_row}
 use Rattle.journal_store.specs.Format.{table_of}

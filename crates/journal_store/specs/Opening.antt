@@ -66,6 +66,10 @@ IsSecond = IsOne second_schema
 abbrev pub IsFirst : Schema → Type 0
 IsFirst = IsOne first_schema
 
+-- the schema has exactly the tables of an older format
+abbrev pub IsOlder : Schema → Type 0
+IsOlder schema = IsSecond schema ⊎ IsFirst schema
+
 -- the first table of the schema is that of the format
 abbrev pub HasFormatTable : Schema → Type 0
 HasFormatTable = IsOne marked_schema

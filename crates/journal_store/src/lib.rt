@@ -14,5 +14,5 @@ mod statements;
 mod tables;
 
 pub use journal::SqlJournal;
-pub use opening::JournalOpenFault;
+pub use opening::{JournalOpenFault, is_older};
 pub use resets::resets_keep_rows;

@@ -9,7 +9,7 @@ ghost use Rattle.journal_store.specs.Connections.{AreNumbered, HasNumbersBy};
 ghost use Rattle.sql_tables.specs.Faults.{HasFailed};
 ghost use Rattle.sql_tables.specs.Layouts.{IsFormat, IsLaid as IsLaidBy, IsMark, IsOne};
 ghost use Rattle.sql_tables.specs.Statements.{LeavesStore, Looks};
-ghost use Rattle.journal_store.specs.Opening.{AreRising, HasFormatTable, HoldsEntriesBy, IsCause, IsFor, IsNewer, IsNotLaidBy, IsOfRows, IsSpoiltBy, IsStore, IsStoreBy, IsUnmarkedBy, IsUnnumbered, LeavesCarriedBy, LeavesStanding, OpenFailsFor, OpeningFails, ShowsDamageBy, Stands};
+ghost use Rattle.journal_store.specs.Opening.{AreRising, HasFormatTable, HoldsEntriesBy, IsCause, IsFor, IsNewer, IsNotLaidBy, IsOfRows, IsOlder, IsSpoiltBy, IsStore, IsStoreBy, IsUnmarkedBy, IsUnnumbered, LeavesCarriedBy, LeavesStanding, OpenFailsFor, OpeningFails, ShowsDamageBy, Stands};
 
 use crate::format::{FORMAT, First, Journal, Second, Unknown, is_first, is_journal, is_second};
 use crate::formats::{Format, Marked};
@@ -295,6 +295,14 @@ fn refuse_foreign<S: Alter>(conn: &mut Connection<S>) -> Result<(), JournalOpenF
         Ok(Mark::Own | Mark::Unmarked) => Err(JournalOpenFault::Damaged),
         Err(fault) => Err(fault),
     }
+}
+
+/// Whether the tables are those of an older format, which an opening carries over.
+pub fn is_older<S: Alter>(conn: &Connection<S>) -> bool
+    ensures is { IsTrue result → IsOlder (state S.Store conn.now).now.schema }
+    ensures known { IsOlder (state S.Store conn.now).now.schema → IsTrue result }
+{
+    is_first(conn.schema()) || is_second(conn.schema())
 }
 
 /// Makes the tables if there are none, and carries those of an older format over. Otherwise it checks them.

@@ -1,7 +1,6 @@
 use Rattle.std.proofs.Common.{arith}
 use Rattle.sqlite.specs.Held.{state}
 use Rattle.sqlite.specs.State.{HasCleanDisk}
-use Rattle.sqlite.specs.Values.{bound}
 use Rattle.journal_store.proofs.Moving.{rest_moves}
 use Rattle.journal_store.proofs.making.move_rest.Goals as goal
 
