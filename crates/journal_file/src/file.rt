@@ -3,12 +3,13 @@ ghost use Rattle.std.specs.Prelude.{IfOk};
 ghost use Rattle.journal_file.specs.Opened.{IsOpened};
 
 use crate::storage::{EntryStorage, StoredEntries};
-use database_file::{DatabaseFile, DatabaseReason, failure_in, failure_since};
+use database_file::{DatabaseFile, DatabaseReason, failure_in, failure_since, renewed};
 use journal_core::{Journal, JournalFault};
-use journal_store::{JournalOpenFault, SqlJournal};
+use journal_store::{JournalOpenFault, SqlJournal, is_older};
 use sqlite::{Alter, Connection, Error, File, FileStore};
 use sqlite_disk::{Disk, Files};
 use std::alloc::Global;
+use std::rt::HostRuntime;
 
 /// A statement that leaves the contents of the file as they are.
 const SAME: &str = "UPDATE journal_format SET number = number";
@@ -24,7 +25,7 @@ impl<'a> EntryStorage for JournalFile<'a> {
 
     /// If the file is refused, it is closed unchanged.
     fn open(&self) -> Result<Self::Entries, JournalOpenFault> {
-        entries_over(self.file.rt.alloc(), self.file.open()?)
+        carried_over(self.file.rt, self.file.open()?)
     }
 
     fn reason(&self) -> Option<DatabaseReason> {
@@ -54,6 +55,21 @@ impl<D: Disk + Drop> StoredEntries for SqlJournal<FileStore<D>> {
     fn close(self) -> Self::Left {
         SqlJournal::close(self).close_files()
     }
+}
+
+/// The journal of the files of a connection. After an older format was carried over, the connection is renewed.
+fn carried_over<D: Disk + Drop>(
+    rt: &HostRuntime,
+    conn: Connection<FileStore<D>>,
+) -> Result<SqlJournal<FileStore<D>>, JournalOpenFault>
+    ensures opened { IfOk result (IsOpened ⟦<SqlJournal<FileStore<D>> as Journal>⟧) }
+{
+    let is_carried = is_older(&conn);
+    let entries = entries_over(rt.alloc(), conn)?;
+    if !is_carried {
+        return Ok(entries);
+    }
+    entries_over(rt.alloc(), renewed(rt, SqlJournal::close(entries))?)
 }
 
 /// The journal of a connection. If it is refused, the connection is dropped without a write.
