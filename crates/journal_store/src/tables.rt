@@ -421,16 +421,17 @@ fn comes_after(previous: &Option<RecordName>, name: &RecordName) -> bool
     }
 }
 
-/// The entries that the rows show, which must be in order of their names.
-fn read_all(alloc: Global, kind: Kind, rows: &[Row]) -> Result<Vec<Entry>, TableFault>
-    ensures some { IfOk result (λ list. AreShownBy (Shows kind) rows.now list.items) }
-    ensures none { IfErr result (HasCause (IsUnshownBy (Shows kind) rows.now)) }
+/// The entries that the rows show, which must be in order of their names. Each row is dropped once it is read, so
+/// that the rows and the entries aren't all in memory.
+fn read_all(alloc: Global, kind: Kind, rows: Vec<Row>) -> Result<Vec<Entry>, TableFault>
+    ensures some { IfOk result (λ list. AreShownBy (Shows kind) rows.items list.items) }
+    ensures none { IfErr result (HasCause (IsUnshownBy (Shows kind) rows.items)) }
     ensures read { IfErr result IsOfRow }
 {
     let mut list = Vec::new(alloc);
     let mut previous = None;
     for row in rows {
-        let entry = read_entry(alloc, kind, row)?;
+        let entry = read_entry(alloc, kind, &row)?;
         let name = entry.row.record_name(alloc)?;
         if !comes_after(&previous, &name) {
             return Err(TableFault::Damaged);
@@ -456,7 +457,7 @@ pub(crate) fn list_entries<S: Alter, F: Format>(
     ensures quiet { Survives (state S.Store conn.old) (state S.Store conn.new) (λ _. ⊥) }
 {
     match ask::<S, F>(conn, F::list_statement(kind), &[]) {
-        Ok(rows) => read_all(alloc, kind, rows.as_slice()),
+        Ok(rows) => read_all(alloc, kind, rows),
         Err(error) => Err(TableFault::from(error)),
     }
 }

@@ -1,4 +1,4 @@
-use Rattle.std.proofs.Common.{IsTrue, arith, subst, sym}
+use Rattle.std.proofs.Common.{IsTrue, arith, refl, subst, sym}
 use Rattle.sqlite.specs.Held.{state}
 use Rattle.sqlite.specs.State.{HasCleanDisk}
 use Rattle.sql_tables.specs.Faults.{statement_fault as fault_of}
@@ -19,16 +19,16 @@ pub returns-in-Ok-clause-all : goal.returns-in-Ok-clause-all
 returns-in-Ok-clause-all g c clean =
     let early : HasCleanDisk (state g.S.Store c.args.conn.now) = omega (arith, clean, c.in-Ok.ensures.quiet.clean) in
     let laid = c.requires.laid early ((c.in-Ok.ensures.keeps clean).was_open (c.in-Ok.ensures.open clean)) in
-    listed_by (Shows c.args.kind) (g.F.Format.tree c.args.kind) (g.F.Format.columns c.args.kind) (λ list. list.items) (state g.S.Store c.args.conn.now) c.list_statement.result.now c.in-Ok.rows.items c.as_slice.result.now c.read_all.result
-    c.list_statement.ensures.lists c.list_statement.ensures.given c.as_slice.ensures.value laid (c.in-Ok.ensures.rows clean) c.read_all.ensures.some
+    listed_by (Shows c.args.kind) (g.F.Format.tree c.args.kind) (g.F.Format.columns c.args.kind) (λ list. list.items) (state g.S.Store c.args.conn.now) c.list_statement.result.now c.in-Ok.rows.items c.in-Ok.rows.items c.read_all.result
+    c.list_statement.ensures.lists c.list_statement.ensures.given refl laid (c.in-Ok.ensures.rows clean) c.read_all.ensures.some
 
 pub returns-in-Ok-clause-none : goal.returns-in-Ok-clause-none
 returns-in-Ok-clause-none g c clean =
     let early : HasCleanDisk (state g.S.Store c.args.conn.now) = omega (arith, clean, c.in-Ok.ensures.quiet.clean) in
     let still = c.in-Ok.ensures.open clean in
     let laid = c.requires.laid early ((c.in-Ok.ensures.keeps clean).was_open still) in
-    if_err c.read_all.result (λ fault. cause_by (IsUnshownBy (Shows c.args.kind) c.as_slice.result.now) (IsTrue (state g.S.Store c.ask.new.conn).is_open × ListsNoneBy (Shows c.args.kind) (g.F.Format.columns c.args.kind) ((state g.S.Store c.args.conn.now).now.trees (g.F.Format.tree c.args.kind)))
-    (λ unshown. (still, unlisted c.args.kind (Shows c.args.kind) (λ r e it. (it.key, it.kind_is)) (g.F.Format.tree c.args.kind) (g.F.Format.columns c.args.kind) (state g.S.Store c.args.conn.now) c.list_statement.result.now c.in-Ok.rows.items c.as_slice.result.now c.list_statement.ensures.lists c.list_statement.ensures.given c.as_slice.ensures.value laid (c.in-Ok.ensures.rows clean) unshown)) fault)
+    if_err c.read_all.result (λ fault. cause_by (IsUnshownBy (Shows c.args.kind) c.in-Ok.rows.items) (IsTrue (state g.S.Store c.ask.new.conn).is_open × ListsNoneBy (Shows c.args.kind) (g.F.Format.columns c.args.kind) ((state g.S.Store c.args.conn.now).now.trees (g.F.Format.tree c.args.kind)))
+    (λ unshown. (still, unlisted c.args.kind (Shows c.args.kind) (λ r e it. (it.key, it.kind_is)) (g.F.Format.tree c.args.kind) (g.F.Format.columns c.args.kind) (state g.S.Store c.args.conn.now) c.list_statement.result.now c.in-Ok.rows.items c.in-Ok.rows.items c.list_statement.ensures.lists c.list_statement.ensures.given refl laid (c.in-Ok.ensures.rows clean) unshown)) fault)
     c.read_all.ensures.none
 
 pub returns-in-Err-clause-none : goal.returns-in-Err-clause-none
