@@ -68,8 +68,8 @@ class MemoryTest(ProgramTest):
                 older = make_journal(self.folder / f"format {form.number}", entries, form=form)
                 self.assert_starves(older, "show", "--journal", older)
                 self.assert_starves(older, "reset", "--journal", older)
-                # with memory again, it is carried over, which takes little more than to open the entries
-                self.assertLess(peak("show", "--journal", older), 1.3 * peak("show", "--journal", journal))
+                # with memory again, it is carried over, which takes no more than to open the entries
+                self.assertLess(peak("show", "--journal", older), 1.05 * peak("show", "--journal", journal))
 
     def test_a_store(self):
         rows = (user_resource(number, name) for number, name in enumerate(NAMES, 1))
