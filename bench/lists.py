@@ -19,7 +19,8 @@ import sys
 import tempfile
 import time
 
-from serve import Bench, request
+from serve import Bench
+from servers import request
 
 PAGE = 200
 

@@ -26,6 +26,7 @@ import tempfile
 import time
 
 import heads
+import lists
 import peers
 import sizes
 from built import program
@@ -141,13 +142,13 @@ class Bench(Servers):
                 told = "1 client" if clients == 1 else f"{clients} clients"
                 self.measure(f"{work}, {WHERE[has_store]}, {told}", works)
 
-    def opened(self, name, text=GET):
-        """A store is opened and asked once: the seconds, the most memory until then, and the answer."""
+    def opened(self, name):
+        """A store is opened and asked for a user: the seconds, and the most memory until then."""
         store = self.fresh(self.make_store(USERS))
         begun = time.perf_counter()
         with self.serving(self.words(name, MOST_REQUESTS, store)) as (run, port):
-            answer = self.ask(port, text)
-            return time.perf_counter() - begun, self.memory_of(run), answer
+            self.ask(port, GET)
+            return time.perf_counter() - begun, self.memory_of(run)
 
     def measure_opening(self):
         works = self.over_servers(lambda name: self.opened(name)[0])
@@ -165,6 +166,12 @@ class Bench(Servers):
         works = self.over_servers(lambda name: self.opened(name)[1])
         self.measure(f"{line}, with a store", works, megabytes, 1)
 
+    def checked(self, name):
+        """The first page of a list, after all pages had the users that were asked for."""
+        with self.serving(self.words(name, MOST_REQUESTS, self.fresh(self.make_store(USERS)))) as (_, port):
+            lists.way(port, USERS)
+            return body_of(self.ask(port, PAGE))
+
     def listed(self, has_store, name):
         """The seconds for all pages of a list, by a server that wasn't asked for a list before."""
         store = self.fresh(self.make_store(USERS)) if has_store else None
@@ -174,8 +181,8 @@ class Bench(Servers):
             return self.load(port, 1, USERS // PAGE_SIZE, PAGE, 200, PAGE_SIZE, USERS)
 
     def measure_lists(self):
-        answers = self.over_servers(lambda name: body_of(self.opened(name, PAGE)[2]))
-        self.compare("a page of a list", {name: answer() for name, answer in answers.items()})
+        pages = self.over_servers(self.checked)
+        self.compare("a page of a list", {name: page() for name, page in pages.items()})
         for has_store, where in WHERE.items():
             line = f"all {USERS // PAGE_SIZE} pages of a list of {USERS:,} users, {where}"
             self.measure(line, self.over_servers(functools.partial(self.listed, has_store)))

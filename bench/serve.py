@@ -19,7 +19,7 @@ import tempfile
 import time
 
 from parts import medians, write_users
-from servers import HERE, MOST_REQUESTS, POST, SEARCH, WORKS, Servers, push_words, request, sync_cost
+from servers import HERE, MOST_REQUESTS, POST, SEARCH, WORKS, Servers, push_words, sync_cost
 
 SERVERS = ("serve", "http.server", "limit")
 COUNTS = {"memory": {"serve": 4_000, "http.server": 800, "limit": 4_000},
