@@ -50,6 +50,11 @@ def scaled(seconds):
     return f"{seconds:.3g} s"
 
 
+def of(ratio):
+    """A ratio with two digits that count."""
+    return f"{ratio:.2f}" if ratio >= 0.1 else f"{ratio:.2g}"
+
+
 def megabytes(size):
     return f"{size:.3g} MB"
 
@@ -84,7 +89,7 @@ class Bench(Servers):
             middle = shown(statistics.median(it[name] for it in found)) if name in works else "–"
             if name in works and name != "scimlink":
                 ratio, least, greatest = medians(found, name, "scimlink")
-                middle += f", {ratio:.2f}" + (f" ({least:.2f} to {greatest:.2f})" if len(found) > 1 else "")
+                middle += f", {of(ratio)}" + (f" ({of(least)} to {of(greatest)})" if len(found) > 1 else "")
             cells.append(middle)
         print("|", " | ".join(cells), "|", flush=True)
 
