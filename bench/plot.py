@@ -14,7 +14,7 @@ import sizes
 from parts import TOP
 
 PICTURE = TOP / "docs" / "performance.svg"
-WIDTH, HEIGHT, LEFT, RIGHT, UPPER, LOWER = 860, 540, 76, 210, 58, 62
+WIDTH, HEIGHT, LEFT, RIGHT, UPPER, LOWER = 860, 540, 84, 210, 58, 62
 # each work with its words in the picture, its color on light, and its color on dark
 WORKS = {
     "push": ("push: a record", "#b3460b", "#ff9a5c"),
@@ -80,7 +80,7 @@ class Picture:
         for power in range(self.lowest, self.highest + 1):
             y = self.y(10 ** power)
             self.put(f'<line class="grid" x1="{LEFT}" y1="{y:.1f}" x2="{right}" y2="{y:.1f}"/>')
-            told = f"{10 ** power:,} µs" if power >= 0 else f"{10 ** power:g} µs"
+            told = f"{10 ** power:g} µs" if power < 3 else f"{10 ** (power - 3):g} ms"
             self.text(LEFT - 8, y + 4, told, "faint", "end")
         for power in range(3, 7):
             x = self.x(10 ** power)
@@ -100,7 +100,7 @@ class Picture:
         self.text(LEFT + 158, 45, "the same by hand in Rust")
         told = "records: rows of a file, users of a store, or events"
         self.text((LEFT + WIDTH - RIGHT) / 2, HEIGHT - 16, told, anchor="middle")
-        self.text(18, middle, "microseconds for one", anchor="middle", more=turned)
+        self.text(18, middle, "time for one", anchor="middle", more=turned)
 
     def curves(self):
         """A line for each work and program, and a label at the end of those of scimlink."""
