@@ -88,6 +88,13 @@ impl<R: Registry> Provider<R> {
         }
     }
 
+    /// The registry.
+    pub fn registry(&self) -> &R
+        ensures { result.now ≡ self.now }
+    {
+        &self.registry
+    }
+
     /// Gives the registry back.
     pub fn close(self) -> R
         ensures { result ≡ self }

@@ -69,10 +69,9 @@ fn mended<K: RowStorage>(
     ensures refused { OnErr result (0 < K.Rows.faults provider) }
     ensures cause { IfErr result (K.refuses storage.now) }
 {
-    let rows = provider.close();
-    if !rows.has_failed() {
-        return Ok(Provider::new(rows));
+    if !provider.registry().has_failed() {
+        return Ok(provider);
     }
-    rows.close();
+    provider.close().close();
     Ok(Provider::new(storage.open()?))
 }
