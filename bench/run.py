@@ -36,8 +36,8 @@ from servers import GET, MOST_REQUESTS, PAGE, POST, WORKS, Servers, push_words, 
 COLUMNS = {"scimlink": "scimlink", "rust": "Rust", "hyper": "Rust with hyper", "limit": "limit in C"}
 WHERE = {False: "in memory", True: "with a store"}
 CLIENTS = (1, 8)
-# Rows of `map`, records that `push` carries, requests of a round, users of a large provider, and of a list
-ROWS, RECORDS, REQUESTS, USERS, LISTED = 100_000, 2_000, 2_000, 100_000, 20_000
+# Rows of `map`, records that `push` carries, requests of a round, and users of a large provider
+ROWS, RECORDS, REQUESTS, USERS = 100_000, 2_000, 2_000, 100_000
 # Seconds after which a line begins no other round
 BUDGET = 300
 
@@ -180,17 +180,17 @@ class Bench(Servers):
 
     def listed(self, has_store, name):
         """The seconds for all pages of a list, by a server that wasn't asked for a list before."""
-        store = self.fresh(self.make_store(LISTED)) if has_store else None
+        store = self.fresh(self.make_store(USERS)) if has_store else None
         with self.serving(self.words(name, MOST_REQUESTS, store)) as (_, port):
             if not store:
-                self.load(port, 8, LISTED, POST, 201)
-            return self.load(port, 1, LISTED // lists.PAGE, PAGE, 200, lists.PAGE, LISTED)
+                self.load(port, 8, USERS, POST, 201)
+            return self.load(port, 1, USERS // lists.PAGE, PAGE, 200, lists.PAGE, USERS)
 
     def measure_lists(self):
         pages = self.over_servers(self.checked)
         self.compare("a page of a list", {name: page() for name, page in pages.items()})
         for has_store, where in WHERE.items():
-            line = f"all {LISTED // lists.PAGE} pages of a list of {LISTED:,} users, {where}"
+            line = f"all {USERS // lists.PAGE} pages of a list of {USERS:,} users, {where}"
             self.measure(line, self.over_servers(functools.partial(self.listed, has_store)))
 
     def measure_heads(self):
