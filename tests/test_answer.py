@@ -27,6 +27,18 @@ class AnswerTest(ProgramTest):
         self.assert_reports(run, 0)
         self.assertTrue(run.output.startswith(b"HTTP/1.1 404 Not Found\r\n"), run.output)
 
+    def test_repeated_names_among_16_and_17(self):
+        user = ['"schemas":["urn:ietf:params:scim:schemas:core:2.0:User"]', '"userName":"bob"']
+        for count in (16, 17):
+            for last, status in (('"zz":1', 201), ('"A0":1', 400), ('"USERNAME":"bob"', 400)):
+                with self.subTest(count=count, last=last):
+                    others = [f'"a{number}":1' for number in range(count - len(user) - 1)]
+                    body = f"{{{','.join([*user, *others, last])}}}".encode()
+                    head = b"POST /v2/Users HTTP/1.1\r\nHost: h\r\nContent-Type: application/scim+json\r\n"
+                    run = self.answer(stdin=head + b"Content-Length: %d\r\n\r\n" % len(body) + body)
+                    self.assert_reports(run, 0)
+                    self.assertEqual(run.output[9:12], str(status).encode(), run.output)
+
     def test_no_whole_request(self):
         for request in (b"", CREATE_BOB[:100], CREATE_BOB[:-1]):
             with self.subTest(request=request):
