@@ -50,9 +50,13 @@ field fields place = unwrap_or (field_at fields place) []
 abbrev pub named : List (Bor (List ℕ)) → Record
 named columns = map (λ column. column.now) columns
 
+-- the place of the column of this name; that after the last if there is no such column
+abbrev pub place_in : Record → List ℕ → ℕ
+place_in columns name = unwrap_or (position (λ c. bytes_eq c name) columns) (length columns)
+
 -- the field in the column of this name; empty if there is no such column
 abbrev pub column : Record → Record → List ℕ → List ℕ
-column columns fields name = field fields (unwrap_or (position (λ c. bytes_eq c name) columns) (length columns))
+column columns fields name = field fields (place_in columns name)
 
 -- the columns of the texts of a user
 abbrev pub text_columns : Record

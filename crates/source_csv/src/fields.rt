@@ -9,8 +9,9 @@ ghost use Rattle.source_csv.specs.Fields.{Reads, RefusedFor, SomeIsLong, column,
 ghost use Rattle.source_csv.specs.Texts.{is_short};
 ghost use Rattle.source_csv.specs.declared.faults.RowCode.TheVariants as code;
 
+use crate::columns::Columns;
 use crate::faults::{Refusal, RowCode};
-use crate::texts::{FieldValue, TEXT_FIELD_COUNT, TEXT_FIELDS, VALUE_LIMIT};
+use crate::texts::{FieldValue, TEXT_FIELD_COUNT, VALUE_LIMIT};
 use csv::{ByteRecord, StringRecord};
 use scim_key::{GroupName, NameFault, Revision, UserName};
 use std::alloc::Global;
@@ -28,13 +29,6 @@ pub(crate) fn texts_of(alloc: Global, raw: &mut ByteRecord) -> Result<StringReco
             Err(RowCode::NotUtf8)
         }
     }
-}
-
-/// The field at a place; empty if there is none.
-pub(crate) fn field(texts: &StringRecord, place: usize) -> &str
-    ensures { result.now ≡ field (fields_of texts.now) place }
-{
-    texts.get(place).unwrap_or("")
 }
 
 /// The name of a user.
@@ -83,37 +77,16 @@ fn value_of(alloc: Global, text: &str) -> Result<FieldValue, Refusal>
     Ok(FieldValue::new(String::from_str(alloc, text)?))
 }
 
-/// The place of the column of this name.
-fn place_of(columns: &[&str], name: &str) -> Option<usize>
-    ensures { result ≡ position (λ c. bytes_eq c.now name.now) columns.now }
-{
-    columns.iter().position(|column| *column == name)
-}
-
-/// The field in the column of this name; empty if there is no such column.
-pub(crate) fn column<'a>(columns: &[&str], texts: &'a StringRecord, name: &str) -> &'a str
-    ensures { result.now ≡ column (named columns.now) (fields_of texts.now) name.now }
-{
-    field(texts, place_of(columns, name).unwrap_or(columns.len()))
-}
-
-/// The fields in the columns of the texts of a user.
-fn fields_in<'a>(columns: &[&str], texts: &'a StringRecord) -> [&'a str; TEXT_FIELD_COUNT]
-    ensures { map (λ f. f.now) result ≡ map (column (named columns.now) (fields_of texts.now)) text_columns }
-{
-    TEXT_FIELDS.map(|name| column(columns, texts, name))
-}
-
 /// The texts of a user, each from its column.
 pub(crate) fn values_of(
     alloc: Global,
-    columns: &[&str],
+    columns: &Columns,
     texts: &StringRecord,
 ) -> Result<[FieldValue; TEXT_FIELD_COUNT], Refusal>
-    ensures ok { IfOk result (λ values. (values ≡ map (column (named columns.now) (fields_of texts.now)) text_columns) × (list_all is_short values ≡ true)) }
-    ensures err { IfErr result (RefusedFor code.Value (SomeIsLong (column (named columns.now) (fields_of texts.now)))) }
+    ensures ok { IfOk result (λ values. (values ≡ map (column columns.now (fields_of texts.now)) text_columns) × (list_all is_short values ≡ true)) }
+    ensures err { IfErr result (RefusedFor code.Value (SomeIsLong (column columns.now (fields_of texts.now)))) }
 {
-    fields_in(columns, texts).try_map(|text| value_of(alloc, text))
+    columns.texts(texts).try_map(|text| value_of(alloc, text))
 }
 
 /// Whether a status is `active`; the only other one is `left`.

@@ -13,6 +13,7 @@ ghost use Rattle.source_csv.specs.Fields.{Reads, Record, field, named};
 ghost use Rattle.source_csv.specs.Reader.{IsAt};
 ghost use Rattle.source_csv.specs.Files.{AreRecordsOf, FilesHaveRecords, at_place, columns_of, read_row, rows_of, same_record};
 
+use crate::columns::Columns;
 use crate::faults::{Refusal, RowFault, SourceFault};
 use crate::groups::read_group;
 use crate::rows::Row;
@@ -119,13 +120,14 @@ fn header_among(
 }
 
 /// The columns of a file of this kind with this header. `None` if no file of this kind has it.
-pub(crate) fn columns_of(kind: Kind, header: &ByteRecord) -> Option<&'static [&'static str]>
-    ensures { option_map (λ columns. named columns.now) result ≡ columns_of kind (fields_of header.now) }
+pub(crate) fn columns_of(kind: Kind, header: &ByteRecord) -> Option<Columns>
+    ensures { result ≡ columns_of kind (fields_of header.now) }
 {
-    match kind {
+    let names = match kind {
         Kind::User => header_among(&USER_HEADERS, header),
         Kind::Group => header_among(&GROUP_HEADERS, header),
-    }
+    };
+    Some(Columns::of(names?))
 }
 
 /// Reads a record of a file of this kind with these columns.
@@ -133,10 +135,10 @@ pub(crate) fn columns_of(kind: Kind, header: &ByteRecord) -> Option<&'static [&'
 fn read_row(
     alloc: Global,
     kind: Kind,
-    columns: &[&str],
+    columns: &Columns,
     raw: &mut ByteRecord,
 ) -> Result<Row, Refusal>
-    ensures { Reads result (read_row kind (named columns.now) (fields_of raw.old)) }
+    ensures { Reads result (read_row kind columns.now (fields_of raw.old)) }
 {
     match kind {
         Kind::User => Ok(Row::User(read_user(alloc, columns, raw)?)),
@@ -148,11 +150,11 @@ fn read_row(
 pub(crate) fn row_at(
     alloc: Global,
     kind: Kind,
-    columns: &[&str],
+    columns: &Columns,
     place: usize,
     raw: &mut ByteRecord,
 ) -> Result<Result<Row, RowFault>, SourceFault>
-    ensures { MatchResult result (λ row. row ≡ at_place place (read_row kind (named columns.now) (fields_of raw.old))) (λ fault. fault ≡ SourceFault.Memory) }
+    ensures { MatchResult result (λ row. row ≡ at_place place (read_row kind columns.now (fields_of raw.old))) (λ fault. fault ≡ SourceFault.Memory) }
 {
     match read_row(alloc, kind, columns, raw) {
         Ok(row) => Ok(Ok(row)),
@@ -198,7 +200,7 @@ fn read_rows(alloc: Global, kind: Kind, bytes: &[u8]) -> Result<SourceRows, Sour
     let mut rows = Vec::new(alloc);
     for fields in records {
         let mut raw = record_of(fields)?;
-        rows.push(row_at(alloc, kind, columns, rows.len() + 1, &mut raw)?)?;
+        rows.push(row_at(alloc, kind, &columns, rows.len() + 1, &mut raw)?)?;
     }
     Ok(SourceRows { rows })
 }

@@ -1,6 +1,7 @@
 //! Rows of the source: CSV files of users and of groups, read record by record.
 #![tactic(auto)]
 
+mod columns;
 mod faults;
 mod fields;
 mod files;

@@ -9,6 +9,7 @@ ghost use Rattle.source_csv.specs.Files.{AreRecordsOf};
 ghost use Rattle.source_csv.specs.Opening.{IsReadFault, Opens, read_fault};
 ghost use Rattle.source_csv.specs.Streams.{HasLeft, IsPlain, Leaves, Takes, last_row, place_after};
 
+use crate::columns::Columns;
 use crate::faults::{RowFault, SourceFault};
 use crate::files::{columns_of, row_at};
 use crate::rows::Row;
@@ -35,7 +36,7 @@ pub enum ReadFault {
 pub struct RowReader<R: Read + Drop> {
     alloc: Global,
     kind: Kind,
-    columns: &'static [&'static str],
+    columns: Columns,
     place: usize,
     raw: ByteRecord,
     reader: Reader<R>,
@@ -45,14 +46,13 @@ impl<R: Read + Drop> Model for RowReader<R> {
     ghost use Rattle.std.specs.Prelude.{◌≡◌, false};
     ghost use Rattle.csv.specs.Reading.{has_failed, reader_state, source_of};
     ghost use Rattle.csv.specs.Records.{fields_of};
-    ghost use Rattle.source_csv.specs.Fields.{named};
     ghost use Rattle.source_csv.specs.Streams.{IsPlain, Standing};
 
     ghost Value = { Standing };
 
     ghost view = { λ s. record {
       kind = s.kind;
-      columns = named s.columns.now;
+      columns = s.columns;
       place = s.place;
       fields = fields_of s.raw;
       state = reader_state s.reader;
@@ -169,7 +169,7 @@ impl<R: Read + Drop> RowReader<R> {
         row_at(
             self.alloc,
             self.kind,
-            self.columns,
+            &self.columns,
             self.place,
             &mut self.raw,
         )

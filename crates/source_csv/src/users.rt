@@ -4,11 +4,12 @@ ghost use Rattle.csv.specs.Records.{fields_of};
 ghost use Rattle.scim_key.specs.Names.{IsUserName};
 ghost use Rattle.scim_key.specs.Revisions.{IsRevision};
 ghost use Rattle.source_csv.specs.Rows.{IsUserRow, same_user, text_of};
-ghost use Rattle.source_csv.specs.Fields.{Reads, column, named, read_user, read_user_fields};
+ghost use Rattle.source_csv.specs.Fields.{Reads, column, read_user, read_user_fields};
 ghost use Rattle.source_csv.specs.declared.texts.TheConstants.{VALUE_LIMIT};
 
+use crate::columns::Columns;
 use crate::faults::{Refusal, RowCode};
-use crate::fields::{column, login_of, revision_of, status_of, texts_of, values_of};
+use crate::fields::{login_of, revision_of, status_of, texts_of, values_of};
 use crate::texts::{FieldValue, TEXT_FIELD_COUNT, TextField, are_short};
 use csv::{ByteRecord, StringRecord};
 use scim_key::{Revision, UserName};
@@ -49,14 +50,14 @@ impl Drop for UserRow {
 
 /// Reads the fields of a record with these columns.
 #[tactic(auto, unfolding(crate::specs::Fields::read_user_fields, crate::specs::Fields::read_values, crate::specs::Fields::SomeIsLong))]
-fn user_of(alloc: Global, columns: &[&str], texts: &StringRecord) -> Result<UserRow, Refusal>
-    ensures { Reads result (read_user_fields (column (named columns.now) (fields_of texts.now))) }
+fn user_of(alloc: Global, columns: &Columns, texts: &StringRecord) -> Result<UserRow, Refusal>
+    ensures { Reads result (read_user_fields (column columns.now (fields_of texts.now))) }
 {
     Ok(UserRow {
-        login: login_of(alloc, column(columns, texts, "login"))?,
-        revision: revision_of(column(columns, texts, "revision"))?,
+        login: login_of(alloc, columns.login(texts))?,
+        revision: revision_of(columns.revision(texts))?,
         texts: values_of(alloc, columns, texts)?,
-        active: status_of(column(columns, texts, "status"))?,
+        active: status_of(columns.status(texts))?,
     })
 }
 
@@ -64,12 +65,12 @@ fn user_of(alloc: Global, columns: &[&str], texts: &StringRecord) -> Result<User
 #[tactic(auto, unfolding(crate::specs::Fields::read_user))]
 pub(crate) fn read_user(
     alloc: Global,
-    columns: &[&str],
+    columns: &Columns,
     raw: &mut ByteRecord,
 ) -> Result<UserRow, Refusal>
-    ensures { Reads result (read_user (named columns.now) (fields_of raw.old)) }
+    ensures { Reads result (read_user columns.now (fields_of raw.old)) }
 {
-    if raw.len() != columns.len() {
+    if raw.len() != columns.count() {
         return Err(Refusal::Refused(RowCode::FieldCount));
     }
     let texts = texts_of(alloc, raw)?;

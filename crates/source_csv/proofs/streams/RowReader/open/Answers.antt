@@ -1,7 +1,6 @@
 use Rattle.std.proofs.Common.{◌≡◌, None, Some, refl, sym}
 use Rattle.csv.specs.Reading.{reader_state, source_of}
 use Rattle.csv.specs.Records.{fields_of}
-use Rattle.source_csv.specs.Fields.{named}
 use Rattle.source_csv.specs.Files.{columns_of}
 use Rattle.source_csv.proofs.StreamLemmas.{opens, takes_none, takes_one}
 use Rattle.source_csv.proofs.streams.RowReader.open.Goals as goal
@@ -19,7 +18,7 @@ returns-in-Some-clause-records g c bytes known records are =
     let left = opens (g.R.Read.remaining c.args.source) (source_of g.R.Read.remaining c.reader_over-reader.result) (reader_state c.reader_over-reader.result) bytes records start.source known are start.state in
     let taken = c.in_ok-read_into.ensures.records records left in
     let (rest, first, more) = takes_one c.in_ok-read_into.field-0 (fields_of c.read_into.new.raw) (source_of g.R.Read.remaining c.read_into.new.reader) (reader_state c.read_into.new.reader) records c.if-not-branch.false taken in
-    let columns : columns_of c.args.kind (fields_of c.read_into.new.raw) ≡ Some (named c.in-Some.columns.now) = rw c.in-Some.is at (sym c.columns_of.ensures) in
+    let columns : columns_of c.args.kind (fields_of c.read_into.new.raw) ≡ Some c.in-Some.columns = rw c.in-Some.is at (sym c.columns_of.ensures) in
     (fields_of c.read_into.new.raw, rest, first, columns, more)
 
 pub returns-in-None-clause-records : goal.returns-in-None-clause-records
