@@ -50,11 +50,11 @@ class MapTest(ProgramTest):
         errors = [f"users record {number}: {code}" for number, code in [(1, "S2"), (2, "S3"), (4, "S4"), (5, "S6")]]
         self.assert_prints(run, user_text("bob"), status=1, errors=errors)
 
-    def test_reports_by_kind(self):
-        records = ['bob,1,,Bob,"Ray\nRay",,active', "c d,1,,,,,active", "cid,1,,,,,active"]
+    def test_reports_in_the_order_of_the_file(self):
+        records = ['bob,1,,Bob,"Ray\nRay",,active', "c d,1,,,,,active", 'c d,1,,,"Poe\n",,active', "cid,1,,,,,active"]
         run = scimlink("map", self.write(text(USERS_HEADER, *records)))
-        told = "users record 1: a quoted field goes over 2 lines; is a quote missing?"
-        self.assert_reports(run, 1, "users record 2: S4", told)
+        told = [f"users record {place}: a quoted field goes over 2 lines; is a quote missing?" for place in (1, 3)]
+        self.assert_reports(run, 1, told[0], "users record 2: S4", "users record 3: S4", told[1])
         self.assertEqual(len(run.lines), 2)
 
     def test_a_pipe(self):

@@ -6,13 +6,16 @@ ghost use Rattle.commands.specs.Statuses.{status_of_rows};
 
 use crate::status::{CommandFault, Status};
 use mapping::{WriteFault, write_record};
-use source_csv::RowReader;
+use source_csv::{Row, RowFault, RowReader};
+use source_lines::{Multiline, multiline_at};
 use std::alloc::Global;
-use std::io::{Read, Write};
+use std::io::{Eprint, Read, Write};
 
-/// Prints the images of all records that are left, a line each, and returns the exit status. It holds one
-/// record and one line. More records than `u64` counts are out of memory.
-pub fn print_images<R: Read + Drop, W: Write>(
+/// Prints the images of all records that are left, a line each, and returns the exit status. It reports on
+/// standard error each record that is rejected or has a field over several lines. It holds one record and one
+/// line. More records than `u64` counts are out of memory.
+pub fn print_images<E: Eprint, R: Read + Drop, W: Write>(
+    stderr: &E,
     alloc: Global,
     rows: &mut RowReader<R>,
     out: &mut W,
@@ -22,7 +25,7 @@ pub fn print_images<R: Read + Drop, W: Write>(
 {
     let mut are_rows = true;
     for _ in 0..u64::MAX {
-        match print_next(alloc, rows, out)? {
+        match print_next(stderr, alloc, rows, out)? {
             Some(is_row) => are_rows = are_rows && is_row,
             None => {
                 flush(out)?;
@@ -35,7 +38,8 @@ pub fn print_images<R: Read + Drop, W: Write>(
 
 /// Prints the image of the next record, and returns whether it was read as a row. `None` if no record is
 /// left.
-fn print_next<R: Read + Drop, W: Write>(
+fn print_next<E: Eprint, R: Read + Drop, W: Write>(
+    stderr: &E,
     alloc: Global,
     rows: &mut RowReader<R>,
     out: &mut W,
@@ -46,9 +50,22 @@ fn print_next<R: Read + Drop, W: Write>(
     if !rows.read_next()? {
         return Ok(None);
     }
+    let multiline = multiline_at(rows.place(), rows.record());
     let row = rows.row()?;
-    write_record(alloc, &row, out)?;
-    Ok(Some(row.is_ok()))
+    let is_row = row.is_ok();
+    tell(stderr, &row, multiline);
+    write_record(alloc, row, out)?;
+    Ok(Some(is_row))
+}
+
+/// Reports a record that is rejected, and one with a field over several lines: a quote may be missing there.
+fn tell(stderr: &impl Eprint, row: &Result<Row, RowFault>, multiline: Option<Multiline>) {
+    if let Err(fault) = row {
+        let _ = eprintln!(stderr; "users {fault}");
+    }
+    if let Some(found) = multiline {
+        let _ = eprintln!(stderr; "users {found}");
+    }
 }
 
 /// Flushes what was printed.

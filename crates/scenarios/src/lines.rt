@@ -51,7 +51,7 @@ static WRITINGS: &[Writing] = &[
 /// Writes the lines of both users, and flushes.
 fn written<W: Write>(rt: &impl Abort, alloc: Global, out: &mut W) -> Result<(), WriteFault> {
     let rows = read_users(alloc, USERS).expect(rt, "a file");
-    for given in rows.as_slice() {
+    for given in rows.into_vec() {
         write_record(alloc, given, out)?;
     }
     Ok(out.flush()?)

@@ -73,6 +73,14 @@ impl FieldValue {
         FieldValue { text }
     }
 
+    /// The string of the text.
+    pub fn into_string(self) -> String
+        ensures { string_bytes result ≡ self }
+    {
+        let FieldValue { text } = self;
+        text
+    }
+
     /// The text as a string.
     pub fn as_str(&self) -> &str
         ensures { result.now ≡ self.now }

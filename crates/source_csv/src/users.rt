@@ -102,6 +102,20 @@ impl UserRow {
         }
     }
 
+    /// The fields of the row, in the order of `new`.
+    pub fn into_parts(self) -> (UserName, Revision, [FieldValue; TEXT_FIELD_COUNT], bool)
+        ensures value { self ≡ record { login = result.0; revision = result.1; texts = result.2; active = result.3 } }
+        ensures lawful { IsUserRow self }
+    {
+        let UserRow {
+            login,
+            revision,
+            texts,
+            active,
+        } = self;
+        (login, revision, texts, active)
+    }
+
     /// The user's name, as the source spells it.
     pub fn login(&self) -> &UserName
         ensures value { result.now ≡ self.now.login }
