@@ -1,5 +1,8 @@
 -- One more byte, one more field, one more record.
-use Rattle.std.proofs.Common.{◌≡◌, ℕ, suc, zero, ◌+◌, ◌<◌, List, [], ◌∷◌, ◌++◌, Some, None, Ok, Bor, length, drop, map, max, refl, ap, sym, subst, inl, append_assoc, ◌∙◌, arith, add-one}
+use Rattle.std.proofs.Common.{◌≡◌, ◌==◌, nat_lt, true, false, ℕ, suc, zero, ◌+◌, ◌<◌, List, [], ◌∷◌, ◌++◌, Some, None, Ok, Bor, length, drop, map, max, refl, ap, sym, subst, inl, append_assoc, ◌∙◌, arith, add-one}
+use Rattle.std.proofs.lemmas.Bool.{and_parts}
+use Rattle.std.proofs.lemmas.Bool.Decides.{nat_tests}
+use Rattle.std.specs.List.{list_all}
 use Rattle.csv.specs.Machine.{Read, next_record}
 use Rattle.csv.specs.Reading.{AreRecords, FlexibleStep, Reached, RowStep, default_config}
 use Rattle.csv.specs.Records.{Row, field_at, fields_of}
@@ -8,7 +11,7 @@ use Rattle.csv.proofs.ReadFacts.{rows-end, rows-more}
 use Rattle.csv.specs.declared.parser.State.{State}
 use Rattle.source_csv.specs.Fields.{Record, field}
 use Rattle.source_csv.specs.Reader.{IsAt}
-use Rattle.source_lines.specs.Lines.{field_lines, lines_after_header, record_lines}
+use Rattle.source_lines.specs.Lines.{field_lines, line_ends, lines_after_header, record_lines}
 
 -- if a record comes next, it is the first of the records; if none does, there are no records
 pub first_record : (s : State) (xs : List ℕ) (p : Read) (records : List Record)
@@ -53,6 +56,15 @@ pub steps_out : (s : State) (xs : List ℕ) (a b : ByteRecordsIntoIter (Bor (Lis
     → IsAt s xs a → RowStep (λ (bytes : Bor (List ℕ)). Some bytes.now) a.rdr b.rdr b.left None
     → next_record default_config s [] [] xs ≡ None
 steps_out s xs a b at step = rw at.stands at (rows-end (λ (bytes : Bor (List ℕ)). Some bytes.now) a.rdr b.rdr [] default_config xs at.config at.source step)
+
+-- a field whose bytes all come after those that end a line
+pub no_line_end : (text : List ℕ) → list_all (nat_lt 13) text ≡ true → line_ends false text ≡ 0
+no_line_end [] h = refl
+no_line_end (b ∷ text) h =
+    let parts = and_parts (nat_lt 13 b) (list_all (nat_lt 13) text) h in
+    let no_return : (b == 13) ≡ false = grind (parts.0, arith, nat_tests) in
+    let no_feed : (b == 10) ≡ false = grind (parts.0, arith, nat_tests) in
+    rw (no_return, no_feed, no_line_end text parts.1) refl
 
 -- the remaining fields at a place begin with the one there
 drop_field : (fields : Record) (place : ℕ) → place < length fields → drop place fields ≡ field fields place ∷ drop (suc place) fields

@@ -1,5 +1,6 @@
 //! How many lines a field has.
-ghost use Rattle.std.specs.Prelude.{◌≡◌, max};
+ghost use Rattle.std.specs.Prelude.{◌≡◌, max, nat_lt};
+ghost use Rattle.std.specs.List.{list_all};
 ghost use Rattle.csv.specs.Records.{fields_of};
 ghost use Rattle.source_csv.specs.Fields.{field};
 ghost use Rattle.source_lines.specs.Lines.{ends_line, field_lines, record_lines};
@@ -13,9 +14,19 @@ fn ends_line(after_return: bool, byte: u8) -> bool
     byte == b'\r' || (byte == b'\n' && !after_return)
 }
 
+/// Whether all bytes of a field come after those that end a line.
+fn is_one_line(field: &[u8]) -> bool
+    ensures { result ≡ list_all (nat_lt 13) field.now }
+{
+    field.iter().all(|byte| *byte > b'\r')
+}
+
 fn field_lines(field: &[u8]) -> usize
     ensures { result ≡ field_lines field.now }
 {
+    if is_one_line(field) {
+        return 1;
+    }
     let mut lines = 1;
     let mut after_return = false;
     for byte in field {
