@@ -280,7 +280,7 @@ fn write_user<S: Alter>(
     let key = user.login().key(alloc)?;
     let params = user_params(alloc, &key, user, revision, confirmed, id)?;
     match write::<S, Journal>(conn, sql, params.as_slice()) {
-        Ok(()) => Ok(()),
+        Ok(_) => Ok(()),
         Err(error) => Err(TableFault::from(error)),
     }
 }
@@ -309,7 +309,7 @@ fn write_group<S: Alter>(
         sql,
         &group_params(&key, members.as_str(), group, revision, confirmed, id),
     ) {
-        Ok(()) => Ok(()),
+        Ok(_) => Ok(()),
         Err(error) => Err(TableFault::from(error)),
     }
 }

@@ -270,7 +270,7 @@ pub(crate) fn insert_row<S: Alter>(
             ValueRef::Text(text.as_slice()),
         ],
     ) {
-        Ok(()) => Ok(()),
+        Ok(_) => Ok(()),
         Err(error) => Err(fault_of(error)),
     }
 }
@@ -297,7 +297,7 @@ pub(crate) fn update_row<S: Alter>(
             ValueRef::Text(text.as_slice()),
         ],
     ) {
-        Ok(()) => Ok(()),
+        Ok(_) => Ok(()),
         Err(error) => Err(fault_of(error)),
     }
 }

@@ -1,5 +1,5 @@
 -- What a query and a write do, once they are prepared.
-use Rattle.std.proofs.Common.{◌≡◌, ◌≤◌, ℕ, true, false, cond, List, [], append-nil, Option, Some, None, Result, Ok, Err, IsTrue, IfOk, IfErr, OnOk, refl, sym, ap, ◌∙◌, subst, inl, inr, arith}
+use Rattle.std.proofs.Common.{◌≡◌, ◌≤◌, ℕ, true, false, cond, List, [], append-nil, Option, Some, None, Result, Ok, Err, IsTrue, IfOk, IfErr, OnErr, OnOk, refl, sym, ap, ◌∙◌, subst, inl, inr, arith}
 use Rattle.sqlite_value.specs.Order.{Row}
 use Rattle.sqlite_trees.specs.Tree.{Trees}
 use Rattle.sqlite_trees.specs.declared.error.StoreError.{StoreError}
@@ -20,8 +20,8 @@ use Rattle.sqlite.proofs.StateLemmas.{survives_then}
 use Rattle.sqlite.proofs.Callers.{command_of, reads_as, never_commits, unchanged_then}
 use Rattle.sqlite.proofs.StreamLemmas.{fails_since as store_fails_since, rolled_back_since}
 use Rattle.sql_tables.specs.Layouts.{IsLaid}
-use Rattle.sql_tables.specs.Statements.{Keeps, IsQuery, IsEdit, IsEditText, Answers, Ran, MayLeave, plain_mode}
-use Rattle.sql_tables.proofs.Keeping.{unchanged_keeps, laid_still, keeps_then, query_keeps}
+use Rattle.sql_tables.specs.Statements.{Keeps, IsQuery, IsEdit, IsEditText, Answers, Ran, RanOn, MayLeave, plain_mode}
+use Rattle.sql_tables.proofs.Keeping.{unchanged_keeps, laid_still, execute_keeps, keeps_then, query_keeps}
 
 pub laid_mid : {Form : Type 0} {layout : Form → Schema} (old mid : State) → IsUnchanged old mid → IsLaid layout old → IsLaid layout mid
 laid_mid old mid same laid = laid_still old mid (unchanged_keeps old mid same) same.0.is_open laid
@@ -141,22 +141,25 @@ writes_by old new sql params count edit h =
     let plain : Runs old new None c.command (text_of sql c) params count = rw (facts.0, facts.1, append-nil params) at runs in
     (c, h.1.is, writes_of old new c.command (text_of sql c) params count facts.2 plain)
 
-pub ran : {Form : Type 0} {layout : Form → Schema} (old mid new : State) (sql : List ℕ) (params : Row) (count : ℕ) → IsEditText layout sql → IsLaid layout old → IsUnchanged old mid → Executes sql params mid new (Ok count) → Ran sql params old new
+ran : {Form : Type 0} {layout : Form → Schema} (old mid new : State) (sql : List ℕ) (params : Row) (count : ℕ) → IsEditText layout sql → IsLaid layout old → IsUnchanged old mid → Executes sql params mid new (Ok count) → RanOn sql params old new count
 ran old mid new sql params count edit laid same h =
     let laid_now = laid_mid old mid same laid in
     let it = writes_by mid new sql params count (λ c is. edit_at mid sql c edit laid_now is) h in
     let c = it.0 in
     let w = it.2 in
     record {
-      was_open = same.0.was_open;
-      is_open = w.shown.is_open;
-      compiled = c;
-      is = ap (λ (d : Database). understood d.schema sql) (sym same.0.now_is) ∙ it.1;
-      limit = mid.step_limit;
-      tally = w.tally;
-      text = text_of sql c;
-      does = subst (λ (d : Database). Does mid.step_limit plain_mode params d (text_of sql c) None c.command (Ok (w.tally, new.now))) same.0.now_is w.changed;
-      settled = λ autocommit. (w.shown.committed_is ∙ ap (λ b. cond b mid.committed new.now) (same.0.mode ∙ autocommit), w.shown.mode ∙ same.0.mode ∙ autocommit);
+      ran = record {
+        was_open = same.0.was_open;
+        is_open = w.shown.is_open;
+        compiled = c;
+        is = ap (λ (d : Database). understood d.schema sql) (sym same.0.now_is) ∙ it.1;
+        limit = mid.step_limit;
+        tally = w.tally;
+        text = text_of sql c;
+        does = subst (λ (d : Database). Does mid.step_limit plain_mode params d (text_of sql c) None c.command (Ok (w.tally, new.now))) same.0.now_is w.changed;
+        settled = λ autocommit. (w.shown.committed_is ∙ ap (λ b. cond b mid.committed new.now) (same.0.mode ∙ autocommit), w.shown.mode ∙ same.0.mode ∙ autocommit);
+      };
+      counted = w.counted;
     }
 
 not_misplaced : (s : State) (command : Command) (e : Error) → IsEdit command → IsMisplaced s command e → ⊥
@@ -187,7 +190,7 @@ module _ (old mid new : State) (same : IsUnchanged old mid) (counts : old.faults
   command_since sql c params e edit (inr failed) =
       inr (failed.0, failed.1, cause_since _ _ (does_since params (text_of sql c) c.returning c.command (Err None)) failed.0 failed.2, rolled_back_since old mid new same counts failed.3, failed.4)
 
-  pub write_fails : {Form : Type 0} {layout : Form → Schema} (sql : List ℕ) (params : Row) (e : Error) → IsEditText layout sql → IsLaid layout old → Executes sql params mid new (Err e) → Executes sql params old new (Err e)
+  write_fails : {Form : Type 0} {layout : Form → Schema} (sql : List ℕ) (params : Row) (e : Error) → IsEditText layout sql → IsLaid layout old → Executes sql params mid new (Err e) → Executes sql params old new (Err e)
   unfolding ExecutesIn IsNotRun
   write_fails sql params e edit laid (inl (inl it)) = inl (inl (rw (← same.0.now_is) it.0, unchanged_then old mid new same it.1))
   write_fails sql params e edit laid (inl (inr it)) = inl (inr (store_fails_since old mid new same counts e it))
@@ -200,6 +203,24 @@ module _ (old mid new : State) (same : IsUnchanged old mid) (counts : old.faults
       let failed : RunsCommand mid new sql c full (Err e) = rw quiet at it.2 in
       let is = ap (λ (d : Database). understood d.schema sql) (sym same.0.now_is) ∙ it.1.is in
       inr (c, record { is = is; whole = it.1.whole; given = it.1.given; now = it.1.now }, rw quiet (command_since sql c full e facts.2 failed))
+
+-- what a prepared write answers
+module _ {Form : Type 0} {layout : Form → Schema} (old mid new : State) (sql text : List ℕ) (params : Row) (edit : IsEditText layout sql) (laid : IsTrue old.is_open → IsLaid layout old) (prepared : (text ≡ sql) × IsUnchanged old mid) where
+  pub write_ran : (r : Result ℕ Error) → Executes text params mid new r → IfOk r (RanOn sql params old new)
+  write_ran (Ok count) h = ran old mid new sql params count edit (laid prepared.1.0.was_open) prepared.1 (subst (λ t. Executes t params mid new (Ok count)) prepared.0 h)
+  write_ran (Err e) h = tt
+
+  pub write_failed : (r : Result ℕ Error) → old.faults ≤ mid.faults → mid.step_limit ≡ old.step_limit → Executes text params mid new r → IfErr r (λ e. Executes sql params old new (Err e))
+  write_failed (Ok count) counts limit h = tt
+  write_failed (Err e) counts limit h = write_fails old mid new prepared.1 counts limit sql params e edit (laid prepared.1.0.was_open) (subst (λ t. Executes t params mid new (Err e)) prepared.0 h)
+
+  pub write_keeps : (r : Result ℕ Error) → Executes text params mid new r → OnErr r (Keeps old new)
+  write_keeps (Ok count) h = tt
+  write_keeps (Err e) h = keeps_then old mid new (unchanged_keeps old mid prepared.1) (execute_keeps mid new text params e h)
+
+pub ran_of : (sql : List ℕ) (params : Row) (old new : State) (r : Result ℕ Error) → IfOk r (RanOn sql params old new) → OnOk r (Ran sql params old new)
+ran_of sql params old new (Ok count) it = it.ran
+ran_of sql params old new (Err e) it = tt
 
 no_commit : (command : Command) → IsEdit command → command ≡ Commit → ⊥
 no_commit command edit is = subst IsEdit is edit

@@ -1,5 +1,5 @@
 -- What the statements require of a connection, and what they leave of it.
-use Rattle.std.specs.Prelude.{◌≡◌, ◌≤◌, ℕ, false, List, [], ◌∷◌, Option, None, Ok, IsSome, IsTrue, IsPermutation, length, map}
+use Rattle.std.specs.Prelude.{◌≡◌, ◌≤◌, ℕ, false, List, [], ◌∷◌, Option, None, Ok, IsSome, IsTrue, IsPermutation, length, map, unwrap_or}
 use Rattle.sqlite_value.specs.Order.{Row, column}
 use Rattle.sqlite_trees.specs.Tree.{Trees}
 use Rattle.sqlite_resolve.specs.declared.compiled.Compiled.{Compiled}
@@ -89,6 +89,11 @@ pub record Ran (sql : List ℕ) (params : Row) (old new : State) : Type 0 where
   pub text : List ℕ
   pub does : Does limit plain_mode params old.now text None compiled.command (Ok (tally, new.now))
   pub settled : old.in_transaction ≡ false → (new.committed ≡ new.now) × (new.in_transaction ≡ false)
+
+-- the same, and it changed so many rows
+pub record RanOn (sql : List ℕ) (params : Row) (old new : State) (count : ℕ) : Type 0 where
+  pub ran : Ran sql params old new
+  pub counted : count ≡ unwrap_or ran.tally.rows 0
 
 -- what a stop during the statement may leave, other than what was there before
 pub record MayLeave (sql : List ℕ) (params : Row) (s : State) (db : Trees) : Type 0 where

@@ -6,7 +6,7 @@ ghost use Rattle.sqlite.specs.Values.{bound};
 ghost use Rattle.sqlite_schema.specs.declared.schema.Schema.{Schema as SchemaData};
 ghost use Rattle.sql_tables.specs.Faults.{FailsFor, HasFailed, statement_fault};
 ghost use Rattle.sql_tables.specs.Layouts.{IsLaid};
-ghost use Rattle.sql_tables.specs.Statements.{Answers, IsEditText, IsGiven, IsQuery, Keeps, MayLeave, Ran};
+ghost use Rattle.sql_tables.specs.Statements.{Answers, IsEditText, IsGiven, IsQuery, Keeps, MayLeave, Ran, RanOn};
 
 use sqlite::{Alter, Connection, Error, ErrorCode, Row};
 use sqlite_value::value::ValueRef;
@@ -58,20 +58,20 @@ pub fn ask<S: Alter, L: Layout>(
     statement.query_all(conn, params)
 }
 
-/// Runs one write, which commits by itself.
+/// Runs one write, which commits by itself. Returns how many rows it changed.
 pub fn write<S: Alter, L: Layout>(
     conn: &mut Connection<S>,
     sql: &str,
     params: &[ValueRef<'_>],
-) -> Result<(), Error>
+) -> Result<usize, Error>
     requires edit { IsEditText L.layout sql.now }
     requires laid { HasCleanDisk (state S.Store conn.old) → IsTrue (state S.Store conn.old).is_open → IsLaid L.layout (state S.Store conn.old) }
     ensures ran { HasCleanDisk (state S.Store conn.new) → OnOk result (Ran sql.now (bound params.now) (state S.Store conn.old) (state S.Store conn.new)) }
+    ensures count { HasCleanDisk (state S.Store conn.new) → IfOk result (RanOn sql.now (bound params.now) (state S.Store conn.old) (state S.Store conn.new)) }
     ensures fails { HasCleanDisk (state S.Store conn.new) → IfErr result (λ e. Executes sql.now (bound params.now) (state S.Store conn.old) (state S.Store conn.new) (Err e)) }
     ensures keeps { HasCleanDisk (state S.Store conn.new) → OnErr result (Keeps (state S.Store conn.old) (state S.Store conn.new)) }
     ensures stop { Survives (state S.Store conn.old) (state S.Store conn.new) (MayLeave sql.now (bound params.now) (state S.Store conn.old)) }
 {
     let statement = conn.prepare(sql)?;
-    statement.execute(conn, params)?;
-    Ok(())
+    statement.execute(conn, params)
 }
