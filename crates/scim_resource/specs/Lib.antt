@@ -11,6 +11,7 @@ pub mod Rows
 pub mod Schemas
 pub mod Showing
 pub mod Texts
+pub mod UserObjects
 pub mod UserTexts
 pub mod Users
 pub mod Writing

@@ -14,6 +14,7 @@ mod rows;
 mod schemas;
 mod showing;
 mod texts;
+mod user_objects;
 mod user_texts;
 mod users;
 mod writing;
