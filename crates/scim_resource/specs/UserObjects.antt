@@ -12,14 +12,14 @@ abbrev pub data_at : Option (Bor Value) → Option Data
 data_at value = option_map (λ v. view v.now) value
 
 abbrev pub members_of : UserObject → Members
-members_of user = members_view user.members.now.entries
+members_of object = members_view object.members.now.entries
 
 -- each value is that of its attribute
-pub record IsUserObject (user : UserObject) : Type 0 where
-  pub schemas : data_at user.schemas ≡ attribute (codes "schemas") (members_of user)
-  pub user_name : data_at user.user_name ≡ attribute (codes "userName") (members_of user)
-  pub name : data_at user.name ≡ attribute (codes "name") (members_of user)
-  pub emails : data_at user.emails ≡ attribute (codes "emails") (members_of user)
-  pub active : data_at user.active ≡ attribute (codes "active") (members_of user)
-  pub source : data_at user.source ≡ attribute source_extension (members_of user)
-  pub enterprise : data_at user.enterprise ≡ attribute enterprise_extension (members_of user)
+pub record IsUserObject (object : UserObject) : Type 0 where
+  pub schemas : data_at object.schemas ≡ attribute (codes "schemas") (members_of object)
+  pub user_name : data_at object.user_name ≡ attribute (codes "userName") (members_of object)
+  pub name : data_at object.name ≡ attribute (codes "name") (members_of object)
+  pub emails : data_at object.emails ≡ attribute (codes "emails") (members_of object)
+  pub active : data_at object.active ≡ attribute (codes "active") (members_of object)
+  pub source : data_at object.source ≡ attribute source_extension (members_of object)
+  pub enterprise : data_at object.enterprise ≡ attribute enterprise_extension (members_of object)

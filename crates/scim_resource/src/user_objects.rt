@@ -22,7 +22,6 @@ pub(crate) struct UserObject<'v> {
 
 impl<'v> UserObject<'v> {
     /// Finds the attributes in one walk through the object.
-    #[tactic(auto, using(scim_json::proofs::Firsts::named_first_of))]
     pub(crate) fn of(members: &'v Map<String, Value>) -> UserObject<'v>
         ensures members { members_of result ≡ members_view members.now.entries }
         ensures found { IsUserObject result }

@@ -1,6 +1,21 @@
-use Rattle.std.proofs.Common.{◌≡◌, [], rules}
-use Rattle.scim_json.proofs.Firsts.{attribute_from_first}
+use Rattle.std.proofs.Common.{◌≡◌, [], ◌∷◌, refl, rules}
+use Rattle.scim_json.proofs.Firsts.{attribute_from_first, first_kept}
 use Rattle.scim_resource.proofs.user_objects.UserObject.of.Goals as goal
+
+pub loop-key-preserved : goal.loop-key-preserved
+loop-key-preserved c =
+    let next : c.loop-key.key-iterator ≡ (c.in-Some.key.now, c.in-Some.value.now) ∷ c.next.new.self = search rules in
+    let so_far = rw next at c.loop-key.invariant in
+    let key = c.as_str-key.ensures.value in
+    record {
+      schemas = first_kept _ _ _ _ _ _ _ _ _ refl key c.keep_first.ensures so_far.schemas;
+      user_name = first_kept _ _ _ _ _ _ _ _ _ refl key c.keep_first-in-loop-key.ensures so_far.user_name;
+      name = first_kept _ _ _ _ _ _ _ _ _ refl key c.keep_first-in-loop-key-2.ensures so_far.name;
+      emails = first_kept _ _ _ _ _ _ _ _ _ refl key c.keep_first-in-loop-key-3.ensures so_far.emails;
+      active = first_kept _ _ _ _ _ _ _ _ _ refl key c.keep_first-in-loop-key-4.ensures so_far.active;
+      source = first_kept _ _ _ _ _ _ _ _ _ c.source_extension.ensures key c.keep_first-in-loop-key-5.ensures so_far.source;
+      enterprise = first_kept _ _ _ _ _ _ _ _ _ c.enterprise_extension.ensures key c.keep_first-in-loop-key-6.ensures so_far.enterprise;
+    }
 
 pub returns-clause-found : goal.returns-clause-found
 returns-clause-found c =
