@@ -1,3 +1,4 @@
+pub mod Firsts
 pub mod Lists
 pub mod Parts
 pub mod RepeatedNames

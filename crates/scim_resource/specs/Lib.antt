@@ -3,6 +3,7 @@ pub mod Contents
 pub mod Emails
 pub mod Faults
 pub mod FirstPlaces
+pub mod GroupObjects
 pub mod Groups
 pub mod Locations
 pub mod Looked
@@ -11,6 +12,7 @@ pub mod Rows
 pub mod Schemas
 pub mod Showing
 pub mod Texts
+pub mod UserObjects
 pub mod UserTexts
 pub mod Users
 pub mod Writing

@@ -4,6 +4,7 @@
 mod contents;
 mod emails;
 mod faults;
+mod group_objects;
 mod group_reading;
 mod group_writing;
 mod groups;
@@ -14,6 +15,7 @@ mod rows;
 mod schemas;
 mod showing;
 mod texts;
+mod user_objects;
 mod user_texts;
 mod users;
 mod writing;

@@ -6,6 +6,7 @@ ghost use Rattle.scim_key.specs.Outcome.{Gives, GivesBy};
 ghost use Rattle.serde_json.specs.View.{view, items_view, members_view};
 ghost use Rattle.scim_resource.specs.Emails.{AreEmails, IsEmail, IsEmailList};
 ghost use Rattle.scim_resource.specs.Texts.{IsTextIf};
+ghost use Rattle.scim_resource.specs.UserObjects.{IsUserObject, members_of};
 ghost use Rattle.scim_resource.specs.UserTexts.{AreUserTexts, attribute_of};
 ghost use Rattle.scim_resource.specs.Users.{IsSourceRevision};
 ghost use Rattle.scim_resource.specs.Reading as spec;
@@ -14,8 +15,9 @@ use crate::contents::Content;
 use crate::emails::{Email, Emails};
 use crate::faults::ContentFault;
 use crate::group_reading::read_group;
-use crate::schemas::{core_user, enterprise_extension, source_extension};
+use crate::schemas::core_user;
 use crate::texts::{Text, is_short_text};
+use crate::user_objects::UserObject;
 use crate::user_texts::{Holder, TEXT_COUNT, USER_TEXTS, UserText};
 use crate::users::User;
 use scim_json::{
@@ -53,39 +55,41 @@ fn read_user(alloc: Global, value: &Value) -> Result<User, ContentFault>
     let Value::Object(members) = value else {
         return Err(ContentFault::InvalidSyntax);
     };
-    if user_repeats(alloc, members)? {
+    let object = UserObject::of(members);
+    if user_repeats(alloc, &object)? {
         return Err(ContentFault::InvalidSyntax);
     }
-    user_fields(alloc, members)
+    user_fields(alloc, &object)
 }
 
 /// Whether one of the objects that reading looks into repeats a name.
 #[tactic(auto, unfolding(crate::specs::Reading::user_repeats))]
-fn user_repeats(alloc: Global, members: &Map<String, Value>) -> Result<bool, AllocError>
-    ensures { IfOk result (λ b. b ≡ spec.user_repeats (members_view members.now.entries)) }
+fn user_repeats(alloc: Global, object: &UserObject) -> Result<bool, AllocError>
+    requires { IsUserObject object.now }
+    ensures { IfOk result (λ b. b ≡ spec.user_repeats (members_of object.now)) }
 {
     Ok(
-        repeats(alloc, members)?
-            || value_repeats(alloc, attribute(members, source_extension()))?
-            || value_repeats(alloc, attribute(members, enterprise_extension()))?
-            || value_repeats(alloc, attribute(members, "name"))?
-            || list_repeats(alloc, attribute(members, "emails"))?,
+        repeats(alloc, object.members)?
+            || value_repeats(alloc, object.source)?
+            || value_repeats(alloc, object.enterprise)?
+            || value_repeats(alloc, object.name)?
+            || list_repeats(alloc, object.emails)?,
     )
 }
 
 #[tactic(auto, unfolding(crate::specs::Reading::user_fields))]
-fn user_fields(alloc: Global, members: &Map<String, Value>) -> Result<User, ContentFault>
-    ensures { Gives ContentFault.Memory result
-        (spec.user_fields (members_view members.now.entries)) }
+fn user_fields(alloc: Global, object: &UserObject) -> Result<User, ContentFault>
+    requires { IsUserObject object.now }
+    ensures { Gives ContentFault.Memory result (spec.user_fields (members_of object.now)) }
 {
-    if !lists_schema(attribute(members, "schemas"), core_user()) {
+    if !lists_schema(object.schemas, core_user()) {
         return Err(ContentFault::InvalidValue);
     }
-    let user_name = user_name_in(alloc, attribute(members, "userName"))?;
-    let texts = texts_in(alloc, members)?;
-    let emails = emails_in(alloc, attribute(members, "emails"))?;
-    let active = flag_or(attribute(members, "active"), true)?;
-    let revision = revision_in(attribute(members, source_extension()))?;
+    let user_name = user_name_in(alloc, object.user_name)?;
+    let texts = texts_in(alloc, object)?;
+    let emails = emails_in(alloc, object.emails)?;
+    let active = flag_or(object.active, true)?;
+    let revision = revision_in(object.source)?;
     Ok(
         User::new(alloc, user_name, active, revision)
             .with_texts(texts)
@@ -106,38 +110,37 @@ fn part_of<'v>(members: Option<&'v Map<String, Value>>, name: &str) -> Option<&'
 
 /// The members of the object that has a text, if the user has the object.
 fn object_at<'v>(
-    members: &'v Map<String, Value>,
+    object: &UserObject<'v>,
     holder: Holder,
 ) -> Result<Option<&'v Map<String, Value>>, ValueFault>
+    requires { IsUserObject object.now }
     ensures { result_map_both (option_map (λ m. members_view m.now.entries)) (λ e. e) result
-        ≡ spec.object_at (attribute_of holder) (members_view members.now.entries) }
+        ≡ spec.object_at (attribute_of holder) (members_of object.now) }
 {
-    match holder.attribute() {
-        None => Ok(Some(members)),
-        Some(name) => members_in(attribute(members, name)),
+    match holder {
+        Holder::User => Ok(Some(object.members)),
+        Holder::Name => members_in(object.name),
+        Holder::Enterprise => members_in(object.enterprise),
     }
 }
 
 /// The value of a text of a user.
-fn value_of<'v>(
-    members: &'v Map<String, Value>,
-    which: UserText,
-) -> Result<Option<&'v Value>, ValueFault>
+fn value_of<'v>(object: &UserObject<'v>, which: UserText) -> Result<Option<&'v Value>, ValueFault>
+    requires { IsUserObject object.now }
     ensures { result_map_both (option_map (λ v. view v.now)) (λ e. e) result
-        ≡ spec.value_of (members_view members.now.entries) which }
+        ≡ spec.value_of (members_of object.now) which }
 {
     let (holder, name) = which.member();
-    Ok(part_of(object_at(members, holder)?, name))
+    Ok(part_of(object_at(object, holder)?, name))
 }
 
 /// The values of a user's texts, in the order of `USER_TEXTS`.
-fn values_of<'v>(
-    members: &'v Map<String, Value>,
-) -> [Result<Option<&'v Value>, ValueFault>; TEXT_COUNT]
+fn values_of<'v>(object: &UserObject<'v>) -> [Result<Option<&'v Value>, ValueFault>; TEXT_COUNT]
+    requires { IsUserObject object.now }
     ensures { map (result_map_both (option_map (λ v. view v.now)) (λ e. e)) result
-        ≡ map (spec.value_of (members_view members.now.entries)) USER_TEXTS }
+        ≡ map (spec.value_of (members_of object.now)) USER_TEXTS }
 {
-    USER_TEXTS.map(|which| value_of(members, which))
+    USER_TEXTS.map(|which| value_of(object, which))
 }
 
 fn text_of(
@@ -152,15 +155,12 @@ fn text_of(
 }
 
 /// The texts of a user, in the order of `USER_TEXTS`.
-fn texts_in(
-    alloc: Global,
-    members: &Map<String, Value>,
-) -> Result<[Option<Text>; TEXT_COUNT], ContentFault>
-    ensures given { Gives ContentFault.Memory result
-        (spec.user_texts_in (members_view members.now.entries)) }
+fn texts_in(alloc: Global, object: &UserObject) -> Result<[Option<Text>; TEXT_COUNT], ContentFault>
+    requires { IsUserObject object.now }
+    ensures given { Gives ContentFault.Memory result (spec.user_texts_in (members_of object.now)) }
     ensures lawful { IfOk result AreUserTexts }
 {
-    values_of(members).try_map(|value| text_of(alloc, value))
+    values_of(object).try_map(|value| text_of(alloc, value))
 }
 
 /// A text of 1 to 256 bytes.

@@ -1,8 +1,6 @@
 //! The texts that a user may have: which there are, and where each is in JSON.
-ghost use Rattle.std.specs.Prelude.{◌≡◌, ◌<◌, option_map};
-ghost use Rattle.scim_resource.specs.UserTexts.{attribute_of, holder_of, name_of, place_of};
-
-use crate::schemas::enterprise_extension;
+ghost use Rattle.std.specs.Prelude.{◌≡◌, ◌<◌};
+ghost use Rattle.scim_resource.specs.UserTexts.{holder_of, name_of, place_of};
 
 /// A text of a user.
 #[derive(Clone, Copy, Debug, PartialEq, Eq)]
@@ -40,19 +38,6 @@ pub(crate) const NAME_TEXTS: [UserText; 2] = [UserText::FamilyName, UserText::Gi
 
 /// The texts among the members of a user's enterprise extension, in byte order.
 pub(crate) const ENTERPRISE_TEXTS: [UserText; 1] = [UserText::Department];
-
-impl Holder {
-    /// The attribute of the user whose value the object is; `None` for the user itself.
-    pub(crate) fn attribute(self) -> Option<&'static str>
-        ensures { option_map (λ name. name.now) result ≡ attribute_of self }
-    {
-        match self {
-            Holder::User => None,
-            Holder::Name => Some("name"),
-            Holder::Enterprise => Some(enterprise_extension()),
-        }
-    }
-}
 
 impl UserText {
     /// The place among the texts of a user.
