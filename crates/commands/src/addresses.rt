@@ -1,5 +1,5 @@
 //! Addresses to listen on and to connect to.
-ghost use Rattle.std.specs.Prelude.{◌≡◌, ◌↔◌, IsTrue};
+ghost use Rattle.std.specs.Prelude.{◌↔◌, IsTrue};
 ghost use Rattle.std.specs.Bool.{MatchBool};
 ghost use Rattle.commands.specs.Addresses.{IsAddress, IsNoAddress, IsPort};
 

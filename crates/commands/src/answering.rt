@@ -1,5 +1,5 @@
 //! One connection, and the exit status after it.
-ghost use Rattle.std.specs.Prelude.{◌≡◌, IfOk};
+ghost use Rattle.std.specs.Prelude.{◌≡◌};
 ghost use Rattle.commands.specs.Connections.{AnswersOne, AnswersStored};
 ghost use Rattle.commands.specs.Statuses.{served_status};
 

@@ -1,6 +1,6 @@
 //! The images of the rows of a users file, and the exit status after them.
-ghost use Rattle.std.specs.Prelude.{◌≡◌, IfErr, IfOk, OnOk};
-ghost use Rattle.std.specs.Io.KnownBytes.{Appends, Keeps};
+ghost use Rattle.std.specs.Prelude.{◌≡◌, IfErr, IfOk};
+ghost use Rattle.std.specs.Io.KnownBytes.{Keeps};
 ghost use Rattle.commands.specs.Images.{IsMapFault, Prints, PrintsNext};
 ghost use Rattle.commands.specs.Statuses.{status_of_rows};
 

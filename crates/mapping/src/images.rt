@@ -1,5 +1,5 @@
 //! Images of rows.
-ghost use Rattle.std.specs.Prelude.{◌≡◌, ◌≤◌, Some, IfOk, codes, length};
+ghost use Rattle.std.specs.Prelude.{◌≡◌, ◌≤◌, Some, IfOk, length};
 ghost use Rattle.scim_resource.specs.declared.texts.TheConstants.{TEXT_LIMIT};
 ghost use Rattle.mapping.specs.Images.{emails_of, present, user_image};
 
