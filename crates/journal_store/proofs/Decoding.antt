@@ -37,7 +37,7 @@ active_back : (active : Bool) → active_of (active_number active) ≡ Some acti
 active_back true = refl
 active_back false = refl
 
-id_back : (id : Option (List ℕ)) → id_in (id_value id) ≡ Some id
+pub id_back : (id : Option (List ℕ)) → id_in (id_value id) ≡ Some id
 id_back None = refl
 id_back (Some id) = refl
 

@@ -37,7 +37,10 @@ pub mod Repeating
 pub mod Holding
 pub mod UserTexts
 pub mod Forgetting
+pub mod Telling
 pub mod Resetting
 pub mod Unlearning
 pub mod Undertaking
+pub mod Single
+pub mod Learnt
 pub mod Unknown

@@ -24,7 +24,7 @@ use Rattle.journal_store.specs.Format.{entry_tree}
 use Rattle.sql_tables.proofs.Trees.{free, put_here, put_other, without_here}
 use Rattle.sql_tables.proofs.Values.{rowid_is}
 use Rattle.journal_store.specs.Rows.{entries_in, entry_in, row_of, shown_row}
-use Rattle.journal_store.specs.Connections.{AreNumbered, Finds, HasNumbers, IsThere, Puts, PutsIn, has_key, stored_row}
+use Rattle.journal_store.specs.Connections.{AreNumbered, Finds, HasNumbers, IsThere, Puts, PutsIn, has_key}
 use Rattle.journal_store.proofs.Decoding.{shown_stored}
 use Rattle.journal_store.proofs.Standing.{Stands, get_none, get_same, get_some, has_own_key, is_of, name_of_key, same_from, shows_key, tie_if}
 
@@ -72,7 +72,7 @@ without_rest p n (x ∷ rows) apart =
       | inr stays ↦ rw stays (ap (λ l. cond (p x) (x ∷ l) l) ih)
     ]
 
-only_one : {X : Type 0} (xs : List X) (x y : X) → xs ≡ x ∷ [] → Has xs y → y ≡ x
+pub only_one : {X : Type 0} (xs : List X) (x y : X) → xs ≡ x ∷ [] → Has xs y → y ≡ x
 only_one xs x y is there = elim (subst (λ l. Has l y) is there) [ inl same ↦ same | inr none ↦ absurd none ]
 
 -- ---- numbers
@@ -128,59 +128,64 @@ numbered_one rows r x n numbered there number here has =
 
 -- ---- the table of the entry
 
-pub puts_numbered : (is_there : Bool) (entry : Entry) (old new : List Row) → AreNumbered old → Puts is_there entry old new → AreNumbered new
-puts_numbered false entry old new numbered puts = subst AreNumbered (sym puts.2) (put_numbered (stored_row puts.0 entry) puts.0 old refl puts.1 numbered)
-puts_numbered true entry old new numbered puts =
-    let n = puts.1 in
-    let fresh = free n (stored_row n entry) (without_rowid n old) refl (without_here n old) in
-    subst AreNumbered (sym puts.4) (put_numbered (stored_row n entry) n (without_rowid n old) refl fresh (without_numbered n old numbered))
+-- a row with these columns is added with a free number, or replaces the only row with this key
+abbrev pub PutsCells : Bool → (key : List ℕ) → (cells : Row) → (old new : List Row) → Type 0
+PutsCells false key cells old new = (n : ℤ) × (is_taken old (Int n ∷ cells) ≡ false) × (new ≡ put_row (Int n ∷ cells) old)
+PutsCells true key cells old new = (r : Row) × (n : ℤ) × (rowid r ≡ Int n) × (filter (has_key key) old ≡ r ∷ []) × (new ≡ put_row (Int n ∷ cells) (without_rowid n old))
 
-stored_shows : (n : ℤ) (entry : Entry) → entry_in (row_name entry.row).kind (row_of entry) ≡ Some entry
-    → entry_in (row_name entry.row).kind (shown_row (row_name entry.row).kind (stored_row n entry)) ≡ Some entry
-stored_shows n entry back = ap (entry_in (row_name entry.row).kind) (shown_stored n entry.row entry.confirmed entry.id) ∙ back
-
--- what was found of its name
-abbrev FindsIn : Kind → List ℕ → List Row → Bool → Type 0
+-- what was found of a name
+abbrev pub FindsIn : Kind → List ℕ → List Row → Bool → Type 0
 FindsIn kind key table false = filter (has_key key) table ≡ []
 FindsIn kind key table true = (r : Row) → filter (has_key key) table ≡ r ∷ [] → (e : Entry) × (entry_in kind (shown_row kind r) ≡ Some e)
 
+puts_numbered : (is_there : Bool) (key : List ℕ) (cells : Row) (old new : List Row) → AreNumbered old → PutsCells is_there key cells old new → AreNumbered new
+puts_numbered false key cells old new numbered puts = subst AreNumbered (sym puts.2) (put_numbered (Int puts.0 ∷ cells) puts.0 old refl puts.1 numbered)
+puts_numbered true key cells old new numbered puts =
+    let n = puts.1 in
+    let fresh = free n (Int n ∷ cells) (without_rowid n old) refl (without_here n old) in
+    subst AreNumbered (sym puts.4) (put_numbered (Int n ∷ cells) n (without_rowid n old) refl fresh (without_numbered n old numbered))
+
+-- a row with these columns shows the entry
+abbrev ShowsAs : Row → Entry → Type 0
+ShowsAs cells entry = (n : ℤ) → entry_in (row_name entry.row).kind (shown_row (row_name entry.row).kind (Int n ∷ cells)) ≡ Some entry
+
 -- rows of other names are as they were
-puts_other : (is_there : Bool) (entry : Entry) (old new : List Row) (q : RecordName) → AreNumbered old → Puts is_there entry old new → entry_in (row_name entry.row).kind (row_of entry) ≡ Some entry
+puts_other : (is_there : Bool) (entry : Entry) (cells : Row) (old new : List Row) (q : RecordName) → AreNumbered old → PutsCells is_there (row_name entry.row).key cells old new → ShowsAs cells entry
     → FindsIn (row_name entry.row).kind (row_name entry.row).key old is_there → is_eq (name_cmp q (row_name entry.row)) ≡ false
     → filter (is_of (row_name entry.row).kind q) new ≡ filter (is_of (row_name entry.row).kind q) old
-puts_other false entry old new q numbered puts back finds apart =
-    let fails : is_of (row_name entry.row).kind q (stored_row puts.0 entry) ≡ false = ap (tie_if q) (stored_shows puts.0 entry back) ∙ apart in
-    ap (filter (is_of (row_name entry.row).kind q)) puts.2 ∙ put_other (is_of (row_name entry.row).kind q) (stored_row puts.0 entry) old fails puts.1
-puts_other true entry old new q numbered puts back finds apart =
+puts_other false entry cells old new q numbered puts shows finds apart =
+    let fails : is_of (row_name entry.row).kind q (Int puts.0 ∷ cells) ≡ false = ap (tie_if q) (shows puts.0) ∙ apart in
+    ap (filter (is_of (row_name entry.row).kind q)) puts.2 ∙ put_other (is_of (row_name entry.row).kind q) (Int puts.0 ∷ cells) old fails puts.1
+puts_other true entry cells old new q numbered puts shows finds apart =
     let r = puts.0 in
     let n = puts.1 in
     let test = is_of (row_name entry.row).kind q in
-    let fails : is_of (row_name entry.row).kind q (stored_row n entry) ≡ false = ap (tie_if q) (stored_shows n entry back) ∙ apart in
-    let fresh = free n (stored_row n entry) (without_rowid n old) refl (without_here n old) in
+    let fails : is_of (row_name entry.row).kind q (Int n ∷ cells) ≡ false = ap (tie_if q) (shows n) ∙ apart in
+    let fresh = free n (Int n ∷ cells) (without_rowid n old) refl (without_here n old) in
     let was = has_filtered (has_key (row_name entry.row).key) old r (subst (λ l. Has l r) (sym puts.3) (inl refl)) in
     let held = finds r puts.3 in
     let held_name : row_name held.0.row ≡ row_name entry.row = name_of_key (row_name entry.row).kind r held.0 (row_name entry.row).key held.1 was.1 in
     let other : is_of (row_name entry.row).kind q r ≡ false = ap (tie_if q) held.1 ∙ ap (λ (m : RecordName). is_eq (name_cmp q m)) held_name ∙ apart in
     ap (filter test) puts.4
-    ∙ put_other test (stored_row n entry) (without_rowid n old) fails fresh
+    ∙ put_other test (Int n ∷ cells) (without_rowid n old) fails fresh
     ∙ without_rest test n old (λ x there is. elim (cases_Bool (has_rowid n x)) [
       | inl has ↦ absurd (let same : x ≡ r = numbered_one old r x n numbered was.0 puts.2 there has in let also : test r ≡ true = subst (λ y. test y ≡ true) same is in cc)
       | inr stays ↦ stays
     ])
 
 -- the rows of its name are the one of the entry
-puts_only : (is_there : Bool) (entry : Entry) (old new : List Row) → AreNumbered old → Puts is_there entry old new → entry_in (row_name entry.row).kind (row_of entry) ≡ Some entry
+puts_only : (is_there : Bool) (entry : Entry) (cells : Row) (old new : List Row) → PutsCells is_there (row_name entry.row).key cells old new → ShowsAs cells entry
     → FindsIn (row_name entry.row).kind (row_name entry.row).key old is_there → (x : Row) (f : Entry) → Has new x
     → entry_in (row_name entry.row).kind (shown_row (row_name entry.row).kind x) ≡ Some f → row_name f.row ≡ row_name entry.row → f ≡ entry
-puts_only false entry old new numbered puts back finds x f there shows name = elim (put_has (stored_row puts.0 entry) old x (subst (λ l. Has l x) puts.2 there)) [
+puts_only false entry cells old new puts shown finds x f there shows name = elim (put_has (Int puts.0 ∷ cells) old x (subst (λ l. Has l x) puts.2 there)) [
   | inl same ↦
-      let both : Some f ≡ Some entry = sym shows ∙ ap (λ y. entry_in (row_name entry.row).kind (shown_row (row_name entry.row).kind y)) same ∙ stored_shows puts.0 entry back in
+      let both : Some f ≡ Some entry = sym shows ∙ ap (λ y. entry_in (row_name entry.row).kind (shown_row (row_name entry.row).kind y)) same ∙ shown puts.0 in
       cc
   | inr was ↦ absurd (empty_has _ x finds (has_kept (has_key (row_name entry.row).key) old x was (has_own_key (row_name entry.row).kind x f (row_name entry.row) shows name)))
 ]
-puts_only true entry old new numbered puts back finds x f there shows name = elim (put_has (stored_row puts.1 entry) (without_rowid puts.1 old) x (subst (λ l. Has l x) puts.4 there)) [
+puts_only true entry cells old new puts shown finds x f there shows name = elim (put_has (Int puts.1 ∷ cells) (without_rowid puts.1 old) x (subst (λ l. Has l x) puts.4 there)) [
   | inl same ↦
-      let both : Some f ≡ Some entry = sym shows ∙ ap (λ y. entry_in (row_name entry.row).kind (shown_row (row_name entry.row).kind y)) same ∙ stored_shows puts.1 entry back in
+      let both : Some f ≡ Some entry = sym shows ∙ ap (λ y. entry_in (row_name entry.row).kind (shown_row (row_name entry.row).kind y)) same ∙ shown puts.1 in
       cc
   | inr left ↦
       let was = without_has puts.1 old x left in
@@ -188,64 +193,60 @@ puts_only true entry old new numbered puts back finds x f there shows name = eli
       absurd (let own : has_rowid puts.1 x ≡ true = subst (λ y. has_rowid puts.1 y ≡ true) (sym same) (own_number puts.0 puts.1 puts.2) in let gone = was.1 in cc)
 ]
 
-puts_there : (is_there : Bool) (entry : Entry) (old new : List Row) → Puts is_there entry old new → (n : ℤ) × Has new (stored_row n entry)
-puts_there false entry old new puts = (puts.0, subst (λ l. Has l (stored_row puts.0 entry)) (sym puts.2) (put_there (stored_row puts.0 entry) old))
-puts_there true entry old new puts = (puts.1, subst (λ l. Has l (stored_row puts.1 entry)) (sym puts.4) (put_there (stored_row puts.1 entry) (without_rowid puts.1 old)))
+puts_there : (is_there : Bool) (key : List ℕ) (cells : Row) (old new : List Row) → PutsCells is_there key cells old new → (n : ℤ) × Has new (Int n ∷ cells)
+puts_there false key cells old new puts = (puts.0, subst (λ l. Has l (Int puts.0 ∷ cells)) (sym puts.2) (put_there (Int puts.0 ∷ cells) old))
+puts_there true key cells old new puts = (puts.1, subst (λ l. Has l (Int puts.1 ∷ cells)) (sym puts.4) (put_there (Int puts.1 ∷ cells) (without_rowid puts.1 old)))
 
 -- ---- both tables
 
-is_found : (db : Trees) (name : RecordName) (held : Option Entry) → Finds db name held → FindsIn name.kind name.key (db (entry_tree name.kind)) (is_some held)
-is_found db name None finds = finds
-is_found db name (Some e) finds = λ r is. let same : finds.0 ≡ r = (let l : finds.0 ∷ [] ≡ r ∷ [] = sym finds.1 ∙ is in cc) in (e, subst (λ y. entry_in name.kind (shown_row name.kind y) ≡ Some e) same finds.2.entry_is)
-
-numbers_of : (kind : Kind) (db : Trees) → HasNumbers db → AreNumbered (db (entry_tree kind))
+pub numbers_of : (kind : Kind) (db : Trees) → HasNumbers db → AreNumbered (db (entry_tree kind))
 numbers_of User db has = has.users
 numbers_of Group db has = has.groups
 
-module _ (held : Option Entry) (entry : Entry) (old new : Trees) (numbers : HasNumbers old) (finds : Finds old (row_name entry.row) held)
-    (puts : PutsIn (is_some held) entry old new) (back : entry_in (row_name entry.row).kind (row_of entry) ≡ Some entry) where
+-- the entry's columns are put into its table, and the other table stays
+module _ (is_there : Bool) (entry : Entry) (cells : Row) (old new : Trees) (numbers : HasNumbers old)
+    (found : FindsIn (row_name entry.row).kind (row_name entry.row).key (old (entry_tree (row_name entry.row).kind)) is_there)
+    (puts : PutsCells is_there (row_name entry.row).key cells (old (entry_tree (row_name entry.row).kind)) (new (entry_tree (row_name entry.row).kind)))
+    (users : (row_name entry.row).kind ≡ Group → new (entry_tree User) ≡ old (entry_tree User)) (groups : (row_name entry.row).kind ≡ User → new (entry_tree Group) ≡ old (entry_tree Group)) (shows : ShowsAs cells entry) where
   abbrev its_kind : Kind
   its_kind = (row_name entry.row).kind
 
   here : AreNumbered (old (entry_tree its_kind))
   here = numbers_of its_kind old numbers
 
-  found : FindsIn its_kind (row_name entry.row).key (old (entry_tree its_kind)) (is_some held)
-  found = is_found old (row_name entry.row) held finds
-
   same_at : (k : Kind) (q : RecordName) → is_eq (name_cmp q (row_name entry.row)) ≡ false → filter (is_of k q) (new (entry_tree k)) ≡ filter (is_of k q) (old (entry_tree k))
   same_at k q apart = go k its_kind refl
     where
       its : (k : Kind) → its_kind ≡ k → filter (is_of k q) (new (entry_tree k)) ≡ filter (is_of k q) (old (entry_tree k))
       its k is = subst (λ j. filter (is_of j q) (new (entry_tree j)) ≡ filter (is_of j q) (old (entry_tree j))) is
-          (puts_other (is_some held) entry (old (entry_tree its_kind)) (new (entry_tree its_kind)) q here puts.puts back found apart)
+          (puts_other is_there entry cells (old (entry_tree its_kind)) (new (entry_tree its_kind)) q here puts shows found apart)
 
       go : (k j : Kind) → its_kind ≡ j → filter (is_of k q) (new (entry_tree k)) ≡ filter (is_of k q) (old (entry_tree k))
       go User User is = its User is
-      go User Group is = ap (filter (is_of User q)) (puts.users is)
-      go Group User is = ap (filter (is_of Group q)) (puts.groups is)
+      go User Group is = ap (filter (is_of User q)) (users is)
+      go Group User is = ap (filter (is_of Group q)) (groups is)
       go Group Group is = its Group is
 
   numbers_at : (k j : Kind) → its_kind ≡ j → AreNumbered (new (entry_tree k))
-  numbers_at User User is = subst (λ k. AreNumbered (new (entry_tree k))) is (puts_numbered (is_some held) entry (old (entry_tree its_kind)) (new (entry_tree its_kind)) here puts.puts)
-  numbers_at User Group is = subst AreNumbered (sym (puts.users is)) numbers.users
-  numbers_at Group User is = subst AreNumbered (sym (puts.groups is)) numbers.groups
-  numbers_at Group Group is = subst (λ k. AreNumbered (new (entry_tree k))) is (puts_numbered (is_some held) entry (old (entry_tree its_kind)) (new (entry_tree its_kind)) here puts.puts)
+  numbers_at User User is = subst (λ k. AreNumbered (new (entry_tree k))) is (puts_numbered is_there (row_name entry.row).key cells (old (entry_tree its_kind)) (new (entry_tree its_kind)) here puts)
+  numbers_at User Group is = subst AreNumbered (sym (users is)) numbers.users
+  numbers_at Group User is = subst AreNumbered (sym (groups is)) numbers.groups
+  numbers_at Group Group is = subst (λ k. AreNumbered (new (entry_tree k))) is (puts_numbered is_there (row_name entry.row).key cells (old (entry_tree its_kind)) (new (entry_tree its_kind)) here puts)
 
-  pub numbers_still : HasNumbers new
-  numbers_still = record { users = numbers_at User its_kind refl; groups = numbers_at Group its_kind refl }
+  pub cells_numbered : HasNumbers new
+  cells_numbered = record { users = numbers_at User its_kind refl; groups = numbers_at Group its_kind refl }
 
   stands : Stands new its_kind entry
-  stands = let it = puts_there (is_some held) entry (old (entry_tree its_kind)) (new (entry_tree its_kind)) puts.puts in
-      record { row = stored_row it.0 entry; there = it.1; shows = stored_shows it.0 entry back }
+  stands = let it = puts_there is_there (row_name entry.row).key cells (old (entry_tree its_kind)) (new (entry_tree its_kind)) puts in
+      record { row = Int it.0 ∷ cells; there = it.1; shows = shows it.0 }
 
   get_put : get (entries_in new) (row_name entry.row) ≡ Some entry
   get_put = get_some new (row_name entry.row) entry stands refl (λ f stands_too name.
-      puts_only (is_some held) entry (old (entry_tree its_kind)) (new (entry_tree its_kind)) here puts.puts back found stands_too.row f stands_too.there stands_too.shows name)
+      puts_only is_there entry cells (old (entry_tree its_kind)) (new (entry_tree its_kind)) puts shows found stands_too.row f stands_too.there stands_too.shows name)
 
   -- the map has the entry, and all else as before
-  pub entry_put : entries_in new ≡ insert (entries_in old) (row_name entry.row) entry
-  entry_put = same_map names_total names_same (entries_in new) (insert (entries_in old) (row_name entry.row) entry) (λ q. elim (cases_Bool (is_eq (name_cmp q (row_name entry.row)))) [
+  pub cells_put : entries_in new ≡ insert (entries_in old) (row_name entry.row) entry
+  cells_put = same_map names_total names_same (entries_in new) (insert (entries_in old) (row_name entry.row) entry) (λ q. elim (cases_Bool (is_eq (name_cmp q (row_name entry.row)))) [
     | inl tie ↦
         let same : q ≡ row_name entry.row = same_from q (row_name entry.row) tie in
         ap (get (entries_in new)) same ∙ get_put ∙ sym (get-insert names_total (entries_in old) (row_name entry.row) entry q ∙ rw tie refl)
@@ -253,13 +254,40 @@ module _ (held : Option Entry) (entry : Entry) (old new : Trees) (numbers : HasN
         get_same old new q (same_at User q apart) (same_at Group q apart) ∙ sym (get-insert names_total (entries_in old) (row_name entry.row) entry q ∙ rw apart refl)
   ])
 
+-- ---- an entry that is put whole
+
+whole_row : (is_there : Bool) (entry : Entry) (old new : List Row) → Puts is_there entry old new → PutsCells is_there (row_name entry.row).key (row_of entry) old new
+whole_row false entry old new puts = puts
+whole_row true entry old new puts = puts
+
+is_found : (db : Trees) (name : RecordName) (held : Option Entry) → Finds db name held → FindsIn name.kind name.key (db (entry_tree name.kind)) (is_some held)
+is_found db name None finds = finds
+is_found db name (Some e) finds = λ r is. let same : finds.0 ≡ r = (let l : finds.0 ∷ [] ≡ r ∷ [] = sym finds.1 ∙ is in cc) in (e, subst (λ y. entry_in name.kind (shown_row name.kind y) ≡ Some e) same finds.2.entry_is)
+
+module _ (held : Option Entry) (entry : Entry) (old new : Trees) (numbers : HasNumbers old) (finds : Finds old (row_name entry.row) held)
+    (puts : PutsIn (is_some held) entry old new) (back : entry_in (row_name entry.row).kind (row_of entry) ≡ Some entry) where
+  found_so : FindsIn (row_name entry.row).kind (row_name entry.row).key (old (entry_tree (row_name entry.row).kind)) (is_some held)
+  found_so = is_found old (row_name entry.row) held finds
+
+  puts_so : PutsCells (is_some held) (row_name entry.row).key (row_of entry) (old (entry_tree (row_name entry.row).kind)) (new (entry_tree (row_name entry.row).kind))
+  puts_so = whole_row (is_some held) entry (old (entry_tree (row_name entry.row).kind)) (new (entry_tree (row_name entry.row).kind)) puts.puts
+
+  shows_so : ShowsAs (row_of entry) entry
+  shows_so n = ap (entry_in (row_name entry.row).kind) (shown_stored n entry.row entry.confirmed entry.id) ∙ back
+
+  pub numbers_still : HasNumbers new
+  numbers_still = cells_numbered (is_some held) entry (row_of entry) old new numbers found_so puts_so puts.users puts.groups shows_so
+
+  pub entry_put : entries_in new ≡ insert (entries_in old) (row_name entry.row) entry
+  entry_put = cells_put (is_some held) entry (row_of entry) old new numbers found_so puts_so puts.users puts.groups shows_so
+
 -- ---- what a look-up found
 
 pub found_none : (db : Trees) (name : RecordName) → Finds db name None → get (entries_in db) name ≡ None
 found_none db name none = get_none db name (λ e stands is.
     empty_has _ stands.row none (has_kept (has_key name.key) (db (entry_tree name.kind)) stands.row stands.there (has_own_key name.kind stands.row e name stands.shows is)))
 
-pub found_some : (db : Trees) (name : RecordName) (e : Entry) → Finds db name (Some e) → (get (entries_in db) name ≡ Some e) × (row_name e.row ≡ name)
+found_some : (db : Trees) (name : RecordName) (e : Entry) → Finds db name (Some e) → (get (entries_in db) name ≡ Some e) × (row_name e.row ≡ name)
 found_some db name e finds =
     let r = finds.0 in
     let was = has_filtered (has_key name.key) (db (entry_tree name.kind)) r (subst (λ l. Has l r) (sym finds.1) (inl refl)) in

@@ -1,13 +1,12 @@
 -- What the update of all rows makes of a table.
 use Rattle.std.proofs.Common.{◌≡◌, ◌+◌, ℕ, ℤ, true, false, not, ◌||◌, List, [], ◌∷◌, ◌++◌, drop, map, Option, Some, None, Ok, Ordering, Less, Equal, Greater, refl, sym, ap, ◌∙◌, subst, inl, inr, IsPermutation, arith}
 use Rattle.std.specs.List.{AllByRecursion}
-use Rattle.std.specs.Option.{option_and_then}
 use Rattle.std.specs.Ordering.{is_eq, match_ordering}
-use Rattle.std.proofs.lemmas.Bool.{and_parts, cases_Bool}
+use Rattle.std.proofs.lemmas.Bool.{and_parts}
 use Rattle.std.proofs.lemmas.List.{append-nil}
 use Rattle.std.proofs.lemmas.List.Sorted.{IsPermutation-append_left, IsPermutation-cons, IsPermutation-middle, IsPermutation-refl, IsPermutation-sym, IsPermutation-trans}
 use Rattle.sqlite_value.specs.declared.value.Value.TheVariants.{Null, Int}
-use Rattle.sqlite_value.specs.Order.{Row, column, value_cmp}
+use Rattle.sqlite_value.specs.Order.{Row, value_cmp}
 use Rattle.sqlite_value.specs.declared.keys.Order.{Order}
 use Rattle.sqlite_sql.specs.Term.{Term, col, lit}
 use Rattle.sqlite_trees.specs.Tree.{Trees, rowid, has_rowid, put_row, without_rowid}
@@ -31,13 +30,10 @@ use Rattle.sqlite.specs.Listing.{understood}
 use Rattle.sqlite.specs.Rows.{Written}
 use Rattle.sqlite.proofs.Callers.{one_step}
 use Rattle.scim_key.proofs.RevisionLaws.{are_read_back, none_first}
-use Rattle.scim_key.specs.Records.{same_name}
-use Rattle.scim_key.specs.Revisions.{RevisionValue, confirmed_of_parts, no_revision, revision_epoch, revision_number}
+use Rattle.scim_key.specs.Revisions.{confirmed_of_parts, no_revision, revision_epoch, revision_number}
 use Rattle.scim_key.specs.declared.records.Kind.{Kind}
 use Rattle.scim_key.specs.declared.records.Kind.TheVariants.{User, Group}
-use Rattle.source_csv.specs.Records.{row_name, row_revision}
-use Rattle.source_csv.specs.declared.rows.Row as source
-use Rattle.source_csv.specs.declared.texts.TheConstants.{TEXT_FIELD_COUNT}
+use Rattle.source_csv.specs.Records.{row_revision}
 use Rattle.journal_core.specs.declared.entries.Entry.{Entry}
 use Rattle.sql_tables.specs.Statements.{plain_mode}
 use Rattle.sql_tables.proofs.Answering.{every}
@@ -48,11 +44,11 @@ use Rattle.sql_tables.proofs.Values.{cast_int}
 use Rattle.journal_store.specs.Connections.{AreNumbered, Shows}
 use Rattle.journal_store.specs.Format.{Form, entry_place, entry_tables, entry_tree, journal_schema, places, table_of, third_groups, third_users}
 use Rattle.journal_store.specs.Resets.{ResetsOne, kept_count, none_values, reset_row, reset_text, unlearnt}
-use Rattle.journal_store.specs.Rows.{IsReadable, confirmed_in, entry_by, epoch_value, entry_in, fields_in, group_in, id_in, keyed, revision_value, shown_row, text_columns, text_in, texts_in, texts_of, user_in}
-use Rattle.journal_store.proofs.Casting.{columns_kept, some_then}
+use Rattle.journal_store.specs.Rows.{IsReadable, entry_in, shown_row}
 use Rattle.journal_store.proofs.Loading.{map_has, permuted}
 use Rattle.journal_store.proofs.Putting.{not_true, own_number}
 use Rattle.journal_store.proofs.Selecting.{selected}
+use Rattle.journal_store.proofs.Telling.{same_key, same_texts, shows_told, told_kept, told_shown}
 
 -- ---- the statement
 
@@ -139,22 +135,9 @@ module _ (it : Table) (db : Trees) (shown renewed : Row → Row) (rows : List Ro
 
 -- ---- a row that shows an entry, once it is reset
 
--- an entry that columns show, without its confirmed revision and its id
-unlearnt_there : (type : Kind) (key : List ℕ) (row : Option source.Row) (confirmed : Option RevisionValue) (id : Option (Option (List ℕ))) (e : Entry)
-    → keyed type key (entry_by row confirmed id) ≡ Some e → keyed type key (entry_by row (Some no_revision) (Some None)) ≡ Some (unlearnt e)
-unlearnt_there type key None confirmed id e is = absurd (cc)
-unlearnt_there type key (Some row) None id e is = absurd (cc)
-unlearnt_there type key (Some row) (Some confirmed) None e is = absurd (cc)
-unlearnt_there type key (Some row) (Some confirmed) (Some id) e is = elim (cases_Bool (same_name (row_name row) (record { kind = type; key = key }))) [
-  | inl same ↦
-      let found : ◌≡◌ {A = Entry} (record { row = row; confirmed = confirmed; id = id }) e = cc (rw same at is) in
-      rw same (ap (λ (x : Entry). Some (unlearnt x)) found)
-  | inr other ↦ absurd (cc (rw other at is))
-]
-
 -- what a query shows of a row that was reset
 abbrev pub reset_shown : Kind → Row → Row
-reset_shown kind s = map (column s) (places 0 (kept_count kind)) ++ revision_value no_revision ∷ Null ∷ column s (2 + kept_count kind) ∷ epoch_value no_revision ∷ []
+reset_shown = told_shown no_revision None
 
 pub shown_reset : (kind : Kind) (r : Row) → shown_row kind (reset_row kind r) ≡ reset_shown kind (shown_row kind r)
 shown_reset User r = refl
@@ -163,35 +146,13 @@ shown_reset Group r = refl
 none_back : confirmed_of_parts (revision_epoch no_revision) (revision_number no_revision) ≡ Some no_revision
 none_back = are_read_back.confirmed_from_parts no_revision (inl refl)
 
-unlearnt_shown : (kind : Kind) (s : Row) (e : Entry) → entry_in kind s ≡ Some e → entry_in kind (reset_shown kind s) ≡ Some (unlearnt e)
-unfolding texts_in text_columns
-unlearnt_shown User s e is =
-    let key = some_then (text_in (column s 0)) (λ k. keyed User k (fields_in User s)) e is in
-    let none = ap (λ confirmed. keyed User key.0 (entry_by (user_in s) confirmed (Some None))) none_back in
-    ap (option_and_then (λ k. keyed User k (fields_in User (reset_shown User s)))) key.1
-    ∙ none ∙ unlearnt_there User key.0 (user_in s) (confirmed_in (column s (7 + TEXT_FIELD_COUNT)) (column s (4 + TEXT_FIELD_COUNT))) (id_in (column s (5 + TEXT_FIELD_COUNT))) e key.2
-unlearnt_shown Group s e is =
-    let key = some_then (text_in (column s 0)) (λ k. keyed Group k (fields_in Group s)) e is in
-    let none = ap (λ confirmed. keyed Group key.0 (entry_by (group_in s) confirmed (Some None))) none_back in
-    ap (option_and_then (λ k. keyed Group k (fields_in Group (reset_shown Group s)))) key.1
-    ∙ none ∙ unlearnt_there Group key.0 (group_in s) (confirmed_in (column s 7) (column s 4)) (id_in (column s 5)) e key.2
-
-same_key : (kind : Kind) (s : Row) → column (reset_shown kind s) 0 ≡ column s 0
-same_key User s = refl
-same_key Group s = refl
-
-same_texts : (kind : Kind) (s : Row) → texts_of kind (reset_shown kind s) ≡ texts_of kind s
-unfolding text_columns
-same_texts User s = refl
-same_texts Group s = refl
-
 pub shows_unlearnt : (kind : Kind) (s : Row) (e : Entry) → Shows kind s e → Shows kind (reset_shown kind s) (unlearnt e)
 shows_unlearnt kind s e it = record {
-  entry_is = unlearnt_shown kind s e it.entry_is;
-  key = same_key kind s ∙ it.key;
+  entry_is = shows_told no_revision None none_back kind s e it.entry_is;
+  key = same_key no_revision None kind s ∙ it.key;
   kind_is = it.kind_is;
   lawful = it.lawful;
-  texts = subst (AllByRecursion IsReadable) (sym (same_texts kind s)) it.texts;
+  texts = subst (AllByRecursion IsReadable) (sym (same_texts no_revision None kind s)) it.texts;
   id = tt;
   within = none_first (row_revision e.row);
 }
@@ -200,14 +161,12 @@ shows_unlearnt kind s e it = record {
 pub writes_reset : (kind : Kind) (order : Order) (r : Row) (n : ℤ) (e : Entry) → rowid r ≡ Int n → entry_in kind (shown_row kind r) ≡ Some e
     → cast_row (table_of (entry_tables kind) order) (drop 1 (shows (reset_terms kind) none_values r)) ≡ reset_row kind r
 writes_reset User order r n e number is =
-    let s = shown_row User r in
     let number_is = ap (cast column_kind.Integer) number ∙ cast_int n ∙ sym number in
-    let columns_are = columns_kept User (reset_shown User s) (unlearnt e) (unlearnt_shown User s e is) in
+    let columns_are = told_kept no_revision None none_back User (shown_row User r) e is in
     λ i. number_is i ∷ columns_are i
 writes_reset Group order r n e number is =
-    let s = shown_row Group r in
     let number_is = ap (cast column_kind.Integer) number ∙ cast_int n ∙ sym number in
-    let columns_are = columns_kept Group (reset_shown Group s) (unlearnt e) (unlearnt_shown Group s e is) in
+    let columns_are = told_kept no_revision None none_back Group (shown_row Group r) e is in
     λ i. number_is i ∷ columns_are i
 
 -- ---- the statement, over a table

@@ -156,6 +156,9 @@ get_some db q e stands name only = get_is db q ∙ go (find name_cmp q (all_name
     go None is = absurd (has_find q (all_named db) e (subst (λ n. Has (all_named db) (n, e)) name (stands_has db q.kind e stands)) is)
     go (Some v) is = let it = stands_of db q v (find_has q (all_named db) v is) in ap Some (only v it.0 it.1)
 
+pub stands_some : (db : Trees) (q : RecordName) (e : Entry) → get (entries_in db) q ≡ Some e → Stands db q.kind e × (row_name e.row ≡ q)
+stands_some db q e is = stands_of db q e (find_has q (all_named db) e (sym (get_is db q) ∙ is))
+
 -- what other rows show is no matter
 pub get_same : (old new : Trees) (q : RecordName) → filter (is_of User q) (new (entry_tree User)) ≡ filter (is_of User q) (old (entry_tree User))
     → filter (is_of Group q) (new (entry_tree Group)) ≡ filter (is_of Group q) (old (entry_tree Group)) → get (entries_in new) q ≡ get (entries_in old) q

@@ -37,7 +37,7 @@ fresh_one : (b : Bool) → (not b && true) ≡ true → b ≡ false
 fresh_one true e = absurd (cc)
 fresh_one false e = refl
 
-found_one : (key : List ℕ) (rest : Row) (table : List Row) (r : Row) → filter (has_key key) table ≡ r ∷ [] → filter (passes (key_is ∷ []) (Text key ∷ rest)) table ≡ r ∷ []
+pub found_one : (key : List ℕ) (rest : Row) (table : List Row) (r : Row) → filter (has_key key) table ≡ r ∷ [] → filter (passes (key_is ∷ []) (Text key ∷ rest)) table ≡ r ∷ []
 found_one key rest table r only =
     filter_same (passes (key_is ∷ []) (Text key ∷ rest)) (has_key key) table (all_of (λ x. passes (key_is ∷ []) (Text key ∷ rest) x ≡ has_key key x) (λ x. key_passes key rest x) table) ∙ only
 

@@ -7,4 +7,5 @@ pub mod Opening
 pub mod Kept
 pub mod KeptLaws
 pub mod Resets
+pub mod Learning
 pub mod Carrying

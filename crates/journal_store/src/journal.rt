@@ -18,6 +18,7 @@ ghost use Rattle.journal_store.specs.Rows.{entry_in, row_of};
 
 use crate::batches::put_all;
 use crate::format::Journal as Tables;
+use crate::learning::learn;
 use crate::opening::{JournalOpenFault, check_tables, open_tables};
 use crate::resets::{learnt_count, reset_all};
 use crate::statements::TableFault;
@@ -216,20 +217,12 @@ impl<S: Alter> Journal for SqlJournal<S> {
         if !self.is_usable {
             return Err(refusal(&mut self.faults));
         }
-        let id = id.clone()?;
-        match self.look_up(name)? {
-            Some(entry) => {
-                let (row, _confirmed, _id) = entry.into_parts();
-                self.put(
-                    true,
-                    &Entry {
-                        row,
-                        confirmed,
-                        id: Some(id),
-                    },
-                )
+        match learn(&mut self.conn, name, confirmed, id) {
+            Ok(()) => {
+                self.writes = self.writes.saturating_add(1);
+                Ok(())
             }
-            None => Err(counted(&mut self.faults, JournalFault::Store)),
+            Err(fault) => Err(counted(&mut self.faults, fault_of(fault))),
         }
     }
 

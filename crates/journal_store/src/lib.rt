@@ -7,6 +7,7 @@ mod format;
 mod formats;
 mod journal;
 mod lawful;
+mod learning;
 mod making;
 mod opening;
 mod resets;
