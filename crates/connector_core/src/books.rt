@@ -1,5 +1,5 @@
 //! The book: what is known about each record, under its name.
-ghost use Rattle.std.specs.Prelude.{◌≡◌, ◌++◌, IfOk, OnOk, OnErr, IsSome, Some, map, refl};
+ghost use Rattle.std.specs.Prelude.{◌≡◌, ◌++◌, IfOk, OnOk, OnErr, IsSome, Some, map};
 ghost use Rattle.std.specs.BTreeMap.{IsOrdered, Updates, get as get_in, keys as keys_in};
 ghost use Rattle.std.specs.FinMap.{empty, get, insert, keys, remove};
 ghost use Rattle.std.specs.Option.{option_copied, option_map};
