@@ -1,5 +1,5 @@
 -- What is made of rows that are offered together, and what takes them back.
-use Rattle.std.proofs.Common.{◌≡◌, ◌∙◌, ◌++◌, ◌==◌, Bool, true, false, cond, List, [], ◌∷◌, Option, Some, None, Result, Ok, Err, length, refl, ap, sym, subst, append_assoc, append-nil, arith}
+use Rattle.std.proofs.Common.{◌≡◌, ◌∙◌, ◌++◌, ◌==◌, Bool, true, false, cond, List, [], ◌∷◌, Option, Some, None, IsSome, Result, Ok, Err, length, refl, ap, sym, subst, append_assoc, append-nil, arith}
 use Rattle.std.proofs.lemmas.Bool.Decides.{nat_tests}
 use Rattle.std.proofs.lemmas.List.{nil_from_length}
 use Rattle.std.specs.FinMap.{get, insert, remove, get-insert, get-remove, same_map}
@@ -17,7 +17,7 @@ use Rattle.journal_core.specs.Entries.{EntryMap, CanPutRows, with_rows}
 use Rattle.connector_core.specs.Book.{AllLocated, wanting_now}
 use Rattle.connector_core.specs.Changing.{accepted_entries, accepted_map, entries_all, if_new, judged, new_rows, taking, taking_all, verdicts}
 use Rattle.connector_core.specs.Maps.{BookMap, book_of, changed, changed_at}
-use Rattle.connector_core.specs.Offering.{AreOffered, all_back, taken_back}
+use Rattle.connector_core.specs.Offering.{AreOffered, all_back, row_back, taken_back}
 use Rattle.connector_core.specs.State.{IsKept}
 use Rattle.connector_core.specs.declared.changing.ChangeFault.{ChangeFault}
 use Rattle.connector_core.specs.declared.knowledge.Known.{Known}
@@ -68,20 +68,18 @@ again book name put known there = same_map names_total names_same _ _ (λ q.
 found-put : (book : BookMap) (name : RecordName) (put : Known) → get (insert book name put) name ≡ Some put
 found-put book name put = get-insert names_total book name put name ∙ ap (λ b. cond b (Some put) (get book name)) (tied name name ∙ (same_names name name).1 refl)
 
-next-at : (book : BookMap) (name : RecordName) (row last : Row) (o : Option Known) → get book name ≡ o → option_map (λ (k : Known). k.wanted) o ≡ Some last
-    → changed (wanting_now last) (changed_at (wanting_now row) book name o) name ≡ book
-next-at book name row last None there is = absurd (cc)
-next-at book name row last (Some k) there is =
-    let same : k.wanted ≡ last = cc in
-    ap (changed_at (wanting_now last) (insert book name (wanting_now row k)) name) (found-put book name (wanting_now row k))
-    ∙ ap (λ r. insert (insert book name (wanting_now row k)) name (wanting_now r k)) (sym same)
-    ∙ again book name (wanting_now row k) k there
+next-at : (book : BookMap) (name : RecordName) (row : Row) (o : Option Known) → get book name ≡ o → IsSome o
+    → row_back (changed_at (wanting_now row) book name o) name (option_map (λ (k : Known). k.wanted) o) ≡ book
+next-at book name row None is there = absurd (cc)
+next-at book name row (Some k) is there =
+    ap (changed_at (wanting_now k.wanted) (insert book name (wanting_now row k)) name) (found-put book name (wanting_now row k))
+    ∙ again book name (wanting_now row k) k is
 
 -- a later row is taken back
-pub next-back : (book later : BookMap) (name copied : RecordName) (row last : Row) → option_map (λ (k : Known). k.wanted) (get book name) ≡ Some last → copied ≡ name
-    → later ≡ changed (wanting_now row) book name → changed (wanting_now last) later copied ≡ book
-next-back book later name copied row last is same put =
-    ap (changed (wanting_now last) later) same ∙ ap (λ b. changed (wanting_now last) b name) put ∙ next-at book name row last (get book name) refl is
+pub next-back : (book later : BookMap) (name : RecordName) (row : Row) (last : Option Row) → IsSome (get book name) → last ≡ option_map (λ (k : Known). k.wanted) (get book name)
+    → later ≡ changed (wanting_now row) book name → row_back later name last ≡ book
+next-back book later name row last there is put =
+    ap (row_back later name) is ∙ ap (λ b. row_back b name (option_map (λ (k : Known). k.wanted) (get book name))) put ∙ next-at book name row (get book name) refl there
 
 -- ---- one row more
 

@@ -41,6 +41,11 @@ request_for Absent id row content = Create content
 request_for (At tag revision) (Some id) row content = replacement id tag content
 request_for (At tag revision) None row content = search_for row
 
+-- this request with the image of a row, if the row has one
+abbrev pub requested : (Content → Request) → Result Content ImageFault → Result Request ImageFault
+requested request (Ok content) = Ok (request content)
+requested request (Err fault) = Err fault
+
 -- by the image of the wanted row, or the place of its first member without an id (the last case doesn't occur: no image
 -- runs out of memory)
 abbrev pub asking_with : Result Content ImageFault → Known → Ask

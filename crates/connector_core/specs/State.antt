@@ -3,7 +3,7 @@ use Rattle.std.specs.Prelude.{◌≡◌, ◌⊎◌, ◌≤◌, ℕ, List, Some, 
 use Rattle.std.specs.FinMap.{from_entries, get, keys}
 use Rattle.std.specs.Option.{option_map}
 use Rattle.scim_key.specs.declared.records.RecordName.{RecordName}
-use Rattle.source_csv.specs.Records.{row_name, row_revision}
+use Rattle.source_csv.specs.Records.{row_name}
 use Rattle.journal_core.specs.Entries.{EntryMap, IsUpTo}
 use Rattle.journal_core.specs.Stores.{HasRisen}
 use Rattle.journal_core.specs.declared.entries.Entry.{Entry}

@@ -1,9 +1,12 @@
 //! The next request for a record.
-ghost use Rattle.std.specs.Prelude.{◌≡◌, IfOk};
+ghost use Rattle.std.specs.Prelude.{◌≡◌, IfOk, is_none};
+ghost use Rattle.std.specs.List.{position_from};
 ghost use Rattle.std.specs.Option.{ok_or};
 ghost use Rattle.scim_key.specs.Outcome.{Gives};
-ghost use Rattle.connector_core.specs.Asking.{asking, replacement, request_for, search_for};
-ghost use Rattle.connector_core.specs.Book.{IsLocated, known_id};
+ghost use Rattle.source_book.specs.History.{user};
+ghost use Rattle.mapping.specs.Images.{imaged};
+ghost use Rattle.connector_core.specs.Asking.{asking, replacement, request_for, requested, search_for};
+ghost use Rattle.connector_core.specs.Book.{known_id};
 ghost use Rattle.connector_core.specs.Maps.{book_of};
 
 use crate::books::Book;
@@ -18,7 +21,7 @@ use scim_key::{Key, Kind, RecordName, ResourceId};
 use scim_message::Request;
 use scim_resource::Content;
 use scim_version::{Condition, EntityTag, TagList};
-use source_csv::Row;
+use source_csv::{GroupRow, Row};
 use std::alloc::{AllocError, Global};
 use thiserror::Error;
 
@@ -100,16 +103,38 @@ fn replacement(
     })
 }
 
-/// The request for a record that isn't confirmed, by what was seen of it.
-fn request_for(alloc: Global, known: &Known, content: Content) -> Result<Request, AllocError>
-    requires { IsLocated known.now }
-    ensures { IfOk result (λ request. request ≡ request_for known.now.seen known.now.id known.now.wanted content) }
+/// The place, from 0, of the first of a group's members whose user has no id.
+fn place_without_id(book: &Book, row: &GroupRow) -> Option<usize>
+    ensures { result ≡ position_from (λ key. is_none (known_id (book_of book.now) (user key))) 0 row.now.members }
+{
+    row.members().iter().position(|key| book.id(key).is_none())
+}
+
+/// The search for a row's resource, if the row has an image. It makes no image.
+fn search_if_ready(alloc: Global, book: &Book, row: &Row) -> Result<Request, ImageFault>
+    ensures { Gives ImageFault.Memory result (requested (λ _. search_for row.now) (imaged (known_id (book_of book.now)) row.now)) }
+{
+    if let Row::Group(group) = row
+        && let Some(place) = place_without_id(book, group)
+    {
+        return Err(ImageFault::MemberWithoutId { place });
+    }
+    Ok(search_for(alloc, row)?)
+}
+
+/// The request for a record that isn't confirmed, by what was seen of it, if its row has an image.
+fn request_for(alloc: Global, book: &Book, known: &Known) -> Result<Request, ImageFault>
+    ensures { Gives ImageFault.Memory result (requested (request_for known.now.seen known.now.id known.now.wanted) (imaged (known_id (book_of book.now)) known.now.wanted)) }
 {
     match (&known.seen, &known.id) {
-        (Seen::Unknown, _) => search_for(alloc, &known.wanted),
-        (Seen::Absent, _) => Ok(Request::Create { content }),
-        (Seen::At { tag, .. }, Some(id)) => replacement(alloc, id, tag, content),
-        (Seen::At { .. }, None) => unreachable!(),
+        (Seen::Absent, _) => Ok(Request::Create {
+            content: row_content(alloc, &known.wanted, book)?,
+        }),
+        (Seen::At { tag, .. }, Some(id)) => {
+            let content = row_content(alloc, &known.wanted, book)?;
+            Ok(replacement(alloc, id, tag, content)?)
+        }
+        (Seen::Unknown, _) | (Seen::At { .. }, None) => search_if_ready(alloc, book, &known.wanted),
     }
 }
 
@@ -124,8 +149,8 @@ impl<J: Journal> Connector<J> {
         if known.confirmed == known.wanted.revision() {
             return Ok(Ask::Nothing);
         }
-        match row_content(self.alloc, &known.wanted, &self.book) {
-            Ok(content) => Ok(Ask::Send(request_for(self.alloc, known, content)?)),
+        match request_for(self.alloc, &self.book, known) {
+            Ok(request) => Ok(Ask::Send(request)),
             Err(ImageFault::MemberWithoutId { place }) => {
                 Ok(Ask::Waits(member_at(self.alloc, &known.wanted, place)?))
             }

@@ -1,12 +1,12 @@
 //! The book: what is known about each record, under its name.
-ghost use Rattle.std.specs.Prelude.{◌≡◌, ◌++◌, IfOk, OnOk, OnErr, IsSome, Some, map, refl};
+ghost use Rattle.std.specs.Prelude.{◌≡◌, ◌++◌, IfOk, OnOk, OnErr, IsSome, Some, map};
 ghost use Rattle.std.specs.BTreeMap.{IsOrdered, Updates, get as get_in, keys as keys_in};
 ghost use Rattle.std.specs.FinMap.{empty, get, insert, keys, remove};
 ghost use Rattle.std.specs.Option.{option_copied, option_map};
 ghost use Rattle.source_book.specs.History.{user};
 ghost use Rattle.journal_core.specs.Entries.{count_of};
-ghost use Rattle.connector_core.specs.Book.{learning, seeing, wanting_now};
-ghost use Rattle.connector_core.specs.Maps.{changed};
+ghost use Rattle.connector_core.specs.Book.{learning, seeing, wanted_row, wanting_now};
+ghost use Rattle.connector_core.specs.Maps.{book_of, changed};
 ghost use Rattle.connector_core.specs.Trees.{key_cmp, of};
 
 use crate::knowledge::{Known, Seen};
@@ -15,6 +15,7 @@ use source_csv::Row;
 use std::alloc::{AllocError, AllocFailed, Global};
 use std::collections::BTreeMap;
 use std::marker::Model;
+use std::mem::replace;
 
 /// What is known about each record, under its name. Users and groups are separate, so that a member is
 /// found by its key alone and each type is counted.
@@ -37,13 +38,15 @@ impl Model for Book {
     ghost view = { λ b. book_in b.users b.groups };
 }
 
-/// Sets another wanted row for an existing record.
-fn want(records: &mut BTreeMap<Key, Known>, key: &Key, row: Row)
+/// Sets another wanted row for an existing record, and gives the one before.
+fn want(records: &mut BTreeMap<Key, Known>, key: &Key, row: Row) -> Option<Row>
     requires { IsSome (get_in key_cmp records.old key.now) }
-    ensures { Updates key_cmp records.old records.new key.now (option_map (wanting_now row) (get_in key_cmp records.old key.now)) }
+    ensures updates { Updates key_cmp records.old records.new key.now (option_map (wanting_now row) (get_in key_cmp records.old key.now)) }
+    ensures last { result ≡ option_map (λ known. known.wanted) (get_in key_cmp records.old key.now) }
 {
-    if let Some(known) = records.get_mut(key) {
-        known.wanted = row;
+    match records.get_mut(key) {
+        Some(known) => Some(replace(&mut known.wanted, row)),
+        None => None,
     }
 }
 
@@ -179,10 +182,11 @@ impl Book {
         }
     }
 
-    /// Sets another wanted row for an existing record. It allocates nothing.
-    pub(crate) fn want(&mut self, name: &RecordName, row: Row)
+    /// Sets another wanted row for an existing record, and gives the one before. It allocates nothing.
+    pub(crate) fn want(&mut self, name: &RecordName, row: Row) -> Option<Row>
         requires { IsSome (get self.old name.now) }
-        ensures { self.new ≡ changed (wanting_now row) self.old name.now }
+        ensures changed { self.new ≡ changed (wanting_now row) self.old name.now }
+        ensures last { result ≡ wanted_row (book_of self.old) name.now }
     {
         match name.kind {
             Kind::User => want(&mut self.users, &name.key, row),

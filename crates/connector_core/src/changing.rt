@@ -110,8 +110,9 @@ fn missing_member(book: &Book, row: &Row) -> Option<usize>
 }
 
 /// The last row of a record, if there is one.
-fn last_row<'a>(book: &'a Book, name: &RecordName) -> Option<&'a Row>
-    ensures { option_copied result ≡ wanted_row (book_of book.now) name.now }
+pub(crate) fn last_row<'a>(book: &'a Book, name: &RecordName) -> Option<&'a Row>
+    ensures value { option_copied result ≡ wanted_row (book_of book.now) name.now }
+    ensures first { is_none result ≡ is_none (get book.now name.now) }
 {
     match book.get(name) {
         Some(known) => Some(&known.wanted),
@@ -176,19 +177,20 @@ fn limit(
     }
 }
 
-/// The verdict of the book on a row.
+/// The verdict of the book on a row of a record of this type. `last` is the last row of the record.
 pub(crate) fn judge(
     alloc: Global,
     book: &Book,
-    name: &RecordName,
+    kind: Kind,
+    last: Option<&Row>,
     row: &Row,
 ) -> Result<Verdict, ChangeFault>
-    requires { name.now ≡ row_name row.now }
+    requires kind { kind ≡ (row_name row.now).kind }
+    requires last { option_copied last ≡ wanted_row (book_of book.now) (row_name row.now) }
     ensures gives { Gives ChangeFault.Memory result (judging (book_of book.now) (keys book.now) row.now) }
     ensures counted { IfErr result (λ fault. (n : ℕ) → CountsChange n n fault) }
 {
-    let last = last_row(book, name);
-    let no_room = last.is_none() && is_full(book, name.kind);
+    let no_room = last.is_none() && is_full(book, kind);
     let verdict = accept(last, row, missing_member(book, row));
     limit(alloc, no_room, row, verdict)
 }
@@ -219,8 +221,10 @@ impl<J: Journal> Connector<J> {
         ensures leaves { J.is_honest self.new.journal → LeavesBook J.Journal self.old → Leaves J.Journal self.old self.new (book_after (book_of self.old.book) row (judging (book_of self.old.book) (keys self.old.book) row)) (keys (accepted_map self.old.book row (judging (book_of self.old.book) (keys self.old.book) row))) result }
     {
         let name = row.record_name(self.alloc)?;
-        match judge(self.alloc, &self.book, &name, &row) {
-            Ok(Verdict::New) => self.accept_row(name, row),
+        let last = last_row(&self.book, &name);
+        let is_first = last.is_none();
+        match judge(self.alloc, &self.book, name.kind, last, &row) {
+            Ok(Verdict::New) => self.accept_row(is_first, name, row),
             Ok(Verdict::Known) => Ok(Verdict::Known),
             Ok(Verdict::Older) => Ok(Verdict::Older),
             Err(fault) => Err(fault),
@@ -228,8 +232,14 @@ impl<J: Journal> Connector<J> {
     }
 
     /// Accepts a new row.
-    fn accept_row(&mut self, name: RecordName, row: Row) -> Result<Verdict, ChangeFault>
+    fn accept_row(
+        &mut self,
+        is_first: bool,
+        name: RecordName,
+        row: Row,
+    ) -> Result<Verdict, ChangeFault>
         requires named { name ≡ row_name row }
+        requires first { is_first ≡ is_none (get self.old.book name) }
         requires new { judging (book_of self.old.book) (keys self.old.book) row ≡ Ok verdicts.New }
         ensures new { IfOk result (λ verdict. verdict ≡ verdicts.New) }
         ensures fault { IfErr result IsNoVerdict }
@@ -239,10 +249,10 @@ impl<J: Journal> Connector<J> {
         ensures journal { WritesOnce J.entries J.is_faithful J.is_honest J.may_hold J.faults J.writes CountsChange self.old.journal self.new.journal (with_row (J.entries self.old.journal) row) result }
         ensures open { J.is_honest self.new.journal → OnOk result (J.is_faithful self.new.journal) }
     {
-        if self.book.get(&name).is_some() {
-            self.accept_next(&name, row)
-        } else {
+        if is_first {
             self.accept_first(name, row)
+        } else {
+            self.accept_next(&name, row)
         }
     }
 

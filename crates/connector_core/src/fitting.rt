@@ -1,5 +1,7 @@
 //! Whether a shown resource is the record's, and the news in it.
 ghost use Rattle.std.specs.Prelude.{◌≡◌, ℕ, IfErr, IfOk, IfSome};
+ghost use Rattle.std.specs.Str.{bytes_eq};
+ghost use Rattle.scim_key.specs.Names.{key_of};
 ghost use Rattle.scim_key.specs.Outcome.{Gives, GivesBy};
 ghost use Rattle.scim_key.specs.Revisions.{IsRevision, ◌≼◌};
 ghost use Rattle.scim_resource.specs.Contents.{content_name, content_revision};
@@ -10,10 +12,10 @@ ghost use Rattle.connector_core.specs.Noting.{CountsLearn, IsFit, IsNewsOf, less
 
 use crate::knowledge::{Known, Seen};
 use crate::learning::{LearnFault, Learnt};
-use scim_key::{RecordName, ResourceId, Revision};
+use scim_key::{Key, Kind, RecordName, ResourceId, Revision};
 use scim_resource::{Content, Shown};
 use scim_version::EntityTag;
-use std::alloc::{AllocError, Global};
+use std::alloc::Global;
 use std::marker::Model;
 
 /// What is new about a record.
@@ -50,11 +52,22 @@ impl Model for Sight {
     ghost view = { λ s. record { id = s.id; revision = s.revision; tag = s.tag } };
 }
 
-/// Whether a content is of this record.
-fn is_named(alloc: Global, name: &RecordName, content: &Content) -> Result<bool, AllocError>
-    ensures { IfOk result (λ same. same ≡ same_name name.now (content_name content.now)) }
+/// Whether this is the key of a name. It allocates nothing.
+fn is_key_of(key: &Key, name: &str) -> bool
+    ensures { result ≡ bytes_eq key.now (key_of name.now) }
 {
-    Ok(*name == content.name(alloc)?)
+    key.as_str().eq_ignore_ascii_case(name)
+}
+
+/// Whether a content is of this record. It allocates nothing.
+fn is_named(name: &RecordName, content: &Content) -> bool
+    ensures { result ≡ same_name name.now (content_name content.now) }
+{
+    match (name.kind, content) {
+        (Kind::User, Content::User(user)) => is_key_of(&name.key, user.user_name().as_str()),
+        (Kind::Group, Content::Group(group)) => is_key_of(&name.key, group.display_name().as_str()),
+        _ => false,
+    }
 }
 
 /// Whether an id may be the record's; any id may if none is known.
@@ -86,7 +99,7 @@ fn fit(alloc: Global, name: &RecordName, known: &Known, shown: &Shown) -> Result
     ensures fit { IfOk result (IsFit known.now) }
     ensures counted { IfErr result (λ fault. (n : ℕ) → CountsLearn n n fault) }
 {
-    if !is_named(alloc, name, shown.content())? || !fits_id(known, shown.id()) {
+    if !is_named(name, shown.content()) || !fits_id(known, shown.id()) {
         return Err(LearnFault::Unfit);
     }
     let Some(revision) = revision_within(known, shown.content()) else {

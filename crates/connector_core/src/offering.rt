@@ -1,6 +1,7 @@
 //! Accepts rows that the source offers together.
-ghost use Rattle.std.specs.Prelude.{◌≡◌, ◌++◌, ◌∷◌, [], IfErr, IfOk, None, OnErr, OnOk, Some};
+ghost use Rattle.std.specs.Prelude.{◌≡◌, ◌++◌, ◌∷◌, [], IfErr, IfOk, IsSome, None, OnErr, OnOk, is_none};
 ghost use Rattle.std.specs.FinMap.{get, insert, keys};
+ghost use Rattle.std.specs.Option.{option_copied};
 ghost use Rattle.source_csv.specs.Records.{row_name};
 ghost use Rattle.journal_core.specs.Stores.{WritesOnce};
 ghost use Rattle.connector_core.specs.Book.{wanted_row, wanting};
@@ -10,10 +11,10 @@ ghost use Rattle.connector_core.specs.Offering.{AreOffered, all_back, taken_back
 ghost use Rattle.connector_core.specs.State.{IsKept, Leaves, LeavesBook};
 
 use crate::books::Book;
-use crate::changing::{ChangeFault, first_known, judge};
+use crate::changing::{ChangeFault, first_known, judge, last_row};
 use crate::connectors::Connector;
 use journal_core::Journal;
-use scim_key::RecordName;
+use scim_key::{Kind, RecordName};
 use source_book::Verdict;
 use source_csv::Row;
 use std::alloc::{AllocError, Global};
@@ -81,55 +82,55 @@ fn take_first(
 fn take_next(
     book: &mut Book,
     name: RecordName,
-    last: Row,
     row: Row,
     notes: &mut Vec<Note>,
 ) -> Result<(), AllocError>
     requires named { name ≡ row_name row }
-    requires there { wanted_row (book_of book.old) name ≡ Some last }
+    requires there { IsSome (get book.old name) }
     ensures ok { OnOk result (book.new ≡ insert book.old (row_name row) (wanting (get book.old (row_name row)) row)) }
     ensures back { all_back notes.new.items book.new ≡ all_back notes.old.items book.old }
 {
-    notes.push(Note {
-        name: name.clone()?,
-        last: Some(last),
-    })?;
-    book.want(&name, row);
+    let last = book.want(&name, row);
+    if let Err(failed) = notes.push(Note { name, last }) {
+        take_back(book, failed.value);
+        return Err(AllocError);
+    }
     Ok(())
 }
 
-/// Takes a new row into the book. It first notes how to take the row back.
+/// Takes a new row into the book, and notes how to take it back.
 fn take_row(
     book: &mut Book,
+    is_first: bool,
     name: RecordName,
-    row: &Row,
+    row: Row,
     notes: &mut Vec<Note>,
 ) -> Result<(), AllocError>
-    requires named { name ≡ row_name row.now }
-    ensures ok { OnOk result (book.new ≡ insert book.old (row_name row.now) (wanting (get book.old (row_name row.now)) row.now)) }
+    requires named { name ≡ row_name row }
+    requires first { is_first ≡ is_none (get book.old name) }
+    ensures ok { OnOk result (book.new ≡ insert book.old (row_name row) (wanting (get book.old (row_name row)) row)) }
     ensures back { all_back notes.new.items book.new ≡ all_back notes.old.items book.old }
 {
-    let last = match book.get(&name) {
-        Some(known) => Some(known.wanted.clone()?),
-        None => None,
-    };
-    match last {
-        Some(last) => take_next(book, name, last, row.clone()?, notes),
-        None => take_first(book, name, row.clone()?, notes),
+    if is_first {
+        take_first(book, name, row, notes)
+    } else {
+        take_next(book, name, row, notes)
     }
 }
 
-/// The verdict of the book on a row.
+/// The verdict of the book on a row of a record of this type. `last` is the last row of the record.
 fn verdict_on(
     alloc: Global,
     book: &Book,
-    name: &RecordName,
+    kind: Kind,
+    last: Option<&Row>,
     row: &Row,
 ) -> Result<Result<Verdict, ChangeFault>, AllocError>
-    requires { name.now ≡ row_name row.now }
+    requires kind { kind ≡ (row_name row.now).kind }
+    requires last { option_copied last ≡ wanted_row (book_of book.now) (row_name row.now) }
     ensures { IfOk result (λ verdict. verdict ≡ judged book.now row.now) }
 {
-    match judge(alloc, book, name, row) {
+    match judge(alloc, book, kind, last, row) {
         Ok(verdict) => Ok(Ok(verdict)),
         Err(ChangeFault::Memory) => Err(AllocError),
         Err(fault) => Ok(Err(fault)),
@@ -158,9 +159,11 @@ impl Offered {
         ensures back { all_back self.new.notes.items book.new ≡ all_back self.old.notes.items book.old }
     {
         let name = row.record_name(alloc)?;
-        match verdict_on(alloc, book, &name, &row)? {
+        let last = last_row(book, &name);
+        let is_first = last.is_none();
+        match verdict_on(alloc, book, name.kind, last, &row)? {
             Ok(Verdict::New) => {
-                take_row(book, name, &row, &mut self.notes)?;
+                take_row(book, is_first, name, row.clone()?, &mut self.notes)?;
                 self.fresh.push(row)?;
                 self.said.push(Ok(Verdict::New))?;
             }

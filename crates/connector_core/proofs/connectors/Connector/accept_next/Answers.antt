@@ -34,8 +34,8 @@ invariant_of-self-2 g c =
     let L : BookMap → Type 0 = λ b. AllLocated (book_of b) in (
       (λ faithful.
           let was = c.self.invariant.0 (puts.was faithful) in
-          subst P (sym (c.want.ensures ∙ made)) (subst Q (sym (puts.done faithful)) (kept-row held c.self.inside.book c.args.row was (not-below held c.self.inside.book c.args.row was new)))),
-      subst L (sym (c.want.ensures ∙ made)) (located-row c.self.inside.book c.args.row c.self.invariant.1),
+          subst P (sym (c.want.ensures.changed ∙ made)) (subst Q (sym (puts.done faithful)) (kept-row held c.self.inside.book c.args.row was (not-below held c.self.inside.book c.args.row was new)))),
+      subst L (sym (c.want.ensures.changed ∙ made)) (located-row c.self.inside.book c.args.row c.self.invariant.1),
     )
 
 pub returns-clause-kept : goal.returns-clause-kept
