@@ -4,7 +4,7 @@ import subprocess
 
 from support import (
     CREATE_BOB, EXAMPLES, NOWHERE, OLDER_FORMS, PROGRAM, ProgramTest,
-    limited_memory, make_journal, make_store, scimlink, text, user_entry, user_resource,
+    limited_memory, make_journal, make_store, scimlink, text, user_entry, user_resource, user_text,
 )
 
 # Enough to start, and far too little for what is asked for here
@@ -46,7 +46,9 @@ class MemoryTest(ProgramTest):
         self.assert_reports(run, 0)
         self.assertEqual(len(run.lines), len(NAMES))
         self.site.write_users("ann,1,,,,,active", f"bob,1,,{'b' * 20_000_000},,,active")
-        self.assert_starves(self.site.users, "map", self.site.users)
+        run = scimlink("map", self.site.users, **STARVED)
+        self.assert_reports(run, 3, "memory fault")
+        self.assertEqual(run.lines, [user_text("ann")])
 
     def test_a_schedule(self):
         schedule = self.folder / "schedule"
