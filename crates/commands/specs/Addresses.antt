@@ -1,7 +1,7 @@
 -- Addresses to listen on and to connect to.
 use Rattle.std.specs.Prelude.{◌≡◌, option_map, ◌⊎◌, ◌≤◌, ◌<◌, ◌^◌, ℕ, List, length, Option, Some, None, Result, Ok, Err}
 use denote.Ref.{Bor}
-use Rattle.std.specs.Str.Parse.{IsNumeral, digits_value, without_leading_plus}
+use Rattle.std.specs.Str.Parse.{IsNumeral, without_leading_plus}
 use Rattle.std.specs.Str.Pattern.{RFindsChar, SplitsAroundMatch}
 use Rattle.commands.specs.Words.{number_in}
 use Rattle.commands.specs.declared.status.CommandFault.{CommandFault}

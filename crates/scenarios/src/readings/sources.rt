@@ -1,6 +1,6 @@
 //! Files of the source: which records are rows, which rows count, and their images.
 use crate::support::{assert_same, assert_that, repeated};
-use mapping::{row_line, user_content, write_record};
+use mapping::{user_content, write_record};
 use scim_key::{Kind, Revision};
 use source_book::{BookFault, Verdict, accept};
 use source_csv::{
@@ -348,7 +348,7 @@ fn are_both_lines(rt: &impl Abort, images: &[u8]) {
 }
 
 /// The images of records.
-fn images_of(rt: &impl Abort, alloc: Global, records: &[Result<Row, RowFault>]) -> Vec<u8> {
+fn images_of(rt: &impl Abort, alloc: Global, records: Vec<Result<Row, RowFault>>) -> Vec<u8> {
     let mut out = Vec::new(alloc);
     for given in records {
         write_record(alloc, given, &mut out).expect(rt, "a line");
@@ -362,13 +362,15 @@ fn rows_have_their_images(rt: HostRuntime) {
     let records = joined(&rt, alloc, ANN, "cid,0,,,,,active\nbob,1,,,,,left\n");
     let rows = users(&rt, alloc, records.as_str());
     are_refused(&rt, rows.as_slice(), &[(2, RowCode::Revision)]);
-    let images = images_of(&rt, alloc, rows.as_slice());
+    let images = images_of(&rt, alloc, rows.into_vec());
     are_both_lines(&rt, images.as_slice());
 }
 
 /// Asserts the line of a user.
 pub fn has_line(rt: &impl Abort, alloc: Global, user: &UserRow, line: &[u8]) {
-    let written = row_line(alloc, user).expect(rt, "a line");
+    let row = user.clone().expect(rt, "memory");
+    let mut written = Vec::new(alloc);
+    write_record(alloc, Ok(Row::User(row)), &mut written).expect(rt, "a line");
     assert_that(rt, written.as_slice() == line);
 }
 

@@ -12,7 +12,7 @@ pub returns-clause-prints : goal.returns-clause-prints
 returns-clause-prints g c =
     let read = c.in_ok-read_next.ensures in (
       c.in_ok-row.row,
-      c.is_ok.ensures.value,
+      c.is_ok-is_row.ensures.value,
       c.in_ok-write_record.ensures,
       λ records left. took c.args.rows.now c.read_next.new.self c.row.new.self c.in_ok-read_next.field-0 c.in_ok-row.row records c.if-not-branch.false read.kind read.columns read.place c.in_ok-row.ensures.rest c.in_ok-row.ensures.row (read.records records left),
     )
