@@ -1,5 +1,5 @@
 //! Groups on their way to the provider: which of them have all members there, and their images.
-ghost use Rattle.std.specs.Prelude.{Some, None, codes};
+ghost use Rattle.std.specs.Prelude.{Some, None, if◌then◌else◌, codes};
 ghost use Rattle.std.specs.Str.{bytes_eq};
 
 use crate::readings::sources::{group, row};
