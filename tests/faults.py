@@ -69,8 +69,12 @@ def tell(story, shim, kind, place, how):
 
 def tell_all(story, shim, kind, how="", opening=0, step=1):
     """Tells a story with each call of a kind failing in turn, until one that no fault disturbs: how many
-    failed, and what was wrong. Of the first calls, which open files, it takes one in so many."""
-    places = itertools.chain(range(step, opening, step), itertools.count(opening + 1))
+    failed, and what was wrong. Of the first calls, which open files, it takes one in so many; if `opening` is
+    None, all calls do that."""
+    if opening is None:
+        places = itertools.count(step, step)
+    else:
+        places = itertools.chain(range(step, opening, step), itertools.count(opening + 1))
     failed, wrong = 0, []
     with concurrent.futures.ProcessPoolExecutor(WORKERS, multiprocessing.get_context("fork")) as pool:
         while True:
