@@ -5,6 +5,7 @@ What is refused of any file, as a text or a locked one, is in test_openings.py.
 import json
 import re
 
+from faults import Fault, build_shim
 from support import (
     BOB, BOB_CREATED, CREATE_BOB, RESOURCE, STORE_FORMAT, USER, ProgramTest, Provider,
     compact, group_text, limited_files, make_store, resource_id, scimlink, sql, store_commands, user_resource,
@@ -42,6 +43,23 @@ def shown(*names):
 def create(name):
     """A request that creates a user. A name of three letters keeps the length that the head states."""
     return CREATE_BOB.replace(b'"bob"', f'"{name}"'.encode())
+
+
+class ListsTest(ProgramTest):
+    def test_a_later_list_looks_at_its_page_alone(self):
+        """Whatever connection asks, only the first list looks through all users: the allocations tell."""
+        users = [user_resource(number, f"u{number:04}") for number in range(1, 1_001)]
+        store = make_store(self.folder / "store", users)
+        fault, counts = Fault(build_shim(self.folder), self.folder, "ALLOCATION", 0), []
+        with Provider(3, "--store", store, **fault.options) as provider:
+            for start in (1, 500, 1_000):
+                before = fault.count()
+                listed = provider.ask("GET", f"/v2/Users?startIndex={start}&count=1").content
+                counts.append(fault.count() - before)
+                self.assertEqual(listed["totalResults"], 1_000)
+                self.assertEqual([it["userName"] for it in listed["Resources"]], [f"u{start:04}"])
+        self.assertGreater(counts[0], 1_000)
+        self.assertLess(max(counts[1:]), 1_000)
 
 
 class StoreTest(ProgramTest):
