@@ -119,9 +119,9 @@ class Servers:
 
     @staticmethod
     def memory_of(run):
-        """The most memory that a run had so far, in megabytes."""
+        """The most memory that a run had so far, in MB of 10^6 bytes."""
         lines = pathlib.Path(f"/proc/{run.pid}/status").read_text(encoding="utf-8").splitlines()
-        return int(next(line for line in lines if line.startswith("VmHWM:")).split()[1]) / 1024
+        return int(next(line for line in lines if line.startswith("VmHWM:")).split()[1]) * 1024 / 1e6
 
     def load(self, port, clients, count, text, status, step=1, among=None):
         """Asks so many times: the seconds."""

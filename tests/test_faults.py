@@ -1,4 +1,4 @@
-"""Each allocation refused in turn, and each write, sync and read of a disk: what was answered or confirmed stands."""
+"""Allocations refused in turn, and each write, sync and read of a disk: what was answered or confirmed stands."""
 import contextlib
 import dataclasses
 import os
