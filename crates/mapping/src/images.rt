@@ -43,7 +43,7 @@ fn emails(alloc: Global, mail: FieldValue) -> Result<Emails, AllocError>
     let Some(value) = text(mail) else {
         return Ok(Emails::new(alloc));
     };
-    let mut items = Vec::new(alloc);
+    let mut items = Vec::with_capacity(alloc, 1)?;
     items.push(Email {
         value,
         type_text: text(FieldValue::new(String::from_str(alloc, "work")?)),

@@ -12,7 +12,7 @@ ghost use Rattle.scim_resource.specs.Users.{IsSourceRevision};
 ghost use Rattle.scim_resource.specs.Reading as spec;
 
 use crate::contents::Content;
-use crate::emails::{Email, Emails};
+use crate::emails::{EMAIL_LIMIT, Email, Emails};
 use crate::faults::ContentFault;
 use crate::group_reading::read_group;
 use crate::schemas::core_user;
@@ -199,7 +199,7 @@ fn emails_of(alloc: Global, items: &[Value]) -> Result<Vec<Email>, ContentFault>
         (spec.emails_of (items_view items.now)) }
     ensures lawful { IfOk result (λ emails. AreEmails emails.items) }
 {
-    let mut emails = Vec::new(alloc);
+    let mut emails = Vec::with_capacity(alloc, items.len().min(EMAIL_LIMIT))?;
     for item in items {
         if let Some(email) = email_in(alloc, item)? {
             emails.push(email)?;

@@ -25,23 +25,3 @@ five_items (x ∷ xs) a b c d e least below i0 i1 i2 i3 i4 = λ i. sym i0 i ∷ 
 pub six_items : {X : Type 0} (xs : List X) (a b c d e f : X) → 6 ≤ length xs → length xs < 7 → a ≡ get_or xs 0 a → b ≡ get_or xs 1 b → c ≡ get_or xs 2 c → d ≡ get_or xs 3 d → e ≡ get_or xs 4 e → f ≡ get_or xs 5 f → xs ≡ a ∷ b ∷ c ∷ d ∷ e ∷ f ∷ []
 six_items [] a b c d e f least below i0 i1 i2 i3 i4 i5 = absurd (omega arith)
 six_items (x ∷ xs) a b c d e f least below i0 i1 i2 i3 i4 i5 = λ i. sym i0 i ∷ five_items xs b c d e f (omega (arith, least)) (omega (arith, below)) i1 i2 i3 i4 i5 i
-
-pub seven_items : {X : Type 0} (xs : List X) (a b c d e f g : X) → 7 ≤ length xs → length xs < 8 → a ≡ get_or xs 0 a → b ≡ get_or xs 1 b → c ≡ get_or xs 2 c → d ≡ get_or xs 3 d → e ≡ get_or xs 4 e → f ≡ get_or xs 5 f → g ≡ get_or xs 6 g
-    → xs ≡ a ∷ b ∷ c ∷ d ∷ e ∷ f ∷ g ∷ []
-seven_items [] a b c d e f g least below i0 i1 i2 i3 i4 i5 i6 = absurd (omega arith)
-seven_items (x ∷ xs) a b c d e f g least below i0 i1 i2 i3 i4 i5 i6 = λ i. sym i0 i ∷ six_items xs b c d e f g (omega (arith, least)) (omega (arith, below)) i1 i2 i3 i4 i5 i6 i
-
-pub eight_items : {X : Type 0} (xs : List X) (a b c d e f g h : X) → 8 ≤ length xs → length xs < 9 → a ≡ get_or xs 0 a → b ≡ get_or xs 1 b → c ≡ get_or xs 2 c → d ≡ get_or xs 3 d → e ≡ get_or xs 4 e → f ≡ get_or xs 5 f → g ≡ get_or xs 6 g → h ≡ get_or xs 7 h
-    → xs ≡ a ∷ b ∷ c ∷ d ∷ e ∷ f ∷ g ∷ h ∷ []
-eight_items [] a b c d e f g h least below i0 i1 i2 i3 i4 i5 i6 i7 = absurd (omega arith)
-eight_items (x ∷ xs) a b c d e f g h least below i0 i1 i2 i3 i4 i5 i6 i7 = λ i. sym i0 i ∷ seven_items xs b c d e f g h (omega (arith, least)) (omega (arith, below)) i1 i2 i3 i4 i5 i6 i7 i
-
-pub nine_items : {X : Type 0} (xs : List X) (a b c d e f g h j : X) → 9 ≤ length xs → length xs < 10 → a ≡ get_or xs 0 a → b ≡ get_or xs 1 b → c ≡ get_or xs 2 c → d ≡ get_or xs 3 d → e ≡ get_or xs 4 e → f ≡ get_or xs 5 f → g ≡ get_or xs 6 g → h ≡ get_or xs 7 h
-    → j ≡ get_or xs 8 j → xs ≡ a ∷ b ∷ c ∷ d ∷ e ∷ f ∷ g ∷ h ∷ j ∷ []
-nine_items [] a b c d e f g h j least below i0 i1 i2 i3 i4 i5 i6 i7 i8 = absurd (omega arith)
-nine_items (x ∷ xs) a b c d e f g h j least below i0 i1 i2 i3 i4 i5 i6 i7 i8 = λ i. sym i0 i ∷ eight_items xs b c d e f g h j (omega (arith, least)) (omega (arith, below)) i1 i2 i3 i4 i5 i6 i7 i8 i
-
-pub ten_items : {X : Type 0} (xs : List X) (a b c d e f g h j k : X) → 10 ≤ length xs → length xs < 11 → a ≡ get_or xs 0 a → b ≡ get_or xs 1 b → c ≡ get_or xs 2 c → d ≡ get_or xs 3 d → e ≡ get_or xs 4 e → f ≡ get_or xs 5 f → g ≡ get_or xs 6 g → h ≡ get_or xs 7 h
-    → j ≡ get_or xs 8 j → k ≡ get_or xs 9 k → xs ≡ a ∷ b ∷ c ∷ d ∷ e ∷ f ∷ g ∷ h ∷ j ∷ k ∷ []
-ten_items [] a b c d e f g h j k least below i0 i1 i2 i3 i4 i5 i6 i7 i8 i9 = absurd (omega arith)
-ten_items (x ∷ xs) a b c d e f g h j k least below i0 i1 i2 i3 i4 i5 i6 i7 i8 i9 = λ i. sym i0 i ∷ nine_items xs b c d e f g h j k (omega (arith, least)) (omega (arith, below)) i1 i2 i3 i4 i5 i6 i7 i8 i9 i
