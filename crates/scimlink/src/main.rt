@@ -5,6 +5,7 @@ mod answering;
 mod command;
 mod looping;
 mod map_users;
+mod options;
 mod parts;
 mod pushing;
 mod resetting;

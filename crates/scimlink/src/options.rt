@@ -1,0 +1,268 @@
+//! The commands and their options, as clap takes them.
+use clap::{Arg, ArgAction, Command, value_parser};
+use commands::simulating::{DEFAULT_EVENTS, MOST_EVENTS};
+use std::alloc::{AllocError, Global};
+
+/// The base of a service if the arguments have none.
+pub const DEFAULT_BASE: &str = "http://localhost:8080/v2";
+
+/// A command.
+#[derive(Clone, Copy)]
+struct CommandText {
+    name: &'static str,
+    about: &'static str,
+    options: &'static [OptionText],
+}
+
+/// An option of a command, or an argument that has only a place.
+#[derive(Clone, Copy)]
+struct OptionText {
+    name: &'static str,
+    value: Value,
+    is_required: bool,
+    help: Help,
+}
+
+/// What an option takes.
+#[derive(Clone, Copy)]
+enum Value {
+    /// An argument without the option's name.
+    Place,
+    /// A text, which the help calls so.
+    Text(&'static str),
+    /// The base of a service.
+    Base,
+    /// A whole number of at most 32 bits.
+    Count,
+    /// A whole number of at most 64 bits.
+    Seed,
+    /// Nothing.
+    Nothing,
+}
+
+/// What the help says of an option.
+#[derive(Clone, Copy)]
+enum Help {
+    Text(&'static str),
+    /// How many random events there may be.
+    OfEvents,
+}
+
+const BASE: OptionText = OptionText {
+    name: "base",
+    value: Value::Base,
+    is_required: false,
+    help: Help::Text("the base of the service: http://HOST/v2"),
+};
+
+const STORE: OptionText = OptionText {
+    name: "store",
+    value: Value::Text("FILE"),
+    is_required: false,
+    help: Help::Text("the file of the provider's rows, made where it isn't there"),
+};
+
+const JOURNAL: OptionText = OptionText {
+    name: "journal",
+    value: Value::Text("FILE"),
+    is_required: false,
+    help: Help::Text("the file of the connector's journal, made where it isn't there"),
+};
+
+const WANTED_JOURNAL: OptionText = OptionText {
+    is_required: true,
+    ..JOURNAL
+};
+
+const JOURNAL_THERE: OptionText = OptionText {
+    help: Help::Text("the file of the connector's journal, which must be there"),
+    ..WANTED_JOURNAL
+};
+
+const USERS: OptionText = OptionText {
+    name: "users",
+    value: Value::Text("FILE"),
+    is_required: true,
+    help: Help::Text(
+        "the file of users: login,revision,number,given,family,mail,status[,department]",
+    ),
+};
+
+const GROUPS: OptionText = OptionText {
+    name: "groups",
+    value: Value::Text("FILE"),
+    is_required: false,
+    help: Help::Text("the file of groups: name,revision,members"),
+};
+
+static COMMANDS: &[CommandText] = &[
+    CommandText {
+        name: "answer",
+        about: "answers one HTTP request from standard input on standard output",
+        options: &[BASE, STORE],
+    },
+    CommandText {
+        name: "loop",
+        about: "carries the records of files to a provider in the same program, over TCP, and prints how each stands",
+        options: &[USERS, GROUPS, BASE, STORE, JOURNAL],
+    },
+    CommandText {
+        name: "map",
+        about: "prints the SCIM user that each row of a users file asks for, a line each",
+        options: &[OptionText {
+            name: "FILE",
+            value: Value::Place,
+            is_required: true,
+            help: Help::Text(
+                "a users file: login,revision,number,given,family,mail,status[,department]",
+            ),
+        }],
+    },
+    CommandText {
+        name: "push",
+        about: "carries the records of files to the provider at an address, and prints how each stands",
+        options: &[
+            USERS,
+            GROUPS,
+            WANTED_JOURNAL,
+            OptionText {
+                name: "to",
+                value: Value::Text("HOST:PORT"),
+                is_required: true,
+                help: Help::Text("the provider's address"),
+            },
+            BASE,
+        ],
+    },
+    CommandText {
+        name: "reset",
+        about: "forgets what the provider has shown, so that the next push asks about each record, and prints how many records had an id or a confirmed revision",
+        options: &[JOURNAL_THERE],
+    },
+    CommandText {
+        name: "serve",
+        about: "serves HTTP connections to an address, one after another",
+        options: &[
+            OptionText {
+                name: "listen",
+                value: Value::Text("ADDR"),
+                is_required: true,
+                help: Help::Text(
+                    "the address to listen on: HOST:PORT, where port 0 takes a free one",
+                ),
+            },
+            OptionText {
+                name: "requests",
+                value: Value::Count,
+                is_required: true,
+                help: Help::Text("how many connections to serve"),
+            },
+            BASE,
+            STORE,
+        ],
+    },
+    CommandText {
+        name: "show",
+        about: "prints the rows of a provider's store, or the entries of a connector's journal, a line each",
+        options: &[STORE, JOURNAL],
+    },
+    CommandText {
+        name: "simulate",
+        about: "runs events over both sides in memory: each event's report, then each record",
+        options: &[
+            OptionText {
+                name: "FILE",
+                value: Value::Place,
+                is_required: false,
+                help: Help::Text(
+                    "a schedule: an event a line, as `user bob,1,,,,,active`, `send user bob` or `deliver 1`",
+                ),
+            },
+            OptionText {
+                name: "seed",
+                value: Value::Seed,
+                is_required: false,
+                help: Help::Text("the seed of random events, in place of a schedule"),
+            },
+            OptionText {
+                name: "events",
+                value: Value::Count,
+                is_required: false,
+                help: Help::OfEvents,
+            },
+            OptionText {
+                name: "settle",
+                value: Value::Nothing,
+                is_required: false,
+                help: Help::Text(
+                    "then exchanges in which nothing is lost, until every record is confirmed",
+                ),
+            },
+        ],
+    },
+];
+
+/// The program's arguments. They borrow the help of `events`, which has numbers in it.
+pub fn program<'a>(alloc: Global, events_help: &'a str) -> Result<Command<'a>, AllocError> {
+    let mut program = Command::new(alloc, "scimlink")
+        .version("0.1.0")
+        .about("SCIM 2.0 provisioning, proved")
+        .subcommand_required(true);
+    for text in COMMANDS {
+        program = program.subcommand(command_of(alloc, *text, events_help)?)?;
+    }
+    Ok(program)
+}
+
+fn command_of<'a>(
+    alloc: Global,
+    text: CommandText,
+    events_help: &'a str,
+) -> Result<Command<'a>, AllocError> {
+    let mut command = Command::new(alloc, text.name).about(text.about);
+    for option in text.options {
+        command = command.arg(arg_of(alloc, *option, events_help))?;
+    }
+    Ok(command)
+}
+
+fn arg_of<'a>(alloc: Global, option: OptionText, events_help: &'a str) -> Arg<'a> {
+    let arg = Arg::new(alloc, option.name)
+        .help(help_of(option.help, events_help))
+        .required(option.is_required);
+    taking(arg, option)
+}
+
+fn help_of<'a>(help: Help, events_help: &'a str) -> &'a str {
+    match help {
+        Help::Text(text) => text,
+        Help::OfEvents => events_help,
+    }
+}
+
+/// The argument, with the value that the option takes.
+fn taking<'a>(arg: Arg<'a>, option: OptionText) -> Arg<'a> {
+    match option.value {
+        Value::Place => arg,
+        Value::Text(name) => arg.long(option.name).value_name(name),
+        Value::Base => arg
+            .long(option.name)
+            .value_name("URL")
+            .default_value(DEFAULT_BASE),
+        Value::Count => arg
+            .long(option.name)
+            .value_name("N")
+            .value_parser(value_parser!(u32)),
+        Value::Seed => arg
+            .long(option.name)
+            .value_name("S")
+            .value_parser(value_parser!(u64)),
+        Value::Nothing => arg.long(option.name).action(ArgAction::SetTrue),
+    }
+}
+
+/// The help of `events`.
+pub fn events_help(alloc: Global) -> Result<String, AllocError> {
+    let (most, default) = (MOST_EVENTS, DEFAULT_EVENTS);
+    format!(in alloc; "how many random events: 1 to {most}, {default} by default")
+}
