@@ -9,10 +9,10 @@ loop-item-preserved c =
     let i = c.loop-item.item-index in
     let v = c.item-item.result in
     let xs = c.loop-item.emails.items in
-    elim c.match-branch-2.branch [
+    elim c.match-branch-3.branch [
       | in-Some+in_ok-push w ↦
           let e = w.in-Some.email in
-          let more : c.match-branch-2.emails.items ≡ xs ++ e ∷ [] = ap (λ x. x.items) w.emails-is ∙ w.in_ok-push.ensures.items in
+          let more : c.match-branch-3.emails.items ≡ xs ++ e ∷ [] = ap (λ x. x.items) w.emails-is ∙ w.in_ok-push.ensures.items in
           let is_email = rw w.in-Some.is at c.in_ok-email.ensures.lawful in
           let read = c.in_ok-email.ensures.given ∙ ap Ok w.in-Some.is in
           rw more
@@ -21,7 +21,7 @@ loop-item-preserved c =
             lawful = AreEmails-push xs e c.loop-item.invariant.lawful is_email;
           })
       | in_default w ↦
-          let same : c.match-branch-2.emails.items ≡ xs = ap (λ x. x.items) w.emails-is in
+          let same : c.match-branch-3.emails.items ≡ xs = ap (λ x. x.items) w.emails-is in
           let read = c.in_ok-email.ensures.given ∙ ap Ok w.in_default.is in
           rw same
           (record {
