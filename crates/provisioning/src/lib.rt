@@ -31,5 +31,5 @@ pub use own::{OwnProvider, OwnReader};
 pub use pushing::{Tally, push_all};
 pub use records::{Pushed, Standing, push_record};
 pub use sockets::Remote;
-pub use sources::{Source, Sources, UnreadFile, label, read_source, read_sources, tell_multiline};
+pub use sources::{Source, Sources, UnreadFile, label, read_source, read_sources};
 pub use telling::Tell;

@@ -6,7 +6,7 @@ use crate::carrying::{Outcome, carry};
 use crate::faults::{LoopFault, RunFault, open_fault, unwritten};
 use crate::lines::Reports;
 use crate::over_tcp::{CONNECTION_SECONDS, remote};
-use crate::own::{OwnProvider, OwnReader, OwnStreams, has_failed};
+use crate::own::{OwnProvider, OwnReader, OwnStreams};
 use crate::sources::Sources;
 use crate::views::print_views;
 use connection::{Listen, Sockets, TimedHandle};
@@ -57,14 +57,14 @@ fn finish<R: StoredRows, J: Journal, W: Write>(
     let mut provider = provider;
     let told = match carried {
         Ok(outcome) => print_end(outcome, connector, &mut provider, out),
-        Err(fault) => Err(ended(fault, &mut provider)),
+        Err(fault) => Err(ended(fault, &provider)),
     };
     (provider, told)
 }
 
 /// The fault that ended a run: the one of the provider's store, if it failed.
-fn ended<R: StoredRows>(fault: RunFault, provider: &mut Provider<R>) -> LoopFault {
-    if has_failed(provider) {
+fn ended<R: StoredRows>(fault: RunFault, provider: &Provider<R>) -> LoopFault {
+    if provider.registry().has_failed() {
         LoopFault::Store
     } else {
         LoopFault::Ended(fault)
@@ -80,7 +80,7 @@ fn print_end<R: StoredRows, J: Journal, W: Write>(
 ) -> Result<Outcome, LoopFault>
     ensures { IsOutcome (Ok outcome) result }
 {
-    if has_failed(provider) {
+    if provider.registry().has_failed() {
         return Err(LoopFault::Store);
     }
     if outcome.tally.is_settled {

@@ -2,7 +2,6 @@
 use crate::dialing::Dial;
 use crate::sockets::Remote;
 use connection::{Listen, TimedHandle, serve_next};
-use core::mem::replace_with;
 use provider_core::Provider;
 use provider_file::StoredRows;
 use scim_key::Base;
@@ -20,18 +19,6 @@ pub struct OwnProvider<'b, L: Listen + Drop, R: StoredRows> {
     pub(crate) base: &'b Base,
     pub(crate) listener: L,
     pub(crate) provider: Provider<R>,
-}
-
-/// Whether a fault of a provider's store was counted.
-pub(crate) fn has_failed<R: StoredRows>(provider: &mut Provider<R>) -> bool {
-    replace_with(provider, (), asked)
-}
-
-/// Whether a fault of the rows was counted.
-fn asked<R: StoredRows>(provider: Provider<R>, _: ()) -> (Provider<R>, bool) {
-    let rows = provider.close();
-    let has_failed = rows.has_failed();
-    (Provider::new(rows), has_failed)
 }
 
 /// Streams to a provider in the same program, which answers when a stream is read from.
@@ -98,7 +85,7 @@ impl<'r, 'p, 'b, N: Net + Clock, L: Listen + Drop, R: StoredRows> Dial
     fn dial(&mut self) -> io::Result<(Self::Reader, Self::Writer)> {
         let mut guard = self.own.try_borrow_mut().map_err(|_| busy())?;
         let own = &mut *guard;
-        if has_failed(&mut own.provider) {
+        if own.provider.registry().has_failed() {
             return Err(io::Error::from(ErrorKind::NotConnected));
         }
         let (stream, writer) = self.remote.dial()?;

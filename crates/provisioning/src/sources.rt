@@ -159,7 +159,7 @@ fn tell_refused(rt: &impl Eprint, source: &Source) {
 
 /// Reports the records of a file with these bytes that have a field over several lines: a quote may be
 /// missing there.
-pub fn tell_multiline<R: Eprint + AllocGlobal>(
+fn tell_multiline<R: Eprint + AllocGlobal>(
     rt: &R,
     kind: Kind,
     bytes: &[u8],
