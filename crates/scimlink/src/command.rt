@@ -90,100 +90,69 @@ pub fn choose<R: Runtime + AllocGlobal>(rt: &R, words: &[String]) -> Result<Chos
 
 fn chosen_by(alloc: Global, matches: &ArgMatches<'_>) -> Result<Chosen, CommandFault> {
     match matches.subcommand() {
-        Some(("answer", words)) => to_answer(alloc, words),
-        Some(("loop", words)) => to_loop(alloc, words),
-        Some(("map", words)) => to_map(alloc, words),
-        Some(("serve", words)) => to_serve(alloc, words),
-        Some(("push", words)) => to_push(alloc, words),
-        Some(("reset", words)) => to_reset(alloc, words),
-        Some(("show", words)) => to_show(alloc, words),
-        Some(("simulate", words)) => to_simulate(alloc, words),
+        Some((command, words)) => Ok(Chosen {
+            choice: choice_of(alloc, command, words)?,
+            store: store(alloc, words)?,
+            journal: journal(alloc, words)?,
+        }),
+        None => Err(CommandFault::Subcommand),
+    }
+}
+
+fn choice_of(alloc: Global, command: &str, words: &ArgMatches<'_>) -> Result<Choice, CommandFault> {
+    match command {
+        "answer" => to_answer(alloc, words),
+        "loop" => to_loop(alloc, words),
+        "map" => to_map(alloc, words),
+        "serve" => to_serve(alloc, words),
+        "push" => to_push(alloc, words),
+        "reset" => Ok(Choice::Reset),
+        "show" => Ok(Choice::Show),
+        "simulate" => to_simulate(alloc, words),
         _ => Err(CommandFault::Subcommand),
     }
 }
 
-fn to_answer(alloc: Global, words: &ArgMatches<'_>) -> Result<Chosen, CommandFault> {
-    Ok(Chosen {
-        store: store(alloc, words)?,
-        journal: None,
-        choice: Choice::Answer {
-            base: base(alloc, words)?,
-        },
+fn to_answer(alloc: Global, words: &ArgMatches<'_>) -> Result<Choice, CommandFault> {
+    Ok(Choice::Answer {
+        base: base(alloc, words)?,
     })
 }
 
-fn to_loop(alloc: Global, words: &ArgMatches<'_>) -> Result<Chosen, CommandFault> {
-    Ok(Chosen {
-        store: store(alloc, words)?,
-        journal: journal(alloc, words)?,
-        choice: Choice::Loop {
-            files: source_files(alloc, words)?,
-            base: base(alloc, words)?,
-        },
+fn to_loop(alloc: Global, words: &ArgMatches<'_>) -> Result<Choice, CommandFault> {
+    Ok(Choice::Loop {
+        files: source_files(alloc, words)?,
+        base: base(alloc, words)?,
     })
 }
 
-fn to_map(alloc: Global, words: &ArgMatches<'_>) -> Result<Chosen, CommandFault> {
-    without_files(Choice::Map {
+fn to_map(alloc: Global, words: &ArgMatches<'_>) -> Result<Choice, CommandFault> {
+    Ok(Choice::Map {
         file: file(alloc, words)?,
     })
 }
 
-fn to_serve(alloc: Global, words: &ArgMatches<'_>) -> Result<Chosen, CommandFault> {
-    Ok(Chosen {
-        store: store(alloc, words)?,
-        journal: None,
-        choice: Choice::Serve {
-            address: address(alloc, words)?,
-            requests: requests(words)?,
-            base: base(alloc, words)?,
-        },
+fn to_serve(alloc: Global, words: &ArgMatches<'_>) -> Result<Choice, CommandFault> {
+    Ok(Choice::Serve {
+        address: address(alloc, words)?,
+        requests: requests(words)?,
+        base: base(alloc, words)?,
     })
 }
 
-fn to_push(alloc: Global, words: &ArgMatches<'_>) -> Result<Chosen, CommandFault> {
-    Ok(Chosen {
-        store: None,
-        journal: journal(alloc, words)?,
-        choice: Choice::Push {
-            files: source_files(alloc, words)?,
-            to: to(alloc, words)?,
-            base: base(alloc, words)?,
-        },
+fn to_push(alloc: Global, words: &ArgMatches<'_>) -> Result<Choice, CommandFault> {
+    Ok(Choice::Push {
+        files: source_files(alloc, words)?,
+        to: to(alloc, words)?,
+        base: base(alloc, words)?,
     })
 }
 
-fn to_reset(alloc: Global, words: &ArgMatches<'_>) -> Result<Chosen, CommandFault> {
-    Ok(Chosen {
-        store: None,
-        journal: journal(alloc, words)?,
-        choice: Choice::Reset,
-    })
-}
-
-fn to_show(alloc: Global, words: &ArgMatches<'_>) -> Result<Chosen, CommandFault> {
-    Ok(Chosen {
-        store: store(alloc, words)?,
-        journal: journal(alloc, words)?,
-        choice: Choice::Show,
-    })
-}
-
-fn to_simulate(alloc: Global, words: &ArgMatches<'_>) -> Result<Chosen, CommandFault> {
-    let base = Base::read(alloc, DEFAULT_BASE).map_err(base_fault)?;
-    without_files(Choice::Simulate {
+fn to_simulate(alloc: Global, words: &ArgMatches<'_>) -> Result<Choice, CommandFault> {
+    Ok(Choice::Simulate {
         events: wanted_events(schedule(alloc, words)?, seed(words), count(words))?,
         settles: settles(words),
-        base,
-    })
-}
-
-/// A command that keeps no rows in files.
-fn without_files(choice: Choice) -> Result<Chosen, CommandFault> {
-    Ok(Chosen {
-        choice,
-        store: None,
-        journal: None,
+        base: Base::read(alloc, DEFAULT_BASE).map_err(base_fault)?,
     })
 }
 
@@ -201,5 +170,9 @@ fn tell(rt: &impl Runtime, error: Error) -> Result<Chosen, CommandFault> {
         return Err(CommandFault::Memory);
     }
     let is_printed = error.print(rt).is_ok();
-    without_files(Choice::Told(words_status(kind, is_printed)))
+    Ok(Chosen {
+        choice: Choice::Told(words_status(kind, is_printed)),
+        store: None,
+        journal: None,
+    })
 }
