@@ -16,7 +16,8 @@ use Rattle.source_csv.specs.Records.{row_name, row_revision}
 use Rattle.source_csv.specs.declared.rows.Row.{Row}
 use Rattle.journal_core.specs.Entries.{EntryMap, IsEntryOf, IsListOf, CanPutRow, CanPutRows, CanPutLearnt, IsUpTo, entry_learnt, entry_with, learnt_at, named, with_learnt, with_row, with_rows}
 use Rattle.journal_core.specs.Memory.{AreLawful, MemoryRecord, entries_in}
-use Rattle.journal_core.specs.Stores.{CountsFault, WritesOnce}
+use Rattle.journal_core.specs.Calls.{Writes}
+use Rattle.journal_core.specs.Stores.{CountsFault}
 use Rattle.journal_core.specs.contracts.memory.MemoryJournalJournal.TheImpl as impl
 use Rattle.journal_core.specs.declared.journals.JournalFault.{JournalFault}
 use Rattle.journal_core.specs.declared.entries.Entry.{Entry}
@@ -133,7 +134,7 @@ answered = Ok tt
 -- the record of a call that made the entries these, and counted a write
 pub made : (old : MemoryRecord) (was new : Tree) (held writes : ℕ) (change : EntryMap → EntryMap) → after (entries_in was) held ≡ old
     → entries_in new ≡ change (entries_in was) → writes ≡ min (held + 1) (2 ^ 64 - 1)
-    → WritesOnce (impl.ghosts).entries (impl.ghosts).is_faithful (impl.ghosts).is_honest (impl.ghosts).may_hold (impl.ghosts).faults (impl.ghosts).writes CountsFault old (after (entries_in new) writes) (change old.entries) answered
+    → Writes (impl.ghosts) CountsFault old (after (entries_in new) writes) (change old.entries) answered
 made old was new held writes change shows put counts =
     let entries : entries_in new ≡ change old.entries = put ∙ ap (λ v. change v.entries) shows in
     let held_is : held ≡ old.writes = ap (λ v. v.writes) shows in

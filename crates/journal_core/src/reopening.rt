@@ -1,6 +1,7 @@
 //! Journals that can be opened again.
 ghost use Rattle.std.specs.Prelude.{◌≡◌, IsOk};
-ghost use Rattle.journal_core.specs.Stores.{CountsFault, Reopens};
+ghost use Rattle.journal_core.specs.Calls.{OpensAgain};
+ghost use Rattle.journal_core.specs.Stores.{CountsFault};
 
 use crate::journals::{Journal, JournalFault};
 use crate::memory::MemoryJournal;
@@ -9,7 +10,7 @@ use crate::memory::MemoryJournal;
 pub trait ReopenJournal: Journal {
     /// Opens the store again. After a stop, it holds what the stop left.
     fn reopen(&mut self) -> Result<(), JournalFault>
-        ensures reopens { Reopens Self.entries Self.is_faithful Self.is_honest Self.may_hold Self.faults Self.writes CountsFault self.old self.new result };
+        ensures reopens { OpensAgain Self.Journal CountsFault self.old self.new result };
 }
 
 impl ReopenJournal for MemoryJournal {
