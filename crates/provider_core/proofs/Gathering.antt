@@ -17,6 +17,7 @@ use Rattle.provider_core.specs.Gathering.{Gathered, gathered, greatest_total, Is
 use Rattle.provider_core.proofs.IndexLaws.{hits-named}
 use Rattle.scim_message.specs.declared.messages.Answer.TheVariants as answers
 use Rattle.provider_core.specs.Calls.{Reads}
+use Rattle.provider_core.specs.Stores.{CountsProviderFault}
 use Rattle.provider_core.specs.declared.registry.Registry.{Ghosts}
 
 pub goes-none : (kind : Kind) (wanted : Option Expression) (g : Gathered) → GoesThrough kind wanted [] g g
@@ -85,7 +86,7 @@ gathers-named kind (Some wanted) name rows old new names apart through =
 
 -- the state after the rows before `after` were looked through
 pub record IsGathering {R : Type 0} (g : Ghosts R) (kind : Kind) (wanted : Option Expression) (all after : ℕ) (old new : R) (gathered_old gathered_new : Gathered) : Type 0 where
-  pub reads : Reads g old new (Ok (tt {0}))
+  pub reads : Reads g CountsProviderFault old new (Ok (tt {0}))
   pub through : g.is_faithful new → length (g.rows old) ≤ all → GoesThrough kind wanted (take after (g.rows old)) gathered_old gathered_new
 
 -- a number past all rows takes them all

@@ -4,21 +4,21 @@ use Rattle.std.specs.Prelude.{Option, Some, None, Result, Ok, Err, OnOk, OnErr, 
 use Rattle.std.proofs.Math.Seq.{take-add}
 use Rattle.std.proofs.lemmas.List.{take_all, take_min}
 use Rattle.scim_resource.specs.Rows.{StoredRecord, ShownRecord, shown}
-use Rattle.provider_core.specs.Calls.{Reads}
+use Rattle.provider_core.specs.Calls.{Reads, Writes}
 use Rattle.provider_core.specs.Listing.{Places, places_of, rows_at, AddsRows, AreOf, KeepsPlaces}
 use Rattle.provider_core.specs.Rows.{with_row, IsNumberedFrom}
-use Rattle.provider_core.specs.Stores.{WritesOnce, HoldsNumber}
+use Rattle.provider_core.specs.Stores.{CountsProviderFault, HoldsNumber}
 use Rattle.provider_core.specs.declared.registry.Registry.{Ghosts}
 use Rattle.provider_core.proofs.PlaceLaws.{places-kept}
 
 -- the places of the rows before `after` were found
 pub record IsFinding {R : Type 0} (g : Ghosts R) (all after : ℕ) (old new : R) (places : Places) : Type 0 where
-  pub reads : Reads g old new (Ok (tt {0}))
+  pub reads : Reads g CountsProviderFault old new (Ok (tt {0}))
   pub found : g.is_faithful new → length (g.rows old) ≤ all → places ≡ places_of (take after (g.rows old))
 
 -- the rows at the first `done` places are on the page
 pub record IsShowing {R : Type 0} (g : Ghosts R) (wanted : List ℕ) (done : ℕ) (old new : R) (start page : List ShownRecord) : Type 0 where
-  pub reads : Reads g old new (Ok (tt {0}))
+  pub reads : Reads g CountsProviderFault old new (Ok (tt {0}))
   pub within : done ≤ length wanted
   pub shows : g.is_faithful new → page ≡ start ++ map shown (rows_at (take done wanted) (g.rows old))
   pub numbered : g.is_faithful new → 0 < done → IsNumberedFrom 1 (g.rows old)
@@ -52,7 +52,7 @@ either-way (Err fault) old new later same done failed = ap places_of failed
 -- a row that replaces the one of its number keeps the places
 pub kept_update : {R T F : Type 0} {g : Ghosts R} {counts : ℕ → ℕ → F → Type 0} {old new : R} {result : Result T F} {places : Option Places} (row : StoredRecord)
     → (g.is_faithful old → HoldsNumber (g.rows old) row)
-    → WritesOnce g.rows g.is_faithful g.is_honest g.may_hold g.faults g.writes counts old new (with_row row (g.rows old)) result → KeepsPlaces g old places → KeepsPlaces g new places
+    → Writes g counts old new (with_row row (g.rows old)) result → KeepsPlaces g old places → KeepsPlaces g new places
 kept_update {g} {old} {new} {result} {places} row holds writes kept = record {
   are = λ faithful.
       let was = writes.was faithful in

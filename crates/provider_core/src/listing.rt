@@ -6,6 +6,7 @@ ghost use Rattle.provider_core.specs.Calls.{Reads};
 ghost use Rattle.provider_core.specs.Listing.{AddsRows, KeepsPlaces, places_of, rows_at};
 ghost use Rattle.provider_core.specs.Outcomes.{outcome};
 ghost use Rattle.provider_core.specs.Rows.{IsNumberedFrom};
+ghost use Rattle.provider_core.specs.Stores.{CountsProviderFault};
 
 use crate::kinds::KindPlaces;
 use crate::pending::Pending;
@@ -31,7 +32,7 @@ pub(crate) fn list<R: Registry>(
     ensures ok { R.is_faithful registry.new →
         IfOk result
         (λ pending. pending ≡ outcome (R.rows registry.old) (Request.Search kind None start count)) }
-    ensures reads { Reads R.Registry registry.old registry.new result }
+    ensures reads { Reads R.Registry CountsProviderFault registry.old registry.new result }
     ensures keeps { KeepsPlaces R.Registry registry.new places.new }
 {
     let all = registry.count()?;
@@ -54,7 +55,7 @@ fn kept_or_found<R: Registry>(
     requires kept { KeepsPlaces R.Registry registry.old kept }
     ensures ok { R.is_faithful registry.new →
         IfOk result (λ places. places ≡ places_of (R.rows registry.old)) }
-    ensures reads { Reads R.Registry registry.old registry.new result }
+    ensures reads { Reads R.Registry CountsProviderFault registry.old registry.new result }
 {
     match kept {
         Some(places) => Ok(places),
@@ -72,7 +73,7 @@ fn find_places<R: Registry>(
     requires counted { R.is_faithful registry.old → all ≡ length (R.rows registry.old) }
     ensures ok { R.is_faithful registry.new →
         IfOk result (λ places. places ≡ places_of (R.rows registry.old)) }
-    ensures reads { Reads R.Registry registry.old registry.new result }
+    ensures reads { Reads R.Registry CountsProviderFault registry.old registry.new result }
 {
     let mut places = KindPlaces::new(alloc);
     let mut after = 0;
@@ -91,7 +92,7 @@ fn add_page<R: Registry>(
 ) -> Result<(), ProviderFault>
     ensures ok { R.is_faithful registry.new →
         OnOk result (AddsRows (take ROWS_AT_ONCE (drop after (R.rows registry.old))) places.old places.new) }
-    ensures reads { Reads R.Registry registry.old registry.new result }
+    ensures reads { Reads R.Registry CountsProviderFault registry.old registry.new result }
 {
     let rows = registry.scan(after, ROWS_AT_ONCE as usize)?;
     places.add_all(&rows)?;
@@ -111,7 +112,7 @@ fn list_page<R: Registry>(
     ensures ok { R.is_faithful registry.new → places.now ≡ places_of (R.rows registry.old) →
         IfOk result
         (λ pending. pending ≡ outcome (R.rows registry.old) (Request.Search kind None start count)) }
-    ensures reads { Reads R.Registry registry.old registry.new result }
+    ensures reads { Reads R.Registry CountsProviderFault registry.old registry.new result }
 {
     let first = first_place(start);
     let mut page = Vec::new(alloc);
@@ -132,7 +133,7 @@ fn show_rows<R: Registry>(
         OnOk result (page.new.items ≡ page.old.items ++ map shown (rows_at places.now (R.rows registry.old))) }
     ensures numbered { R.is_faithful registry.new →
         OnOk result (0 < length places.now → IsNumberedFrom 1 (R.rows registry.old)) }
-    ensures reads { Reads R.Registry registry.old registry.new result }
+    ensures reads { Reads R.Registry CountsProviderFault registry.old registry.new result }
 {
     let mut done = 0;
     while done < places.len() {
@@ -171,7 +172,7 @@ fn show_run<R: Registry>(
     ensures ok { R.is_faithful registry.new →
         OnOk result (page.new.items ≡ page.old.items ++ map shown (take run (drop after (R.rows registry.old)))) }
     ensures numbered { R.is_faithful registry.new → OnOk result (IsNumberedFrom 1 (R.rows registry.old)) }
-    ensures reads { Reads R.Registry registry.old registry.new result }
+    ensures reads { Reads R.Registry CountsProviderFault registry.old registry.new result }
 {
     let rows = registry.scan(after, run)?;
     show_all(&rows, page)?;

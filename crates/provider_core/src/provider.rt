@@ -6,8 +6,8 @@ ghost use Rattle.scim_resource.specs.Contents.{content_name};
 ghost use Rattle.provider_core.specs.Outcomes.{outcome, changed_rows, IsChange, IsOutcome};
 ghost use Rattle.provider_core.specs.Gathering.{Gathers, GoesThrough};
 ghost use Rattle.provider_core.specs.Rows.{resource, row_named};
-ghost use Rattle.provider_core.specs.Stores.{WritesOnce, Reopens, CountsFault, CountsProviderFault};
-ghost use Rattle.provider_core.specs.Calls.{Reads, Writes};
+ghost use Rattle.provider_core.specs.Stores.{CountsFault, CountsProviderFault};
+ghost use Rattle.provider_core.specs.Calls.{Reads, Writes, OpensAgain};
 ghost use Rattle.provider_core.specs.declared.provider.ProviderFault.TheVariants as provider_faults;
 
 use crate::kinds::{KindPlaces, add_kept};
@@ -107,7 +107,7 @@ impl<R: Registry> Provider<R> {
     pub fn prepare(&mut self, alloc: Global, request: &Request) -> Result<Pending, ProviderFault>
         ensures ok { R.is_faithful self.new →
             IfOk result (λ pending. pending ≡ outcome (R.rows self.old) request.now) }
-        ensures reads { Reads R.Registry self.old self.new result }
+        ensures reads { Reads R.Registry CountsProviderFault self.old self.new result }
     {
         match request {
             Request::Create { content } => self.prepare_create(alloc, content),
@@ -135,7 +135,7 @@ impl<R: Registry> Provider<R> {
     fn prepare_create(&mut self, alloc: Global, content: &Content) -> Result<Pending, ProviderFault>
         ensures ok { R.is_faithful self.new →
             IfOk result (λ pending. pending ≡ outcome (R.rows self.old) (Request.Create content.now)) }
-        ensures reads { Reads R.Registry self.old self.new result }
+        ensures reads { Reads R.Registry CountsProviderFault self.old self.new result }
     {
         let name = content.name(alloc)?;
         let Some(count) = self.registry.count_if_free(&name)? else {
@@ -151,7 +151,7 @@ impl<R: Registry> Provider<R> {
     fn resource(&mut self, kind: Kind, id: &ResourceId) -> Result<Option<Stored>, ProviderFault>
         ensures ok { R.is_faithful self.new →
             IfOk result (λ row. row ≡ resource kind id.now (R.rows self.old)) }
-        ensures reads { Reads R.Registry self.old self.new result }
+        ensures reads { Reads R.Registry CountsProviderFault self.old self.new result }
     {
         match self.registry.by_id(id)? {
             Some(row) if is_of_kind(&row, kind) => Ok(Some(row)),
@@ -171,7 +171,7 @@ impl<R: Registry> Provider<R> {
             IfOk result
             (λ pending. pending
             ≡ outcome (R.rows self.old) (Request.Retrieve kind id.now if_match.now if_none_match.now)) }
-        ensures reads { Reads R.Registry self.old self.new result }
+        ensures reads { Reads R.Registry CountsProviderFault self.old self.new result }
     {
         match self.resource(kind, id)? {
             Some(row) => Ok(retrieval(alloc, &row, if_match, if_none_match)?),
@@ -190,7 +190,7 @@ impl<R: Registry> Provider<R> {
         ensures ok { R.is_faithful self.new →
             IfOk result
             (λ pending. pending ≡ outcome (R.rows self.old) (Request.Search kind filter.now start count)) }
-        ensures reads { Reads R.Registry self.old self.new result }
+        ensures reads { Reads R.Registry CountsProviderFault self.old self.new result }
     {
         if filter.is_none() {
             return self.prepare_list(alloc, kind, start, count);
@@ -210,7 +210,7 @@ impl<R: Registry> Provider<R> {
         ensures ok { R.is_faithful self.new →
             IfOk result
             (λ pending. pending ≡ outcome (R.rows self.old) (Request.Search kind None start count)) }
-        ensures reads { Reads R.Registry self.old self.new result }
+        ensures reads { Reads R.Registry CountsProviderFault self.old self.new result }
     {
         list(
             &mut self.registry,
@@ -232,7 +232,7 @@ impl<R: Registry> Provider<R> {
     ) -> Result<(), ProviderFault>
         ensures ok { R.is_faithful self.new →
             OnOk result (Gathers kind filter.now (R.rows self.old) gathered.old gathered.new) }
-        ensures reads { Reads R.Registry self.old self.new result }
+        ensures reads { Reads R.Registry CountsProviderFault self.old self.new result }
     {
         match single_key(alloc, filter)? {
             Some(name) => self.gather_named(kind, filter, &name, gathered),
@@ -251,7 +251,7 @@ impl<R: Registry> Provider<R> {
         requires { option_and_then single_key filter.now ≡ Some name.now }
         ensures ok { R.is_faithful self.new →
             OnOk result (Gathers kind filter.now (R.rows self.old) gathered.old gathered.new) }
-        ensures reads { Reads R.Registry self.old self.new result }
+        ensures reads { Reads R.Registry CountsProviderFault self.old self.new result }
     {
         match self.registry.by_key(name)? {
             Some(row) => Ok(gathered.look_at(kind, filter, &row)?),
@@ -268,7 +268,7 @@ impl<R: Registry> Provider<R> {
     ) -> Result<(), ProviderFault>
         ensures ok { R.is_faithful self.new →
             OnOk result (Gathers kind filter.now (R.rows self.old) gathered.old gathered.new) }
-        ensures reads { Reads R.Registry self.old self.new result }
+        ensures reads { Reads R.Registry CountsProviderFault self.old self.new result }
     {
         let all = self.registry.count()?;
         let mut after = 0;
@@ -289,7 +289,7 @@ impl<R: Registry> Provider<R> {
     ) -> Result<(), ProviderFault>
         ensures ok { R.is_faithful self.new →
             OnOk result (GoesThrough kind filter.now (take ROWS_AT_ONCE (drop after (R.rows self.old))) gathered.old gathered.new) }
-        ensures reads { Reads R.Registry self.old self.new result }
+        ensures reads { Reads R.Registry CountsProviderFault self.old self.new result }
     {
         let rows = self.registry.scan(after, ROWS_AT_ONCE as usize)?;
         gathered.look_through(kind, filter, &rows)?;
@@ -308,7 +308,7 @@ impl<R: Registry> Provider<R> {
             IfOk result
             (λ pending. pending
             ≡ outcome (R.rows self.old) (Request.Replace id.now content.now if_match.now if_none_match.now)) }
-        ensures reads { Reads R.Registry self.old self.new result }
+        ensures reads { Reads R.Registry CountsProviderFault self.old self.new result }
     {
         match self.resource(content.kind(), id)? {
             Some(row) => Ok(replacement(alloc, &row, content, if_match, if_none_match)?),
@@ -321,7 +321,7 @@ impl<R: Registry> Provider<R> {
     pub fn commit(&mut self, pending: Pending) -> Result<Answer, ProviderFault>
         requires { R.is_faithful self.old → IsOutcome (R.rows self.old) pending }
         ensures answer { IfOk result (λ answer. answer ≡ pending.answer) }
-        ensures writes { Writes R.Registry self.old self.new
+        ensures writes { Writes R.Registry CountsProviderFault self.old self.new
             (changed_rows (R.rows self.old) pending.change) result }
         ensures open { R.is_honest self.new → R.is_faithful self.old →
             OnOk result (R.is_faithful self.new) }
@@ -333,8 +333,8 @@ impl<R: Registry> Provider<R> {
     /// Makes a change on the current rows.
     fn make(&mut self, change: Change) -> Result<(), RegistryFault>
         requires { R.is_faithful self.old → IsChange (R.rows self.old) change }
-        ensures writes { WritesOnce R.rows R.is_faithful R.is_honest R.may_hold R.faults R.writes
-            CountsFault self.old self.new (changed_rows (R.rows self.old) change) result }
+        ensures writes { Writes R.Registry CountsFault self.old self.new
+            (changed_rows (R.rows self.old) change) result }
         ensures open { R.is_honest self.new → R.is_faithful self.old →
             OnOk result (R.is_faithful self.new) }
     {
@@ -350,8 +350,8 @@ impl<R: Registry> Provider<R> {
         requires next { R.is_faithful self.old → row.number ≡ length (R.rows self.old) + 1 }
         requires free { R.is_faithful self.old →
             row_named (content_name row.content) (R.rows self.old) ≡ None }
-        ensures adds { WritesOnce R.rows R.is_faithful R.is_honest R.may_hold R.faults R.writes
-            CountsFault self.old self.new (R.rows self.old ++ row ∷ []) result }
+        ensures adds { Writes R.Registry CountsFault self.old self.new
+            (R.rows self.old ++ row ∷ []) result }
         ensures open { R.is_honest self.new → OnOk result (R.is_faithful self.new) }
     {
         let kind = row.content().kind();
@@ -365,7 +365,7 @@ impl<R: Registry> Provider<R> {
     pub fn answer(&mut self, alloc: Global, request: &Request) -> Result<Answer, ProviderFault>
         ensures answer { R.is_faithful self.new →
             IfOk result (λ answer. answer ≡ (outcome (R.rows self.old) request.now).answer) }
-        ensures writes { Writes R.Registry self.old self.new
+        ensures writes { Writes R.Registry CountsProviderFault self.old self.new
             (changed_rows (R.rows self.old) (outcome (R.rows self.old) request.now).change) result }
         ensures open { R.is_honest self.new → OnOk result (R.is_faithful self.new) }
     {
@@ -377,8 +377,7 @@ impl<R: Registry> Provider<R> {
 impl<R: Reopen> Provider<R> {
     /// Opens the registry again.
     pub fn reopen(&mut self) -> Result<(), ProviderFault>
-        ensures { Reopens R.rows R.is_faithful R.is_honest R.may_hold R.faults R.writes
-            CountsProviderFault self.old self.new result }
+        ensures { OpensAgain R.Registry CountsProviderFault self.old self.new result }
     {
         self.places = None;
         Ok(self.registry.reopen()?)

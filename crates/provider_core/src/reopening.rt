@@ -1,6 +1,7 @@
 //! Registries that can be opened again.
 ghost use Rattle.std.specs.Prelude.{◌≡◌, IsOk};
-ghost use Rattle.provider_core.specs.Stores.{CountsFault, Reopens};
+ghost use Rattle.provider_core.specs.Calls.{OpensAgain};
+ghost use Rattle.provider_core.specs.Stores.{CountsFault};
 
 use crate::memory::MemoryRegistry;
 use crate::registry::{Registry, RegistryFault};
@@ -9,7 +10,7 @@ use crate::registry::{Registry, RegistryFault};
 pub trait Reopen: Registry {
     /// Opens the store again. After a stop, it holds what the stop left.
     fn reopen(&mut self) -> Result<(), RegistryFault>
-        ensures reopens { Reopens Self.rows Self.is_faithful Self.is_honest Self.may_hold Self.faults Self.writes CountsFault self.old self.new result };
+        ensures reopens { OpensAgain Self.Registry CountsFault self.old self.new result };
 }
 
 impl Reopen for MemoryRegistry {

@@ -13,7 +13,7 @@ loop-after-preserved g c =
     let page = c.in_ok-add_page.ensures in
     let rows = g.R.Registry.rows c.args.registry.now in
     record {
-      reads = reads-on {result = Ok (tt {0})} before.reads page.reads;
+      reads = reads-on g.R.Registry {result = Ok (tt {0})} before.reads page.reads;
       found = λ faithful short.
           let earlier = page.reads.was faithful in
           let adds = subst (λ (all : List StoredRecord). AddsRows (take ROWS_AT_ONCE (drop c.loop-after.after all)) c.loop-after.places c.add_page.new.places) (before.reads.same earlier) (page.ok faithful) in

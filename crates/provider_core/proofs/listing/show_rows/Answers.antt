@@ -20,7 +20,7 @@ loop-done-preserved g c =
     let whole : rest ≡ drop done places = take_rest places done in
     let follows = subst (λ (later : List ℕ). take length-of-run later ≡ range_with_len (slice_index rest 0) length-of-run) whole c.run_length-run.ensures.follow in
     record {
-      reads = reads-on {result = Ok (tt {0})} before.reads run.reads;
+      reads = reads-on g.R.Registry {result = Ok (tt {0})} before.reads run.reads;
       within = omega (arith, c.run_length-run.ensures.within, ap length whole, length-drop done places);
       shows = λ faithful.
           let earlier = run.reads.was faithful in

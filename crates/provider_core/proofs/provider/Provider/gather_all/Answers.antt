@@ -15,7 +15,7 @@ loop-after-preserved g c =
     let wanted = c.args.filter.now in
     let rows = g.R.Registry.rows c.count.new.self in
     record {
-      reads = reads-on {result = Ok (tt {0})} before.reads page.reads;
+      reads = reads-on g.R.Registry {result = Ok (tt {0})} before.reads page.reads;
       through = λ faithful short.
           let earlier = page.reads.was faithful in
           let through = subst (λ (all : List StoredRecord). GoesThrough kind wanted (take ROWS_AT_ONCE (drop c.loop-after.after all)) c.loop-after.gathered c.gather_page.new.gathered) (before.reads.same earlier) (page.ok faithful) in
@@ -36,4 +36,4 @@ returns-clause-ok g c = rw (← c.self.view_is) (λ faithful.
     (goes-all c.args.kind c.args.filter.now c.in_ok-all.all c.loop-after.after rows c.args.gathered.now c.loop-after.gathered (omega arith) (omega (arith, all)) through))
 
 pub returns-clause-reads : goal.returns-clause-reads
-returns-clause-reads g c = rw (← c.self.view_is) (reads-on c.in_ok-all.ensures.reads c.loop-after.invariant.reads)
+returns-clause-reads g c = rw (← c.self.view_is) (reads-on g.R.Registry c.in_ok-all.ensures.reads c.loop-after.invariant.reads)
