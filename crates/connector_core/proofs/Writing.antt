@@ -1,17 +1,16 @@
 -- A call of the connector that leaves the journal as it was.
 use Rattle.std.proofs.Common.{◌≡◌, ◌∙◌, ℕ, OnOk, Result, Ok, Err, refl, sym, arith, inl, inr}
+use Rattle.journal_core.specs.Calls.{Writes}
 use Rattle.journal_core.specs.Entries.{EntryMap}
-use Rattle.journal_core.specs.Stores.{CountsFault, WritesOnce}
+use Rattle.journal_core.specs.Stores.{CountsFault}
+use Rattle.journal_core.specs.declared.journals.Journal.{Ghosts}
 use Rattle.journal_core.specs.declared.journals.JournalFault.{JournalFault}
 use Rattle.journal_core.specs.declared.journals.JournalFault.TheVariants.{Store, Memory}
 use Rattle.connector_core.specs.Changing.{CountsChange, change_fault}
 use Rattle.connector_core.specs.declared.changing.ChangeFault.{ChangeFault}
 
-module _ {S : Type 0} (entries : S → EntryMap) (is_faithful is_honest : S → Type 0) (may_hold : S → EntryMap → Type 0) (faults writes : S → ℕ) where
-  abbrev pub Changes : {T : Type 0} → S → S → EntryMap → Result T ChangeFault → Type 0
-  Changes old new later result = WritesOnce entries is_faithful is_honest may_hold faults writes CountsChange old new later result
-
-  pub refused : {T : Type 0} (s : S) (later : EntryMap) (fault : ChangeFault) → CountsChange (faults s) (faults s) fault → Changes {T = T} s s later (Err fault)
+module _ {J : Type 0} (g : Ghosts J) where
+  pub refused : {T : Type 0} (s : J) (later : EntryMap) (fault : ChangeFault) → CountsChange (g.faults s) (g.faults s) fault → Writes {T = T} g CountsChange s s later (Err fault)
   refused s later fault counts = record {
     was = λ f. f;
     done = λ _. tt;
@@ -23,7 +22,7 @@ module _ {S : Type 0} (entries : S → EntryMap) (is_faithful is_honest : S → 
     unwritten = refl;
   }
 
-  pub unchanged : {T : Type 0} (s : S) (later : EntryMap) (said : T) → later ≡ entries s → Changes s s later (Ok said)
+  pub unchanged : {T : Type 0} (s : J) (later : EntryMap) (said : T) → later ≡ g.entries s → Writes g CountsChange s s later (Ok said)
   unchanged s later said same = record {
     was = λ f. f;
     done = λ _. sym same;
@@ -36,8 +35,8 @@ module _ {S : Type 0} (entries : S → EntryMap) (is_faithful is_honest : S → 
   }
 
   -- a call that makes the entries these makes them those, where both are the same as long as the store is faithful
-  pub writes-these : {T F : Type 0} (counts : ℕ → ℕ → F → Type 0) (old new : S) (these those : EntryMap) (result : Result T F) → (is_faithful old → these ≡ those)
-      → WritesOnce entries is_faithful is_honest may_hold faults writes counts old new these result → WritesOnce entries is_faithful is_honest may_hold faults writes counts old new those result
+  pub writes-these : {T F : Type 0} (counts : ℕ → ℕ → F → Type 0) (old new : J) (these those : EntryMap) (result : Result T F) → (g.is_faithful old → these ≡ those)
+      → Writes g counts old new these result → Writes g counts old new those result
   writes-these {T} {F} counts old new these those result same w = record {
     was = w.was;
     done = λ f. done-on result (same (w.was f)) (w.done f);
@@ -52,12 +51,12 @@ module _ {S : Type 0} (entries : S → EntryMap) (is_faithful is_honest : S → 
     unwritten = w.unwritten;
   }
     where
-      done-on : (r : Result T F) → these ≡ those → OnOk r (entries new ≡ these) → OnOk r (entries new ≡ those)
+      done-on : (r : Result T F) → these ≡ those → OnOk r (g.entries new ≡ these) → OnOk r (g.entries new ≡ those)
       done-on (Ok x) e is = is ∙ e
       done-on (Err fault) e is = tt
 
   -- what the journal put is what the call says it made
-  pub put-done : {T : Type 0} (old new : S) (later : EntryMap) (said : T) → WritesOnce entries is_faithful is_honest may_hold faults writes CountsFault old new later (Ok (tt {0})) → Changes old new later (Ok said)
+  pub put-done : {T : Type 0} (old new : J) (later : EntryMap) (said : T) → Writes g CountsFault old new later (Ok (tt {0})) → Writes g CountsChange old new later (Ok said)
   put-done old new later said w = record {
     was = w.was;
     done = w.done;
@@ -74,15 +73,15 @@ module _ {S : Type 0} (entries : S → EntryMap) (is_faithful is_honest : S → 
   counted-so old new Memory counts = counts
 
   -- a fault of the journal is the call's
-  pub put-failed : {T : Type 0} (old new : S) (later : EntryMap) (fault : JournalFault) → WritesOnce {T = Unit {0}} entries is_faithful is_honest may_hold faults writes CountsFault old new later (Err fault)
-      → Changes {T = T} old new later (Err (change_fault fault))
+  pub put-failed : {T : Type 0} (old new : J) (later : EntryMap) (fault : JournalFault) → Writes {T = Unit {0}} g CountsFault old new later (Err fault)
+      → Writes {T = T} g CountsChange old new later (Err (change_fault fault))
   put-failed old new later fault w = record {
     was = w.was;
     done = w.done;
     same = w.same;
     honest = w.honest;
     stop = w.stop;
-    counted = counted-so (faults old) (faults new) fault w.counted;
+    counted = counted-so (g.faults old) (g.faults new) fault w.counted;
     written = w.written;
     unwritten = w.unwritten;
   }

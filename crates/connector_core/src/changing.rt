@@ -8,7 +8,7 @@ ghost use Rattle.source_csv.specs.Records.{row_name};
 ghost use Rattle.source_book.specs.History.{user};
 ghost use Rattle.source_book.specs.declared.accepting.Verdict.TheVariants as verdicts;
 ghost use Rattle.journal_core.specs.Entries.{with_row};
-ghost use Rattle.journal_core.specs.Stores.{WritesOnce};
+ghost use Rattle.journal_core.specs.Calls.{Writes};
 ghost use Rattle.connector_core.specs.Book.{wanted_row, wanting};
 ghost use Rattle.connector_core.specs.Changing.{CountsChange, IsNoVerdict, IsRejection, accepted_entries, accepted_map, book_after, is_full, judging, limited, member_at, unknown_member};
 ghost use Rattle.connector_core.specs.Maps.{GivesUnless, book_of};
@@ -214,7 +214,7 @@ impl<J: Journal> Connector<J> {
         ensures ok { OnOk result (self.new.book ≡ accepted_map self.old.book row (judging (book_of self.old.book) (keys self.old.book) row)) }
         ensures err { OnErr result (self.new.book ≡ self.old.book) }
         ensures kept { J.is_faithful self.new.journal → IsKept (J.entries self.new.journal) self.new.book }
-        ensures journal { WritesOnce J.entries J.is_faithful J.is_honest J.may_hold J.faults J.writes CountsChange self.old.journal self.new.journal (accepted_entries (J.entries self.old.journal) row (judging (book_of self.old.book) (keys self.old.book) row)) result }
+        ensures journal { Writes J.Journal CountsChange self.old.journal self.new.journal (accepted_entries (J.entries self.old.journal) row (judging (book_of self.old.book) (keys self.old.book) row)) result }
         ensures quiet { IfOk result (λ verdict. verdict ≢ verdicts.New → J.writes self.new.journal ≡ J.writes self.old.journal) }
         ensures rejected { IfErr result (λ fault. IsRejection fault → self.new.journal ≡ self.old.journal) }
         ensures open { J.is_honest self.new.journal → J.is_faithful self.old.journal → OnOk result (J.is_faithful self.new.journal) }
@@ -246,7 +246,7 @@ impl<J: Journal> Connector<J> {
         ensures ok { OnOk result (self.new.book ≡ insert self.old.book (row_name row) (wanting (get self.old.book (row_name row)) row)) }
         ensures err { OnErr result (self.new.book ≡ self.old.book) }
         ensures kept { J.is_faithful self.new.journal → IsKept (J.entries self.new.journal) self.new.book }
-        ensures journal { WritesOnce J.entries J.is_faithful J.is_honest J.may_hold J.faults J.writes CountsChange self.old.journal self.new.journal (with_row (J.entries self.old.journal) row) result }
+        ensures journal { Writes J.Journal CountsChange self.old.journal self.new.journal (with_row (J.entries self.old.journal) row) result }
         ensures open { J.is_honest self.new.journal → OnOk result (J.is_faithful self.new.journal) }
     {
         if is_first {
@@ -266,7 +266,7 @@ impl<J: Journal> Connector<J> {
         ensures ok { OnOk result (self.new.book ≡ insert self.old.book (row_name row) (wanting (get self.old.book (row_name row)) row)) }
         ensures err { OnErr result (self.new.book ≡ self.old.book) }
         ensures kept { J.is_faithful self.new.journal → IsKept (J.entries self.new.journal) self.new.book }
-        ensures journal { WritesOnce J.entries J.is_faithful J.is_honest J.may_hold J.faults J.writes CountsChange self.old.journal self.new.journal (with_row (J.entries self.old.journal) row) result }
+        ensures journal { Writes J.Journal CountsChange self.old.journal self.new.journal (with_row (J.entries self.old.journal) row) result }
         ensures open { J.is_honest self.new.journal → OnOk result (J.is_faithful self.new.journal) }
     {
         self.journal.put_row(&row)?;
@@ -284,7 +284,7 @@ impl<J: Journal> Connector<J> {
         ensures ok { OnOk result (self.new.book ≡ insert self.old.book (row_name row) (wanting (get self.old.book (row_name row)) row)) }
         ensures err { OnErr result (self.new.book ≡ self.old.book) }
         ensures kept { J.is_faithful self.new.journal → IsKept (J.entries self.new.journal) self.new.book }
-        ensures journal { WritesOnce J.entries J.is_faithful J.is_honest J.may_hold J.faults J.writes CountsChange self.old.journal self.new.journal (with_row (J.entries self.old.journal) row) result }
+        ensures journal { Writes J.Journal CountsChange self.old.journal self.new.journal (with_row (J.entries self.old.journal) row) result }
         ensures open { J.is_honest self.new.journal → OnOk result (J.is_faithful self.new.journal) }
     {
         self.book.put(name.clone()?, first_known(row.clone()?))?;

@@ -2,7 +2,7 @@
 ghost use Rattle.std.specs.Prelude.{◌≡◌, IfOk};
 ghost use Rattle.std.specs.FinMap.{keys};
 ghost use Rattle.std.specs.Option.{option_copied};
-ghost use Rattle.journal_core.specs.Stores.{OnlyReads};
+ghost use Rattle.journal_core.specs.Calls.{Reads};
 ghost use Rattle.connector_core.specs.Book.{confirmed_of, seen_of, wanted_of};
 ghost use Rattle.connector_core.specs.Maps.{book_of};
 ghost use Rattle.connector_core.specs.State.{CountsOpenFault, IsKept, IsOpened, LeavesBook, journal_after};
@@ -47,7 +47,7 @@ impl<J: Journal> Connector<J> {
     pub fn open(alloc: Global, mut journal: J) -> Result<Connector<J>, (ConnectorOpenFault, J)>
         ensures opened { IfOk result (λ connector. J.is_faithful connector.journal → IsOpened (J.entries journal) connector.book) }
         ensures kept { IfOk result (λ connector. J.is_faithful connector.journal → IsKept (J.entries connector.journal) connector.book) }
-        ensures reads { OnlyReads J.entries J.is_faithful J.is_honest J.may_hold J.faults J.writes CountsOpenFault journal (journal_after result) result }
+        ensures reads { Reads J.Journal CountsOpenFault journal (journal_after result) result }
         ensures leaves { IfOk result (λ connector. J.is_honest connector.journal → LeavesBook J.Journal connector) }
     {
         let list = match journal.load() {

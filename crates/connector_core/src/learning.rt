@@ -2,7 +2,7 @@
 ghost use Rattle.std.specs.Prelude.{◌≡◌, ℕ, IfErr, IfOk, OnErr, OnOk};
 ghost use Rattle.std.specs.FinMap.{get, keys};
 ghost use Rattle.scim_key.specs.Outcome.{Gives};
-ghost use Rattle.journal_core.specs.Stores.{WritesOnce};
+ghost use Rattle.journal_core.specs.Calls.{Writes};
 ghost use Rattle.connector_core.specs.Learning.{after_learning, learn, named_alone, or_fault, subject};
 ghost use Rattle.connector_core.specs.Maps.{GivesUnless, book_of, changed};
 ghost use Rattle.connector_core.specs.Noting.{CountsLearn, IsNewsAt, IsNoted, IsNotNoted, IsOfJournal, IsPassing, IsRejection, KeepsEntries, MayStandFor, after_news, entries_with, learnt_of, news_learnt, note, noted_entries};
@@ -152,7 +152,7 @@ impl<J: Journal> Connector<J> {
         ensures err { OnErr result (self.new.book ≡ self.old.book) }
         ensures names { keys self.new.book ≡ keys self.old.book }
         ensures kept { J.is_faithful self.new.journal → IsKept (J.entries self.new.journal) self.new.book }
-        ensures journal { WritesOnce J.entries J.is_faithful J.is_honest J.may_hold J.faults J.writes CountsLearn self.old.journal self.new.journal (noted_entries (J.entries self.old.journal) (note (book_of self.old.book) request.now answer.now)) result }
+        ensures journal { Writes J.Journal CountsLearn self.old.journal self.new.journal (noted_entries (J.entries self.old.journal) (note (book_of self.old.book) request.now answer.now)) result }
         ensures quiet { KeepsEntries self.old.book self.new.book → J.writes self.new.journal ≡ J.writes self.old.journal }
         ensures rejected { IfErr result (λ fault. IsRejection fault → self.new.journal ≡ self.old.journal) }
         ensures open { J.is_honest self.new.journal → J.is_faithful self.old.journal → OnOk result (J.is_faithful self.new.journal) }
@@ -170,7 +170,7 @@ impl<J: Journal> Connector<J> {
         ensures ok { OnOk result (self.new.book ≡ changed (after_news news) self.old.book name.now) }
         ensures err { OnErr result (self.new.book ≡ self.old.book) }
         ensures kept { J.is_faithful self.new.journal → IsKept (J.entries self.new.journal) self.new.book }
-        ensures journal { WritesOnce J.entries J.is_faithful J.is_honest J.may_hold J.faults J.writes CountsLearn self.old.journal self.new.journal (entries_with (J.entries self.old.journal) name.now news) result }
+        ensures journal { Writes J.Journal CountsLearn self.old.journal self.new.journal (entries_with (J.entries self.old.journal) name.now news) result }
         ensures quiet { IsPassing news → J.writes self.new.journal ≡ J.writes self.old.journal }
         ensures open { J.is_honest self.new.journal → J.is_faithful self.old.journal → OnOk result (J.is_faithful self.new.journal) }
         ensures leaves { J.is_honest self.new.journal → LeavesBook J.Journal self.old → OnOk result (LeavesBook J.Journal self.new) }

@@ -3,7 +3,7 @@ ghost use Rattle.std.specs.Prelude.{◌≡◌, ◌++◌, ◌∷◌, [], IfErr, I
 ghost use Rattle.std.specs.FinMap.{get, insert, keys};
 ghost use Rattle.std.specs.Option.{option_copied};
 ghost use Rattle.source_csv.specs.Records.{row_name};
-ghost use Rattle.journal_core.specs.Stores.{WritesOnce};
+ghost use Rattle.journal_core.specs.Calls.{Writes};
 ghost use Rattle.connector_core.specs.Book.{wanted_row, wanting};
 ghost use Rattle.connector_core.specs.Changing.{CountsChange, IsNoVerdict, entries_all, if_new, judged, new_rows, taking, taking_all, verdicts};
 ghost use Rattle.connector_core.specs.Maps.{book_of};
@@ -216,7 +216,7 @@ impl<J: Journal> Connector<J> {
         ensures ok { OnOk result (self.new.book ≡ taking_all self.old.book rows.items) }
         ensures err { OnErr result (self.new.book ≡ self.old.book) }
         ensures kept { J.is_faithful self.new.journal → IsKept (J.entries self.new.journal) self.new.book }
-        ensures journal { WritesOnce J.entries J.is_faithful J.is_honest J.may_hold J.faults J.writes CountsChange self.old.journal self.new.journal (entries_all (J.entries self.old.journal) self.old.book rows.items) result }
+        ensures journal { Writes J.Journal CountsChange self.old.journal self.new.journal (entries_all (J.entries self.old.journal) self.old.book rows.items) result }
         ensures quiet { OnOk result (new_rows self.old.book rows.items ≡ [] → J.writes self.new.journal ≡ J.writes self.old.journal) }
         ensures open { J.is_honest self.new.journal → J.is_faithful self.old.journal → OnOk result (J.is_faithful self.new.journal) }
         ensures leaves { J.is_honest self.new.journal → LeavesBook J.Journal self.old → Leaves J.Journal self.old self.new (book_of (taking_all self.old.book rows.items)) (keys (taking_all self.old.book rows.items)) result }

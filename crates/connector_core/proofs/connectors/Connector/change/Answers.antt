@@ -19,7 +19,7 @@ returns-in-Ok-Known-clause-ok g c = ap (accepted_map c.args.self.now.book c.args
 
 pub returns-in-Ok-Known-clause-journal : goal.returns-in-Ok-Known-clause-journal
 returns-in-Ok-Known-clause-journal g c =
-    unchanged g.J.Journal.entries g.J.Journal.is_faithful g.J.Journal.is_honest g.J.Journal.may_hold g.J.Journal.faults g.J.Journal.writes c.args.self.now.journal _ verdicts.Known
+    unchanged g.J.Journal c.args.self.now.journal _ verdicts.Known
     (ap (accepted_entries (g.J.Journal.entries c.args.self.now.journal) c.args.row) (returns-in-Ok-Known-clause-verdict g c))
 
 pub returns-in-Ok-Older-clause-verdict : goal.returns-in-Ok-Older-clause-verdict
@@ -32,7 +32,7 @@ returns-in-Ok-Older-clause-ok g c = ap (accepted_map c.args.self.now.book c.args
 
 pub returns-in-Ok-Older-clause-journal : goal.returns-in-Ok-Older-clause-journal
 returns-in-Ok-Older-clause-journal g c =
-    unchanged g.J.Journal.entries g.J.Journal.is_faithful g.J.Journal.is_honest g.J.Journal.may_hold g.J.Journal.faults g.J.Journal.writes c.args.self.now.journal _ verdicts.Older
+    unchanged g.J.Journal c.args.self.now.journal _ verdicts.Older
     (ap (accepted_entries (g.J.Journal.entries c.args.self.now.journal) c.args.row) (returns-in-Ok-Older-clause-verdict g c))
 
 pub returns-in-Err-clause-verdict : goal.returns-in-Err-clause-verdict

@@ -1,14 +1,15 @@
 use Rattle.std.proofs.Common.{◌∙◌, [], Ok, Err, Result, Vec, Global, refl, subst, sym, inl, inr}
 use Rattle.std.specs.FinMap.{keys}
 use Rattle.source_book.specs.declared.accepting.Verdict.{Verdict}
+use Rattle.journal_core.specs.Calls.{Writes}
 use Rattle.journal_core.specs.Entries.{EntryMap, with_rows}
-use Rattle.connector_core.specs.Changing.{entries_all, taking_all}
+use Rattle.connector_core.specs.Changing.{CountsChange, entries_all, taking_all}
 use Rattle.connector_core.specs.Maps.{BookMap, book_of}
 use Rattle.connector_core.specs.State.{AreOf, LeavesBook, LeavesOneOf, State}
 use Rattle.connector_core.specs.declared.changing.ChangeFault.{ChangeFault}
 use Rattle.connector_core.proofs.Leaving.{are-of, of-none, open-leaves}
 use Rattle.connector_core.proofs.Offered.{can-put-fresh, keeps-fresh, located-fresh, nothing, puts-fresh}
-use Rattle.connector_core.proofs.Writing.{Changes, put-done, put-failed, unchanged}
+use Rattle.connector_core.proofs.Writing.{put-done, put-failed, unchanged}
 use Rattle.connector_core.proofs.connectors.Connector.change_all.Goals as goal
 
 pub invariant_of-self-then-is_empty : goal.invariant_of-self-then-is_empty
@@ -29,10 +30,9 @@ returns-then-is_empty-clause-journal g c =
     let held = g.J.Journal.entries c.self.inside.journal in
     let said : Result (Vec (Result Verdict ChangeFault) Global) ChangeFault = Ok c.in_ok-said.field-0.said in
     let same = puts-fresh held c.self.inside.book c.offer.new.book c.args.rows.items c.in_ok-said.field-0 c.in_ok-said.ensures.ok [] none in
-    let P : State g.row.J.Denot → Type 0 = λ s. Changes g.J.Journal.entries g.J.Journal.is_faithful g.J.Journal.is_honest g.J.Journal.may_hold g.J.Journal.faults g.J.Journal.writes
-    s.journal c.self.inside.journal (entries_all (g.J.Journal.entries s.journal) s.book c.args.rows.items) said in
+    let P : State g.row.J.Denot → Type 0 = λ s. Writes g.J.Journal CountsChange s.journal c.self.inside.journal (entries_all (g.J.Journal.entries s.journal) s.book c.args.rows.items) said in
     subst P c.self.view_is
-    (unchanged g.J.Journal.entries g.J.Journal.is_faithful g.J.Journal.is_honest g.J.Journal.may_hold g.J.Journal.faults g.J.Journal.writes c.self.inside.journal _ c.in_ok-said.field-0.said (sym same))
+    (unchanged g.J.Journal c.self.inside.journal _ c.in_ok-said.field-0.said (sym same))
 
 pub put_rows-requires : goal.put_rows-requires
 put_rows-requires g c =
@@ -58,12 +58,10 @@ returns-in-Ok-clause-journal g c =
     let new = c.put_rows.new.self in
     let said : Result (Vec (Result Verdict ChangeFault) Global) ChangeFault = Ok c.in_ok-said.field-0.said in
     let same = puts-fresh held c.self.inside.book c.offer.new.book c.args.rows.items c.in_ok-said.field-0 c.in_ok-said.ensures.ok c.as_slice-put.result.now c.as_slice-put.ensures.value in
-    let P : State g.row.J.Denot → Type 0 = λ s. Changes g.J.Journal.entries g.J.Journal.is_faithful g.J.Journal.is_honest g.J.Journal.may_hold g.J.Journal.faults g.J.Journal.writes
-    s.journal new (entries_all (g.J.Journal.entries s.journal) s.book c.args.rows.items) said in
-    let Q : EntryMap → Type 0 = λ entries. Changes g.J.Journal.entries g.J.Journal.is_faithful g.J.Journal.is_honest g.J.Journal.may_hold g.J.Journal.faults g.J.Journal.writes
-    c.self.inside.journal new entries said in
+    let P : State g.row.J.Denot → Type 0 = λ s. Writes g.J.Journal CountsChange s.journal new (entries_all (g.J.Journal.entries s.journal) s.book c.args.rows.items) said in
+    let Q : EntryMap → Type 0 = λ entries. Writes g.J.Journal CountsChange c.self.inside.journal new entries said in
     subst P c.self.view_is (subst Q same
-    (put-done g.J.Journal.entries g.J.Journal.is_faithful g.J.Journal.is_honest g.J.Journal.may_hold g.J.Journal.faults g.J.Journal.writes c.self.inside.journal new _ c.in_ok-said.field-0.said c.in-Ok.ensures.puts))
+    (put-done g.J.Journal c.self.inside.journal new _ c.in_ok-said.field-0.said c.in-Ok.ensures.puts))
 
 pub returns-in-Err-clause-journal : goal.returns-in-Err-clause-journal
 returns-in-Err-clause-journal g c =
@@ -71,14 +69,11 @@ returns-in-Err-clause-journal g c =
     let new = c.put_rows.new.self in
     let T : Type 0 = Vec (Result Verdict ChangeFault) Global in
     let same = puts-fresh held c.self.inside.book c.offer.new.book c.args.rows.items c.in_ok-said.field-0 c.in_ok-said.ensures.ok c.as_slice-put.result.now c.as_slice-put.ensures.value in
-    let P : State g.row.J.Denot → Type 0 = λ s. Changes g.J.Journal.entries g.J.Journal.is_faithful g.J.Journal.is_honest g.J.Journal.may_hold g.J.Journal.faults g.J.Journal.writes
-    {T = T} s.journal new (entries_all (g.J.Journal.entries s.journal) s.book c.args.rows.items) (Err c.from.result) in
-    let Q : EntryMap → Type 0 = λ entries. Changes g.J.Journal.entries g.J.Journal.is_faithful g.J.Journal.is_honest g.J.Journal.may_hold g.J.Journal.faults g.J.Journal.writes
-    {T = T} c.self.inside.journal new entries (Err c.from.result) in
-    let R : ChangeFault → Type 0 = λ fault. Changes g.J.Journal.entries g.J.Journal.is_faithful g.J.Journal.is_honest g.J.Journal.may_hold g.J.Journal.faults g.J.Journal.writes
-    {T = T} c.self.inside.journal new (with_rows held c.as_slice-put.result.now) (Err fault) in
+    let P : State g.row.J.Denot → Type 0 = λ s. Writes {T = T} g.J.Journal CountsChange s.journal new (entries_all (g.J.Journal.entries s.journal) s.book c.args.rows.items) (Err c.from.result) in
+    let Q : EntryMap → Type 0 = λ entries. Writes {T = T} g.J.Journal CountsChange c.self.inside.journal new entries (Err c.from.result) in
+    let R : ChangeFault → Type 0 = λ fault. Writes {T = T} g.J.Journal CountsChange c.self.inside.journal new (with_rows held c.as_slice-put.result.now) (Err fault) in
     subst P c.self.view_is (subst Q same (subst R (sym c.from.ensures)
-    (put-failed g.J.Journal.entries g.J.Journal.is_faithful g.J.Journal.is_honest g.J.Journal.may_hold g.J.Journal.faults g.J.Journal.writes c.self.inside.journal new _ c.in-Err.fault c.in-Err.ensures.puts)))
+    (put-failed g.J.Journal c.self.inside.journal new _ c.in-Err.fault c.in-Err.ensures.puts)))
 
 pub returns-then-is_empty-clause-leaves : goal.returns-then-is_empty-clause-leaves
 returns-then-is_empty-clause-leaves g c = λ honest was.

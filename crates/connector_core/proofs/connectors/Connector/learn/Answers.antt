@@ -42,7 +42,7 @@ returns-clause-journal g c =
     let noted = subst N (ap (λ s. s.book) c.self.view_is) c.in_ok-name.ensures.noted in
     let K : State g.row.J.Denot → Type 0 = λ s. g.J.Journal.is_faithful s.journal → IsKept (g.J.Journal.entries s.journal) s.book in
     let kept = subst K c.self.view_is c.self.invariant.0 in
-    writes-these g.J.Journal.entries g.J.Journal.is_faithful g.J.Journal.is_honest g.J.Journal.may_hold g.J.Journal.faults g.J.Journal.writes CountsLearn
+    writes-these g.J.Journal CountsLearn
     c.args.self.now.journal c.take_news.new.self.journal
     (entries_with (g.J.Journal.entries c.args.self.now.journal) c.in_ok-name.name c.in_ok-name.news)
     (noted_entries (g.J.Journal.entries c.args.self.now.journal) (note (book_of c.args.self.now.book) c.args.request.now c.args.answer.now))
