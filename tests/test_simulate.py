@@ -67,8 +67,9 @@ class SimulateTest(ProgramTest):
 
     def test_messages_that_are_cut_or_absent(self):
         cuts = ["cut 1 0", "cut 1 18", "cut 2 0"]
-        events = ["user bob,1,,,,,active", "send user bob", *cuts, "deliver 2", "send group crew"]
-        reports = ["1 new", "2 find 1", "3 cut", "4 cut", "5 none", "6 none", "7 C7"]
+        absent = ["deliver 2", "deliver 0", "send user zoe", "send group crew"]
+        events = ["user bob,1,,,,,active", "send user bob", *cuts, *absent]
+        reports = ["1 new", "2 find 1", "3 cut", "4 cut", "5 none", "6 none", "7 none", "8 C7", "9 C7"]
         bob = "user bob wanted=1 confirmed=0 held=0 version=0 active=-"
         self.assert_prints(self.simulate(text(*events)), *reports, bob, status=1)
 
@@ -80,9 +81,10 @@ class SimulateTest(ProgramTest):
 
     def test_rows_with_and_without_a_department(self):
         rows = ["bob,2,,,,,active,Sales", "bob,2,,,,,active,Sales", "bob,2,,,,,active", "bob,3,,,,,active,"]
-        bob = "user bob wanted=3 confirmed=0 held=0 version=0 active=-"
-        run = self.simulate(text(*(f"user {row}" for row in rows)))
-        self.assert_prints(run, "1 new", "2 known", "3 S7", "4 new", bob, status=1)
+        rows += ["ann,2,,,,,active", "ann,2,,,,,active,", "ann,2,,,,,active,Sales"]
+        reports = ["1 new", "2 known", "3 S7", "4 new", "5 new", "6 known", "7 S7"]
+        views = [f"user {wanted} confirmed=0 held=0 version=0 active=-" for wanted in ("ann wanted=2", "bob wanted=3")]
+        self.assert_prints(self.simulate(text(*(f"user {row}" for row in rows))), *reports, *views, status=1)
 
     def test_comments_and_line_ends(self):
         creation = SCHEDULES / "creation.schedule"
