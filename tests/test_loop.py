@@ -123,16 +123,6 @@ class RowsTest(LoopTest):
         self.writes([], [])
         self.assert_loop("settled in 0 exchanges")
 
-    def test_the_largest_group(self):
-        names = sorted(f"u{number}" for number in range(1, 401))
-        self.writes([f"{name},1,,,,,active" for name in names], [f"all,1,{' '.join(names)}"])
-        self.assert_loop(
-            *(f"{number} new" for number in range(1, 402)),
-            "settled in 802 exchanges",
-            *(f"user {name} wanted=1 confirmed=1 held=1 version=1 active=true" for name in names),
-            "group all wanted=1 confirmed=1 held=1 version=1 members=400",
-        )
-
 
 class FilesTest(LoopTest):
     """Runs over files: what was carried is there in the next run."""
@@ -155,6 +145,22 @@ class FilesTest(LoopTest):
         self.assert_loop("1 known", "settled in 0 exchanges", BOB, options=self.both)
         self.assert_prints(self.site.show_store(), "user bob held=1 version=1 active=true")
         self.assert_prints(self.site.show_journal(), f"user bob wanted=1 confirmed=1 id={resource_id(1)}")
+
+    def test_the_longest_rows(self):
+        """A user and a group that meet each limit of a row. The group's members are 400."""
+        login, field, crew, last = "A" * 128, "f" * 256, "C" * 128, "999999:2000000000"
+        names = sorted(f"u{number}" for number in range(1, 401))
+        longest = f"{login},{last},{field},{field},{field},{field},active,{field}"
+        self.site.write_users(longest, *(f"{name},1,,,,,active," for name in names), header=DEPARTMENTS_HEADER)
+        self.site.write_groups(f"{crew},1,{' '.join(names)}")
+        views = [
+            f"user {login.lower()} wanted={last} confirmed={last} held={last} version=1 active=true",
+            *(f"user {name} wanted=1 confirmed=1 held=1 version=1 active=true" for name in names),
+            f"group {crew.lower()} wanted=1 confirmed=1 held=1 version=1 members=400",
+        ]
+        for report, exchanges in ("new", 804), ("known", 0):
+            reports = (f"{number} {report}" for number in range(1, 403))
+            self.assert_loop(*reports, f"settled in {exchanges} exchanges", *views, options=self.both)
 
     def test_a_leaver_stays_off(self):
         self.join_and_leave()

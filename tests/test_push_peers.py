@@ -63,6 +63,20 @@ UNUSABLE = {
     },
 }
 
+CUT = UNUSABLE["H10"]["a part of a body"]
+PROXY = UNUSABLE["C4"]["a proxy that answers for it"]
+TWO = UNUSABLE["C1"]["two hits"]
+UNVERSIONED = answer(201, user("bob", 1, None))
+# What is printed after exchanges with other answers each: the last fault, if there was one
+LAST_FAULTS = [
+    ("C1", [TWO, answer(200, b"no"), TWO], [FIND_BOB] * 3),
+    ("K2", [TWO, TWO, answer(200, b"no")], [FIND_BOB] * 3),
+    ("K3", [NO_HITS, UNVERSIONED, NO_HITS], [FIND_BOB, CREATE, CREATE]),
+    ("H10", [PROXY, CUT, CUT], [FIND_BOB] * 3),
+    ("H10", [CUT, NO_HITS, TAKEN], [FIND_BOB, FIND_BOB, CREATE]),
+    ("-", [NO_HITS, TAKEN, NO_HITS], [FIND_BOB, CREATE, FIND_BOB]),
+]
+
 
 def asked(requests):
     """The first lines of requests."""
@@ -159,8 +173,16 @@ class PushPeersTest(ProgramTest):
                     requests = self.meets([said] * 3, f"user bob unconfirmed {code}", status=1, site=site)
                     self.assertEqual(asked(requests), [FIND_BOB] * 3)
 
+    def test_the_last_fault_is_told(self):
+        for code, steps, wanted in LAST_FAULTS:
+            with self.subTest(code, steps=steps):
+                site = Site(pathlib.Path(tempfile.mkdtemp(dir=self.folder)))
+                site.write_users("bob,1,,,,,active")
+                requests = self.meets(steps, f"user bob unconfirmed {code}", status=1, site=site)
+                self.assertEqual(asked(requests), wanted)
+
     def test_a_creation_without_a_version(self):
-        steps = [NO_HITS, answer(201, user("bob", 1, None)), TAKEN]
+        steps = [NO_HITS, UNVERSIONED, TAKEN]
         requests = self.meets(steps, "user bob unconfirmed C2", status=1)
         self.assertEqual(asked(requests), [FIND_BOB, CREATE, CREATE])
 
@@ -196,3 +218,6 @@ class PushPeersTest(ProgramTest):
     def test_a_provider_that_goes_away(self):
         self.site.write_users("ann,1,,,,,active", "bob,1,,,,,active")
         self.meets([hits(user("ann", 1))], "user ann confirmed 1", status=3, errors=["connection fault"])
+        # between the exchanges of one record
+        self.site.write_users("bob,1,,,,,active")
+        self.meets([PROXY, NO_HITS], status=3, errors=["connection fault"])

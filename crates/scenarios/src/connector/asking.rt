@@ -89,7 +89,7 @@ fn carry(
 
 /// The connector's next request for a record, as a short text. If there is a request, the provider answers
 /// it, and the connector learns from the answer.
-pub fn exchange(
+fn exchange(
     rt: &impl Abort,
     alloc: Global,
     connector: &mut Connector<MemoryJournal>,
