@@ -9,14 +9,15 @@ use Rattle.sqlite.specs.Held.{state}
 use Rattle.sqlite.specs.State.{State, HasCleanDisk}
 use Rattle.scim_key.specs.declared.records.Kind.{Kind}
 use Rattle.journal_core.specs.Entries.{EntryMap}
-use Rattle.journal_core.specs.Stores.{CountsFault, Reopens}
+use Rattle.journal_core.specs.Stores.{CountsFault}
 use Rattle.journal_core.specs.declared.journals.JournalFault.{JournalFault}
 use Rattle.sql_tables.specs.Layouts.{format_tree}
 use Rattle.sql_tables.specs.Statements.{Looks}
 use Rattle.sql_tables.proofs.Keeping.{kept_now, laid_still}
+use Rattle.journal_store.specs.Calls.{OpensAgain}
 use Rattle.journal_store.specs.Rows.{entries_by}
 use Rattle.journal_store.specs.Connections.{HasNumbersBy}
-use Rattle.journal_store.specs.Kept.{Kept, IsFaithful, IsHonest, IsWhole, MayHold, kept_entries}
+use Rattle.journal_store.specs.Kept.{Kept, IsHonest, IsWhole, MayHold}
 use Rattle.journal_store.specs.Opening.{HoldsEntriesBy, IsStore, IsStoreBy}
 use Rattle.journal_store.proofs.Reading.{answered, failing}
 
@@ -52,7 +53,7 @@ module _ {S : Type 0} (g : Ghosts S) where
 
     pub reopened : ((s : S) → IsTrue (g.view s).is_open → g.recovers s (g.view s).committed) → IsTrue new.is_usable
         → (HasCleanDisk (at new) → (entries : EntryMap) × IsStore (at old) entries) → (HasCleanDisk (at new) → IsTrue (at new).is_open) → new.faults ≡ old.faults → new.writes ≡ old.writes
-        → Reopens (kept_entries g) (IsFaithful g) (IsHonest g) (MayHold g) (λ k. k.faults) (λ k. k.writes) CountsFault old new answered
+        → OpensAgain g old new answered
     reopened stays usable stores opens faults writes = record {
       found = λ clean.
           let it = stores clean in
@@ -70,7 +71,7 @@ module _ {S : Type 0} (g : Ghosts S) where
     }
 
     pub not_reopened : (fault : JournalFault) → CountsFault old.faults new.faults fault → new.writes ≡ old.writes
-        → Reopens (kept_entries g) (IsFaithful g) (IsHonest g) (MayHold g) (λ k. k.faults) (λ k. k.writes) CountsFault old new (failing fault)
+        → OpensAgain g old new (failing fault)
     not_reopened fault counts writes = record {
       found = λ _. tt;
       honest = λ clean. omega (arith, clean, looks.quiet.clean);

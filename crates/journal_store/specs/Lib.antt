@@ -5,6 +5,7 @@ pub mod Batches
 pub mod Faults
 pub mod Opening
 pub mod Kept
+pub mod Calls
 pub mod KeptLaws
 pub mod Resets
 pub mod Learning
