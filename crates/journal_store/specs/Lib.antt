@@ -1,5 +1,6 @@
 pub mod Format
 pub mod Rows
+pub mod Formats
 pub mod Connections
 pub mod Batches
 pub mod Faults
