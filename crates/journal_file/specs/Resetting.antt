@@ -2,8 +2,8 @@
 use Rattle.std.specs.Prelude.{◌≡◌, ℕ, List, ◌++◌, Option, codes}
 use Rattle.std.specs.Fmt.{decimal}
 use Rattle.std.specs.Io.KnownBytes.{Appends}
+use Rattle.journal_core.specs.Forgetting.{forgotten, learnt_count}
 use Rattle.journal_core.specs.declared.journals.Journal.{Ghosts}
-use Rattle.journal_store.specs.Resets.{forgotten, learnt_count}
 use Rattle.journal_file.specs.Opened.{IsOpened}
 
 -- the line of a reset that changed this many entries

@@ -1,8 +1,9 @@
 //! Where the entries of a connector are kept.
 ghost use Rattle.std.specs.Prelude.{◌≡◌, IfOk, OnOk};
-ghost use Rattle.journal_core.specs.Stores.{CountsFault, WritesOnce};
+ghost use Rattle.journal_core.specs.Calls.{Writes};
+ghost use Rattle.journal_core.specs.Forgetting.{forgotten, learnt_count};
+ghost use Rattle.journal_core.specs.Stores.{CountsFault};
 ghost use Rattle.journal_file.specs.Opened.{IsOpened};
-ghost use Rattle.journal_store.specs.Resets.{forgotten, learnt_count};
 
 use database_file::DatabaseReason;
 use journal_core::{Journal, JournalFault};
@@ -18,7 +19,7 @@ pub trait StoredEntries: Journal {
     /// Forgets the confirmed revision and the id of each record, by one write: of all records or of none.
     /// The rows stay. Returns how many entries that changes.
     fn reset(&mut self) -> Result<usize, JournalFault>
-        ensures puts { WritesOnce Self.entries Self.is_faithful Self.is_honest Self.may_hold Self.faults Self.writes CountsFault self.old self.new (forgotten (Self.entries self.old)) result }
+        ensures puts { Writes Self.Journal CountsFault self.old self.new (forgotten (Self.entries self.old)) result }
         ensures count { Self.is_faithful self.new → IfOk result (λ count. count ≡ learnt_count (Self.entries self.old)) }
         ensures open { Self.is_honest self.new → OnOk result (Self.is_faithful self.new) };
 

@@ -7,7 +7,6 @@ use Rattle.sqlite_value.specs.declared.keys.Order.{Order}
 use Rattle.sqlite_value.specs.declared.value.Value.{Value}
 use Rattle.sqlite_value.specs.declared.value.Value.TheVariants.{Int}
 use Rattle.sqlite_value.specs.Order.{Row, column}
-use Rattle.sqlite_schema.specs.declared.schema.Schema.{Schema}
 use Rattle.sqlite.specs.State.{State, Executes}
 use Rattle.scim_key.specs.RecordOrder.{names_total}
 use Rattle.scim_key.specs.Records.{name_cmp}
@@ -22,6 +21,7 @@ use Rattle.journal_store.specs.Batches.{settled}
 use Rattle.journal_store.specs.Carrying.{AreMoved, CanMove, IsCopied, MakesTables, MovesAll, ShowsEach}
 use Rattle.journal_store.specs.Connections.{AreNumbered, ListsAllBy, Shows}
 use Rattle.journal_store.specs.Format.{FirstForm, create_second_text, create_text, entry_tree, first_schema, first_tree, format_name, format_number, journal_schema, remark_text, second_number, second_schema, second_tree, second_users, table_of, third_groups, third_users}
+use Rattle.journal_store.specs.Formats.{FormatData, current_format, first_format, second_format}
 use Rattle.journal_store.specs.Opening.{IsFirstStore, IsSecond, IsSecondStore, IsStore, IsStoreBy}
 use Rattle.journal_store.specs.Rows.{entries_by, first_row, second_row, shown_row}
 use Rattle.journal_store.specs.declared.making.Moved.TheVariants.{FirstUsers, SecondGroups, SecondUsers}
@@ -66,21 +66,21 @@ same_list : (m n : EntryMap) (list : List Entry) → IsListOf m list → IsListO
 same_list m n list a b = same_map names_total names_same m n (λ q. get-entries m q ∙ ap (find name_cmp q) (a.whole ∙ sym b.whole) ∙ sym (get-entries n q))
 
 -- a store whose tables are copies of those of another format
-module _ {A B : Type 0} {from : A → Schema} {from_number : ℕ} {from_tree : Kind → ℕ} {sent : Kind → Row → Row} {layout : B → Schema} {number : ℕ} {tree : Kind → ℕ} {kept : Kind → Row → Row} where
-  pub carried_store : (old new : State) (held : EntryMap) → IsStoreBy from from_number from_tree sent old held → (form : B) → new.now.schema ≡ layout form → IsFormat new number
-      → ((kind : Kind) → IsCopied (sent kind) (kept kind) (old.now.trees (from_tree kind)) (new.now.trees (tree kind))) → IsStoreBy layout number tree kept (settled new) held
+module _ (from to : FormatData) where
+  pub carried_store : (old new : State) (held : EntryMap) → IsStoreBy from old held → (form : to.form) → new.now.schema ≡ to.layout form → IsFormat new to.number
+      → ((kind : Kind) → IsCopied (from.columns kind) (to.columns kind) (old.now.trees (from.tree kind)) (new.now.trees (to.tree kind))) → IsStoreBy to (settled new) held
   carried_store old new held it form schema format copied =
       let users = it.holds.users in
       let groups = it.holds.groups in
-      let all_users = copied_lists User (sent User) (kept User) (old.now.trees (from_tree User)) (new.now.trees (tree User)) users (copied User) it.holds.all_users in
-      let all_groups = copied_lists Group (sent Group) (kept Group) (old.now.trees (from_tree Group)) (new.now.trees (tree Group)) groups (copied Group) it.holds.all_groups in
+      let all_users = copied_lists User (from.columns User) (to.columns User) (old.now.trees (from.tree User)) (new.now.trees (to.tree User)) users (copied User) it.holds.all_users in
+      let all_groups = copied_lists Group (from.columns Group) (to.columns Group) (old.now.trees (from.tree Group)) (new.now.trees (to.tree Group)) groups (copied Group) it.holds.all_groups in
       record {
         laid = record { form = form; schema = schema; committed = refl; autocommit = refl };
         format = format;
         numbers = record { users = (copied User).numbered; groups = (copied Group).numbered };
         holds = record { users = users; groups = groups; all_users = all_users; all_groups = all_groups; lawful = it.holds.lawful };
-        are = same_list (entries_by tree kept new.now.trees) (entries_by from_tree sent old.now.trees) (users ++ groups)
-            (lists_both tree kept new.now.trees users groups all_users all_groups) (lists_both from_tree sent old.now.trees users groups it.holds.all_users it.holds.all_groups)
+        are = same_list (entries_by to.tree to.columns new.now.trees) (entries_by from.tree from.columns old.now.trees) (users ++ groups)
+            (lists_both to.tree to.columns new.now.trees users groups all_users all_groups) (lists_both from.tree from.columns old.now.trees users groups it.holds.all_users it.holds.all_groups)
             ∙ it.are;
       }
 
@@ -129,7 +129,7 @@ module _ (s0 s1 : State) (n1 : ℕ) (one : Executes create_second_text [] s0 s1 
         let copied : IsCopied (first_row User) (second_row User) (s1.now.trees 1) (s2.now.trees 5) = all_moved (first_row User) (second_row User) (s1.now.trees 1) (s2.now.trees 1) (s2.now.trees 5) (s1.now.trees 5) made.1 moved.none moved.moves.moved in
         let all_users : IsCopied (first_row User) (second_row User) (s0.now.trees 1) (s3.now.trees 5) =
         subst (λ t. IsCopied (first_row User) (second_row User) t (s3.now.trees 5)) made.3 (subst (IsCopied (first_row User) (second_row User) (s1.now.trees 1)) (sym (marked.2 5 refl refl)) copied) in (
-          carried_store (settled s0) s3 held it f marked.0 marked.1
+          carried_store first_format second_format (settled s0) s3 held it f marked.0 marked.1
               (by_kind (λ kind. IsCopied (first_row kind) (second_row kind) (s0.now.trees (first_tree kind)) (s3.now.trees (second_tree kind))) all_users (stays_copied (second_row Group) (s0.now.trees 3) (s3.now.trees 3) it.numbers.groups groups)),
           marked.2 1 refl refl ∙ moved.none,
         )
@@ -183,7 +183,7 @@ module _ (s0 s1 : State) (held : EntryMap) (it : IsSecondStore (settled s0) held
         let all = λ (kind : Kind) (t : List Row). IsCopied (second_row kind) (shown_row kind) t (s4.now.trees (entry_tree kind)) in
         let all_users : IsCopied (second_row User) (shown_row User) (s1.now.trees 5) (s2.now.trees 7) = all_moved (second_row User) (shown_row User) (s1.now.trees 5) (s2.now.trees 5) (s2.now.trees 7) (s1.now.trees 7) (made.empty User) users.none users.moves.moved in
         let all_groups : IsCopied (second_row Group) (shown_row Group) (s2.now.trees 3) (s3.now.trees 9) = all_moved (second_row Group) (shown_row Group) (s2.now.trees 3) (s3.now.trees 3) (s3.now.trees 9) (s2.now.trees 9) (users.moves.others.1.1.1.0 ∙ made.empty Group) groups.none groups.moves.moved in (
-          carried_store (settled s0) s4 held it f marked.0 marked.1 (by_kind (λ kind. all kind (s0.now.trees (second_tree kind)))
+          carried_store second_format current_format (settled s0) s4 held it f marked.0 marked.1 (by_kind (λ kind. all kind (s0.now.trees (second_tree kind)))
               (subst (all User) (made.seconds User) (subst (IsCopied (second_row User) (shown_row User) (s1.now.trees 5)) (sym user_rows) all_users))
               (subst (all Group) (left ∙ made.seconds Group) (subst (IsCopied (second_row Group) (shown_row Group) (s2.now.trees 3)) (sym group_rows) all_groups))),
           by_kind (λ kind. s4.now.trees (second_tree kind) ≡ []) (marked.2 5 refl refl ∙ groups.moves.others.1.1.0 ∙ users.none) (marked.2 3 refl refl ∙ groups.none),

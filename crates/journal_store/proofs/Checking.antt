@@ -14,6 +14,7 @@ use Rattle.sql_tables.specs.Statements.{Answers, IsGiven, Looks}
 use Rattle.sql_tables.specs.Faults.{HasFailed}
 use Rattle.sql_tables.proofs.Failing.{failed_since}
 use Rattle.journal_store.specs.Connections.{AreNumbered, HasNumbersBy, Lists, ListsAllBy, Shows}
+use Rattle.journal_store.specs.Formats.{FormatData}
 use Rattle.journal_store.specs.Rows.{entries_by}
 use Rattle.journal_store.specs.Opening.{AreInOrder, AreLawful, AreRising, HasFormatTable, HoldsEntriesBy, IsCause, IsFirst, IsFor, IsJournal, IsNewer, IsOfRows, IsSecond, IsStoreBy, OpenFailsFor, keys_of, open_fault}
 use Rattle.journal_store.specs.Faults.{FailsFor, HasCause}
@@ -121,26 +122,26 @@ module _ {Form : Type 0} {layout : Form → Schema} (old mid new : State) (first
   pub numbers_both : {T F : Type 0} (tree : Kind → ℕ) (r : Result T F) → (HasCleanDisk mid → AreNumbered (old.now.trees (tree User))) → OnOk r (AreNumbered (mid.now.trees (tree Group))) → OnOk r (IsTrue new.is_open) → OnOk r (HasNumbersBy tree old.now.trees)
   numbers_both tree r users = on_both r (λ groups still. record { users = users mid_clean; groups = subst (λ (d : Database). AreNumbered (d.trees (tree Group))) (mid_same still) groups })
 
-  -- given the tables of the format, and the columns that its queries show
-  module _ (tree : Kind → ℕ) (columns : Kind → Row → Row) where
-    pub groups_listed : (groups : List Entry) → ListsAllBy (Shows Group) (columns Group) (mid.now.trees (tree Group)) groups → IsTrue new.is_open → ListsAllBy (Shows Group) (columns Group) (old.now.trees (tree Group)) groups
-    groups_listed groups all still = subst (λ (d : Database). ListsAllBy (Shows Group) (columns Group) (d.trees (tree Group)) groups) (mid_same still) all
+  -- given the format
+  module _ (f : FormatData) where
+    pub groups_listed : (groups : List Entry) → ListsAllBy (Shows Group) (f.columns Group) (mid.now.trees (f.tree Group)) groups → IsTrue new.is_open → ListsAllBy (Shows Group) (f.columns Group) (old.now.trees (f.tree Group)) groups
+    groups_listed groups all still = subst (λ (d : Database). ListsAllBy (Shows Group) (f.columns Group) (d.trees (f.tree Group)) groups) (mid_same still) all
 
-    pub entries_both : {T F : Type 0} (r : Result T F) (users groups : List Entry) → (HasCleanDisk mid → ListsAllBy (Shows User) (columns User) (old.now.trees (tree User)) users) → ListsAllBy (Shows Group) (columns Group) (mid.now.trees (tree Group)) groups
-        → IsTrue new.is_open → OnOk r (AreLawful users groups) → OnOk r (HoldsEntriesBy tree columns old.now.trees)
+    pub entries_both : {T F : Type 0} (r : Result T F) (users groups : List Entry) → (HasCleanDisk mid → ListsAllBy (Shows User) (f.columns User) (old.now.trees (f.tree User)) users) → ListsAllBy (Shows Group) (f.columns Group) (mid.now.trees (f.tree Group)) groups
+        → IsTrue new.is_open → OnOk r (AreLawful users groups) → OnOk r (HoldsEntriesBy f old.now.trees)
     entries_both r users groups all_users all_groups still =
         on_ok r (λ lawful. record { users = users; groups = groups; all_users = all_users mid_clean; all_groups = groups_listed groups all_groups still; lawful = lawful })
 
-    pub lists_refused : (users groups : List Entry) → (HasCleanDisk mid → ListsAllBy (Shows User) (columns User) (old.now.trees (tree User)) users) → ListsAllBy (Shows Group) (columns Group) (mid.now.trees (tree Group)) groups
-        → IsTrue new.is_open → (AreInOrder (keys_of users) → AreLawful users groups → ⊥) → HoldsEntriesBy tree columns old.now.trees → ⊥
+    pub lists_refused : (users groups : List Entry) → (HasCleanDisk mid → ListsAllBy (Shows User) (f.columns User) (old.now.trees (f.tree User)) users) → ListsAllBy (Shows Group) (f.columns Group) (mid.now.trees (f.tree Group)) groups
+        → IsTrue new.is_open → (AreInOrder (keys_of users) → AreLawful users groups → ⊥) → HoldsEntriesBy f old.now.trees → ⊥
     lists_refused users groups all_users all_groups still unlawful holds =
         let lists_users = all_users mid_clean in
-        unlawful (keys_in_order (columns User) (old.now.trees (tree User)) users lists_users) (lawful_lists tree columns old.now.trees users groups lists_users (groups_listed groups all_groups still) holds)
+        unlawful (keys_in_order (f.columns User) (old.now.trees (f.tree User)) users lists_users) (lawful_lists f old.now.trees users groups lists_users (groups_listed groups all_groups still) holds)
 
-pub store_found : {Form T F : Type 0} {layout : Form → Schema} (number : ℕ) (tree : Kind → ℕ) (columns : Kind → Row → Row) (old marked numbered new : State) (r : Result T F) → Looks old marked → (HasCleanDisk old → IsTrue old.is_open → IsLaidBy layout old)
-    → Looks marked numbered → Looks numbered new → HasCleanDisk new → (HasCleanDisk marked → IsFormat old number) → (HasCleanDisk numbered → HasNumbersBy tree marked.now.trees) → OnOk r (HoldsEntriesBy tree columns numbered.now.trees) → OnOk r (IsTrue new.is_open)
-    → OnOk r ((entries : EntryMap) × IsStoreBy layout number tree columns old entries)
-store_found number tree columns old marked numbered new r first laid second third clean format numbers = on_both r (λ holds still.
+pub store_found : {T F : Type 0} (f : FormatData) (old marked numbered new : State) (r : Result T F) → Looks old marked → (HasCleanDisk old → IsTrue old.is_open → IsLaidBy f.layout old)
+    → Looks marked numbered → Looks numbered new → HasCleanDisk new → (HasCleanDisk marked → IsFormat old f.number) → (HasCleanDisk numbered → HasNumbersBy f.tree marked.now.trees) → OnOk r (HoldsEntriesBy f numbered.now.trees) → OnOk r (IsTrue new.is_open)
+    → OnOk r ((entries : EntryMap) × IsStoreBy f old entries)
+store_found f old marked numbered new r first laid second third clean format numbers = on_both r (λ holds still.
     let laid_marked = laid_on old marked first laid in
     let numbered_clean = was_clean numbered new third (laid_on marked numbered second laid_marked) clean in
     let numbered_open = (third.keeps clean).was_open still in
@@ -148,12 +149,12 @@ store_found number tree columns old marked numbered new r first laid second thir
     let marked_open = (second.keeps numbered_clean).was_open numbered_open in
     let to_old = same_now old marked first laid marked_clean marked_open in
     let to_marked = same_now marked numbered second laid_marked numbered_clean numbered_open in (
-      entries_by tree columns old.now.trees,
+      entries_by f.tree f.columns old.now.trees,
       record {
         laid = was_laid old marked first laid marked_clean marked_open;
         format = format marked_clean;
-        numbers = subst (λ (d : Database). HasNumbersBy tree d.trees) to_old (numbers numbered_clean);
-        holds = subst (λ (d : Database). HoldsEntriesBy tree columns d.trees) (to_marked ∙ to_old) holds;
+        numbers = subst (λ (d : Database). HasNumbersBy f.tree d.trees) to_old (numbers numbered_clean);
+        holds = subst (λ (d : Database). HoldsEntriesBy f d.trees) (to_marked ∙ to_old) holds;
         are = refl;
       },
     ))

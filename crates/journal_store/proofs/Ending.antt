@@ -2,18 +2,18 @@
 use Rattle.std.proofs.Common.{◌≡◌, ℕ, [], false, map, refl, sym, ap, ◌∙◌, subst}
 use Rattle.sqlite_value.specs.Order.{Row, column}
 use Rattle.sqlite_trees.specs.Tree.{Trees}
-use Rattle.sqlite_schema.specs.declared.schema.Schema.{Schema}
 use Rattle.sqlite.specs.Effect.{Database}
 use Rattle.sqlite.specs.State.{State, Shows}
 use Rattle.scim_key.specs.declared.records.Kind.{Kind}
 use Rattle.journal_core.specs.Entries.{EntryMap}
 use Rattle.journal_store.specs.Batches.{settled}
 use Rattle.journal_store.specs.Connections.{HasNumbers}
+use Rattle.journal_store.specs.Formats.{FormatData}
 use Rattle.journal_store.specs.Opening.{HoldsEntries, IsStore, IsStoreBy}
 use Rattle.journal_store.specs.Rows.{entries_in}
 
 -- at the beginning of a transaction
-pub begun_store : {Form : Type 0} {layout : Form → Schema} {number : ℕ} {tree : Kind → ℕ} {columns : Kind → Row → Row} (s : State) (entries : EntryMap) → IsStoreBy layout number tree columns s entries → IsStoreBy layout number tree columns (settled s) entries
+pub begun_store : {f : FormatData} (s : State) (entries : EntryMap) → IsStoreBy f s entries → IsStoreBy f (settled s) entries
 begun_store s entries it = record {
   laid = record { form = it.laid.form; schema = it.laid.schema; committed = refl; autocommit = refl };
   format = it.format;

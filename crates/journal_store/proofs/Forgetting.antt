@@ -13,10 +13,11 @@ use Rattle.scim_key.specs.Records.{name_cmp}
 use Rattle.scim_key.specs.declared.records.RecordName.{RecordName}
 use Rattle.source_csv.specs.Records.{row_name, row_revision}
 use Rattle.journal_core.specs.Entries.{EntryMap, IsListOf, IsUpTo, named}
+use Rattle.journal_core.specs.Forgetting.{forgotten, unlearnt}
 use Rattle.journal_core.specs.declared.entries.Entry.{Entry}
 use Rattle.journal_core.proofs.Trees.{names_same}
 use Rattle.journal_store.specs.Opening.{AreLawful, HasMembersOf, is_identified, keys_of}
-use Rattle.journal_store.specs.Resets.{ForgetsOnly, forgotten, unlearnt}
+use Rattle.journal_store.specs.Resets.{ForgetsOnly}
 
 abbrev Named : Type 0
 Named = RecordName × Entry

@@ -15,6 +15,7 @@ use Rattle.scim_key.specs.declared.records.RecordName.{RecordName}
 use Rattle.source_csv.specs.Records.{members_of, row_name}
 use Rattle.journal_core.specs.declared.entries.Entry.{Entry}
 use Rattle.journal_store.specs.Connections.{ListsAllBy, Shows}
+use Rattle.journal_store.specs.Formats.{FormatData}
 use Rattle.journal_store.specs.Opening.{AreInOrder, AreLawful, HasMembersOf, HoldsEntriesBy, is_identified, keys_of}
 use Rattle.journal_store.proofs.Decoding.{key_from}
 use Rattle.journal_store.proofs.Loading.{Sorted, has_map, map_has, names_of, permuted, zip_left, zip_right}
@@ -48,26 +49,26 @@ module _ (kind : Kind) (columns : Row → Row) (rows : List Row) (list other : L
 
 -- ---- valid entries
 
-module _ (tree : Kind → ℕ) (columns : Kind → Row → Row) (db : Trees) (users groups : List Entry) (lists_users : ListsAllBy (Shows User) (columns User) (db (tree User)) users)
-    (lists_groups : ListsAllBy (Shows Group) (columns Group) (db (tree Group)) groups) (holds : HoldsEntriesBy tree columns db) where
+module _ (f : FormatData) (db : Trees) (users groups : List Entry) (lists_users : ListsAllBy (Shows User) (f.columns User) (db (f.tree User)) users)
+    (lists_groups : ListsAllBy (Shows Group) (f.columns Group) (db (f.tree Group)) groups) (holds : HoldsEntriesBy f db) where
   held_user : (e : Entry) → Has users e → Has holds.users e
-  held_user = on_both_lists User (columns User) (db (tree User)) users holds.users lists_users holds.all_users
+  held_user = on_both_lists User (f.columns User) (db (f.tree User)) users holds.users lists_users holds.all_users
 
   held_group : (e : Entry) → Has groups e → Has holds.groups e
-  held_group = on_both_lists Group (columns Group) (db (tree Group)) groups holds.groups lists_groups holds.all_groups
+  held_group = on_both_lists Group (f.columns Group) (db (f.tree Group)) groups holds.groups lists_groups holds.all_groups
 
   key_there : (key : List ℕ) → Has (keys_of holds.users) key → Has (keys_of users) key
   key_there key there =
       let it = has_map (λ (e : Entry). (row_name e.row).key) holds.users key there in
-      subst (Has (keys_of users)) (sym it.2) (map_has (λ (e : Entry). (row_name e.row).key) users it.0 (on_both_lists User (columns User) (db (tree User)) holds.users users holds.all_users lists_users it.0 it.1))
+      subst (Has (keys_of users)) (sym it.2) (map_has (λ (e : Entry). (row_name e.row).key) users it.0 (on_both_lists User (f.columns User) (db (f.tree User)) holds.users users holds.all_users lists_users it.0 it.1))
 
   members_there : (g : Entry) → HasMembersOf (keys_of holds.users) g → HasMembersOf (keys_of users) g
   members_there g has = all_from (Has (keys_of users)) (members_of g.row) (λ key there. key_there key (all_has (Has (keys_of holds.users)) (members_of g.row) key has there))
 
   pub lawful_lists : AreLawful users groups
   lawful_lists = record {
-    few_users = omega (arith, holds.lawful.few_users, same_length User (columns User) (db (tree User)) users holds.users lists_users holds.all_users);
-    few_groups = omega (arith, holds.lawful.few_groups, same_length Group (columns Group) (db (tree Group)) groups holds.groups lists_groups holds.all_groups);
+    few_users = omega (arith, holds.lawful.few_users, same_length User (f.columns User) (db (f.tree User)) users holds.users lists_users holds.all_users);
+    few_groups = omega (arith, holds.lawful.few_groups, same_length Group (f.columns Group) (db (f.tree Group)) groups holds.groups lists_groups holds.all_groups);
     identified_users = test_from is_identified users (λ e there. test_has is_identified holds.users e holds.lawful.identified_users (held_user e there));
     identified_groups = test_from is_identified groups (λ e there. test_has is_identified holds.groups e holds.lawful.identified_groups (held_group e there));
     members = all_from (HasMembersOf (keys_of users)) groups (λ g there. members_there g (all_has (HasMembersOf (keys_of holds.users)) holds.groups g holds.lawful.members (held_group g there)));

@@ -1,3 +1,4 @@
+pub mod Generic
 pub mod Texts
 pub mod CarryTexts
 pub mod Copying

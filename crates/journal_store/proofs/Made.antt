@@ -14,6 +14,7 @@ use Rattle.sql_tables.proofs.Making.{creates, marks}
 use Rattle.journal_store.specs.Batches.{settled}
 use Rattle.journal_store.specs.Connections.{AreNumbered, HasNumbersBy, ListsAllBy, Shows}
 use Rattle.journal_store.specs.Format.{create_first_text, first_groups, first_number, first_tree, first_users, format_name, format_text, mark_text, table_of}
+use Rattle.journal_store.specs.Formats.{first_format}
 use Rattle.journal_store.specs.Opening.{HoldsEntriesBy, IsFirstStore}
 use Rattle.journal_store.specs.Rows.{entries_by, first_row}
 use Rattle.journal_store.proofs.MakingTexts.{format_made, groups_created, groups_made, mark_is, users_created, users_made, users_schema}
@@ -38,7 +39,7 @@ numbers_none db users groups = record {
   groups = subst AreNumbered (sym groups) (λ r there. absurd there);
 }
 
-holds_none : (db : Trees) → db 1 ≡ [] → db 3 ≡ [] → HoldsEntriesBy first_tree first_row db
+holds_none : (db : Trees) → db 1 ≡ [] → db 3 ≡ [] → HoldsEntriesBy first_format db
 holds_none db users groups = record {
   users = [];
   groups = [];

@@ -1,9 +1,7 @@
 -- What the opening of a journal of an older format leaves.
-use Rattle.std.proofs.Common.{◌≡◌, ◌⊎◌, ℕ, pos, false, true, [], ◌∷◌, IsTrue, Result, refl, sym, ◌∙◌, inl, inr, arith}
+use Rattle.std.proofs.Common.{◌≡◌, ◌⊎◌, pos, false, true, [], ◌∷◌, IsTrue, Result, refl, sym, ◌∙◌, inl, inr, arith}
 use Rattle.std.specs.Prelude.{IfErr}
 use Rattle.sqlite_value.specs.declared.value.Value.TheVariants.{Int}
-use Rattle.sqlite_value.specs.Order.{Row}
-use Rattle.sqlite_schema.specs.declared.schema.Schema.{Schema}
 use Rattle.sqlite_trees.specs.Tree.{Trees}
 use Rattle.sqlite.specs.State.{State, HasCleanDisk, Survives}
 use Rattle.sqlite.proofs.StateLemmas.{survives_then}
@@ -14,26 +12,27 @@ use Rattle.sql_tables.specs.declared.marks.Mark.{Mark}
 use Rattle.sql_tables.specs.declared.marks.Mark.TheVariants.{Own, Newer, Unmarked}
 use Rattle.sql_tables.proofs.Results.{if_err}
 use Rattle.sql_tables.specs.Statements.{Looks}
-use Rattle.journal_store.specs.Format.{entry_tree, format_number, journal_schema}
+use Rattle.journal_store.specs.Format.{format_number}
+use Rattle.journal_store.specs.Formats.{FormatData, current_format}
 use Rattle.journal_store.specs.Opening.{IsCause, IsFor, IsJournal, IsNewer, IsNotLaid, IsNotLaidBy, IsSpoilt, IsSpoiltBy, IsStoreBy, LeavesCarried, LeavesCarriedBy, LeavesStanding}
-use Rattle.journal_store.specs.Rows.{entries_in, shown_row}
+use Rattle.journal_store.specs.Rows.{entries_in}
 use Rattle.journal_store.specs.declared.opening.JournalOpenFault.{JournalOpenFault}
 use Rattle.journal_store.proofs.Checking.{is_for}
 use Rattle.journal_store.proofs.Reopening.{store_on}
 
 -- given an older format
-module _ {Form : Type 0} (layout : Form → Schema) (number : ℕ) (tree : Kind → ℕ) (columns : Kind → Row → Row) where
+module _ (f : FormatData) where
   -- what a stop leaves of a journal that was checked and is then carried over
-  pub stop_carried : (old mid new : State) → Looks old mid → (HasCleanDisk mid → (entries : EntryMap) × IsStoreBy layout number tree columns old entries) → (HasCleanDisk mid → IsTrue mid.is_open)
-      → Survives mid new (λ db. (entries : EntryMap) × IsStoreBy layout number tree columns mid entries × (entries_in db ≡ entries) × ((kind : Kind) → db (tree kind) ≡ [])) → Survives old new (LeavesCarriedBy layout number tree columns old)
-  stop_carried old mid new looks stands still carries = survives_then old mid new (λ _. ⊥) _ (LeavesCarriedBy layout number tree columns old) (λ late db it. absurd it) (λ late db it.
+  pub stop_carried : (old mid new : State) → Looks old mid → (HasCleanDisk mid → (entries : EntryMap) × IsStoreBy f old entries) → (HasCleanDisk mid → IsTrue mid.is_open)
+      → Survives mid new (λ db. (entries : EntryMap) × IsStoreBy f mid entries × (entries_in db ≡ entries) × ((kind : Kind) → db (f.tree kind) ≡ [])) → Survives old new (LeavesCarriedBy f old)
+  stop_carried old mid new looks stands still carries = survives_then old mid new (λ _. ⊥) _ (LeavesCarriedBy f old) (λ late db it. absurd it) (λ late db it.
       let clean : HasCleanDisk mid = omega (arith, late, carries.clean) in
       let was = stands clean in
       let is = store_on old mid was.0 looks was.1 clean (still clean) in
       (was.0, was.1, it.2 ∙ sym it.1.are ∙ is.are)) looks.quiet carries
 
   -- if the tables are those of the format and no transaction is open, something in them is invalid
-  pub older_spoilt : (s : State) → IsOne layout s.now.schema → s.in_transaction ≡ false → IsNotLaidBy layout s ⊎ IsSpoiltBy layout number tree columns s → IsSpoiltBy layout number tree columns s
+  pub older_spoilt : (s : State) → IsOne f.layout s.now.schema → s.in_transaction ≡ false → IsNotLaidBy f.layout s ⊎ IsSpoiltBy f s → IsSpoiltBy f s
   older_spoilt s older outside (inl other) = absurd (let clash : false ≡ true = sym outside ∙ other older in cc)
   older_spoilt s older outside (inr spoilt) = spoilt
 
@@ -44,7 +43,7 @@ stop_stands old new h it = record { clean = it.clean; shield = it.shield; counts
 -- a fault of tables of the current format, if no transaction is open
 pub journal_cause : {T : Type 0} (s : State) (r : Result T JournalOpenFault) → IsJournal s.now.schema → s.in_transaction ≡ false → IfErr r (IsFor (IsNewer s) (IsNotLaid s ⊎ IsSpoilt s)) → IfErr r (IsCause s)
 journal_cause s r journal outside =
-    if_err r (λ fault it. is_for {P = IsNewer s} {Q = IsNewer s} (λ newer. newer) (λ damage. inr (inl (older_spoilt journal_schema format_number entry_tree shown_row s journal outside damage))) fault it)
+    if_err r (λ fault it. is_for {P = IsNewer s} {Q = IsNewer s} (λ newer. newer) (λ damage. inr (inl (older_spoilt current_format s journal outside damage))) fault it)
 
 -- the number of the format isn't newer
 pub not_newer : (s : State) (mark : Mark) → (mark ≡ Newer → ⊥) → IsMark (IsFormat s) format_number mark → IsNewer s → ⊥

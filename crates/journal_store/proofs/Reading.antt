@@ -10,14 +10,15 @@ use Rattle.sqlite.specs.State.{State, HasCleanDisk, Survives}
 use Rattle.scim_key.specs.declared.records.RecordName.{RecordName}
 use Rattle.source_csv.specs.Records.{IsRow, row_name}
 use Rattle.journal_core.specs.Entries.{EntryMap}
-use Rattle.journal_core.specs.Stores.{CountsFault, CountsFaults, OnlyReads, WritesOnce}
+use Rattle.journal_core.specs.Stores.{CountsFault, CountsFaults}
 use Rattle.journal_core.specs.declared.entries.Entry.{Entry}
 use Rattle.journal_core.specs.declared.journals.JournalFault.{JournalFault}
+use Rattle.journal_store.specs.Calls.{Reads, Writes}
 use Rattle.journal_store.specs.Rows.{entries_in, entry_in, row_of}
 use Rattle.sql_tables.specs.Statements.{Keeps}
 use Rattle.sql_tables.proofs.Keeping.{kept_now, laid_still}
 use Rattle.journal_store.specs.Connections.{Commits, FindsIf, HasNumbers, IsLaid, IsThere, PutsIn}
-use Rattle.journal_store.specs.Kept.{Kept, IsFaithful, IsHonest, IsSound, IsWhole, MayHold, kept_entries}
+use Rattle.journal_store.specs.Kept.{Kept, IsFaithful, IsSound, IsWhole, MayHold, kept_entries}
 use Rattle.journal_store.proofs.Putting.{entry_put, numbers_still, there_of}
 
 abbrev pub answered : Result (Unit {0}) JournalFault
@@ -59,7 +60,7 @@ module _ {S : Type 0} (g : Ghosts S) where
   pub read_only : {T : Type 0} (old new : Kept S) (result : Result T JournalFault) → IsTrue old.is_usable → new.is_usable ≡ old.is_usable → new.writes ≡ old.writes
       → Survives (at old) (at new) (λ _. ⊥) → (HasCleanDisk (at new) → Keeps (at old) (at new)) → (HasCleanDisk (at new) → OnOk result (IsTrue (at new).is_open)) → IsSound g old
       → CountsFaults CountsFault old.faults new.faults result
-      → OnlyReads (kept_entries g) (IsFaithful g) (IsHonest g) (MayHold g) (λ k. k.faults) (λ k. k.writes) CountsFault old new result
+      → Reads g old new result
   read_only old new result was_usable usable writes quiet keeps opens sound counts = record {
     was = faithful_was old new usable quiet keeps sound;
     same = λ it. entries_same old new usable (keeps it.clean) (faithful_was old new usable quiet keeps sound it).whole.laid it.is_open;
@@ -104,7 +105,7 @@ module _ {S : Type 0} (g : Ghosts S) where
       wrote_sound clean still use_it = (wrote_faithful clean).whole
 
       pub wrote : new.faults ≡ old.faults → new.writes ≤ old.writes + 1
-          → WritesOnce (kept_entries g) (IsFaithful g) (IsHonest g) (MayHold g) (λ k. k.faults) (λ k. k.writes) CountsFault old new later answered
+          → Writes g old new later answered
       wrote faults writes = record {
         was = λ it. faithful_before it.clean (makes it.clean).was_open;
         done = λ it. let made = makes it.clean in
@@ -124,7 +125,7 @@ module _ {S : Type 0} (g : Ghosts S) where
           whole_still old new usable kept (faithful_before clean (kept.was_open still)).whole still
 
       pub failed : CountsFault old.faults new.faults fault → new.writes ≡ old.writes
-          → WritesOnce (kept_entries g) (IsFaithful g) (IsHonest g) (MayHold g) (λ k. k.faults) (λ k. k.writes) CountsFault old new later (failing fault)
+          → Writes g old new later (failing fault)
       failed faults writes = record {
         was = λ it. faithful_before it.clean ((keeps it.clean).was_open it.is_open);
         done = λ _. tt;

@@ -1,42 +1,42 @@
 -- What an opening makes of a journal, and a reopening.
-use Rattle.std.proofs.Common.{◌≡◌, ℕ, [], ◌∷◌, pos, IsTrue, sym, ap, ◌∙◌, subst, inl, inr, arith, map}
+use Rattle.std.proofs.Common.{◌≡◌, [], ◌∷◌, pos, IsTrue, sym, ap, ◌∙◌, subst, inl, inr, arith, map}
 use Rattle.sqlite_value.specs.Order.{Row, column}
 use Rattle.sqlite_value.specs.declared.value.Value.TheVariants.{Int}
 use Rattle.sqlite_trees.specs.declared.store.Store.{Ghosts}
-use Rattle.sqlite_schema.specs.declared.schema.Schema.{Schema}
 use Rattle.sqlite.specs.Effect.{Database}
 use Rattle.sqlite.specs.Held.{state}
 use Rattle.sqlite.specs.State.{State, HasCleanDisk}
-use Rattle.scim_key.specs.declared.records.Kind.{Kind}
 use Rattle.journal_core.specs.Entries.{EntryMap}
-use Rattle.journal_core.specs.Stores.{CountsFault, Reopens}
+use Rattle.journal_core.specs.Stores.{CountsFault}
 use Rattle.journal_core.specs.declared.journals.JournalFault.{JournalFault}
 use Rattle.sql_tables.specs.Layouts.{format_tree}
 use Rattle.sql_tables.specs.Statements.{Looks}
 use Rattle.sql_tables.proofs.Keeping.{kept_now, laid_still}
+use Rattle.journal_store.specs.Calls.{OpensAgain}
+use Rattle.journal_store.specs.Formats.{FormatData}
 use Rattle.journal_store.specs.Rows.{entries_by}
 use Rattle.journal_store.specs.Connections.{HasNumbersBy}
-use Rattle.journal_store.specs.Kept.{Kept, IsFaithful, IsHonest, IsWhole, MayHold, kept_entries}
+use Rattle.journal_store.specs.Kept.{Kept, IsHonest, IsWhole, MayHold}
 use Rattle.journal_store.specs.Opening.{HoldsEntriesBy, IsStore, IsStoreBy}
 use Rattle.journal_store.proofs.Reading.{answered, failing}
 
 -- given a format
-module _ {Form : Type 0} {layout : Form → Schema} {number : ℕ} {tree : Kind → ℕ} {columns : Kind → Row → Row} where
+module _ {f : FormatData} where
   -- the entries that were committed are those that the tables hold
-  pub committed_entries : (s : State) (entries : EntryMap) → IsStoreBy layout number tree columns s entries → entries_by tree columns s.committed.trees ≡ entries
-  committed_entries s entries store = ap (λ (d : Database). entries_by tree columns d.trees) store.laid.committed ∙ store.are
+  pub committed_entries : (s : State) (entries : EntryMap) → IsStoreBy f s entries → entries_by f.tree f.columns s.committed.trees ≡ entries
+  committed_entries s entries store = ap (λ (d : Database). entries_by f.tree f.columns d.trees) store.laid.committed ∙ store.are
 
   -- a store that is looked at stays
-  pub store_on : (old new : State) (entries : EntryMap) → Looks old new → IsStoreBy layout number tree columns old entries → HasCleanDisk new → IsTrue new.is_open → IsStoreBy layout number tree columns new entries
+  pub store_on : (old new : State) (entries : EntryMap) → Looks old new → IsStoreBy f old entries → HasCleanDisk new → IsTrue new.is_open → IsStoreBy f new entries
   store_on old new entries looks store clean still =
       let keeps = looks.keeps clean in
       let same = (kept_now old new keeps still store.laid).0 in
       record {
         laid = laid_still old new keeps still store.laid;
-        format = subst (λ (d : Database). map (λ (r : Row). column r 2) (d.trees format_tree) ≡ Int (pos number) ∷ []) (sym same) store.format;
-        numbers = subst (λ (d : Database). HasNumbersBy tree d.trees) (sym same) store.numbers;
-        holds = subst (λ (d : Database). HoldsEntriesBy tree columns d.trees) (sym same) store.holds;
-        are = ap (λ (d : Database). entries_by tree columns d.trees) same ∙ store.are;
+        format = subst (λ (d : Database). map (λ (r : Row). column r 2) (d.trees format_tree) ≡ Int (pos f.number) ∷ []) (sym same) store.format;
+        numbers = subst (λ (d : Database). HasNumbersBy f.tree d.trees) (sym same) store.numbers;
+        holds = subst (λ (d : Database). HoldsEntriesBy f d.trees) (sym same) store.holds;
+        are = ap (λ (d : Database). entries_by f.tree f.columns d.trees) same ∙ store.are;
       }
 
 module _ {S : Type 0} (g : Ghosts S) where
@@ -52,7 +52,7 @@ module _ {S : Type 0} (g : Ghosts S) where
 
     pub reopened : ((s : S) → IsTrue (g.view s).is_open → g.recovers s (g.view s).committed) → IsTrue new.is_usable
         → (HasCleanDisk (at new) → (entries : EntryMap) × IsStore (at old) entries) → (HasCleanDisk (at new) → IsTrue (at new).is_open) → new.faults ≡ old.faults → new.writes ≡ old.writes
-        → Reopens (kept_entries g) (IsFaithful g) (IsHonest g) (MayHold g) (λ k. k.faults) (λ k. k.writes) CountsFault old new answered
+        → OpensAgain g old new answered
     reopened stays usable stores opens faults writes = record {
       found = λ clean.
           let it = stores clean in
@@ -70,7 +70,7 @@ module _ {S : Type 0} (g : Ghosts S) where
     }
 
     pub not_reopened : (fault : JournalFault) → CountsFault old.faults new.faults fault → new.writes ≡ old.writes
-        → Reopens (kept_entries g) (IsFaithful g) (IsHonest g) (MayHold g) (λ k. k.faults) (λ k. k.writes) CountsFault old new (failing fault)
+        → OpensAgain g old new (failing fault)
     not_reopened fault counts writes = record {
       found = λ _. tt;
       honest = λ clean. omega (arith, clean, looks.quiet.clean);

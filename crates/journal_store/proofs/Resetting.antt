@@ -34,6 +34,7 @@ use Rattle.scim_key.specs.Revisions.{confirmed_of_parts, no_revision, revision_e
 use Rattle.scim_key.specs.declared.records.Kind.{Kind}
 use Rattle.scim_key.specs.declared.records.Kind.TheVariants.{User, Group}
 use Rattle.source_csv.specs.Records.{row_revision}
+use Rattle.journal_core.specs.Forgetting.{unlearnt}
 use Rattle.journal_core.specs.declared.entries.Entry.{Entry}
 use Rattle.sql_tables.specs.Statements.{plain_mode}
 use Rattle.sql_tables.proofs.Answering.{every}
@@ -43,7 +44,7 @@ use Rattle.sql_tables.proofs.Selecting.{mapped, shows}
 use Rattle.sql_tables.proofs.Values.{cast_int}
 use Rattle.journal_store.specs.Connections.{AreNumbered, Shows}
 use Rattle.journal_store.specs.Format.{Form, entry_place, entry_tables, entry_tree, journal_schema, places, table_of, third_groups, third_users}
-use Rattle.journal_store.specs.Resets.{ResetsOne, kept_count, none_values, reset_row, reset_text, unlearnt}
+use Rattle.journal_store.specs.Resets.{ResetsOne, kept_count, none_values, reset_row, reset_text}
 use Rattle.journal_store.specs.Rows.{IsReadable, entry_in, shown_row}
 use Rattle.journal_store.proofs.Loading.{map_has, permuted}
 use Rattle.journal_store.proofs.Putting.{not_true, own_number}

@@ -1,16 +1,18 @@
 -- The calls of a reset.
 use Rattle.std.proofs.Common.{◌≡◌, ℕ, List, None, Ok, subst}
 use Rattle.sqlite_value.specs.Order.{Row}
+use Rattle.sqlite_trees.specs.declared.store.Store.{Ghosts}
 use Rattle.sqlite.specs.Does.{Does}
 use Rattle.sqlite.specs.Listing.{understood}
 use Rattle.sqlite.specs.State.{State}
 use Rattle.scim_key.specs.declared.records.Kind.{Kind}
 use Rattle.journal_core.specs.Entries.{EntryMap}
-use Rattle.journal_core.specs.Stores.{CountsFault, WritesOnce}
 use Rattle.journal_core.specs.declared.journals.JournalFault.{JournalFault}
 use Rattle.sql_tables.specs.Statements.{Ran, plain_mode}
 use Rattle.sql_tables.proofs.Editing.{command_is, edits_by}
+use Rattle.journal_store.specs.Calls.{Writes}
 use Rattle.journal_store.specs.Connections.{Commits, IsEditText, IsLaid}
+use Rattle.journal_store.specs.Kept.{Kept}
 use Rattle.journal_store.specs.Resets.{IsListed, ResetsOne, none_values, reset_text}
 use Rattle.journal_store.proofs.Calls.{fault_as}
 use Rattle.journal_store.proofs.Resetting.{reset_is, resets_by}
@@ -35,8 +37,7 @@ reset_made old new kind sql params text none laid listed ran =
 
 -- ---- the call
 
-module _ {S : Type 0} {entries : S → EntryMap} {is_faithful is_honest : S → Type 0} {may_hold : S → EntryMap → Type 0} {faults writes : S → ℕ} where
+module _ {S : Type 0} (g : Ghosts S) where
   -- a fault of a call that writes, as the result of another call
-  pub failed_so : {T : Type 0} (U : Type 0) {old new : S} {later : EntryMap} {fault : JournalFault} → WritesOnce entries is_faithful is_honest may_hold faults writes CountsFault old new later (fault_as T fault)
-      → WritesOnce entries is_faithful is_honest may_hold faults writes CountsFault old new later (fault_as U fault)
+  pub failed_so : {T : Type 0} (U : Type 0) {old new : Kept S} {later : EntryMap} {fault : JournalFault} → Writes g old new later (fault_as T fault) → Writes g old new later (fault_as U fault)
   failed_so U w = record { was = w.was; done = w.done; same = w.same; honest = w.honest; stop = w.stop; counted = w.counted; written = w.written; unwritten = w.unwritten }

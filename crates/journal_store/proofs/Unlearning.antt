@@ -17,12 +17,13 @@ use Rattle.scim_key.specs.declared.records.Kind.TheVariants.{User, Group}
 use Rattle.scim_key.specs.declared.records.RecordName.{RecordName}
 use Rattle.source_csv.specs.Records.{row_name}
 use Rattle.journal_core.specs.Entries.{EntryMap, IsListOf, named}
+use Rattle.journal_core.specs.Forgetting.{forgotten, is_learnt, learnt_count, unlearnt}
 use Rattle.journal_core.specs.declared.entries.Entry.{Entry}
 use Rattle.sql_tables.proofs.Selecting.{mapped}
 use Rattle.journal_store.specs.Connections.{AreNumbered, HasNumbers, ListsAll, Shows}
 use Rattle.journal_store.specs.Format.{entry_tree}
 use Rattle.journal_store.specs.Kept.{IsFaithful, Kept, kept_entries}
-use Rattle.journal_store.specs.Resets.{AreListed, Resets, ResetsAll, forgotten, is_learnt, learnt_count, reset_row, unlearnt}
+use Rattle.journal_store.specs.Resets.{AreListed, Resets, ResetsAll, reset_row}
 use Rattle.journal_store.specs.Rows.{entries_in, shown_row}
 use Rattle.journal_store.proofs.Forgetting.{forgotten_is}
 use Rattle.journal_store.proofs.Loading.{has_map, lists_both, map_has, permuted, zip_left}

@@ -1,10 +1,12 @@
 pub mod Format
 pub mod Rows
+pub mod Formats
 pub mod Connections
 pub mod Batches
 pub mod Faults
 pub mod Opening
 pub mod Kept
+pub mod Calls
 pub mod KeptLaws
 pub mod Resets
 pub mod Learning

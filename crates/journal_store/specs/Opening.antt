@@ -16,17 +16,17 @@ use Rattle.sqlite_schema.specs.declared.schema.Table.{Table}
 use Rattle.sqlite_schema.specs.declared.schema.Schema.{Schema}
 use Rattle.sqlite.specs.State.{State}
 use Rattle.scim_key.specs.Revisions.{no_revision, same_revision}
-use Rattle.scim_key.specs.declared.records.Kind.{Kind}
 use Rattle.scim_key.specs.declared.records.Kind.TheVariants.{User, Group}
 use Rattle.source_csv.specs.Records.{row_name, members_of}
 use Rattle.journal_core.specs.Entries.{EntryMap, most_records}
 use Rattle.journal_core.specs.declared.entries.Entry.{Entry}
 use Rattle.journal_core.specs.declared.journals.JournalFault.{JournalFault}
 use Rattle.journal_core.specs.declared.journals.JournalFault.TheVariants as journal
-use Rattle.journal_store.specs.Format.{EntryTable, entry_tree, first_number, first_schema, first_tree, format_number, index_of, journal_schema, key_places, marked_schema, second_number, second_schema, second_tree, table_of}
+use Rattle.journal_store.specs.Format.{EntryTable, first_schema, format_number, index_of, journal_schema, key_places, marked_schema, second_schema, table_of}
+use Rattle.journal_store.specs.Formats.{FormatData, current_format, first_format, second_format}
 use Rattle.sql_tables.specs.Layouts.{IsBlank, IsFormat, IsLaid as IsLaidBy, IsOne, IsPlainTable, no_schema}
 use Rattle.sql_tables.specs.Faults.{HasFailed}
-use Rattle.journal_store.specs.Rows.{entries_by, entries_in, first_row, second_row, shown_row}
+use Rattle.journal_store.specs.Rows.{entries_by, entries_in}
 use Rattle.journal_store.specs.Connections.{FailsToRise, HasNumbersBy, ListsAllBy, Shows}
 use Rattle.journal_store.specs.declared.statements.TableFault.{TableFault}
 use Rattle.journal_store.specs.declared.statements.TableFault.TheVariants as table
@@ -147,39 +147,38 @@ pub record AreLawful (users groups : List Entry) : Type 0 where
   pub identified_groups : list_all is_identified groups ≡ true
   pub members : AllByRecursion (HasMembersOf (keys_of users)) groups
 
--- the tables in these trees, of which the queries show these columns, show these entries, one for each row, and the
--- entries are valid
-pub record HoldsEntriesBy (tree : Kind → ℕ) (columns : Kind → Row → Row) (db : Trees) : Type 0 where
+-- the tables of the format in these trees show these entries, one for each row, and the entries are valid
+pub record HoldsEntriesBy (f : FormatData) (db : Trees) : Type 0 where
   pub users : List Entry
   pub groups : List Entry
-  pub all_users : ListsAllBy (Shows User) (columns User) (db (tree User)) users
-  pub all_groups : ListsAllBy (Shows Group) (columns Group) (db (tree Group)) groups
+  pub all_users : ListsAllBy (Shows User) (f.columns User) (db (f.tree User)) users
+  pub all_groups : ListsAllBy (Shows Group) (f.columns Group) (db (f.tree Group)) groups
   pub lawful : AreLawful users groups
 
 abbrev pub HoldsEntries : Trees → Type 0
-HoldsEntries = HoldsEntriesBy entry_tree shown_row
+HoldsEntries = HoldsEntriesBy current_format
 
 -- ---- the store
 
--- the tables are of the format with this layout and this number, and hold these entries
-pub record IsStoreBy {Form : Type 0} (layout : Form → Schema) (number : ℕ) (tree : Kind → ℕ) (columns : Kind → Row → Row) (s : State) (entries : EntryMap) : Type 0 where
-  pub laid : IsLaidBy layout s
-  pub format : IsFormat s number
-  pub numbers : HasNumbersBy tree s.now.trees
-  pub holds : HoldsEntriesBy tree columns s.now.trees
-  pub are : entries_by tree columns s.now.trees ≡ entries
+-- the tables are of this format, and hold these entries
+pub record IsStoreBy (f : FormatData) (s : State) (entries : EntryMap) : Type 0 where
+  pub laid : IsLaidBy f.layout s
+  pub format : IsFormat s f.number
+  pub numbers : HasNumbersBy f.tree s.now.trees
+  pub holds : HoldsEntriesBy f s.now.trees
+  pub are : entries_by f.tree f.columns s.now.trees ≡ entries
 
 -- the tables are of the current format, and hold these entries
 abbrev pub IsStore : State → EntryMap → Type 0
-IsStore = IsStoreBy journal_schema format_number entry_tree shown_row
+IsStore = IsStoreBy current_format
 
 -- the tables are of the second format, and hold these entries
 abbrev pub IsSecondStore : State → EntryMap → Type 0
-IsSecondStore = IsStoreBy second_schema second_number second_tree second_row
+IsSecondStore = IsStoreBy second_format
 
 -- the tables are of the first format, and hold these entries
 abbrev pub IsFirstStore : State → EntryMap → Type 0
-IsFirstStore = IsStoreBy first_schema first_number first_tree first_row
+IsFirstStore = IsStoreBy first_format
 
 -- the tables are of an older format, and hold these entries
 abbrev pub IsOlderStore : State → EntryMap → Type 0
@@ -218,39 +217,39 @@ abbrev pub IsUnmarked : State → Type 0
 IsUnmarked = IsUnmarkedBy format_number
 
 -- the rows are invalid: some row has no number of its own, or the entries aren't valid
-abbrev pub IsUnlawfulBy : (tree : Kind → ℕ) (columns : Kind → Row → Row) → Trees → Type 0
-IsUnlawfulBy tree columns db = (HasNumbersBy tree db → ⊥) ⊎ (HoldsEntriesBy tree columns db → ⊥)
+abbrev pub IsUnlawfulBy : FormatData → Trees → Type 0
+IsUnlawfulBy f db = (HasNumbersBy f.tree db → ⊥) ⊎ (HoldsEntriesBy f db → ⊥)
 
 abbrev pub IsUnlawful : Trees → Type 0
-IsUnlawful = IsUnlawfulBy entry_tree shown_row
+IsUnlawful = IsUnlawfulBy current_format
 
 -- the tables have the number of the format, and the rows are invalid
-pub record HasUnlawfulBy (number : ℕ) (tree : Kind → ℕ) (columns : Kind → Row → Row) (s : State) : Type 0 where
-  pub format : IsFormat s number
-  pub rows : IsUnlawfulBy tree columns s.now.trees
+pub record HasUnlawfulBy (f : FormatData) (s : State) : Type 0 where
+  pub format : IsFormat s f.number
+  pub rows : IsUnlawfulBy f s.now.trees
 
 abbrev pub HasUnlawful : State → Type 0
-HasUnlawful = HasUnlawfulBy format_number entry_tree shown_row
+HasUnlawful = HasUnlawfulBy current_format
 
 -- the number of the format is invalid, or the rows are
-abbrev pub ShowsDamageBy : (number : ℕ) (tree : Kind → ℕ) (columns : Kind → Row → Row) → State → Type 0
-ShowsDamageBy number tree columns s = IsUnmarkedBy number s ⊎ HasUnlawfulBy number tree columns s
+abbrev pub ShowsDamageBy : FormatData → State → Type 0
+ShowsDamageBy f s = IsUnmarkedBy f.number s ⊎ HasUnlawfulBy f s
 
 abbrev pub ShowsDamage : State → Type 0
-ShowsDamage = ShowsDamageBy format_number entry_tree shown_row
+ShowsDamage = ShowsDamageBy current_format
 
 -- the tables are of the format, but something in them is invalid
-abbrev pub IsSpoiltBy : {Form : Type 0} → (Form → Schema) → (number : ℕ) (tree : Kind → ℕ) (columns : Kind → Row → Row) → State → Type 0
-IsSpoiltBy layout number tree columns s = IsOne layout s.now.schema × ShowsDamageBy number tree columns s
+abbrev pub IsSpoiltBy : FormatData → State → Type 0
+IsSpoiltBy f s = IsOne f.layout s.now.schema × ShowsDamageBy f s
 
 abbrev pub IsSpoilt : State → Type 0
-IsSpoilt = IsSpoiltBy journal_schema format_number entry_tree shown_row
+IsSpoilt = IsSpoiltBy current_format
 
 abbrev pub IsSecondSpoilt : State → Type 0
-IsSecondSpoilt = IsSpoiltBy second_schema second_number second_tree second_row
+IsSecondSpoilt = IsSpoiltBy second_format
 
 abbrev pub IsFirstSpoilt : State → Type 0
-IsFirstSpoilt = IsSpoiltBy first_schema first_number first_tree first_row
+IsFirstSpoilt = IsSpoiltBy first_format
 
 -- the tables aren't a valid journal
 abbrev pub IsDamaged : State → Type 0
@@ -269,9 +268,9 @@ OpeningFails old new = IsTrue old.in_transaction ⊎ ((old.now.schema ≡ no_sch
 abbrev pub LeavesNone : Trees → Type 0
 LeavesNone db = entries_in db ≡ empty
 
--- a stop leaves the entries of the tables of the format with this layout and this number, carried over
-abbrev pub LeavesCarriedBy : {Form : Type 0} → (Form → Schema) → (number : ℕ) (tree : Kind → ℕ) (columns : Kind → Row → Row) → State → Trees → Type 0
-LeavesCarriedBy layout number tree columns s db = (entries : EntryMap) × IsStoreBy layout number tree columns s entries × (entries_in db ≡ entries)
+-- a stop leaves the entries of the tables of this format, carried over
+abbrev pub LeavesCarriedBy : FormatData → State → Trees → Type 0
+LeavesCarriedBy f s db = (entries : EntryMap) × IsStoreBy f s entries × (entries_in db ≡ entries)
 
 -- a stop leaves the entries of the tables of an older format, carried over
 abbrev pub LeavesCarried : State → Trees → Type 0

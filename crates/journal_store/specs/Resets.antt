@@ -1,16 +1,16 @@
--- What a reset leaves: the row of each record, and nothing that was learnt of the provider.
-use Rattle.std.specs.Prelude.{◌≡◌, ◌+◌, ◌-◌, ℕ, Bool, not, ◌||◌, List, [], ◌∷◌, ◌++◌, None, codes, is_some, map, IsPermutation}
-use Rattle.std.specs.FinMap.{entries, from_entries, get, values}
-use Rattle.std.specs.List.{count_by}
+-- What a reset leaves of the tables: the row of each record, and nothing that was learnt of the provider.
+use Rattle.std.specs.Prelude.{◌≡◌, ◌+◌, ◌-◌, ℕ, List, [], ◌∷◌, ◌++◌, codes, map, IsPermutation}
+use Rattle.std.specs.FinMap.{get}
 use Rattle.std.specs.Option.{option_map}
 use Rattle.sqlite_value.specs.declared.value.Value.TheVariants.{Null}
 use Rattle.sqlite_value.specs.Order.{Row, column}
 use Rattle.sqlite_trees.specs.Tree.{Trees}
-use Rattle.scim_key.specs.Revisions.{no_revision, same_revision}
+use Rattle.scim_key.specs.Revisions.{no_revision}
 use Rattle.scim_key.specs.declared.records.Kind.{Kind}
 use Rattle.scim_key.specs.declared.records.Kind.TheVariants.{User, Group}
 use Rattle.scim_key.specs.declared.records.RecordName.{RecordName}
 use Rattle.journal_core.specs.Entries.{EntryMap, IsListOf}
+use Rattle.journal_core.specs.Forgetting.{forgotten, unlearnt}
 use Rattle.journal_core.specs.declared.entries.Entry.{Entry}
 use Rattle.journal_store.specs.Format.{column_count, entry_tree, places}
 use Rattle.journal_store.specs.Rows.{epoch_value, revision_value}
@@ -18,22 +18,6 @@ use Rattle.journal_store.specs.Connections.{AreNumbered, ListsAll}
 use Rattle.journal_store.specs.Opening.{AreLawful}
 
 -- ---- entries
-
--- the entry with no confirmed revision and no id; its row stays
-abbrev pub unlearnt : Entry → Entry
-unlearnt entry = record entry { confirmed = no_revision; id = None }
-
--- the entries, each unlearnt
-abbrev pub forgotten : EntryMap → EntryMap
-forgotten map_ = from_entries (map (λ e. (e.0, unlearnt e.1)) (entries map_))
-
--- a revision of the record is confirmed, or its id is known
-abbrev pub is_learnt : Entry → Bool
-is_learnt entry = not (same_revision entry.confirmed no_revision) || is_some entry.id
-
--- how many of the entries a reset changes
-abbrev pub learnt_count : EntryMap → ℕ
-learnt_count map_ = count_by is_learnt (values map_)
 
 -- Each name has its entry, unlearnt, and no other name has an entry. The entries are valid as before, so that an
 -- opening accepts them

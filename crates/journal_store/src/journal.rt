@@ -6,14 +6,16 @@ ghost use Rattle.sqlite.specs.Held.{state};
 ghost use Rattle.sqlite.specs.State.{HasCleanDisk, Survives};
 ghost use Rattle.source_csv.specs.Records.{IsRow, row_name};
 ghost use Rattle.journal_core.specs.Entries.{CanPutLearnt, CanPutRow, CanPutRows, IsListOf, with_learnt, with_row, with_rows};
-ghost use Rattle.journal_core.specs.Stores.{CountsFault, HasRisen, OnlyReads, Reopens, WritesOnce};
+ghost use Rattle.journal_core.specs.Forgetting.{forgotten, learnt_count};
+ghost use Rattle.journal_core.specs.Stores.{CountsFault, HasRisen};
 ghost use Rattle.journal_core.specs.declared.journals.JournalFault.TheVariants.{Store};
+ghost use Rattle.journal_store.specs.Calls.{Reads, Writes, OpensAgain};
 ghost use Rattle.journal_store.specs.Connections.{Finds, FindsIf, IsDamagedAt, ListsAll, ListsNone};
 ghost use Rattle.sql_tables.specs.Faults.{HasFailed};
 ghost use Rattle.sql_tables.specs.Statements.{LeavesStore};
 ghost use Rattle.journal_store.specs.Kept.{CallFailsFor, IsFaithful, IsHonest, IsRefused, MayHold, kept_entries};
 ghost use Rattle.journal_store.specs.Opening.{IsCause, LeavesStanding, OpenFailsFor, OpeningFails, Stands, journal_fault, table_fault};
-ghost use Rattle.journal_store.specs.Resets.{AreListed, forgotten, learnt_count};
+ghost use Rattle.journal_store.specs.Resets.{AreListed};
 ghost use Rattle.journal_store.specs.Rows.{entry_in, row_of};
 
 use crate::batches::put_all;
@@ -85,7 +87,7 @@ impl<S: Alter> SqlJournal<S> {
     /// The entry with this name, if there is one.
     fn look_up(&mut self, name: &RecordName) -> Result<Option<Entry>, JournalFault>
         ensures found { IsFaithful S.Store self.new → IfOk result (Finds (state S.Store self.new.conn).now.trees name.now) }
-        ensures reads { OnlyReads (kept_entries S.Store) (IsFaithful S.Store) (IsHonest S.Store) (MayHold S.Store) (λ k. k.faults) (λ k. k.writes) CountsFault self.old self.new result }
+        ensures reads { Reads S.Store self.old self.new result }
         ensures shut { IsRefused self.old result }
         ensures failed { IsTrue self.old.is_usable → IsHonest S.Store self.new → IfErr result (CallFailsFor (HasFailed (state S.Store self.old.conn) (state S.Store self.new.conn) ⊎ IsDamagedAt (state S.Store self.old.conn).now.trees name.now)) }
     {
@@ -102,7 +104,7 @@ impl<S: Alter> SqlJournal<S> {
     fn list(&mut self, kind: Kind) -> Result<Vec<Entry>, JournalFault>
         ensures tables { IsFaithful S.Store self.new → (state S.Store self.new.conn).now.trees ≡ (state S.Store self.old.conn).now.trees }
         ensures all { IsFaithful S.Store self.new → IfOk result (λ list. ListsAll kind (state S.Store self.new.conn).now.trees list.items) }
-        ensures reads { OnlyReads (kept_entries S.Store) (IsFaithful S.Store) (IsHonest S.Store) (MayHold S.Store) (λ k. k.faults) (λ k. k.writes) CountsFault self.old self.new result }
+        ensures reads { Reads S.Store self.old self.new result }
         ensures shut { IsRefused self.old result }
         ensures quiet { Survives (state S.Store self.old.conn) (state S.Store self.new.conn) (λ _. ⊥) }
         ensures usable { self.new.is_usable ≡ self.old.is_usable }
@@ -121,7 +123,7 @@ impl<S: Alter> SqlJournal<S> {
     fn put(&mut self, is_there: bool, entry: &Entry) -> Result<(), JournalFault>
         requires found { IsFaithful S.Store self.old → FindsIf (state S.Store self.old.conn).now.trees (row_name entry.now.row) is_there }
         requires spelled { IsFaithful S.Store self.old → IsRow entry.now.row → entry_in (row_name entry.now.row).kind (row_of entry.now) ≡ Some entry.now }
-        ensures puts { WritesOnce (kept_entries S.Store) (IsFaithful S.Store) (IsHonest S.Store) (MayHold S.Store) (λ k. k.faults) (λ k. k.writes) CountsFault self.old self.new (insert (kept_entries S.Store self.old) (row_name entry.now.row) entry.now) result }
+        ensures puts { Writes S.Store self.old self.new (insert (kept_entries S.Store self.old) (row_name entry.now.row) entry.now) result }
         ensures open { IsHonest S.Store self.new → OnOk result (IsFaithful S.Store self.new) }
         ensures counted { OnOk result (HasRisen self.old.writes self.new.writes) }
         ensures shut { IsRefused self.old result }
@@ -156,7 +158,7 @@ impl<S: Alter> Journal for SqlJournal<S> {
 
     fn load(&mut self) -> Result<Vec<Entry>, JournalFault>
         ensures ok { IsFaithful S.Store self.new → IfOk result (λ list. IsListOf (kept_entries S.Store self.old) list.items) }
-        ensures reads { OnlyReads (kept_entries S.Store) (IsFaithful S.Store) (IsHonest S.Store) (MayHold S.Store) (λ k. k.faults) (λ k. k.writes) CountsFault self.old self.new result }
+        ensures reads { Reads S.Store self.old self.new result }
         ensures shut { IsRefused self.old result }
         ensures failed { IsTrue self.old.is_usable → IsHonest S.Store self.new → IfErr result (CallFailsFor (HasFailed (state S.Store self.old.conn) (state S.Store self.new.conn) ⊎ ((kind : _) × ListsNone kind (state S.Store self.old.conn).now.trees))) }
     {
@@ -168,7 +170,7 @@ impl<S: Alter> Journal for SqlJournal<S> {
 
     fn put_row(&mut self, row: &Row) -> Result<(), JournalFault>
         requires lawful { IsFaithful S.Store self.old → CanPutRow (kept_entries S.Store self.old) row.now }
-        ensures puts { WritesOnce (kept_entries S.Store) (IsFaithful S.Store) (IsHonest S.Store) (MayHold S.Store) (λ k. k.faults) (λ k. k.writes) CountsFault self.old self.new (with_row (kept_entries S.Store self.old) row.now) result }
+        ensures puts { Writes S.Store self.old self.new (with_row (kept_entries S.Store self.old) row.now) result }
         ensures open { IsHonest S.Store self.new → OnOk result (IsFaithful S.Store self.new) }
         ensures counted { OnOk result (HasRisen self.old.writes self.new.writes) }
         ensures shut { IsRefused self.old result }
@@ -185,7 +187,7 @@ impl<S: Alter> Journal for SqlJournal<S> {
 
     fn put_rows(&mut self, rows: &[Row]) -> Result<(), JournalFault>
         requires lawful { IsFaithful S.Store self.old → CanPutRows (kept_entries S.Store self.old) rows.now }
-        ensures puts { WritesOnce (kept_entries S.Store) (IsFaithful S.Store) (IsHonest S.Store) (MayHold S.Store) (λ k. k.faults) (λ k. k.writes) CountsFault self.old self.new (with_rows (kept_entries S.Store self.old) rows.now) result }
+        ensures puts { Writes S.Store self.old self.new (with_rows (kept_entries S.Store self.old) rows.now) result }
         ensures open { IsHonest S.Store self.new → OnOk result (IsFaithful S.Store self.new) }
         ensures counted { OnOk result (HasRisen self.old.writes self.new.writes) }
         ensures shut { IsRefused self.old result }
@@ -209,7 +211,7 @@ impl<S: Alter> Journal for SqlJournal<S> {
         id: &ResourceId,
     ) -> Result<(), JournalFault>
         requires lawful { IsFaithful S.Store self.old → CanPutLearnt (kept_entries S.Store self.old) name.now confirmed }
-        ensures puts { WritesOnce (kept_entries S.Store) (IsFaithful S.Store) (IsHonest S.Store) (MayHold S.Store) (λ k. k.faults) (λ k. k.writes) CountsFault self.old self.new (with_learnt (kept_entries S.Store self.old) name.now confirmed id.now) result }
+        ensures puts { Writes S.Store self.old self.new (with_learnt (kept_entries S.Store self.old) name.now confirmed id.now) result }
         ensures open { IsHonest S.Store self.new → OnOk result (IsFaithful S.Store self.new) }
         ensures counted { OnOk result (HasRisen self.old.writes self.new.writes) }
         ensures shut { IsRefused self.old result }
@@ -240,7 +242,7 @@ impl<S: Alter> SqlJournal<S> {
     fn count_learnt(&mut self) -> Result<usize, JournalFault>
         ensures listed { IsFaithful S.Store self.new → OnOk result (AreListed (state S.Store self.new.conn).now.trees) }
         ensures count { IsFaithful S.Store self.new → IfOk result (λ count. count ≡ learnt_count (kept_entries S.Store self.old)) }
-        ensures reads { OnlyReads (kept_entries S.Store) (IsFaithful S.Store) (IsHonest S.Store) (MayHold S.Store) (λ k. k.faults) (λ k. k.writes) CountsFault self.old self.new result }
+        ensures reads { Reads S.Store self.old self.new result }
         ensures shut { IsRefused self.old result }
     {
         let mut entries = self.list(Kind::User)?;
@@ -252,7 +254,7 @@ impl<S: Alter> SqlJournal<S> {
     /// Forgets what was learnt of each record.
     fn forget(&mut self) -> Result<(), JournalFault>
         requires listed { IsFaithful S.Store self.old → AreListed (state S.Store self.old.conn).now.trees }
-        ensures puts { WritesOnce (kept_entries S.Store) (IsFaithful S.Store) (IsHonest S.Store) (MayHold S.Store) (λ k. k.faults) (λ k. k.writes) CountsFault self.old self.new (forgotten (kept_entries S.Store self.old)) result }
+        ensures puts { Writes S.Store self.old self.new (forgotten (kept_entries S.Store self.old)) result }
         ensures open { IsHonest S.Store self.new → OnOk result (IsFaithful S.Store self.new) }
         ensures counted { OnOk result (HasRisen self.old.writes self.new.writes) }
         ensures shut { IsRefused self.old result }
@@ -272,7 +274,7 @@ impl<S: Alter> SqlJournal<S> {
     /// Forgets the confirmed revision and the id of each record, by one write: of all records or of none.
     /// The rows stay. Returns how many entries that changes.
     pub fn reset(&mut self) -> Result<usize, JournalFault>
-        ensures puts { WritesOnce (kept_entries S.Store) (IsFaithful S.Store) (IsHonest S.Store) (MayHold S.Store) (λ k. k.faults) (λ k. k.writes) CountsFault self.old self.new (forgotten (kept_entries S.Store self.old)) result }
+        ensures puts { Writes S.Store self.old self.new (forgotten (kept_entries S.Store self.old)) result }
         ensures count { IsFaithful S.Store self.new → IfOk result (λ count. count ≡ learnt_count (kept_entries S.Store self.old)) }
         ensures open { IsHonest S.Store self.new → OnOk result (IsFaithful S.Store self.new) }
         ensures counted { OnOk result (HasRisen self.old.writes self.new.writes) }
@@ -345,7 +347,7 @@ impl<S: Alter> ReopenJournal for SqlJournal<S> {
     /// Checks the tables, their format and each row again, on the same connection. If that fails, every
     /// call except this one and `close` returns a store fault.
     fn reopen(&mut self) -> Result<(), JournalFault>
-        ensures reopens { Reopens (kept_entries S.Store) (IsFaithful S.Store) (IsHonest S.Store) (MayHold S.Store) (λ k. k.faults) (λ k. k.writes) CountsFault self.old self.new result }
+        ensures reopens { OpensAgain S.Store self.old self.new result }
         ensures usable { self.new.is_usable ≡ is_ok result }
     {
         match check_tables::<S, Tables>(self.alloc, &mut self.conn) {

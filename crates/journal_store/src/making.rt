@@ -290,9 +290,9 @@ pub(crate) trait Older: Format {
     /// Carries the tables over, and leaves those of the format empty.
     fn carry_over<S: Alter>(tables: &mut Transaction<'_, S>) -> Result<(), Error>
         requires inside { HasCleanDisk (state S.Store tables.old.conn.now) → IsTrue (state S.Store tables.old.conn.now).in_transaction }
-        requires older { HasCleanDisk (state S.Store tables.old.conn.now) → IsTrue (state S.Store tables.old.conn.now).is_open → (entries : EntryMap) × IsStoreBy Self.layout Self.number Self.tree Self.columns (settled (state S.Store tables.old.conn.now)) entries }
+        requires older { HasCleanDisk (state S.Store tables.old.conn.now) → IsTrue (state S.Store tables.old.conn.now).is_open → (entries : EntryMap) × IsStoreBy Self.Format (settled (state S.Store tables.old.conn.now)) entries }
         ensures same_reference { tables.new.conn.ghost_name ≡ tables.old.conn.ghost_name }
-        ensures carried { HasCleanDisk (state S.Store tables.new.conn.now) → OnOk result ((entries : EntryMap) → IsStoreBy Self.layout Self.number Self.tree Self.columns (settled (state S.Store tables.old.conn.now)) entries → IsStore (settled (state S.Store tables.new.conn.now)) entries) }
+        ensures carried { HasCleanDisk (state S.Store tables.new.conn.now) → OnOk result ((entries : EntryMap) → IsStoreBy Self.Format (settled (state S.Store tables.old.conn.now)) entries → IsStore (settled (state S.Store tables.new.conn.now)) entries) }
         ensures emptied { HasCleanDisk (state S.Store tables.new.conn.now) → OnOk result ((kind : KindData) → (state S.Store tables.new.conn.now).now.trees (Self.tree kind) ≡ []) }
         ensures open { HasCleanDisk (state S.Store tables.new.conn.now) → OnOk result (IsTrue (state S.Store tables.new.conn.now).is_open) }
         ensures inside { HasCleanDisk (state S.Store tables.new.conn.now) → OnOk result (IsTrue (state S.Store tables.new.conn.now).in_transaction) }
@@ -332,10 +332,10 @@ pub(crate) fn make_tables<S: Alter>(conn: &mut Connection<S>) -> Result<(), Erro
 /// Carries a journal of an older format over by one transaction: all of it or none.
 pub(crate) fn carry<S: Alter, F: Older>(conn: &mut Connection<S>) -> Result<(), Error>
     requires outside { (state S.Store conn.old).in_transaction ≡ false }
-    requires older { HasCleanDisk (state S.Store conn.old) → IsTrue (state S.Store conn.old).is_open → (entries : EntryMap) × IsStoreBy F.layout F.number F.tree F.columns (state S.Store conn.old) entries }
-    ensures made { HasCleanDisk (state S.Store conn.new) → OnOk result (IsTrue (state S.Store conn.new).is_open × ((entries : EntryMap) → IsStoreBy F.layout F.number F.tree F.columns (state S.Store conn.old) entries → IsStore (state S.Store conn.new) entries)) }
+    requires older { HasCleanDisk (state S.Store conn.old) → IsTrue (state S.Store conn.old).is_open → (entries : EntryMap) × IsStoreBy F.Format (state S.Store conn.old) entries }
+    ensures made { HasCleanDisk (state S.Store conn.new) → OnOk result (IsTrue (state S.Store conn.new).is_open × ((entries : EntryMap) → IsStoreBy F.Format (state S.Store conn.old) entries → IsStore (state S.Store conn.new) entries)) }
     ensures left { HasCleanDisk (state S.Store conn.new) → OnErr result (LeavesStore (state S.Store conn.old) (state S.Store conn.new)) }
-    ensures stop { Survives (state S.Store conn.old) (state S.Store conn.new) (λ db. (entries : EntryMap) × IsStoreBy F.layout F.number F.tree F.columns (state S.Store conn.old) entries × (entries_in db ≡ entries) × ((kind : KindData) → db (F.tree kind) ≡ [])) }
+    ensures stop { Survives (state S.Store conn.old) (state S.Store conn.new) (λ db. (entries : EntryMap) × IsStoreBy F.Format (state S.Store conn.old) entries × (entries_in db ≡ entries) × ((kind : KindData) → db (F.tree kind) ≡ [])) }
 {
     let mut journal = conn.transaction();
     F::carry_over(&mut journal)?;

@@ -197,8 +197,8 @@ fn check_entries<S: Alter, F: Format>(
     conn: &mut Connection<S>,
 ) -> Result<(), JournalOpenFault>
     requires laid { HasCleanDisk (state S.Store conn.old) → IsTrue (state S.Store conn.old).is_open → IsLaidBy F.layout (state S.Store conn.old) }
-    ensures holds { HasCleanDisk (state S.Store conn.new) → OnOk result (HoldsEntriesBy F.tree F.columns (state S.Store conn.old).now.trees) }
-    ensures cause { HasCleanDisk (state S.Store conn.new) → IfErr result (IsFor ⊥ (IsTrue (state S.Store conn.new).is_open × (HoldsEntriesBy F.tree F.columns (state S.Store conn.old).now.trees → ⊥))) }
+    ensures holds { HasCleanDisk (state S.Store conn.new) → OnOk result (HoldsEntriesBy F.Format (state S.Store conn.old).now.trees) }
+    ensures cause { HasCleanDisk (state S.Store conn.new) → IfErr result (IsFor ⊥ (IsTrue (state S.Store conn.new).is_open × (HoldsEntriesBy F.Format (state S.Store conn.old).now.trees → ⊥))) }
     ensures failed { HasCleanDisk (state S.Store conn.new) → IfErr result (OpenFailsFor (HasFailed (state S.Store conn.old) (state S.Store conn.new))) }
     ensures open { HasCleanDisk (state S.Store conn.new) → OnOk result (IsTrue (state S.Store conn.new).is_open) }
     ensures looks { Looks (state S.Store conn.old) (state S.Store conn.new) }
@@ -216,8 +216,8 @@ fn check_laid<S: Alter, F: Format>(
     conn: &mut Connection<S>,
 ) -> Result<(), JournalOpenFault>
     requires laid { HasCleanDisk (state S.Store conn.old) → IsTrue (state S.Store conn.old).is_open → IsLaidBy F.layout (state S.Store conn.old) }
-    ensures store { HasCleanDisk (state S.Store conn.new) → OnOk result ((entries : EntryMap) × IsStoreBy F.layout F.number F.tree F.columns (state S.Store conn.old) entries) }
-    ensures cause { HasCleanDisk (state S.Store conn.new) → IfErr result (IsFor (IsNewer (state S.Store conn.old)) (ShowsDamageBy F.number F.tree F.columns (state S.Store conn.old))) }
+    ensures store { HasCleanDisk (state S.Store conn.new) → OnOk result ((entries : EntryMap) × IsStoreBy F.Format (state S.Store conn.old) entries) }
+    ensures cause { HasCleanDisk (state S.Store conn.new) → IfErr result (IsFor (IsNewer (state S.Store conn.old)) (ShowsDamageBy F.Format (state S.Store conn.old))) }
     ensures failed { HasCleanDisk (state S.Store conn.new) → IfErr result (OpenFailsFor (HasFailed (state S.Store conn.old) (state S.Store conn.new))) }
     ensures open { HasCleanDisk (state S.Store conn.new) → OnOk result (IsTrue (state S.Store conn.new).is_open) }
     ensures looks { Looks (state S.Store conn.old) (state S.Store conn.new) }
@@ -241,8 +241,8 @@ pub(crate) fn check_tables<S: Alter, F: Format>(
     alloc: Global,
     conn: &mut Connection<S>,
 ) -> Result<(), JournalOpenFault>
-    ensures store { HasCleanDisk (state S.Store conn.new) → OnOk result ((entries : EntryMap) × IsStoreBy F.layout F.number F.tree F.columns (state S.Store conn.old) entries) }
-    ensures cause { HasCleanDisk (state S.Store conn.new) → IfErr result (IsFor (IsNewer (state S.Store conn.old)) (IsNotLaidBy F.layout (state S.Store conn.old) ⊎ IsSpoiltBy F.layout F.number F.tree F.columns (state S.Store conn.old))) }
+    ensures store { HasCleanDisk (state S.Store conn.new) → OnOk result ((entries : EntryMap) × IsStoreBy F.Format (state S.Store conn.old) entries) }
+    ensures cause { HasCleanDisk (state S.Store conn.new) → IfErr result (IsFor (IsNewer (state S.Store conn.old)) (IsNotLaidBy F.layout (state S.Store conn.old) ⊎ IsSpoiltBy F.Format (state S.Store conn.old))) }
     ensures failed { HasCleanDisk (state S.Store conn.new) → IfErr result (OpenFailsFor (HasFailed (state S.Store conn.old) (state S.Store conn.new))) }
     ensures open { HasCleanDisk (state S.Store conn.new) → OnOk result (IsTrue (state S.Store conn.new).is_open) }
     ensures looks { Looks (state S.Store conn.old) (state S.Store conn.new) }
@@ -262,11 +262,11 @@ fn open_older<S: Alter, F: Older>(
 ) -> Result<(), JournalOpenFault>
     requires outside { (state S.Store conn.old).in_transaction ≡ false }
     requires older { IsOne F.layout (state S.Store conn.old).now.schema }
-    ensures stands { HasCleanDisk (state S.Store conn.new) → OnOk result ((entries : EntryMap) × IsStoreBy F.layout F.number F.tree F.columns (state S.Store conn.old) entries × IsStore (state S.Store conn.new) entries) }
-    ensures cause { HasCleanDisk (state S.Store conn.new) → IfErr result (IsFor (IsNewer (state S.Store conn.old)) (IsSpoiltBy F.layout F.number F.tree F.columns (state S.Store conn.old))) }
+    ensures stands { HasCleanDisk (state S.Store conn.new) → OnOk result ((entries : EntryMap) × IsStoreBy F.Format (state S.Store conn.old) entries × IsStore (state S.Store conn.new) entries) }
+    ensures cause { HasCleanDisk (state S.Store conn.new) → IfErr result (IsFor (IsNewer (state S.Store conn.old)) (IsSpoiltBy F.Format (state S.Store conn.old))) }
     ensures open { HasCleanDisk (state S.Store conn.new) → OnOk result (IsTrue (state S.Store conn.new).is_open) }
     ensures left { HasCleanDisk (state S.Store conn.new) → OnErr result (LeavesStore (state S.Store conn.old) (state S.Store conn.new)) }
-    ensures stop { Survives (state S.Store conn.old) (state S.Store conn.new) (LeavesCarriedBy F.layout F.number F.tree F.columns (state S.Store conn.old)) }
+    ensures stop { Survives (state S.Store conn.old) (state S.Store conn.new) (LeavesCarriedBy F.Format (state S.Store conn.old)) }
 {
     check_tables::<S, F>(alloc, conn)?;
     if !conn.is_autocommit() {

@@ -6,9 +6,10 @@ ghost use Rattle.sqlite.specs.State.{HasCleanDisk, Survives};
 ghost use Rattle.sqlite.specs.Values.{bound};
 ghost use Rattle.scim_key.specs.declared.records.Kind.TheVariants.{Group, User};
 ghost use Rattle.sql_tables.specs.Statements.{Keeps, LeavesStore};
+ghost use Rattle.journal_core.specs.Forgetting.{is_learnt};
 ghost use Rattle.journal_store.specs.Batches.{IsUnderWay, settled};
 ghost use Rattle.journal_store.specs.Connections.{Commits, IsLaid};
-ghost use Rattle.journal_store.specs.Resets.{AreListed, ForgetsOnly, IsListed, ResetsAll, ResetsOne, is_learnt, none_values, reset_text};
+ghost use Rattle.journal_store.specs.Resets.{AreListed, ForgetsOnly, IsListed, ResetsAll, ResetsOne, none_values, reset_text};
 
 use crate::batches::write_in;
 use crate::statements::TableFault;

@@ -5,12 +5,13 @@ use Rattle.sqlite.specs.Effect.{Database}
 use Rattle.sqlite.specs.Held.{Held, state}
 use Rattle.sqlite.specs.State.{State, HasCleanDisk, Survives}
 use Rattle.scim_resource.specs.Rows.{StoredRecord}
-use Rattle.provider_core.specs.Stores.{CountsFault, CountsFaults, OnlyReads}
+use Rattle.provider_core.specs.Stores.{CountsFault, CountsFaults}
 use Rattle.provider_core.specs.declared.registry.RegistryFault.{RegistryFault}
+use Rattle.provider_store.specs.Calls.{Reads}
 use Rattle.provider_store.specs.Format.{resource_tree}
 use Rattle.provider_store.specs.Rows.{Holds, rows_of}
 use Rattle.provider_store.specs.Connections.{IsLaid, resources}
-use Rattle.provider_store.specs.Kept.{Kept, IsFaithful, IsHonest, IsSound, IsWhole, MayHold, kept_rows}
+use Rattle.provider_store.specs.Kept.{Kept, IsFaithful, IsSound, IsWhole, kept_rows}
 use Rattle.scim_key.specs.declared.records.RecordName.{RecordName}
 use Rattle.provider_core.specs.Rows.{row_named}
 use Rattle.provider_store.specs.Connections.{FindsName}
@@ -62,7 +63,7 @@ module _ {S : Type 0} (g : Ghosts S) where
   pub read_only : {T : Type 0} (old new : Kept S) (result : Result T RegistryFault) → IsTrue old.is_usable → new.is_usable ≡ old.is_usable → new.count ≡ old.count → new.writes ≡ old.writes
       → Survives (at old) (at new) (λ _. ⊥) → (HasCleanDisk (at new) → Keeps (at old) (at new)) → (HasCleanDisk (at new) → OnOk result (IsTrue (at new).is_open)) → IsSound g old
       → CountsFaults CountsFault old.faults new.faults result
-      → OnlyReads (kept_rows g) (IsFaithful g) (IsHonest g) (MayHold g) (λ k. k.faults) (λ k. k.writes) CountsFault old new result
+      → Reads g old new result
   read_only old new result was_usable usable count writes quiet keeps opens sound counts = record {
     was = faithful_was old new usable quiet keeps sound;
     same = λ it. rows_same old new usable count (keeps it.clean) (faithful_was old new usable quiet keeps sound it).whole.laid it.is_open;
@@ -78,7 +79,7 @@ module _ {S : Type 0} (g : Ghosts S) where
   -- a call of a registry whose reopening failed answers at once
   pub refused : {T : Type 0} (old new : Kept S) (result : Result T RegistryFault) (fault : RegistryFault) → result ≡ Err fault → new.conn ≡ old.conn → (IsTrue new.is_usable → ⊥) → new.writes ≡ old.writes
       → CountsFault old.faults new.faults fault
-      → OnlyReads (kept_rows g) (IsFaithful g) (IsHonest g) (MayHold g) (λ k. k.faults) (λ k. k.writes) CountsFault old new result
+      → Reads g old new result
   refused {T} old new result fault is conn shut writes counts = record {
     was = λ it. absurd (shut it.usable);
     same = λ it. absurd (shut it.usable);

@@ -7,13 +7,14 @@ use Rattle.sqlite.specs.Effect.{Database}
 use Rattle.sqlite.specs.Held.{state}
 use Rattle.sqlite.specs.State.{State, HasCleanDisk}
 use Rattle.scim_resource.specs.Rows.{StoredRecord}
-use Rattle.provider_core.specs.Stores.{CountsFault, Reopens}
+use Rattle.provider_core.specs.Stores.{CountsFault}
 use Rattle.provider_core.specs.declared.registry.RegistryFault.{RegistryFault}
+use Rattle.provider_store.specs.Calls.{OpensAgain}
 use Rattle.provider_store.specs.Format.{resource_tree, format_number}
 use Rattle.provider_store.specs.Rows.{Holds, rows_of}
 use Rattle.provider_store.specs.Lawful.{AreAllLawful}
 use Rattle.provider_store.specs.Connections.{resources}
-use Rattle.provider_store.specs.Kept.{Kept, IsFaithful, IsHonest, IsWhole, MayHold, kept_rows}
+use Rattle.provider_store.specs.Kept.{Kept, IsHonest, IsWhole, MayHold}
 use Rattle.provider_store.specs.Lookups.{answered, failing}
 use Rattle.provider_store.specs.Opening.{IsStore}
 use Rattle.provider_store.proofs.Holding.{held_rows}
@@ -51,7 +52,7 @@ module _ {S : Type 0} (g : Ghosts S) where
 
     pub reopened : ((s : S) → IsTrue (g.view s).is_open → g.recovers s (g.view s).committed) → IsTrue new.is_usable
         → (HasCleanDisk (at new) → (rows : List StoredRecord) × IsStore (at old) rows × (length rows ≡ new.count)) → (HasCleanDisk (at new) → IsTrue (at new).is_open) → new.faults ≡ old.faults → new.writes ≡ old.writes
-        → Reopens (kept_rows g) (IsFaithful g) (IsHonest g) (MayHold g) (λ k. k.faults) (λ k. k.writes) CountsFault old new answered
+        → OpensAgain g old new answered
     reopened stays usable stores opens faults writes = record {
       found = λ clean.
           let it = stores clean in
@@ -70,7 +71,7 @@ module _ {S : Type 0} (g : Ghosts S) where
     }
 
     pub not_reopened : (fault : RegistryFault) → CountsFault old.faults new.faults fault → new.writes ≡ old.writes
-        → Reopens (kept_rows g) (IsFaithful g) (IsHonest g) (MayHold g) (λ k. k.faults) (λ k. k.writes) CountsFault old new (failing {T = Unit {0}} fault)
+        → OpensAgain g old new (failing {T = Unit {0}} fault)
     not_reopened fault counts writes = record {
       found = λ _. tt;
       honest = λ clean. omega (arith, clean, looks.quiet.clean);

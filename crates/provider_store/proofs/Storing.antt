@@ -10,15 +10,16 @@ use Rattle.sqlite.specs.State.{State, HasCleanDisk, Survives}
 use Rattle.scim_resource.specs.Contents.{content_name}
 use Rattle.scim_resource.specs.Rows.{StoredRecord, IsStored}
 use Rattle.provider_core.specs.Rows.{row_named, with_row}
-use Rattle.provider_core.specs.Stores.{CountsFault, WritesOnce, HoldsNumber}
+use Rattle.provider_core.specs.Stores.{CountsFault, HoldsNumber}
 use Rattle.provider_core.specs.declared.registry.RegistryFault.{RegistryFault}
 use Rattle.provider_core.proofs.MemoryLaws.{update-sets}
 use Rattle.std.proofs.Math.ListN.{length-set}
+use Rattle.provider_store.specs.Calls.{Writes}
 use Rattle.provider_store.specs.Format.{resource_tree}
 use Rattle.provider_store.specs.Rows.{Holds, rows_of, stored_row, shown_row, IsRowOf}
 use Rattle.provider_store.specs.Connections.{IsThere, IsSpelled, Makes, Leaves, added, renewed, resources, content_text}
 use Rattle.provider_store.specs.Lookups.{answered, failing}
-use Rattle.provider_store.specs.Kept.{Kept, IsFaithful, IsHonest, IsSound, IsWhole, MayHold, kept_rows}
+use Rattle.provider_store.specs.Kept.{Kept, IsFaithful, IsSound, IsWhole, MayHold, kept_rows}
 use Rattle.provider_store.proofs.Holding.{held_rows, held_at, joined, replaced}
 use Rattle.provider_store.proofs.Reading.{rows_same, whole_still}
 use Rattle.sql_tables.specs.Statements.{Keeps}
@@ -81,7 +82,7 @@ module _ {S : Type 0} (g : Ghosts S) where
     ]
 
     pub wrote : (HasCleanDisk (at new) → Makes (at old) (at new) s table) → (IsFaithful g old → new.count ≡ length rows) → new.faults ≡ old.faults → new.writes ≤ old.writes + 1
-        → WritesOnce (kept_rows g) (IsFaithful g) (IsHonest g) (MayHold g) (λ k. k.faults) (λ k. k.writes) CountsFault old new rows answered
+        → Writes g old new rows answered
     wrote makes count faults writes = record {
       was = λ it. faithful_before it.clean (makes it.clean).was_open;
       done = λ it. let made = makes it.clean in let before = faithful_before it.clean made.was_open in
@@ -109,7 +110,7 @@ module _ {S : Type 0} (g : Ghosts S) where
         whole_still g old new usable count kept (faithful_before clean (kept.was_open still)).whole still
 
     pub failed : (fault : RegistryFault) → (HasCleanDisk (at new) → Keeps (at old) (at new)) → new.count ≡ old.count → CountsFault old.faults new.faults fault → new.writes ≡ old.writes
-        → WritesOnce (kept_rows g) (IsFaithful g) (IsHonest g) (MayHold g) (λ k. k.faults) (λ k. k.writes) CountsFault old new rows (failing {T = Unit {0}} fault)
+        → Writes g old new rows (failing {T = Unit {0}} fault)
     failed fault keeps count faults writes = record {
       was = λ it. faithful_before it.clean ((keeps it.clean).was_open it.is_open);
       done = λ _. tt;

@@ -5,5 +5,6 @@ pub mod Connections
 pub mod Faults
 pub mod Opening
 pub mod Kept
+pub mod Calls
 pub mod Lookups
 pub mod KeptLaws

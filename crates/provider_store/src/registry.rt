@@ -3,8 +3,9 @@ ghost use Rattle.std.specs.Prelude.{◌≡◌, ◌⊎◌, ℕ, ◌<◌, ◌≤�
 ghost use Rattle.std.specs.Result.{is_ok};
 ghost use Rattle.scim_resource.specs.Contents.{content_name};
 ghost use Rattle.provider_core.specs.Rows.{AreNamedApart, IsNumberedFrom, count_if_free, page_after, row_named, row_with_id, with_row};
-ghost use Rattle.provider_core.specs.Stores.{CountsFault, CountsFaults, HasRisen, HoldsNumber, OnlyReads, Reopens, WritesOnce};
+ghost use Rattle.provider_core.specs.Stores.{CountsFault, CountsFaults, HasRisen, HoldsNumber};
 ghost use Rattle.provider_core.specs.declared.registry.RegistryFault.TheVariants.{Store};
+ghost use Rattle.provider_store.specs.Calls.{Reads, Writes, OpensAgain};
 ghost use Rattle.provider_store.specs.Kept.{IsFaithful, IsHonest, IsRefused, MayHold, kept_rows};
 ghost use Rattle.provider_store.specs.Connections.{FindsName, FindsNumber, resources};
 ghost use Rattle.provider_store.specs.Faults.{FailsFor};
@@ -168,7 +169,7 @@ impl<S: Alter> SqlRegistry<S> {
     fn row_at(&mut self, number: u32) -> Result<Option<Stored>, RegistryFault>
         requires { 1 ≤ number }
         ensures ok { IsFaithful S.Store self.new → IfOk result (λ row. row ≡ slice_get (kept_rows S.Store self.old) (number - 1)) }
-        ensures reads { OnlyReads (kept_rows S.Store) (IsFaithful S.Store) (IsHonest S.Store) (MayHold S.Store) (λ k. k.faults) (λ k. k.writes) CountsFault self.old self.new result }
+        ensures reads { Reads S.Store self.old self.new result }
         ensures shut { IsRefused self.old result }
         ensures counted { self.new.count ≡ self.old.count }
         ensures failed { IsTrue self.old.is_usable → IsHonest S.Store self.new → IfErr result (FailsFor (HasFailed (state S.Store self.old.conn) (state S.Store self.new.conn) ⊎ FindsNumber (resources (state S.Store self.old.conn)) number Damaged)) }
@@ -183,7 +184,7 @@ impl<S: Alter> SqlRegistry<S> {
     /// The row of a record, if there is one.
     fn row_of(&mut self, name: &RecordName) -> Result<Option<Stored>, RegistryFault>
         ensures ok { IsFaithful S.Store self.new → IfOk result (λ row. row ≡ row_named name.now (kept_rows S.Store self.old)) }
-        ensures reads { OnlyReads (kept_rows S.Store) (IsFaithful S.Store) (IsHonest S.Store) (MayHold S.Store) (λ k. k.faults) (λ k. k.writes) CountsFault self.old self.new result }
+        ensures reads { Reads S.Store self.old self.new result }
         ensures shut { IsRefused self.old result }
         ensures counted { self.new.count ≡ self.old.count }
         ensures failed { IsTrue self.old.is_usable → IsHonest S.Store self.new → IfErr result (FailsFor (HasFailed (state S.Store self.old.conn) (state S.Store self.new.conn) ⊎ FindsName (resources (state S.Store self.old.conn)) name.now Damaged)) }
@@ -221,7 +222,7 @@ impl<S: Alter> Registry for SqlRegistry<S> {
 
     fn count(&mut self) -> Result<u32, RegistryFault>
         ensures ok { IsFaithful S.Store self.new → IfOk result (λ n. n ≡ length (kept_rows S.Store self.old)) }
-        ensures reads { OnlyReads (kept_rows S.Store) (IsFaithful S.Store) (IsHonest S.Store) (MayHold S.Store) (λ k. k.faults) (λ k. k.writes) CountsFault self.old self.new result }
+        ensures reads { Reads S.Store self.old self.new result }
         ensures shut { IsRefused self.old result }
         ensures failed { IsTrue self.old.is_usable → IsHonest S.Store self.new → IfErr result (FailsFor (HasFailed (state S.Store self.old.conn) (state S.Store self.new.conn) ⊎ FindsNumber (resources (state S.Store self.old.conn)) 1 Damaged)) }
     {
@@ -232,7 +233,7 @@ impl<S: Alter> Registry for SqlRegistry<S> {
     fn by_key(&mut self, name: &RecordName) -> Result<Option<Stored>, RegistryFault>
         ensures ok { IsFaithful S.Store self.new → IfOk result (λ row. row ≡ row_named name.now (kept_rows S.Store self.old)) }
         ensures apart { IsFaithful S.Store self.new → AreNamedApart (kept_rows S.Store self.old) }
-        ensures reads { OnlyReads (kept_rows S.Store) (IsFaithful S.Store) (IsHonest S.Store) (MayHold S.Store) (λ k. k.faults) (λ k. k.writes) CountsFault self.old self.new result }
+        ensures reads { Reads S.Store self.old self.new result }
         ensures shut { IsRefused self.old result }
         ensures failed { IsTrue self.old.is_usable → IsHonest S.Store self.new → IfErr result (FailsFor (HasFailed (state S.Store self.old.conn) (state S.Store self.new.conn) ⊎ FindsName (resources (state S.Store self.old.conn)) name.now Damaged)) }
     {
@@ -241,7 +242,7 @@ impl<S: Alter> Registry for SqlRegistry<S> {
 
     fn count_if_free(&mut self, name: &RecordName) -> Result<Option<u32>, RegistryFault>
         ensures ok { IsFaithful S.Store self.new → IfOk result (λ count. count ≡ count_if_free name.now (kept_rows S.Store self.old)) }
-        ensures reads { OnlyReads (kept_rows S.Store) (IsFaithful S.Store) (IsHonest S.Store) (MayHold S.Store) (λ k. k.faults) (λ k. k.writes) CountsFault self.old self.new result }
+        ensures reads { Reads S.Store self.old self.new result }
         ensures shut { IsRefused self.old result }
         ensures failed { IsTrue self.old.is_usable → IsHonest S.Store self.new → IfErr result (FailsFor (HasFailed (state S.Store self.old.conn) (state S.Store self.new.conn) ⊎ FindsName (resources (state S.Store self.old.conn)) name.now Damaged)) }
     {
@@ -253,7 +254,7 @@ impl<S: Alter> Registry for SqlRegistry<S> {
 
     fn by_id(&mut self, id: &ResourceId) -> Result<Option<Stored>, RegistryFault>
         ensures ok { IsFaithful S.Store self.new → IfOk result (λ row. row ≡ row_with_id id.now (kept_rows S.Store self.old)) }
-        ensures reads { OnlyReads (kept_rows S.Store) (IsFaithful S.Store) (IsHonest S.Store) (MayHold S.Store) (λ k. k.faults) (λ k. k.writes) CountsFault self.old self.new result }
+        ensures reads { Reads S.Store self.old self.new result }
         ensures shut { IsRefused self.old result }
         ensures failed { IsTrue self.old.is_usable → IsHonest S.Store self.new → IfErr result (FailsFor (HasFailed (state S.Store self.old.conn) (state S.Store self.new.conn) ⊎ ((number : ℕ) × FindsNumber (resources (state S.Store self.old.conn)) number Damaged))) }
     {
@@ -271,7 +272,7 @@ impl<S: Alter> Registry for SqlRegistry<S> {
         ensures ok { IsFaithful S.Store self.new → IfOk result (λ page. page.items ≡ page_after after limit (kept_rows S.Store self.old)) }
         ensures numbered { IsFaithful S.Store self.new → IsNumberedFrom 1 (kept_rows S.Store self.old) }
         ensures apart { IsFaithful S.Store self.new → AreNamedApart (kept_rows S.Store self.old) }
-        ensures reads { OnlyReads (kept_rows S.Store) (IsFaithful S.Store) (IsHonest S.Store) (MayHold S.Store) (λ k. k.faults) (λ k. k.writes) CountsFault self.old self.new result }
+        ensures reads { Reads S.Store self.old self.new result }
         ensures shut { IsRefused self.old result }
     {
         if !self.is_usable {
@@ -285,7 +286,7 @@ impl<S: Alter> Registry for SqlRegistry<S> {
     fn insert(&mut self, row: Stored) -> Result<(), RegistryFault>
         requires next { IsFaithful S.Store self.old → row.number ≡ length (kept_rows S.Store self.old) + 1 }
         requires free { IsFaithful S.Store self.old → row_named (content_name row.content) (kept_rows S.Store self.old) ≡ None }
-        ensures adds { WritesOnce (kept_rows S.Store) (IsFaithful S.Store) (IsHonest S.Store) (MayHold S.Store) (λ k. k.faults) (λ k. k.writes) CountsFault self.old self.new (kept_rows S.Store self.old ++ row ∷ []) result }
+        ensures adds { Writes S.Store self.old self.new (kept_rows S.Store self.old ++ row ∷ []) result }
         ensures open { IsHonest S.Store self.new → OnOk result (IsFaithful S.Store self.new) }
         ensures counted { OnOk result (HasRisen self.old.writes self.new.writes) }
         ensures shut { IsRefused self.old result }
@@ -305,7 +306,7 @@ impl<S: Alter> Registry for SqlRegistry<S> {
 
     fn update(&mut self, row: &Stored) -> Result<(), RegistryFault>
         requires there { IsFaithful S.Store self.old → HoldsNumber (kept_rows S.Store self.old) row.now }
-        ensures replaces { WritesOnce (kept_rows S.Store) (IsFaithful S.Store) (IsHonest S.Store) (MayHold S.Store) (λ k. k.faults) (λ k. k.writes) CountsFault self.old self.new (with_row row.now (kept_rows S.Store self.old)) result }
+        ensures replaces { Writes S.Store self.old self.new (with_row row.now (kept_rows S.Store self.old)) result }
         ensures open { IsHonest S.Store self.new → OnOk result (IsFaithful S.Store self.new) }
         ensures counted { OnOk result (HasRisen self.old.writes self.new.writes) }
         ensures shut { IsRefused self.old result }
@@ -333,7 +334,7 @@ impl<S: Alter> Reopen for SqlRegistry<S> {
     /// Checks the tables, their format and each row again, on the same connection. If that fails, every
     /// call except this one and `close` returns a store fault.
     fn reopen(&mut self) -> Result<(), RegistryFault>
-        ensures reopens { Reopens (kept_rows S.Store) (IsFaithful S.Store) (IsHonest S.Store) (MayHold S.Store) (λ k. k.faults) (λ k. k.writes) CountsFault self.old self.new result }
+        ensures reopens { OpensAgain S.Store self.old self.new result }
         ensures usable { self.new.is_usable ≡ is_ok result }
     {
         match check_tables(self.alloc, &mut self.conn) {

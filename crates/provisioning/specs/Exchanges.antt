@@ -10,7 +10,7 @@ use Rattle.scim_client.specs.Exchanges.{Sends, Reads, ExchangesKnown}
 use Rattle.scim_client.specs.Requests.{text_of}
 use Rattle.scim_client.specs.declared.exchange.ExchangeFault.{ExchangeFault}
 use Rattle.connection.specs.Turns.{fresh_reading, fresh_writing}
-use Rattle.journal_core.specs.Stores.{WritesOnce}
+use Rattle.journal_core.specs.Calls.{Writes}
 use Rattle.journal_core.specs.declared.journals.Journal.{Ghosts}
 use Rattle.connector_core.specs.Asking.{asking}
 use Rattle.connector_core.specs.Learning.{after_learning, learn}
@@ -52,7 +52,7 @@ pub record Learns {J : Type 0} (g : Ghosts J) (request : Request) (answer : Answ
   pub ok : OnOk result (book_of new.book ≡ after_learning (book_of old.book) (learn (book_of old.book) request answer))
   pub err : OnErr result (new.book ≡ old.book)
   pub names : keys new.book ≡ keys old.book
-  pub journal : WritesOnce g.entries g.is_faithful g.is_honest g.may_hold g.faults g.writes CountsLearn old.journal new.journal (noted_entries (g.entries old.journal) (note (book_of old.book) request answer)) result
+  pub journal : Writes g CountsLearn old.journal new.journal (noted_entries (g.entries old.journal) (note (book_of old.book) request answer)) result
   pub quiet : KeepsEntries old.book new.book → g.writes new.journal ≡ g.writes old.journal
 
 -- without an answer, the connector is unchanged

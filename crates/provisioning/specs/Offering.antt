@@ -6,7 +6,7 @@ use Rattle.scim_key.specs.declared.records.Kind.{Kind}
 use Rattle.source_book.specs.declared.accepting.Verdict.{Verdict}
 use Rattle.source_csv.specs.declared.faults.RowFault.{RowFault}
 use Rattle.source_csv.specs.declared.rows.Row.{Row}
-use Rattle.journal_core.specs.Stores.{WritesOnce}
+use Rattle.journal_core.specs.Calls.{Writes}
 use Rattle.journal_core.specs.declared.journals.Journal.{Ghosts}
 use Rattle.connector_core.specs.Changing.{CountsChange, IsNoVerdict, entries_all, new_rows, taking_all, verdicts}
 use Rattle.connector_core.specs.State.{State}
@@ -56,14 +56,14 @@ Tells judged before after (Err fault) = (judged ≢ []) × IsUntold fault
 pub record IsTaken {J : Type 0} (g : Ghosts J) (rows : List Row) (said : List (Result Verdict ChangeFault)) (old new : State J) : Type 0 where
   pub verdicts_are : said ≡ verdicts old.book rows
   pub book : new.book ≡ taking_all old.book rows
-  pub journal : WritesOnce {T = List (Result Verdict ChangeFault)} g.entries g.is_faithful g.is_honest g.may_hold g.faults g.writes CountsChange old.journal new.journal (entries_all (g.entries old.journal) old.book rows) (Ok said)
+  pub journal : Writes {T = List (Result Verdict ChangeFault)} g CountsChange old.journal new.journal (entries_all (g.entries old.journal) old.book rows) (Ok said)
   pub quiet : new_rows old.book rows ≡ [] → g.writes new.journal ≡ g.writes old.journal
 
 -- The journal failed at the rows, or memory ran out: none of them is taken
 pub record IsRefused {J : Type 0} (g : Ghosts J) (rows : List Row) (cause : ChangeFault) (old new : State J) : Type 0 where
   pub says_nothing : IsNoVerdict cause
   pub book : new.book ≡ old.book
-  pub journal : WritesOnce {T = List (Result Verdict ChangeFault)} g.entries g.is_faithful g.is_honest g.may_hold g.faults g.writes CountsChange old.journal new.journal (entries_all (g.entries old.journal) old.book rows) (Err cause)
+  pub journal : Writes {T = List (Result Verdict ChangeFault)} g CountsChange old.journal new.journal (entries_all (g.entries old.journal) old.book rows) (Err cause)
 
 -- what ends the run if there is no verdict on the rows
 abbrev pub stop_of : ChangeFault → OfferFault

@@ -1,6 +1,7 @@
 -- A journal that is opened again, and then read.
 use Rattle.std.proofs.Common.{◌∙◌, ℕ, Result, Ok, Err, OnOk, sym, subst}
-use Rattle.journal_core.specs.Stores.{CountsFault, CountsFaults, OnlyReads, Reopens}
+use Rattle.journal_core.specs.Calls.{OpensAgain, Reads}
+use Rattle.journal_core.specs.Stores.{CountsFault, CountsFaults}
 use Rattle.journal_core.specs.declared.journals.Journal.{Ghosts as Journals}
 use Rattle.journal_core.specs.declared.journals.JournalFault.{JournalFault}
 use Rattle.journal_core.specs.declared.journals.JournalFault.TheVariants as journal
@@ -14,8 +15,8 @@ counted_so old new journal.Memory counts = counts
 
 module _ {J : Type 0} (h : Journals J) where
   -- the journal wasn't opened
-  pub reopens_failed : (old new : J) (fault : JournalFault) → Reopens {T = Unit {0}} h.entries h.is_faithful h.is_honest h.may_hold h.faults h.writes CountsFault old new (Err fault)
-      → Reopens {T = Unit {0}} h.entries h.is_faithful h.is_honest h.may_hold h.faults h.writes CountsWorldFault old new (Err (journal_fault fault))
+  pub reopens_failed : (old new : J) (fault : JournalFault) → OpensAgain {T = Unit {0}} h CountsFault old new (Err fault)
+      → OpensAgain {T = Unit {0}} h CountsWorldFault old new (Err (journal_fault fault))
   reopens_failed old new fault r = record {
     found = λ _. tt;
     honest = r.honest;
@@ -26,15 +27,15 @@ module _ {J : Type 0} (h : Journals J) where
   }
 
   -- the journal was opened
-  pub reopens_done : (old new : J) → Reopens {T = Unit {0}} h.entries h.is_faithful h.is_honest h.may_hold h.faults h.writes CountsFault old new (Ok tt)
-      → Reopens {T = Unit {0}} h.entries h.is_faithful h.is_honest h.may_hold h.faults h.writes CountsWorldFault old new (Ok tt)
+  pub reopens_done : (old new : J) → OpensAgain {T = Unit {0}} h CountsFault old new (Ok tt)
+      → OpensAgain {T = Unit {0}} h CountsWorldFault old new (Ok tt)
   reopens_done old new r = record { found = r.found; honest = r.honest; opened = r.opened; stop = r.stop; counted = r.counted; unwritten = r.unwritten }
 
   -- the journal was opened, and its entries were read or not
   pub reopens_then_reads : {T : Type 0} (old mid new : J) (result : Result T WorldFault)
-      → Reopens {T = Unit {0}} h.entries h.is_faithful h.is_honest h.may_hold h.faults h.writes CountsFault old mid (Ok tt)
-      → OnlyReads h.entries h.is_faithful h.is_honest h.may_hold h.faults h.writes CountsWorldFault mid new result
-      → Reopens h.entries h.is_faithful h.is_honest h.may_hold h.faults h.writes CountsWorldFault old new result
+      → OpensAgain {T = Unit {0}} h CountsFault old mid (Ok tt)
+      → Reads h CountsWorldFault mid new result
+      → OpensAgain h CountsWorldFault old new result
   reopens_then_reads {T} old mid new result r reads = record {
     found = λ honest. found_on result (reads.opened honest) (r.found (reads.honest honest));
     honest = λ honest. r.honest (reads.honest honest);

@@ -2,7 +2,7 @@
 ghost use Rattle.std.specs.Prelude.{◌≡◌, is_ok};
 ghost use Rattle.world_sim.specs.Sides.{CountsWorldFault, IsOpenedIn, OpensThenReads};
 ghost use Rattle.world_sim.specs.Running.{is_open, journal_in};
-ghost use Rattle.journal_core.specs.Stores.{OnlyReads, Reopens};
+ghost use Rattle.journal_core.specs.Calls.{OpensAgain, Reads};
 
 use crate::reports::WorldFault;
 use connector_core::Connector;
@@ -20,7 +20,7 @@ pub enum Side<J: Journal> {
 fn opened<J: Journal + Drop>(alloc: Global, journal: J) -> (Side<J>, Result<(), WorldFault>)
     ensures opened { IsOpenedIn J.Journal result.0 }
     ensures open { is_open result.0 ≡ is_ok result.1 }
-    ensures reads { OnlyReads J.entries J.is_faithful J.is_honest J.may_hold J.faults J.writes CountsWorldFault journal (journal_in result.0) result.1 }
+    ensures reads { Reads J.Journal CountsWorldFault journal (journal_in result.0) result.1 }
 {
     match Connector::open(alloc, journal) {
         Ok(connector) => (Side::Open(connector), Ok(())),
@@ -46,7 +46,7 @@ pub(crate) fn reopened<J: ReopenJournal + Drop>(
     ensures opened { IsOpenedIn J.Journal result.0 }
     ensures open { is_open result.0 ≡ is_ok result.1 }
     ensures steps { OpensThenReads J.Journal (journal_in side) (journal_in result.0) result.1 }
-    ensures reopens { Reopens J.entries J.is_faithful J.is_honest J.may_hold J.faults J.writes CountsWorldFault (journal_in side) (journal_in result.0) result.1 }
+    ensures reopens { OpensAgain J.Journal CountsWorldFault (journal_in side) (journal_in result.0) result.1 }
 {
     let mut journal = journal_of(side);
     match journal.reopen() {

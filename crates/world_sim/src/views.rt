@@ -1,8 +1,8 @@
 //! What a world shows of its messages and records.
 ghost use Rattle.std.specs.Prelude.{◌≡◌, IfErr, IfOk, OnOk, None, Some, true};
 ghost use Rattle.std.specs.Option.{option_copied};
+ghost use Rattle.provider_core.specs.Calls.{Reads};
 ghost use Rattle.provider_core.specs.Rows.{row_named};
-ghost use Rattle.provider_core.specs.Stores.{OnlyReads};
 ghost use Rattle.world_sim.specs.Messages.{text_at, texts_of};
 ghost use Rattle.world_sim.specs.Running.{is_open, names_in};
 ghost use Rattle.world_sim.specs.Sides.{CountsWorldFault};
@@ -129,7 +129,7 @@ fn row_of<R: Registry>(
     name: &RecordName,
 ) -> (Provider<R>, Result<Option<Stored>, WorldFault>)
     ensures ok { R.is_faithful result.0 → IfOk result.1 (λ row. row ≡ row_named name.now (R.rows provider)) }
-    ensures reads { OnlyReads R.rows R.is_faithful R.is_honest R.may_hold R.faults R.writes CountsWorldFault provider result.0 result.1 }
+    ensures reads { Reads R.Registry CountsWorldFault provider result.0 result.1 }
 {
     let mut registry = provider.close();
     let row = match registry.by_key(name) {

@@ -5,7 +5,8 @@ ghost use Rattle.connector_core.specs.Changing.{accepted_map, book_after, judgin
 ghost use Rattle.connector_core.specs.Learning as spec;
 ghost use Rattle.connector_core.specs.Maps.{book_of};
 ghost use Rattle.connector_core.specs.State.{Leaves, LeavesBook};
-ghost use Rattle.journal_core.specs.Stores.{OnlyReads};
+ghost use Rattle.journal_core.specs.Calls as journals;
+ghost use Rattle.provider_core.specs.Calls as registries;
 ghost use Rattle.provider_core.specs.Outcomes.{outcome};
 ghost use Rattle.scim_client.specs.Answers.{AnswersSo};
 ghost use Rattle.scim_key.specs.Bases.{IsBase};
@@ -175,7 +176,7 @@ fn prepared<R: Registry>(
     ensures ok { R.is_faithful provider.new → IfOk result (λ formed. formed.0 ≡ outcome (R.rows provider.old) request.now) }
     ensures text { IfOk result (λ formed. formed.1.items ≡ answer_text base.now false formed.0.answer) }
     ensures formed { IfOk result (λ formed. IsFormed base.now (Answered request.now formed.0.answer)) }
-    ensures reads { OnlyReads R.rows R.is_faithful R.is_honest R.may_hold R.faults R.writes CountsWorldFault provider.old provider.new result }
+    ensures reads { registries.Reads R.Registry CountsWorldFault provider.old provider.new result }
 {
     let pending = provider.prepare(alloc, request)?;
     let text = response_of(alloc, pending.answer(), base)?;
@@ -195,7 +196,7 @@ impl<R: Registry + Drop, J: Journal + Drop> World<R, J> {
         ensures starts { IfOk result (Starts R.Registry J.Journal registry journal) }
         ensures open { IfOk result (λ world. opens_of world ≡ (true, true)) }
         ensures refused { IfErr result (λ refused. refused.1 ≡ registry) }
-        ensures journal { OnlyReads J.entries J.is_faithful J.is_honest J.may_hold J.faults J.writes CountsStart journal (journal_after result) result }
+        ensures journal { journals.Reads J.Journal CountsStart journal (journal_after result) result }
     {
         keeps_form(&base);
         match Connector::open(alloc, journal) {

@@ -11,12 +11,13 @@ use Rattle.journal_store.specs.Batches.{settled}
 use Rattle.journal_store.specs.Opening.{IsStore, IsStoreBy}
 use Rattle.journal_store.specs.Rows.{entries_in}
 use Rattle.journal_store.proofs.Ending.{begun_store, stop_leaves, store_kept}
+use Rattle.journal_store.proofs.Generic.{format_of}
 use Rattle.journal_store.proofs.making.carry.Goals as goal
 
 pub carry_over-requires-clause-older : goal.carry_over-requires-clause-older
 carry_over-requires-clause-older g c clean opened =
     let old = c.args.conn.now in
-    let Before = IsStoreBy g.F.Layout.layout g.F.Format.number g.F.Format.tree g.F.Format.columns in
+    let Before = IsStoreBy (format_of g.F.Layout g.F.Format) in
     let begun = c.transaction-journal.ensures.begun in
     let first : HasCleanDisk (state g.S.Store old) = rw begun at clean in
     let was_open : IsTrue (state g.S.Store old).is_open = rw begun at opened in
@@ -26,7 +27,7 @@ carry_over-requires-clause-older g c clean opened =
 pub returns-clause-made : goal.returns-clause-made
 returns-clause-made g c clean =
     let old = c.args.conn.now in
-    let Before = IsStoreBy g.F.Layout.layout g.F.Format.number g.F.Format.tree g.F.Format.columns in
+    let Before = IsStoreBy (format_of g.F.Layout g.F.Format) in
     let last = c.carry_over.new.tables.conn.now in
     let end = c.commit.new.self.0 in
     let same : end ≡ c.conn-2-1.given.0 = search rules in
@@ -42,7 +43,7 @@ returns-clause-made g c clean =
 pub returns-clause-stop : goal.returns-clause-stop
 returns-clause-stop g c =
     let old = c.args.conn.now in
-    let Before = IsStoreBy g.F.Layout.layout g.F.Format.number g.F.Format.tree g.F.Format.columns in
+    let Before = IsStoreBy (format_of g.F.Layout g.F.Format) in
     let last = c.carry_over.new.tables.conn.now in
     let end = c.commit.new.self.0 in
     let same : end ≡ c.conn-2-1.given.0 = search rules in

@@ -10,6 +10,7 @@ use Rattle.sql_tables.proofs.Results.{if_err, on_ok}
 use Rattle.sql_tables.specs.Faults.{HasFailed}
 use Rattle.journal_store.specs.Opening.{AreInOrder, AreLawful, HoldsEntriesBy, keys_of}
 use Rattle.journal_store.proofs.Checking.{damage_on, entries_both, failed_after, fails_of, lists_refused, mid_same, opens_by, told_of}
+use Rattle.journal_store.proofs.Generic.{format_of}
 use Rattle.journal_store.proofs.opening.check_entries.Goals as goal
 
 pub returns-clause-holds : goal.returns-clause-holds
@@ -25,13 +26,13 @@ returns-clause-holds g c clean =
     let groups = c.in_ok-groups.groups.items in
     let lawful = on_ok {Q = AreLawful users groups} c.check_lists.result
     (λ (it : AreLawful c.as_slice.result.now c.as_slice-2.result.now). subst (λ l. AreLawful l groups) c.as_slice.ensures.value (subst (AreLawful c.as_slice.result.now) c.as_slice-2.ensures.value it)) c.check_lists.ensures.lawful in
-    entries_both old mid new to_mid c.requires.laid to_new clean g.F.Format.tree g.F.Format.columns c.check_lists.result users groups first.all (second.all clean) (second.open clean) lawful
+    entries_both old mid new to_mid c.requires.laid to_new clean (format_of g.F.Layout g.F.Format) c.check_lists.result users groups first.all (second.all clean) (second.open clean) lawful
 
 pub returns-in_err-users-clause-cause : goal.returns-in_err-users-clause-cause
 returns-in_err-users-clause-cause g c clean =
     let old = state g.S.Store c.args.conn.now in
     let still = IsTrue (state g.S.Store c.list_entries.new.conn).is_open in
-    told_of ⊥ (still × ListsNoneBy (Shows User) (g.F.Format.columns User) (old.now.trees (g.F.Format.tree User))) (still × (HoldsEntriesBy g.F.Format.tree g.F.Format.columns old.now.trees → ⊥)) (λ it. (it.0, λ holds. it.1 holds.users holds.all_users))
+    told_of ⊥ (still × ListsNoneBy (Shows User) (g.F.Format.columns User) (old.now.trees (g.F.Format.tree User))) (still × (HoldsEntriesBy (format_of g.F.Layout g.F.Format) old.now.trees → ⊥)) (λ it. (it.0, λ holds. it.1 holds.users holds.all_users))
     c.from_residual.result c.in_err-users.field-0.0 c.from_residual.ensures.1 (c.in_err-users.ensures.none clean)
 
 pub returns-in_err-groups-clause-cause : goal.returns-in_err-groups-clause-cause
@@ -44,7 +45,7 @@ returns-in_err-groups-clause-cause g c clean =
     let to_mid : Looks old mid = record { keeps = first.keeps; quiet = first.quiet } in
     let to_new : Looks mid new = record { keeps = second.keeps; quiet = second.quiet } in
     let same = mid_same old mid new to_mid c.requires.laid to_new clean in
-    told_of ⊥ (IsTrue new.is_open × ListsNoneBy (Shows Group) (g.F.Format.columns Group) (mid.now.trees (g.F.Format.tree Group))) (IsTrue new.is_open × (HoldsEntriesBy g.F.Format.tree g.F.Format.columns old.now.trees → ⊥))
+    told_of ⊥ (IsTrue new.is_open × ListsNoneBy (Shows Group) (g.F.Format.columns Group) (mid.now.trees (g.F.Format.tree Group))) (IsTrue new.is_open × (HoldsEntriesBy (format_of g.F.Layout g.F.Format) old.now.trees → ⊥))
     (λ it. (it.0, λ holds. it.1 holds.groups (subst (λ (d : Database). ListsAllBy (Shows Group) (g.F.Format.columns Group) (d.trees (g.F.Format.tree Group)) holds.groups) (sym (same it.0)) holds.all_groups)))
     c.from_residual-in_err-groups.result c.in_err-groups.field-0.0 c.from_residual-in_err-groups.ensures.1 (second.none clean)
 
@@ -60,10 +61,10 @@ returns-clause-cause g c clean =
     let users = c.in_ok-users.users.items in
     let groups = c.in_ok-groups.groups.items in
     let still = second.open clean in
-    damage_on ⊥ (AreInOrder (keys_of c.as_slice.result.now) → AreLawful c.as_slice.result.now c.as_slice-2.result.now → ⊥) (IsTrue new.is_open × (HoldsEntriesBy g.F.Format.tree g.F.Format.columns old.now.trees → ⊥))
+    damage_on ⊥ (AreInOrder (keys_of c.as_slice.result.now) → AreLawful c.as_slice.result.now c.as_slice-2.result.now → ⊥) (IsTrue new.is_open × (HoldsEntriesBy (format_of g.F.Layout g.F.Format) old.now.trees → ⊥))
     (λ unlawful. (
       still,
-      lists_refused old mid new to_mid c.requires.laid to_new clean g.F.Format.tree g.F.Format.columns users groups first.all (second.all clean) still
+      lists_refused old mid new to_mid c.requires.laid to_new clean (format_of g.F.Layout g.F.Format) users groups first.all (second.all clean) still
           (subst (λ (l : List Entry). AreInOrder (keys_of l) → AreLawful l groups → ⊥) c.as_slice.ensures.value (subst (λ (l : List Entry). AreInOrder (keys_of c.as_slice.result.now) → AreLawful c.as_slice.result.now l → ⊥) c.as_slice-2.ensures.value unlawful)),
     ))
     c.check_lists.result c.check_lists.ensures.cause

@@ -8,6 +8,7 @@ use Rattle.sql_tables.proofs.Looking.{looks_then}
 use Rattle.sql_tables.specs.Faults.{HasFailed}
 use Rattle.journal_store.specs.Opening.{HoldsEntriesBy, IsNewer, IsUnmarkedBy, ShowsDamageBy}
 use Rattle.journal_store.proofs.Checking.{damage_of, damage_on, failed_after, handed_on, mid_same, opens_by, opens_of, store_found}
+use Rattle.journal_store.proofs.Generic.{format_of}
 use Rattle.journal_store.proofs.opening.check_laid.Goals as goal
 
 pub returns-clause-store : goal.returns-clause-store
@@ -15,13 +16,13 @@ returns-clause-store g c clean =
     let format = c.in_ok-check_format.ensures in
     let numbers = c.in_ok-check_numbers.ensures in
     let entries = c.check_entries.ensures in
-    store_found g.F.Format.number g.F.Format.tree g.F.Format.columns (state g.S.Store c.args.conn.now) (state g.S.Store c.check_format.new.conn) (state g.S.Store c.check_numbers.new.conn) (state g.S.Store c.check_entries.new.conn) c.check_entries.result
+    store_found (format_of g.F.Layout g.F.Format) (state g.S.Store c.args.conn.now) (state g.S.Store c.check_format.new.conn) (state g.S.Store c.check_numbers.new.conn) (state g.S.Store c.check_entries.new.conn) c.check_entries.result
     format.looks c.requires.laid numbers.looks entries.looks clean format.known numbers.numbered (entries.holds clean) (entries.open clean)
 
 pub returns-in_err-check_format-clause-cause : goal.returns-in_err-check_format-clause-cause
 returns-in_err-check_format-clause-cause g c clean =
     let old = state g.S.Store c.args.conn.now in
-    handed_on (IsNewer old) (IsUnmarkedBy g.F.Format.number old) (ShowsDamageBy g.F.Format.number g.F.Format.tree g.F.Format.columns old) (λ unmarked. inl unmarked) c.from_residual.result c.in_err-check_format.field-0.0 c.from_residual.ensures.1 (c.in_err-check_format.ensures.cause clean)
+    handed_on (IsNewer old) (IsUnmarkedBy g.F.Format.number old) (ShowsDamageBy (format_of g.F.Layout g.F.Format) old) (λ unmarked. inl unmarked) c.from_residual.result c.in_err-check_format.field-0.0 c.from_residual.ensures.1 (c.in_err-check_format.ensures.cause clean)
 
 pub returns-in_err-check_numbers-clause-cause : goal.returns-in_err-check_numbers-clause-cause
 returns-in_err-check_numbers-clause-cause g c clean =
@@ -32,7 +33,7 @@ returns-in_err-check_numbers-clause-cause g c clean =
     let numbers = c.in_err-check_numbers.ensures in
     let early : HasCleanDisk marked = omega (arith, clean, numbers.looks.quiet.clean) in
     let same = mid_same old marked new format.looks c.requires.laid numbers.looks clean in
-    damage_of (IsNewer old) (IsTrue new.is_open × (HasNumbersBy g.F.Format.tree marked.now.trees → ⊥)) (ShowsDamageBy g.F.Format.number g.F.Format.tree g.F.Format.columns old)
+    damage_of (IsNewer old) (IsTrue new.is_open × (HasNumbersBy g.F.Format.tree marked.now.trees → ⊥)) (ShowsDamageBy (format_of g.F.Layout g.F.Format) old)
     (λ it. inr (record { format = format.known early; rows = inl (λ are. it.1 (subst (λ (d : Database). HasNumbersBy g.F.Format.tree d.trees) (sym (same it.0)) are)) }))
     c.from_residual-in_err-check_numbers.result c.in_err-check_numbers.field-0.0 c.from_residual-in_err-check_numbers.ensures.1 (numbers.cause clean)
 
@@ -49,8 +50,8 @@ returns-clause-cause g c clean =
     let early : HasCleanDisk marked = omega (arith, later, numbers.looks.quiet.clean) in
     let to_numbered = looks_then old marked numbered format.looks numbers.looks in
     let same = mid_same old numbered new to_numbered c.requires.laid entries.looks clean in
-    damage_on (IsNewer old) (IsTrue new.is_open × (HoldsEntriesBy g.F.Format.tree g.F.Format.columns numbered.now.trees → ⊥)) (ShowsDamageBy g.F.Format.number g.F.Format.tree g.F.Format.columns old)
-    (λ it. inr (record { format = format.known early; rows = inr (λ holds. it.1 (subst (λ (d : Database). HoldsEntriesBy g.F.Format.tree g.F.Format.columns d.trees) (sym (same it.0)) holds)) }))
+    damage_on (IsNewer old) (IsTrue new.is_open × (HoldsEntriesBy (format_of g.F.Layout g.F.Format) numbered.now.trees → ⊥)) (ShowsDamageBy (format_of g.F.Layout g.F.Format) old)
+    (λ it. inr (record { format = format.known early; rows = inr (λ holds. it.1 (subst (λ (d : Database). HoldsEntriesBy (format_of g.F.Layout g.F.Format) d.trees) (sym (same it.0)) holds)) }))
     c.check_entries.result (entries.cause clean)
 
 pub returns-in_err-check_format-clause-failed : goal.returns-in_err-check_format-clause-failed

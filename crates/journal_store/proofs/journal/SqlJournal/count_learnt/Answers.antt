@@ -1,8 +1,8 @@
 use Rattle.std.proofs.Common.{◌∙◌, ap, Vec, Global, rules}
 use Rattle.std.specs.List.{count_by}
+use Rattle.journal_core.specs.Forgetting.{is_learnt}
 use Rattle.journal_core.specs.declared.entries.Entry.{Entry}
 use Rattle.journal_core.specs.declared.journals.JournalFault.TheVariants.{Memory}
-use Rattle.journal_store.specs.Resets.{is_learnt}
 use Rattle.journal_store.specs.Kept.{kept_entries}
 use Rattle.journal_store.proofs.Calls.{answered_so, fails_so, reads_on}
 use Rattle.journal_store.proofs.Changing.{loaded}
@@ -11,13 +11,13 @@ use Rattle.journal_store.proofs.journal.SqlJournal.count_learnt.Goals as goal
 
 pub returns-in_err-others-clause-reads : goal.returns-in_err-others-clause-reads
 returns-in_err-others-clause-reads g c =
-    let both = reads_on c.in_ok-entries.ensures.reads c.in_err-others.ensures.reads in
+    let both = reads_on g.S.Store c.in_ok-entries.ensures.reads c.in_err-others.ensures.reads in
     search rules
 
 pub returns-in_err-append-clause-reads : goal.returns-in_err-append-clause-reads
 returns-in_err-append-clause-reads g c =
-    let both = reads_on c.in_ok-entries.ensures.reads c.in_ok-others.ensures.reads in
-    let failed = fails_so (Vec Entry Global) Memory both both.counted in
+    let both = reads_on g.S.Store c.in_ok-entries.ensures.reads c.in_ok-others.ensures.reads in
+    let failed = fails_so g.S.Store (Vec Entry Global) Memory both both.counted in
     search rules
 
 pub returns-clause-listed : goal.returns-clause-listed
@@ -35,4 +35,4 @@ returns-clause-count g c faithful =
     c.learnt_count.ensures ∙ ap (count_by is_learnt) c.as_slice.ensures.value ∙ count_is (kept_entries g.S.Store c.args.self.now) _ list
 
 pub returns-clause-reads : goal.returns-clause-reads
-returns-clause-reads g c = answered_so _ (reads_on c.in_ok-entries.ensures.reads c.in_ok-others.ensures.reads)
+returns-clause-reads g c = answered_so g.S.Store _ (reads_on g.S.Store c.in_ok-entries.ensures.reads c.in_ok-others.ensures.reads)

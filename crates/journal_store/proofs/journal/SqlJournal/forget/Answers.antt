@@ -1,8 +1,9 @@
 use Rattle.std.proofs.Common.{IsTrue, refl, sym, subst, rules, tests, arith}
 use Rattle.sqlite.specs.Held.{state}
-use Rattle.journal_core.specs.Stores.{CountsFault, WritesOnce}
-use Rattle.journal_store.specs.Resets.{AreListed, ResetsAll, forgotten}
-use Rattle.journal_store.specs.Kept.{Kept, IsFaithful, IsHonest, MayHold, kept_entries}
+use Rattle.journal_core.specs.Forgetting.{forgotten}
+use Rattle.journal_store.specs.Calls.{Writes}
+use Rattle.journal_store.specs.Resets.{AreListed, ResetsAll}
+use Rattle.journal_store.specs.Kept.{Kept, IsFaithful, kept_entries}
 use Rattle.journal_store.proofs.Reading.{answered, failing, wrote, wrote_faithful, wrote_sound, failed, failed_sound}
 use Rattle.journal_store.proofs.Unlearning.{resets_mean}
 use Rattle.journal_store.proofs.journal.SqlJournal.forget.Goals as goal
@@ -29,7 +30,7 @@ returns-in-Ok-clause-puts g c =
     let new : Kept g.row.S.Denot = record { conn = c.reset_all.new.conn; is_usable = c.self.inside.is_usable; faults = c.self.inside.faults; writes = c.saturating_add-self-inside.result } in
     let was_usable : IsTrue c.self.inside.is_usable = search (rules, tests) in
     let listed = subst (λ (k : Kept g.row.S.Denot). IsFaithful g.S.Store k → AreListed (state g.S.Store k.conn).now.trees) (sym c.self.view_is) c.requires.listed in
-    subst (λ (k : Kept g.row.S.Denot). WritesOnce (kept_entries g.S.Store) (IsFaithful g.S.Store) (IsHonest g.S.Store) (MayHold g.S.Store) (λ j. j.faults) (λ j. j.writes) CountsFault k new (forgotten (kept_entries g.S.Store k)) answered) c.self.view_is
+    subst (λ (k : Kept g.row.S.Denot). Writes g.S.Store k new (forgotten (kept_entries g.S.Store k)) answered) c.self.view_is
     (wrote g.S.Store old new (forgotten (kept_entries g.S.Store old)) ResetsAll c.self.invariant was_usable refl (resets_mean g.S.Store old listed) c.in-Ok.ensures.stop c.in-Ok.ensures.made refl (omega (arith, c.saturating_add-self-inside.ensures)))
 
 pub returns-in-Ok-clause-open : goal.returns-in-Ok-clause-open
@@ -54,5 +55,5 @@ returns-in-Err-clause-puts g c =
     let new : Kept g.row.S.Denot = record { conn = c.reset_all.new.conn; is_usable = c.self.inside.is_usable; faults = c.counted.new.faults; writes = c.self.inside.writes } in
     let was_usable : IsTrue c.self.inside.is_usable = search (rules, tests) in
     let listed = subst (λ (k : Kept g.row.S.Denot). IsFaithful g.S.Store k → AreListed (state g.S.Store k.conn).now.trees) (sym c.self.view_is) c.requires.listed in
-    subst (λ (k : Kept g.row.S.Denot). WritesOnce (kept_entries g.S.Store) (IsFaithful g.S.Store) (IsHonest g.S.Store) (MayHold g.S.Store) (λ j. j.faults) (λ j. j.writes) CountsFault k new (forgotten (kept_entries g.S.Store k)) (failing c.counted.result)) c.self.view_is
+    subst (λ (k : Kept g.row.S.Denot). Writes g.S.Store k new (forgotten (kept_entries g.S.Store k)) (failing c.counted.result)) c.self.view_is
     (failed g.S.Store old new (forgotten (kept_entries g.S.Store old)) ResetsAll c.self.invariant was_usable refl (resets_mean g.S.Store old listed) c.in-Err.ensures.stop c.counted.result c.in-Err.ensures.keeps c.counted.ensures.counts refl)

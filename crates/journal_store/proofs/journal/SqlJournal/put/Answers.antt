@@ -2,10 +2,10 @@ use Rattle.std.proofs.Common.{◌≡◌, Some, IsTrue, refl, sym, subst, rules, 
 use Rattle.std.specs.FinMap.{insert}
 use Rattle.sqlite.specs.Held.{state}
 use Rattle.source_csv.specs.Records.{IsRow, row_name}
-use Rattle.journal_core.specs.Stores.{CountsFault, WritesOnce}
+use Rattle.journal_store.specs.Calls.{Writes}
 use Rattle.journal_store.specs.Connections.{FindsIf, PutsIn}
 use Rattle.journal_store.specs.Rows.{entry_in, row_of}
-use Rattle.journal_store.specs.Kept.{Kept, IsFaithful, IsHonest, MayHold, kept_entries}
+use Rattle.journal_store.specs.Kept.{Kept, IsFaithful, kept_entries}
 use Rattle.journal_store.proofs.Reading.{answered, failing, put_means, there_if, wrote, wrote_faithful, wrote_sound, failed, failed_sound}
 use Rattle.journal_store.proofs.journal.SqlJournal.put.Goals as goal
 
@@ -35,7 +35,7 @@ returns-in-Ok-clause-puts g c =
     let finds = subst (λ (k : Kept g.row.S.Denot). IsFaithful g.S.Store k → FindsIf (state g.S.Store k.conn).now.trees (row_name c.args.entry.now.row) c.args.is_there) (sym c.self.view_is) c.requires.found in
     let back = subst (λ (k : Kept g.row.S.Denot). IsFaithful g.S.Store k → IsRow c.args.entry.now.row → entry_in (row_name c.args.entry.now.row).kind (row_of c.args.entry.now) ≡ Some c.args.entry.now) (sym c.self.view_is) c.requires.spelled in
     let means = put_means g.S.Store old c.args.is_there c.args.entry.now finds back in
-    subst (λ (k : Kept g.row.S.Denot). WritesOnce (kept_entries g.S.Store) (IsFaithful g.S.Store) (IsHonest g.S.Store) (MayHold g.S.Store) (λ j. j.faults) (λ j. j.writes) CountsFault k new (insert (kept_entries g.S.Store k) (row_name c.args.entry.now.row) c.args.entry.now) answered) c.self.view_is
+    subst (λ (k : Kept g.row.S.Denot). Writes g.S.Store k new (insert (kept_entries g.S.Store k) (row_name c.args.entry.now.row) c.args.entry.now) answered) c.self.view_is
     (wrote g.S.Store old new (insert (kept_entries g.S.Store old) (row_name c.args.entry.now.row) c.args.entry.now) (PutsIn c.args.is_there c.args.entry.now) c.self.invariant was_usable refl means c.in-Ok.ensures.stop c.in-Ok.ensures.made refl (omega (arith, c.saturating_add-self-inside.ensures)))
 
 pub returns-in-Ok-clause-open : goal.returns-in-Ok-clause-open
@@ -66,5 +66,5 @@ returns-in-Err-clause-puts g c =
     let finds = subst (λ (k : Kept g.row.S.Denot). IsFaithful g.S.Store k → FindsIf (state g.S.Store k.conn).now.trees (row_name c.args.entry.now.row) c.args.is_there) (sym c.self.view_is) c.requires.found in
     let back = subst (λ (k : Kept g.row.S.Denot). IsFaithful g.S.Store k → IsRow c.args.entry.now.row → entry_in (row_name c.args.entry.now.row).kind (row_of c.args.entry.now) ≡ Some c.args.entry.now) (sym c.self.view_is) c.requires.spelled in
     let means = put_means g.S.Store old c.args.is_there c.args.entry.now finds back in
-    subst (λ (k : Kept g.row.S.Denot). WritesOnce (kept_entries g.S.Store) (IsFaithful g.S.Store) (IsHonest g.S.Store) (MayHold g.S.Store) (λ j. j.faults) (λ j. j.writes) CountsFault k new (insert (kept_entries g.S.Store k) (row_name c.args.entry.now.row) c.args.entry.now) (failing c.counted.result)) c.self.view_is
+    subst (λ (k : Kept g.row.S.Denot). Writes g.S.Store k new (insert (kept_entries g.S.Store k) (row_name c.args.entry.now.row) c.args.entry.now) (failing c.counted.result)) c.self.view_is
     (failed g.S.Store old new (insert (kept_entries g.S.Store old) (row_name c.args.entry.now.row) c.args.entry.now) (PutsIn c.args.is_there c.args.entry.now) c.self.invariant was_usable refl means c.in-Err.ensures.stop c.counted.result c.in-Err.ensures.keeps c.counted.ensures.counts refl)

@@ -17,13 +17,13 @@ use Rattle.journal_store.proofs.journal.SqlJournalJournal.load.Goals as goal
 
 pub returns-in_err-groups-clause-reads : goal.returns-in_err-groups-clause-reads
 returns-in_err-groups-clause-reads g c =
-    let both = reads_on c.in_ok-all.ensures.reads c.in_err-groups.ensures.reads in
+    let both = reads_on g.S.Store c.in_ok-all.ensures.reads c.in_err-groups.ensures.reads in
     search rules
 
 pub returns-in_err-append-clause-reads : goal.returns-in_err-append-clause-reads
 returns-in_err-append-clause-reads g c =
-    let both = reads_on c.in_ok-all.ensures.reads c.in_ok-groups.ensures.reads in
-    let failed = fails_so (Vec Entry Global) Memory both both.counted in
+    let both = reads_on g.S.Store c.in_ok-all.ensures.reads c.in_ok-groups.ensures.reads in
+    let failed = fails_so g.S.Store (Vec Entry Global) Memory both both.counted in
     search rules
 
 pub returns-clause-ok : goal.returns-clause-ok
@@ -34,7 +34,7 @@ returns-clause-ok g c faithful =
     loaded g.S.Store c.args.self.now c.list.new.self c.list-2.new.self c.in_ok-all.all.items c.in_ok-groups.groups.items _ c.in_ok-append.ensures.items faithful (two.reads.same faithful ∙ one.reads.same mid) (two.tables faithful) (one.all mid) (two.all faithful)
 
 pub returns-clause-reads : goal.returns-clause-reads
-returns-clause-reads g c = answered_so _ (reads_on c.in_ok-all.ensures.reads c.in_ok-groups.ensures.reads)
+returns-clause-reads g c = answered_so g.S.Store _ (reads_on g.S.Store c.in_ok-all.ensures.reads c.in_ok-groups.ensures.reads)
 
 pub returns-in_err-all-clause-failed : goal.returns-in_err-all-clause-failed
 returns-in_err-all-clause-failed g c usable clean =

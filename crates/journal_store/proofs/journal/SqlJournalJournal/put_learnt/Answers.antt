@@ -1,7 +1,7 @@
 use Rattle.std.proofs.Common.{IsTrue, refl, sym, subst, rules, tests, arith}
 use Rattle.journal_core.specs.Entries.{CanPutLearnt, with_learnt}
-use Rattle.journal_core.specs.Stores.{CountsFault, WritesOnce}
-use Rattle.journal_store.specs.Kept.{Kept, IsFaithful, IsHonest, MayHold, kept_entries}
+use Rattle.journal_store.specs.Calls.{Writes}
+use Rattle.journal_store.specs.Kept.{Kept, IsFaithful, kept_entries}
 use Rattle.journal_store.specs.Learning.{Learns}
 use Rattle.journal_store.proofs.Learnt.{learn_means}
 use Rattle.journal_store.proofs.Reading.{answered, failing, wrote, wrote_faithful, wrote_sound, failed}
@@ -23,7 +23,7 @@ returns-in-Ok-clause-puts g c =
     let was_usable : IsTrue c.self.inside.is_usable = search (rules, tests) in
     let can = subst (λ (k : Kept g.row.S.Denot). IsFaithful g.S.Store k → CanPutLearnt (kept_entries g.S.Store k) c.args.name.now c.args.confirmed) (sym c.self.view_is) c.requires.lawful in
     let means = learn_means g.S.Store old c.args.name.now c.args.confirmed c.args.id.now can in
-    subst (λ (k : Kept g.row.S.Denot). WritesOnce (kept_entries g.S.Store) (IsFaithful g.S.Store) (IsHonest g.S.Store) (MayHold g.S.Store) (λ j. j.faults) (λ j. j.writes) CountsFault k new (with_learnt (kept_entries g.S.Store k) c.args.name.now c.args.confirmed c.args.id.now) answered) c.self.view_is
+    subst (λ (k : Kept g.row.S.Denot). Writes g.S.Store k new (with_learnt (kept_entries g.S.Store k) c.args.name.now c.args.confirmed c.args.id.now) answered) c.self.view_is
     (wrote g.S.Store old new (with_learnt (kept_entries g.S.Store old) c.args.name.now c.args.confirmed c.args.id.now) (Learns c.args.name.now c.args.confirmed c.args.id.now) c.self.invariant was_usable refl means c.in-Ok.ensures.stop c.in-Ok.ensures.made refl (omega (arith, c.saturating_add-self-inside.ensures)))
 
 pub returns-in-Ok-clause-open : goal.returns-in-Ok-clause-open
@@ -42,5 +42,5 @@ returns-in-Err-clause-puts g c =
     let was_usable : IsTrue c.self.inside.is_usable = search (rules, tests) in
     let can = subst (λ (k : Kept g.row.S.Denot). IsFaithful g.S.Store k → CanPutLearnt (kept_entries g.S.Store k) c.args.name.now c.args.confirmed) (sym c.self.view_is) c.requires.lawful in
     let means = learn_means g.S.Store old c.args.name.now c.args.confirmed c.args.id.now can in
-    subst (λ (k : Kept g.row.S.Denot). WritesOnce (kept_entries g.S.Store) (IsFaithful g.S.Store) (IsHonest g.S.Store) (MayHold g.S.Store) (λ j. j.faults) (λ j. j.writes) CountsFault k new (with_learnt (kept_entries g.S.Store k) c.args.name.now c.args.confirmed c.args.id.now) (failing c.counted.result)) c.self.view_is
+    subst (λ (k : Kept g.row.S.Denot). Writes g.S.Store k new (with_learnt (kept_entries g.S.Store k) c.args.name.now c.args.confirmed c.args.id.now) (failing c.counted.result)) c.self.view_is
     (failed g.S.Store old new (with_learnt (kept_entries g.S.Store old) c.args.name.now c.args.confirmed c.args.id.now) (Learns c.args.name.now c.args.confirmed c.args.id.now) c.self.invariant was_usable refl means c.in-Err.ensures.stop c.counted.result c.in-Err.ensures.keeps c.counted.ensures.counts refl)

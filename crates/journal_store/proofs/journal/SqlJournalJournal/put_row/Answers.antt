@@ -7,7 +7,7 @@ use Rattle.journal_store.proofs.journal.SqlJournalJournal.put_row.Goals as goal
 
 pub returns-in_err-held-clause-puts : goal.returns-in_err-held-clause-puts
 returns-in_err-held-clause-puts g c =
-    let failed = fails_first (with_row (kept_entries g.S.Store c.args.self.now) c.args.row.now) c.in_err-held.ensures.reads in
+    let failed = fails_first g.S.Store (with_row (kept_entries g.S.Store c.args.self.now) c.args.row.now) c.in_err-held.ensures.reads in
     search rules
 
 pub put-requires-clause-found : goal.put-requires-clause-found
@@ -22,7 +22,7 @@ put-requires-clause-spelled g c =
 
 pub returns-clause-puts : goal.returns-clause-puts
 returns-clause-puts g c =
-    writes_on c.in_ok-held.ensures.reads
+    writes_on g.S.Store c.in_ok-held.ensures.reads
     (put_wanted g.S.Store c.args.self.now c.look_up.new.self c.args.row.now c.in_ok-row.row c.in_ok-name.name c.in_ok-held.held c.with_row.result c.is_some-is_there.result
     c.in_ok-held.ensures.reads.was c.in_ok-held.ensures.reads.same c.in_ok-name.ensures (search rules) c.with_row.ensures c.is_some-is_there.ensures c.in_ok-held.ensures.found c.requires.lawful)
     c.put.ensures.puts

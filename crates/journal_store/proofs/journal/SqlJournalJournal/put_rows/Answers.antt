@@ -1,10 +1,10 @@
 use Rattle.std.proofs.Common.{IsTrue, refl, sym, subst, rules, tests, arith}
 use Rattle.sqlite.specs.Effect.{Database}
 use Rattle.journal_core.specs.Entries.{CanPutRows, with_rows}
-use Rattle.journal_core.specs.Stores.{CountsFault, WritesOnce}
+use Rattle.journal_store.specs.Calls.{Writes}
 use Rattle.journal_store.specs.Batches.{PutsRows}
 use Rattle.journal_store.specs.Rows.{entries_in}
-use Rattle.journal_store.specs.Kept.{Kept, IsFaithful, IsHonest, MayHold, kept_entries}
+use Rattle.journal_store.specs.Kept.{Kept, IsFaithful, kept_entries}
 use Rattle.journal_store.proofs.Batching.{rows_mean}
 use Rattle.journal_store.proofs.Reading.{answered, failing, wrote, wrote_faithful, wrote_sound, failed, failed_sound}
 use Rattle.journal_store.proofs.journal.SqlJournalJournal.put_rows.Goals as goal
@@ -31,7 +31,7 @@ returns-in-Ok-clause-puts g c =
     let new : Kept g.row.S.Denot = record { conn = c.put_all.new.conn; is_usable = c.self.inside.is_usable; faults = c.self.inside.faults; writes = c.saturating_add-self-inside.result } in
     let was_usable : IsTrue c.self.inside.is_usable = search (rules, tests) in
     let can = subst (λ (k : Kept g.row.S.Denot). IsFaithful g.S.Store k → CanPutRows (kept_entries g.S.Store k) c.args.rows.now) (sym c.self.view_is) c.requires.lawful in
-    subst (λ (k : Kept g.row.S.Denot). WritesOnce (kept_entries g.S.Store) (IsFaithful g.S.Store) (IsHonest g.S.Store) (MayHold g.S.Store) (λ j. j.faults) (λ j. j.writes) CountsFault k new (with_rows (kept_entries g.S.Store k) c.args.rows.now) answered) c.self.view_is
+    subst (λ (k : Kept g.row.S.Denot). Writes g.S.Store k new (with_rows (kept_entries g.S.Store k) c.args.rows.now) answered) c.self.view_is
     (wrote g.S.Store old new (with_rows (kept_entries g.S.Store old) c.args.rows.now) (PutsRows c.args.rows.now) c.self.invariant was_usable refl (rows_mean g.S.Store old c.args.rows.now can) c.in-Ok.ensures.stop c.in-Ok.ensures.made refl (omega (arith, c.saturating_add-self-inside.ensures)))
 
 pub returns-in-Ok-clause-open : goal.returns-in-Ok-clause-open
@@ -56,5 +56,5 @@ returns-in-Err-clause-puts g c =
     let new : Kept g.row.S.Denot = record { conn = c.put_all.new.conn; is_usable = c.self.inside.is_usable; faults = c.counted.new.faults; writes = c.self.inside.writes } in
     let was_usable : IsTrue c.self.inside.is_usable = search (rules, tests) in
     let can = subst (λ (k : Kept g.row.S.Denot). IsFaithful g.S.Store k → CanPutRows (kept_entries g.S.Store k) c.args.rows.now) (sym c.self.view_is) c.requires.lawful in
-    subst (λ (k : Kept g.row.S.Denot). WritesOnce (kept_entries g.S.Store) (IsFaithful g.S.Store) (IsHonest g.S.Store) (MayHold g.S.Store) (λ j. j.faults) (λ j. j.writes) CountsFault k new (with_rows (kept_entries g.S.Store k) c.args.rows.now) (failing c.counted.result)) c.self.view_is
+    subst (λ (k : Kept g.row.S.Denot). Writes g.S.Store k new (with_rows (kept_entries g.S.Store k) c.args.rows.now) (failing c.counted.result)) c.self.view_is
     (failed g.S.Store old new (with_rows (kept_entries g.S.Store old) c.args.rows.now) (PutsRows c.args.rows.now) c.self.invariant was_usable refl (rows_mean g.S.Store old c.args.rows.now can) c.in-Err.ensures.stop c.counted.result c.in-Err.ensures.keeps c.counted.ensures.counts refl)

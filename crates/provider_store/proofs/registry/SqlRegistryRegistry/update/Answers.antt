@@ -1,10 +1,11 @@
 use Rattle.std.proofs.Common.{IsTrue, refl, sym, ◌∙◌, subst, rules, tests, arith}
 use Rattle.sqlite.specs.Held.{state}
 use Rattle.provider_core.specs.Rows.{with_row}
-use Rattle.provider_core.specs.Stores.{CountsFault, WritesOnce, HoldsNumber}
+use Rattle.provider_core.specs.Stores.{HoldsNumber}
+use Rattle.provider_store.specs.Calls.{Writes}
 use Rattle.provider_store.specs.Connections.{renewed, resources}
 use Rattle.provider_store.specs.Lookups.{answered, failing}
-use Rattle.provider_store.specs.Kept.{Kept, IsFaithful, IsHonest, MayHold, kept_rows}
+use Rattle.provider_store.specs.Kept.{Kept, IsFaithful, kept_rows}
 use Rattle.provider_store.proofs.Storing.{update_holds, length_with, there_of, wrote, wrote_faithful, wrote_sound, failed, failed_sound}
 use Rattle.provider_store.proofs.registry.SqlRegistryRegistry.update.Goals as goal
 
@@ -30,7 +31,7 @@ returns-in-Ok-clause-replaces g c =
     let new : Kept g.row.S.Denot = record { conn = c.update_row.new.conn; is_usable = c.self.inside.is_usable; count = c.self.inside.count; faults = c.self.inside.faults; writes = c.saturating_add-self-inside.result } in
     let was_usable : IsTrue c.self.inside.is_usable = search (rules, tests) in
     let there = subst (λ (k : Kept g.row.S.Denot). IsFaithful g.S.Store k → HoldsNumber (kept_rows g.S.Store k) c.args.row.now) (sym c.self.view_is) c.requires.there in
-    subst (λ (k : Kept g.row.S.Denot). WritesOnce (kept_rows g.S.Store) (IsFaithful g.S.Store) (IsHonest g.S.Store) (MayHold g.S.Store) (λ j. j.faults) (λ j. j.writes) CountsFault k new (with_row c.args.row.now (kept_rows g.S.Store k)) answered) c.self.view_is
+    subst (λ (k : Kept g.row.S.Denot). Writes g.S.Store k new (with_row c.args.row.now (kept_rows g.S.Store k)) answered) c.self.view_is
     (wrote g.S.Store old new c.args.row.now (renewed c.args.row.now (resources (state g.S.Store old.conn))) (with_row c.args.row.now (kept_rows g.S.Store old)) c.self.invariant was_usable refl (λ it lawful spelled. update_holds g.S.Store old c.args.row.now it.whole lawful spelled (there it)) c.in-Ok.ensures.stop c.in-Ok.ensures.made (λ it. it.whole.counted ∙ sym (length_with g.S.Store old c.args.row.now it.whole (there it))) refl (omega (arith, c.saturating_add-self-inside.ensures)))
 
 pub returns-in-Ok-clause-open : goal.returns-in-Ok-clause-open
@@ -55,5 +56,5 @@ returns-in-Err-clause-replaces g c =
     let new : Kept g.row.S.Denot = record { conn = c.update_row.new.conn; is_usable = c.self.inside.is_usable; count = c.self.inside.count; faults = c.counted.new.faults; writes = c.self.inside.writes } in
     let was_usable : IsTrue c.self.inside.is_usable = search (rules, tests) in
     let there = subst (λ (k : Kept g.row.S.Denot). IsFaithful g.S.Store k → HoldsNumber (kept_rows g.S.Store k) c.args.row.now) (sym c.self.view_is) c.requires.there in
-    subst (λ (k : Kept g.row.S.Denot). WritesOnce (kept_rows g.S.Store) (IsFaithful g.S.Store) (IsHonest g.S.Store) (MayHold g.S.Store) (λ j. j.faults) (λ j. j.writes) CountsFault k new (with_row c.args.row.now (kept_rows g.S.Store k)) (failing c.counted.result)) c.self.view_is
+    subst (λ (k : Kept g.row.S.Denot). Writes g.S.Store k new (with_row c.args.row.now (kept_rows g.S.Store k)) (failing c.counted.result)) c.self.view_is
     (failed g.S.Store old new c.args.row.now (renewed c.args.row.now (resources (state g.S.Store old.conn))) (with_row c.args.row.now (kept_rows g.S.Store old)) c.self.invariant was_usable refl (λ it lawful spelled. update_holds g.S.Store old c.args.row.now it.whole lawful spelled (there it)) c.in-Err.ensures.stop c.counted.result c.in-Err.ensures.keeps refl c.counted.ensures.counts refl)

@@ -1,7 +1,7 @@
 use Rattle.std.proofs.Common.{true, refl, subst}
 use Rattle.sqlite.specs.Held.{state}
-use Rattle.provider_core.specs.Stores.{CountsFault, Reopens}
-use Rattle.provider_store.specs.Kept.{Kept, IsFaithful, IsHonest, MayHold, kept_rows}
+use Rattle.provider_store.specs.Calls.{OpensAgain}
+use Rattle.provider_store.specs.Kept.{Kept}
 use Rattle.provider_store.specs.Lookups.{answered}
 use Rattle.provider_store.proofs.Reopening.{reopened, store_on, whole_of}
 use Rattle.provider_store.proofs.registry.SqlRegistryReopen.reopen.Goals as goal
@@ -16,5 +16,5 @@ pub returns-in-Ok-clause-reopens : goal.returns-in-Ok-clause-reopens
 returns-in-Ok-clause-reopens g c =
     let old : Kept g.row.S.Denot = record { conn = c.self.inside.conn; is_usable = c.self.inside.is_usable; count = c.self.inside.count; faults = c.self.inside.faults; writes = c.self.inside.writes } in
     let new : Kept g.row.S.Denot = record { conn = c.check_tables.new.conn; is_usable = true; count = c.in-Ok.count; faults = c.self.inside.faults; writes = c.self.inside.writes } in
-    subst (λ (k : Kept g.row.S.Denot). Reopens (kept_rows g.S.Store) (IsFaithful g.S.Store) (IsHonest g.S.Store) (MayHold g.S.Store) (λ j. j.faults) (λ j. j.writes) CountsFault k new answered) c.self.view_is
+    subst (λ (k : Kept g.row.S.Denot). OpensAgain g.S.Store k new answered) c.self.view_is
     (reopened g.S.Store old new c.in-Ok.ensures.looks g.met.S.Store.stays refl c.in-Ok.ensures.store c.in-Ok.ensures.open refl refl)
