@@ -7,4 +7,5 @@ mod learning;
 mod messages;
 mod offers;
 mod store_faults;
+mod stores;
 mod worlds;
