@@ -1,4 +1,4 @@
-/* Lets one call of a program fail. tests/faults_support.py builds it and preloads it before the C
+/* Lets one call of a program fail. tests/faults.py builds it and preloads it before the C
    library. It counts the allocations, and the calls that read, write or sync a file on disk.
 
    FAULT_COUNTS      a file of three 64-bit numbers: the allocations, writes and reads so far
