@@ -219,5 +219,4 @@ class PushPeersTest(ProgramTest):
         self.site.write_users("ann,1,,,,,active", "bob,1,,,,,active")
         self.meets([hits(user("ann", 1))], "user ann confirmed 1", status=3, errors=["connection fault"])
         # between the exchanges of one record
-        self.site.write_users("bob,1,,,,,active")
-        self.meets([PROXY, NO_HITS], status=3, errors=["connection fault"])
+        self.meets([PROXY, NO_HITS], "user ann confirmed 1", status=3, errors=["connection fault"])
