@@ -8,6 +8,7 @@ ghost use Rattle.commands.specs.Words.{number_in};
 ghost use Rattle.commands.specs.declared.status.CommandFault.TheVariants.{Memory};
 
 use crate::status::CommandFault;
+use crate::words::file_if;
 use clap::ArgMatches;
 use std::alloc::Global;
 use thiserror::Error;
@@ -64,10 +65,7 @@ pub fn schedule(alloc: Global, matches: &ArgMatches<'_>) -> Result<Option<String
     ensures { GivesBy (option_map string_bytes) Memory result
         (Ok (first_value (found_of matches.now) (codes "FILE"))) }
 {
-    match matches.get_str("FILE") {
-        Some(text) => Ok(Some(String::from_str(alloc, text)?)),
-        None => Ok(None),
-    }
+    file_if(alloc, matches.get_str("FILE"))
 }
 
 /// The seed in the arguments, if there is one.

@@ -38,15 +38,32 @@ pub fn base_fault(fault: NameFault) -> CommandFault
     }
 }
 
+/// A file that is named in the arguments.
+fn file_in(alloc: Global, given: Option<&str>) -> Result<String, CommandFault>
+    ensures { GivesBy string_bytes Memory result (wanted File (text_in given.entry)) }
+{
+    match given {
+        Some(text) => Ok(String::from_str(alloc, text)?),
+        None => Err(CommandFault::File),
+    }
+}
+
+/// A file that the arguments may name.
+pub(crate) fn file_if(alloc: Global, given: Option<&str>) -> Result<Option<String>, CommandFault>
+    ensures { GivesBy (option_map string_bytes) Memory result (Ok (text_in given.entry)) }
+{
+    match given {
+        Some(text) => Ok(Some(String::from_str(alloc, text)?)),
+        None => Ok(None),
+    }
+}
+
 /// The file in the arguments.
 pub fn file(alloc: Global, matches: &ArgMatches<'_>) -> Result<String, CommandFault>
     ensures { GivesBy string_bytes Memory result
         (wanted File (first_value (found_of matches.now) (codes "FILE"))) }
 {
-    match matches.get_str("FILE") {
-        Some(text) => Ok(String::from_str(alloc, text)?),
-        None => Err(CommandFault::File),
-    }
+    file_in(alloc, matches.get_str("FILE"))
 }
 
 /// The file of users in the arguments.
@@ -54,10 +71,7 @@ pub fn users(alloc: Global, matches: &ArgMatches<'_>) -> Result<String, CommandF
     ensures { GivesBy string_bytes Memory result
         (wanted File (first_value (found_of matches.now) (codes "users"))) }
 {
-    match matches.get_str("users") {
-        Some(text) => Ok(String::from_str(alloc, text)?),
-        None => Err(CommandFault::File),
-    }
+    file_in(alloc, matches.get_str("users"))
 }
 
 /// The file of groups in the arguments, if there is one.
@@ -65,10 +79,7 @@ pub fn groups(alloc: Global, matches: &ArgMatches<'_>) -> Result<Option<String>,
     ensures { GivesBy (option_map string_bytes) Memory result
         (Ok (first_value (found_of matches.now) (codes "groups"))) }
 {
-    match matches.get_str("groups") {
-        Some(text) => Ok(Some(String::from_str(alloc, text)?)),
-        None => Ok(None),
-    }
+    file_if(alloc, matches.get_str("groups"))
 }
 
 /// The address to listen on, from the arguments. Port 0 takes a free port.
@@ -98,10 +109,7 @@ pub fn store(alloc: Global, matches: &ArgMatches<'_>) -> Result<Option<String>, 
     ensures { GivesBy (option_map string_bytes) Memory result
         (Ok (first_value (found_of matches.now) (codes "store"))) }
 {
-    match matches.get_str("store") {
-        Some(text) => Ok(Some(String::from_str(alloc, text)?)),
-        None => Ok(None),
-    }
+    file_if(alloc, matches.get_str("store"))
 }
 
 /// The file of the journal in the arguments, if there is one.
@@ -109,10 +117,7 @@ pub fn journal(alloc: Global, matches: &ArgMatches<'_>) -> Result<Option<String>
     ensures { GivesBy (option_map string_bytes) Memory result
         (Ok (first_value (found_of matches.now) (codes "journal"))) }
 {
-    match matches.get_str("journal") {
-        Some(text) => Ok(Some(String::from_str(alloc, text)?)),
-        None => Ok(None),
-    }
+    file_if(alloc, matches.get_str("journal"))
 }
 
 /// The provider's address in the arguments.
