@@ -20,7 +20,8 @@ over those proofs, many in one check, but never two that change one function: ea
 changes must be rejected by a goal of its own. A mutant that changes no function (a constant, a definition)
 is tried alone, and anything in the crate may reject it. Results are written as they come. What this clone
 has tried stands in out/mutants, and isn't tried again until the crate, a crate below it or the mutant
-changes; `rm -r out/mutants` forgets it.
+changes; `rm -r out/mutants` forgets it. Clones can share the work: a run over a copy of what they have there
+tries nothing again.
 
 If all of a crate's mutants were rejected, edits/refused.txt gets a sum over the crate's texts, without
 comments, and over its mutants, without `rejected by`. If one wasn't, the crate loses its sum.
