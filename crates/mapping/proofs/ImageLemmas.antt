@@ -9,13 +9,14 @@ use Rattle.scim_resource.specs.Contents.{IsContent, content_name}
 use Rattle.scim_resource.specs.Groups.{AreTexts}
 use Rattle.scim_resource.specs.declared.contents.Content.{Content}
 use Rattle.scim_resource.specs.Emails.{IsEmailList, are_few}
-use Rattle.scim_resource.specs.Texts.{IsText, IsTextIf, is_short_text}
+use Rattle.scim_resource.specs.Texts.{IsText, IsTextIf, is_short_text, text_if}
 use Rattle.scim_resource.specs.UserTexts.{AreUserTexts}
 use Rattle.scim_resource.specs.declared.emails.Email.{Email}
 use Rattle.scim_resource.specs.declared.user_texts.TheConstants.{USER_TEXTS}
 use Rattle.scim_resource.specs.declared.user_texts.UserText.{UserText}
 use Rattle.scim_resource.specs.declared.user_texts.UserText.TheVariants as texts
 use Rattle.scim_resource.specs.declared.texts.TheConstants.{TEXT_LIMIT}
+use Rattle.scim_resource.proofs.Presence.{is_text, text_if_is_text}
 use Rattle.scim_resource.proofs.RoundTrips.{content_read, content_spelled}
 use Rattle.source_csv.specs.Records.{row_name, user}
 use Rattle.source_csv.specs.Rows.{GroupFields, IsGroupRow, UserFields, IsUserRow, text_of}
@@ -29,29 +30,9 @@ use Rattle.group_sync.specs.Ready.{ready}
 use Rattle.group_sync.specs.declared.ids.Ready.{Ready}
 use Rattle.group_sync.specs.declared.ids.Ready.TheVariants.{Ids, Waits}
 use Rattle.group_sync.proofs.ReadyLemmas.{means}
-use Rattle.mapping.specs.Images.{present, emails_of, group_image, image, image_by, image_texts, source_text, user_image}
+use Rattle.mapping.specs.Images.{emails_of, group_image, image, image_by, image_texts, source_text, user_image}
 use Rattle.mapping.specs.Laws.{AreIds, ImagesReadBack, ImagesStay, ReadsBack}
 use Rattle.mapping.proofs.MemberLemmas.{once_lawful, text_of_id}
-
--- a field that isn't empty is a text of an attribute
-pub text_of_field : (b : ℕ) (text : List ℕ) → length (b ∷ text) ≤ TEXT_LIMIT → IsText (b ∷ text)
-unfolding is_short_text
-text_of_field b text short = grind (arith, nat_tests)
-
-empty_is_no_text : IsText [] → ⊥
-unfolding is_short_text
-empty_is_no_text h = grind arith
-
--- a text that is there exactly if the field is a text is the field, or absent if the field is empty
-pub present_of : (field : List ℕ) (found : Option (List ℕ)) → length field ≤ TEXT_LIMIT → SomeIff found (IsText field) field → found ≡ present field
-present_of [] None short h = refl
-present_of [] (Some found) short h = absurd (empty_is_no_text h.0)
-present_of (b ∷ text) None short h = absurd (h (text_of_field b text short))
-present_of (b ∷ text) (Some found) short h = ap Some h.1
-
-pub present_is_text : (field : List ℕ) → length field ≤ TEXT_LIMIT → IsTextIf (present field)
-present_is_text [] short = tt
-present_is_text (b ∷ text) short = text_of_field b text short
 
 work_is_text : IsText (119 ∷ 111 ∷ 114 ∷ 107 ∷ [])
 unfolding is_short_text
@@ -69,7 +50,7 @@ few_of_none = refl
 pub emails_are_lawful : (mail : List ℕ) → length mail ≤ TEXT_LIMIT → IsEmailList (emails_of mail)
 emails_are_lawful [] short = record { each = tt; few = few_of_none }
 emails_are_lawful (b ∷ mail) short = record {
-  each = (record { value = text_of_field b mail short; type_text = work_is_text }, tt);
+  each = (record { value = is_text b mail short; type_text = work_is_text }, tt);
   few = few_of_one _ refl;
 }
 
@@ -79,9 +60,9 @@ source_short row lawful texts.ExternalId = short_text row lawful field.Number
 source_short row lawful texts.FamilyName = short_text row lawful field.Family
 source_short row lawful texts.GivenName = short_text row lawful field.Given
 
-texts_lawful : (row : UserFields) (ws : List UserText) → IsUserRow row → AllByRecursion IsTextIf (map (λ which. present (source_text row which)) ws)
+texts_lawful : (row : UserFields) (ws : List UserText) → IsUserRow row → AllByRecursion IsTextIf (map (λ which. text_if (source_text row which)) ws)
 texts_lawful row [] lawful = tt
-texts_lawful row (w ∷ ws) lawful = (present_is_text (source_text row w) (source_short row lawful w), texts_lawful row ws lawful)
+texts_lawful row (w ∷ ws) lawful = (text_if_is_text (source_text row w) (source_short row lawful w), texts_lawful row ws lawful)
 
 pub image_texts_lawful : (row : UserFields) → IsUserRow row → AreUserTexts (image_texts row)
 image_texts_lawful row lawful = record { count = refl; each = texts_lawful row USER_TEXTS lawful }

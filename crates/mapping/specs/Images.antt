@@ -4,6 +4,7 @@ use Rattle.std.specs.List.{filter}
 use Rattle.std.specs.Result.{result_ok}
 use Rattle.std.specs.Str.{bytes_eq}
 use Rattle.scim_key.specs.declared.records.RecordName.{RecordName}
+use Rattle.scim_resource.specs.Texts.{text_if}
 use Rattle.scim_resource.specs.UserTexts.{UserTexts}
 use Rattle.scim_resource.specs.declared.contents.Content.{Content}
 use Rattle.scim_resource.specs.declared.contents.Content.TheVariants as contents
@@ -21,11 +22,6 @@ use Rattle.group_sync.specs.declared.ids.Ready.TheVariants.{Ids, Waits}
 use Rattle.mapping.specs.declared.groups.ImageFault.{ImageFault}
 use Rattle.mapping.specs.declared.groups.ImageFault.TheVariants.{MemberWithoutId}
 
--- an empty field means none
-abbrev pub present : List ℕ → Option (List ℕ)
-present [] = None
-present (b ∷ text) = Some (b ∷ text)
-
 -- a mail is the only address, primary and of type `work`
 abbrev pub work_email : List ℕ → Email
 work_email mail = record { value = mail; type_text = Some (codes "work"); primary = true }
@@ -41,9 +37,9 @@ source_text row texts.ExternalId = text_of row field.Number
 source_text row texts.FamilyName = text_of row field.Family
 source_text row texts.GivenName = text_of row field.Given
 
--- the texts of a user
+-- the texts of a user; an empty field means none
 abbrev pub image_texts : UserFields → UserTexts
-image_texts row = map (λ which. present (source_text row which)) USER_TEXTS
+image_texts row = map (λ which. text_if (source_text row which)) USER_TEXTS
 
 -- The image of a row of a user
 abbrev pub user_image : UserFields → Content

@@ -1,9 +1,10 @@
 //! Images of rows.
-ghost use Rattle.std.specs.Prelude.{◌≡◌, ◌≤◌, Some, IfOk, length};
+ghost use Rattle.std.specs.Prelude.{◌≡◌, ◌≤◌, IfOk, length};
+ghost use Rattle.scim_resource.specs.Texts.{text_if};
 ghost use Rattle.scim_resource.specs.declared.texts.TheConstants.{TEXT_LIMIT};
-ghost use Rattle.mapping.specs.Images.{emails_of, present, user_image};
+ghost use Rattle.mapping.specs.Images.{emails_of, user_image};
 
-use scim_resource::{Content, Email, Emails, TEXT_LIMIT, Text, User};
+use scim_resource::{Content, Email, Emails, OptionalText, TEXT_LIMIT, User};
 use source_csv::{FieldValue, UserRow};
 use std::alloc::{AllocError, Global};
 
@@ -27,11 +28,11 @@ pub(crate) fn user_image(alloc: Global, row: UserRow) -> Result<Content, AllocEr
 }
 
 /// A field as the text of an attribute; absent if it is empty.
-fn text(field: FieldValue) -> Option<Text>
+fn text(field: FieldValue) -> OptionalText
     requires { length field ≤ TEXT_LIMIT }
-    ensures { result ≡ present field }
+    ensures { result ≡ text_if field }
 {
-    Text::from_string(field.into_string())
+    OptionalText::from_string(field.into_string())
 }
 
 /// The mail as the only email address; none if it is empty.
@@ -40,7 +41,7 @@ fn emails(alloc: Global, mail: FieldValue) -> Result<Emails, AllocError>
     requires { length mail ≤ TEXT_LIMIT }
     ensures { IfOk result (λ emails. emails ≡ emails_of mail) }
 {
-    let Some(value) = text(mail) else {
+    let Some(value) = text(mail).into_text() else {
         return Ok(Emails::new(alloc));
     };
     let mut items = Vec::with_capacity(alloc, 1)?;

@@ -47,12 +47,12 @@ impl Question<'_> {
         false
     }
 
-    fn of_option(&self, text: Option<&Text>) -> bool
+    fn of_option(&self, text: Option<&str>) -> bool
         ensures { result ≡ spec.some_compares self.now.exact self.now.operator self.now.given.now
             (option_to_list (option_copied text.entry)) }
     {
         match text {
-            Some(text) => self.of_one(text.as_str()),
+            Some(text) => self.of_one(text),
             None => self.of_none(),
         }
     }
@@ -77,7 +77,7 @@ impl Question<'_> {
     {
         emails
             .iter()
-            .any(|email| self.of_option(email.type_text.as_ref()))
+            .any(|email| self.of_option(email.type_text.as_option()))
     }
 }
 

@@ -6,6 +6,7 @@ pub mod GroupTrips
 pub mod Lists
 pub mod LookedLemmas
 pub mod MemberLists
+pub mod Presence
 pub mod RoundTrips
 pub mod ShownTrips
 pub mod Tags

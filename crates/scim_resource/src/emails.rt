@@ -3,7 +3,7 @@ ghost use Rattle.std.specs.Prelude.{◌≡◌, [], true};
 ghost use Rattle.std.specs.Option.{SomeIff};
 ghost use Rattle.scim_resource.specs.Emails.{AreEmails, are_few, primaries, IsEmailList};
 
-use crate::texts::{Text, copy_of};
+use crate::texts::{OptionalText, Text};
 use std::alloc::{AllocError, Global};
 use std::marker::Model;
 
@@ -14,7 +14,7 @@ pub const EMAIL_LIMIT: usize = 10;
 #[derive(Debug, Drop)]
 pub struct Email {
     pub value: Text,
-    pub type_text: Option<Text>,
+    pub type_text: OptionalText,
     pub primary: bool,
 }
 
@@ -24,7 +24,7 @@ impl Clone for Email {
     fn clone(&self) -> Result<Email, AllocError> {
         Ok(Email {
             value: self.value.clone()?,
-            type_text: copy_of(&self.type_text)?,
+            type_text: self.type_text.clone()?,
             primary: self.primary,
         })
     }

@@ -57,7 +57,7 @@ fn group_fields(alloc: Global, object: &GroupObject) -> Result<Group, ContentFau
     let external_id = text_in(alloc, object.external_id)?;
     let values = group_members_in(alloc, object.group_members)?;
     let revision = revision_in(object.source)?;
-    Ok(Group::new(display_name, values, revision).with_external_id(external_id))
+    Ok(Group::new(alloc, display_name, values, revision).with_external_id(external_id))
 }
 
 fn display_name_in(alloc: Global, value: Option<&Value>) -> Result<GroupName, ContentFault>
@@ -121,7 +121,7 @@ fn member_in(alloc: Global, item: &Value) -> Result<Option<Text>, ContentFault>
 {
     match item {
         Value::Null => Ok(None),
-        Value::Object(members) => text_in(alloc, attribute(members, "value")),
+        Value::Object(members) => Ok(text_in(alloc, attribute(members, "value"))?.into_text()),
         _ => Err(ContentFault::InvalidValue),
     }
 }

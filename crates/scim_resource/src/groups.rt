@@ -7,7 +7,7 @@ ghost use Rattle.scim_resource.specs.Groups.{AreTexts, GroupRecord, IsGroup, IsM
 ghost use Rattle.scim_resource.specs.Texts.{IsTextIf};
 ghost use Rattle.scim_resource.specs.Users.{IsSourceRevision};
 
-use crate::texts::{Text, copy_of};
+use crate::texts::{OptionalText, Text};
 use scim_key::{GroupName, Revision};
 use std::alloc::{AllocError, Global};
 use std::marker::Model;
@@ -100,7 +100,7 @@ fn is_same(one: &Text, other: &Text) -> bool
 #[derive(Debug)]
 pub struct Group {
     display_name: GroupName,
-    external_id: Option<Text>,
+    external_id: OptionalText,
     members: Members,
     revision: Option<Revision>,
 }
@@ -129,7 +129,12 @@ impl Drop for Group {
 
 impl Group {
     /// A group without an id at the source. Its name is valid because every `GroupName` is.
-    pub fn new(display_name: GroupName, members: Members, revision: Option<Revision>) -> Group
+    pub fn new(
+        alloc: Global,
+        display_name: GroupName,
+        members: Members,
+        revision: Option<Revision>,
+    ) -> Group
         requires named { IsGroupName display_name }
         requires listed { IsMemberList members }
         requires given { IsSourceRevision revision }
@@ -137,14 +142,14 @@ impl Group {
     {
         Group {
             display_name,
-            external_id: None,
+            external_id: OptionalText::none(alloc),
             members,
             revision,
         }
     }
 
     /// The group with this id at the source, or with none.
-    pub fn with_external_id(mut self, external_id: Option<Text>) -> Group
+    pub fn with_external_id(mut self, external_id: OptionalText) -> Group
         requires { IsTextIf external_id }
         ensures { result ≡ record self { external_id = external_id } }
     {
@@ -160,10 +165,10 @@ impl Group {
     }
 
     /// The group's id at the source.
-    pub fn external_id(&self) -> Option<&Text>
+    pub fn external_id(&self) -> Option<&str>
         ensures { option_copied result ≡ self.now.external_id }
     {
-        self.external_id.as_ref()
+        self.external_id.as_option()
     }
 
     /// The values of its members, in their order.
@@ -188,7 +193,7 @@ impl Clone for Group {
     fn clone(&self) -> Result<Group, AllocError> {
         Ok(Group {
             display_name: self.display_name.clone()?,
-            external_id: copy_of(&self.external_id)?,
+            external_id: self.external_id.clone()?,
             members: self.members.clone()?,
             revision: self.revision,
         })

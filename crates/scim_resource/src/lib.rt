@@ -30,6 +30,6 @@ pub use laws::{
 };
 pub use locations::location;
 pub use rows::{LAST_VERSION, Shown, Stored, TAG_LIMIT};
-pub use texts::{TEXT_LIMIT, Text};
+pub use texts::{OptionalText, TEXT_LIMIT, Text};
 pub use user_texts::{TEXT_COUNT, USER_TEXTS, UserText};
 pub use users::User;

@@ -3,6 +3,7 @@ ghost use Rattle.std.specs.Prelude.{◌≡◌, IfOk, IfSome, Some, map, option_m
 ghost use Rattle.std.specs.Result.{result_map_both};
 ghost use Rattle.scim_key.specs.Names.{IsUserName};
 ghost use Rattle.scim_key.specs.Outcome.{Gives, GivesBy};
+ghost use Rattle.serde_json.specs.Data.{string};
 ghost use Rattle.serde_json.specs.View.{view, items_view, members_view};
 ghost use Rattle.scim_resource.specs.Emails.{AreEmails, IsEmail, IsEmailList};
 ghost use Rattle.scim_resource.specs.Texts.{IsTextIf};
@@ -16,7 +17,7 @@ use crate::emails::{EMAIL_LIMIT, Email, Emails};
 use crate::faults::ContentFault;
 use crate::group_reading::read_group;
 use crate::schemas::core_user;
-use crate::texts::{Text, is_short_text};
+use crate::texts::{OptionalText, is_short_text};
 use crate::user_objects::UserObject;
 use crate::user_texts::{Holder, TEXT_COUNT, USER_TEXTS, UserText};
 use crate::users::User;
@@ -146,7 +147,7 @@ fn values_of<'v>(object: &UserObject<'v>) -> [Result<Option<&'v Value>, ValueFau
 fn text_of(
     alloc: Global,
     value: Result<Option<&Value>, ValueFault>,
-) -> Result<Option<Text>, ContentFault>
+) -> Result<OptionalText, ContentFault>
     ensures given { Gives ContentFault.Memory result
         (spec.text_of (result_map_both (option_map (λ v. view v.now)) (λ e. e) value.entry)) }
     ensures lawful { IfOk result IsTextIf }
@@ -155,7 +156,7 @@ fn text_of(
 }
 
 /// The texts of a user, in the order of `USER_TEXTS`.
-fn texts_in(alloc: Global, object: &UserObject) -> Result<[Option<Text>; TEXT_COUNT], ContentFault>
+fn texts_in(alloc: Global, object: &UserObject) -> Result<[OptionalText; TEXT_COUNT], ContentFault>
     requires { IsUserObject object.now }
     ensures given { Gives ContentFault.Memory result (spec.user_texts_in (members_of object.now)) }
     ensures lawful { IfOk result AreUserTexts }
@@ -164,19 +165,27 @@ fn texts_in(alloc: Global, object: &UserObject) -> Result<[Option<Text>; TEXT_CO
 }
 
 /// A text of 1 to 256 bytes.
-pub(crate) fn text_in(alloc: Global, value: Option<&Value>) -> Result<Option<Text>, ContentFault>
+pub(crate) fn text_in(alloc: Global, value: Option<&Value>) -> Result<OptionalText, ContentFault>
     ensures given { Gives ContentFault.Memory result
         (spec.text_in (option_map (λ v. view v.now) value.entry)) }
     ensures lawful { IfOk result IsTextIf }
 {
     match value {
-        None => Ok(None),
-        Some(Value::String(text)) => if is_short_text(text.as_str()) {
-            Ok(Text::from_string(text.clone()?))
-        } else {
-            Err(ContentFault::InvalidValue)
-        },
+        None => Ok(OptionalText::none(alloc)),
+        Some(Value::String(text)) => short_text(alloc, text.as_str()),
         Some(_) => Err(ContentFault::InvalidValue),
+    }
+}
+
+/// The text, if it is short.
+#[tactic(auto, using(crate::proofs::Presence::text_is_within, crate::proofs::Presence::text_read))]
+fn short_text(alloc: Global, text: &str) -> Result<OptionalText, ContentFault>
+    ensures { Gives ContentFault.Memory result (spec.text_in (Some (string text.now))) }
+{
+    if is_short_text(text) {
+        Ok(OptionalText::from_string(String::from_str(alloc, text)?))
+    } else {
+        Err(ContentFault::InvalidValue)
     }
 }
 
@@ -226,7 +235,7 @@ fn email_of(alloc: Global, members: &Map<String, Value>) -> Result<Option<Email>
         (spec.email_of (members_view members.now.entries)) }
     ensures lawful { IfOk result (λ email. IfSome email IsEmail) }
 {
-    let Some(value) = text_in(alloc, attribute(members, "value"))? else {
+    let Some(value) = text_in(alloc, attribute(members, "value"))?.into_text() else {
         return Ok(None);
     };
     let type_text = text_in(alloc, attribute(members, "type"))?;

@@ -1,10 +1,10 @@
 //! Texts of attributes.
-ghost use Rattle.std.specs.Prelude.{◌≡◌, Some, IfSome, IfOk, string_bytes, option_map};
-ghost use Rattle.std.specs.Option.{SomeIff};
+ghost use Rattle.std.specs.Prelude.{◌≡◌, ◌≤◌, None, length, string_bytes};
+ghost use Rattle.std.specs.Option.{SomeIff, option_copied};
 ghost use Rattle.std.specs.Str.{IsUtf8};
-ghost use Rattle.scim_resource.specs.Texts.{IsText, is_short_text};
+ghost use Rattle.scim_resource.specs.Texts.{IsText, IsTextIf, is_short_text, text_if};
 
-use std::alloc::AllocError;
+use std::alloc::{AllocError, Global};
 use std::marker::Model;
 
 /// The most bytes that a text of an attribute may have.
@@ -66,12 +66,67 @@ impl Clone for Text {
     }
 }
 
-/// A copy of a text that may be absent.
-pub(crate) fn copy_of(text: &Option<Text>) -> Result<Option<Text>, AllocError>
-    ensures { IfOk result (λ copy. copy ≡ text.now) }
-{
-    match text {
-        Some(text) => Ok(Some(text.clone()?)),
-        None => Ok(None),
+/// A text of 1 to 256 bytes, or none. It takes no more room than a text: none is kept as no bytes.
+#[derive(Debug, Drop)]
+pub struct OptionalText {
+    text: String,
+}
+
+impl Model for OptionalText {
+    ghost use Rattle.std.specs.Prelude.{Option, List, ℕ, string_bytes};
+    ghost use Rattle.scim_resource.specs.Texts.{IsTextIf, text_if};
+
+    ghost Value = { Option (List ℕ) };
+
+    ghost view = { λ t. text_if (string_bytes t.text) };
+
+    ghost invariant = { λ t. IsTextIf (text_if (string_bytes t.text)) };
+}
+
+impl OptionalText {
+    /// No text.
+    pub fn none(alloc: Global) -> OptionalText
+        ensures { result ≡ None }
+    {
+        OptionalText {
+            text: String::new(alloc),
+        }
+    }
+
+    /// The text with the bytes of a string, or none if it has no bytes.
+    pub fn from_string(text: String) -> OptionalText
+        requires { length (string_bytes text) ≤ TEXT_LIMIT }
+        ensures { result ≡ text_if (string_bytes text) }
+    {
+        OptionalText { text }
+    }
+
+    /// The text, if there is one.
+    pub fn as_option(&self) -> Option<&str>
+        ensures value { option_copied result ≡ self.now }
+        ensures lawful { IsTextIf self.now }
+    {
+        if self.text.is_empty() {
+            None
+        } else {
+            Some(self.text.as_str())
+        }
+    }
+
+    /// The text as one of its own, if there is one.
+    pub fn into_text(self) -> Option<Text>
+        ensures { result ≡ self }
+    {
+        Text::from_string(self.text)
+    }
+}
+
+impl Clone for OptionalText {
+    ghost is_clone = { λ a b. b ≡ a };
+
+    fn clone(&self) -> Result<OptionalText, AllocError> {
+        Ok(OptionalText {
+            text: self.text.clone()?,
+        })
     }
 }

@@ -7,7 +7,7 @@ ghost use Rattle.scim_resource.specs.UserTexts.{AreUserTexts, no_texts, text_at}
 ghost use Rattle.scim_resource.specs.Users.{UserRecord, IsSourceRevision, IsUser};
 
 use crate::emails::{Email, Emails};
-use crate::texts::Text;
+use crate::texts::OptionalText;
 use crate::user_texts::{TEXT_COUNT, USER_TEXTS, UserText};
 use scim_key::{Revision, UserName};
 use std::alloc::{AllocError, Global};
@@ -17,7 +17,7 @@ use std::marker::Model;
 #[derive(Debug)]
 pub struct User {
     user_name: UserName,
-    texts: [Option<Text>; TEXT_COUNT],
+    texts: [OptionalText; TEXT_COUNT],
     emails: Emails,
     active: bool,
     revision: Option<Revision>,
@@ -56,7 +56,7 @@ impl User {
     {
         User {
             user_name,
-            texts: USER_TEXTS.map(|_| None),
+            texts: USER_TEXTS.map(|_| OptionalText::none(alloc)),
             emails: Emails::new(alloc),
             active,
             revision,
@@ -64,7 +64,7 @@ impl User {
     }
 
     /// The user with these texts, in the order of `USER_TEXTS`.
-    pub fn with_texts(mut self, texts: [Option<Text>; TEXT_COUNT]) -> User
+    pub fn with_texts(mut self, texts: [OptionalText; TEXT_COUNT]) -> User
         requires { AreUserTexts texts }
         ensures { result ≡ record self { texts = texts } }
     {
@@ -89,10 +89,10 @@ impl User {
     }
 
     /// This text of the user, if there is one.
-    pub fn text(&self, which: UserText) -> Option<&Text>
+    pub fn text(&self, which: UserText) -> Option<&str>
         ensures { option_copied result ≡ text_at which self.now.texts }
     {
-        self.texts[which.place()].as_ref()
+        self.texts[which.place()].as_option()
     }
 
     pub fn emails(&self) -> &[Email]

@@ -19,7 +19,6 @@ use crate::group_writing::{write_group, write_shown_group};
 use crate::locations::{location, type_name};
 use crate::rows::Shown;
 use crate::schemas::{core_user, enterprise_extension, source_extension};
-use crate::texts::Text;
 use crate::user_texts::{ENTERPRISE_TEXTS, NAME_TEXTS, TOP_TEXTS, UserText};
 use crate::users::User;
 use json::Writer;
@@ -176,14 +175,14 @@ fn extensions_of(user: &User) -> [(&'static str, bool); 2]
 pub(crate) fn write_text_of(
     out: &mut Writer,
     name: &str,
-    text: Option<&Text>,
+    text: Option<&str>,
 ) -> Result<(), AllocError>
     ensures { OnOk result
         (WritesPart name.now (option_map string (option_copied text.entry)) out.old out.new) }
 {
     match text {
         None => Ok(()),
-        Some(text) => write_text(out, name, text.as_str()),
+        Some(text) => write_text(out, name, text),
     }
 }
 
@@ -259,7 +258,7 @@ fn write_email(out: &mut Writer, email: &Email) -> Result<(), AllocError>
 {
     out.begin_object()?;
     write_primary(out, email.primary)?;
-    write_text_of(out, "type", email.type_text.as_ref())?;
+    write_text_of(out, "type", email.type_text.as_option())?;
     write_text(out, "value", email.value.as_str())?;
     out.end_object()
 }
