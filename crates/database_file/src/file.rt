@@ -1,13 +1,16 @@
 //! A database file of the host.
-ghost use Rattle.std.specs.Prelude.{IsTrue};
+ghost use Rattle.std.specs.Prelude.{IfOk, IsTrue};
 
-use crate::reason::{DatabaseReason, failure_of};
+use crate::reason::{DatabaseReason, code_of, failure_of};
 use sqlite::{Connection, Error, ErrorCode, File, FileStore, Files, Options, Unknown};
 use sqlite_disk::Disk;
 use std::fs::OpenOptions;
 use std::hash::{BuildHasher, RandomState};
 use std::io::ErrorKind;
 use std::rt::HostRuntime;
+
+/// How many pages of a file a connection keeps in memory: 2 MB of pages of 4,096 bytes.
+const CACHE_PAGES: usize = 512;
 
 /// A database file of SQLite. Its log is `path` with `-wal` at its end.
 #[derive(Clone, Copy)]
@@ -19,9 +22,9 @@ pub struct DatabaseFile<'a> {
 impl<'a> DatabaseFile<'a> {
     /// Opens the file with its log, and makes them if they aren't there. Nothing is known of their contents.
     pub fn open(&self) -> Result<Connection<FileStore<File>>, Error> {
-        match Connection::open_from(self.rt, self.path, false, Unknown) {
-            Ok(conn) => Ok(conn),
-            Err((error, _left)) => Err(error),
+        match self.files() {
+            Ok(files) => connected(self.rt, files),
+            Err(reason) => Err(Error::SqliteFailure(code_of(reason))),
         }
     }
 
@@ -31,12 +34,27 @@ impl<'a> DatabaseFile<'a> {
         if let Some(reason) = self.refused_by_system() {
             return Err(Some(reason));
         }
-        if let Err(error) = sqlite_std_file::open(self.rt, self.path, Unknown) {
-            return Err(Some(DatabaseReason::Unopened(error)));
-        }
-        match self.open() {
+        let files = match self.files() {
+            Ok(files) => files,
+            Err(reason) => return Err(Some(reason)),
+        };
+        match connected(self.rt, files) {
             Ok(conn) => Ok(conn),
             Err(error) => Err(failure_of(error)),
+        }
+    }
+
+    /// The file and its log. The names that SQLite has for a database without a file, and for a URI, are refused.
+    fn files(&self) -> Result<Files<File>, DatabaseReason>
+        ensures log { IfOk result (λ files. IsTrue (⟦<File as Disk>⟧.is_usable files.log)) }
+        ensures db { IfOk result (λ files. IsTrue (⟦<File as Disk>⟧.is_usable files.db)) }
+    {
+        if self.path == ":memory:" || self.path.starts_with("file:") {
+            return Err(DatabaseReason::Failed(ErrorCode::CannotOpen));
+        }
+        match sqlite_std_file::open(self.rt, self.path, Unknown) {
+            Ok(files) => Ok(files),
+            Err(error) => Err(DatabaseReason::Unopened(error)),
         }
     }
 
@@ -68,7 +86,7 @@ pub fn renewed<D: Disk + Drop>(
     }
 }
 
-/// Connects to files.
+/// Connects to files. The connection keeps as much of them in memory as SQLite does.
 fn connected<D: Disk + Drop>(
     rt: &HostRuntime,
     files: Files<D>,
@@ -79,7 +97,10 @@ fn connected<D: Disk + Drop>(
     let Ok(hasher) = RandomState::new(rt) else {
         return Err(Error::SqliteFailure(ErrorCode::CannotOpen));
     };
-    let options = Options::new(hasher.hash_one(&0u8));
+    let options = Options {
+        cache_pages: CACHE_PAGES,
+        ..Options::new(hasher.hash_one(&0u8))
+    };
     match Connection::open_files(rt.alloc(), files, options) {
         Ok(conn) => Ok(conn),
         Err((error, _left)) => Err(error),

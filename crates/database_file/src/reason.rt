@@ -2,7 +2,7 @@
 use sqlite::{Connection, Error, ErrorCode, FileStore};
 use sqlite_disk::{Disk, Tally};
 use sqlite_std_file::OpenError;
-use std::io;
+use std::io::{self, ErrorKind};
 use thiserror::Error as Fault;
 
 /// Why a database file can't be used. Its text is what the system or the library says.
@@ -55,4 +55,17 @@ fn failure_by(tally: Tally) -> DatabaseReason {
     } else {
         ErrorCode::SystemIoFailure
     })
+}
+
+/// The code of SQLite for a reason.
+pub(crate) fn code_of(reason: DatabaseReason) -> ErrorCode {
+    match reason {
+        DatabaseReason::Failed(code) => code,
+        DatabaseReason::Unopened(OpenError::Busy) => ErrorCode::DatabaseBusy,
+        DatabaseReason::Unopened(OpenError::OutOfMemory) => ErrorCode::OutOfMemory,
+        DatabaseReason::Unopened(OpenError::Io(error)) if error.kind() == ErrorKind::OutOfMemory => {
+            ErrorCode::OutOfMemory
+        }
+        _ => ErrorCode::CannotOpen,
+    }
 }
