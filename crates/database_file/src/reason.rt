@@ -63,9 +63,8 @@ pub(crate) fn code_of(reason: DatabaseReason) -> ErrorCode {
         DatabaseReason::Failed(code) => code,
         DatabaseReason::Unopened(OpenError::Busy) => ErrorCode::DatabaseBusy,
         DatabaseReason::Unopened(OpenError::OutOfMemory) => ErrorCode::OutOfMemory,
-        DatabaseReason::Unopened(OpenError::Io(error)) if error.kind() == ErrorKind::OutOfMemory => {
-            ErrorCode::OutOfMemory
-        }
+        DatabaseReason::Unopened(OpenError::Io(error)) if error.kind() == ErrorKind::OutOfMemory =>
+            { ErrorCode::OutOfMemory }
         _ => ErrorCode::CannotOpen,
     }
 }

@@ -5,7 +5,6 @@ mod codes;
 mod failing;
 mod learning;
 mod messages;
-mod offers;
+pub mod offers;
 mod store_faults;
-mod stores;
 mod worlds;

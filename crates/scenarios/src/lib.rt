@@ -48,6 +48,8 @@ mod searching;
 #[cfg(test)]
 mod store_faults;
 #[cfg(test)]
+mod stores;
+#[cfg(test)]
 mod streams;
 #[cfg(test)]
 mod support;
