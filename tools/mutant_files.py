@@ -14,8 +14,10 @@ SUMS = EDITS / "refused.txt"
 HEAD_OF_SUMS = "# a sum over each crate's texts and mutants, all of which the prover rejected; tools/mutants.py writes it"
 PARTS = ("src", "specs", "proofs")
 
-# A literal, which stays, or a comment
-IN_CODE = re.compile(r"""r(#*)".*?"\1|"(?:\\.|[^"\\])*"|'(?:\\.[^']*|[^\\'\n])'|(?P<comment>//[^\n]*|/\*.*?\*/)""", re.S)
+# A literal, which stays, or what is between words: white space and comments
+IN_CODE = re.compile(r"""r(#*)".*?"\1|"(?:\\.|[^"\\])*"|'(?:\\.[^']*|[^\\'\n])'|(?P<gap>(?:\s|//[^\n]*|/\*.*?\*/)+)""", re.S)
+# The last `;` of a record in a clause
+END_OF_RECORD = re.compile(r"(\brecord \{[^{}]*); \}")
 IN_LOGIC = re.compile(r"""(?P<comment>(?<![^\s(){}.;,@"«»])--[^\n]*|{-.*?-})|"(?:\\.|[^"\\\n])*\"""", re.S)
 FUNCTION = re.compile(r"^( *)(?:pub(?:\([a-z]+\))? )?(?:const )?fn (\w+)")
 HOME = re.compile(r"(?:pub(?:\([a-z]+\))? )?(?:unsafe )?(?:impl|trait) (?:(?P<of>[\w:]+) for )?(?P<type>[\w:&]+)")
@@ -179,16 +181,21 @@ def sum_of(texts):
     return told.hexdigest()[:32]
 
 
-def without_comments(text, form):
-    """A text with neither comments nor empty lines."""
-    text = form.sub(lambda found: "" if found["comment"] else found[0], text)
+def code_in(text):
+    """A text of Rattle without its comments and its layout."""
+    return END_OF_RECORD.sub(r"\1 }", IN_CODE.sub(lambda found: " " if found["gap"] else found[0], text))
+
+
+def logic_in(text):
+    """A text of proofs with neither comments nor empty lines."""
+    text = IN_LOGIC.sub(lambda found: "" if found["comment"] else found[0], text)
     return "\n".join(it.rstrip() for it in text.splitlines() if it.strip())
 
 
 def sum_of_texts(crate):
-    """A sum over the texts of a crate, without comments."""
+    """A sum over the texts of a crate, without comments, and of Rattle without layout."""
     files = [it for part in PARTS for it in sorted((CRATES / crate / part).rglob("*")) if it.is_file()]
-    texts = [without_comments(it.read_text(encoding="utf-8"), IN_CODE if it.suffix == ".rt" else IN_LOGIC) for it in files]
+    texts = [(code_in if it.suffix == ".rt" else logic_in)(it.read_text(encoding="utf-8")) for it in files]
     names = [str(it.relative_to(CRATES)) for it in files]
     return sum_of(it for pair in zip(names, texts) for it in pair)
 

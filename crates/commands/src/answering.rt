@@ -21,7 +21,8 @@ pub fn answer_stored<K: RowStorage, I: Read, O: Write>(
     reader: &mut Input<I>,
     writer: &mut Output<O>,
 ) -> Result<Status, CommandFault>
-    ensures { AnswersStored K.Rows.Registry base.now reader.old reader.new writer.old writer.new result }
+    ensures { AnswersStored K.Rows.Registry base.now reader.old reader.new writer.old writer.new
+        result }
 {
     let served = serve_one(alloc, storage, base, reader, writer)?;
     served_status(served)

@@ -44,7 +44,8 @@ fn print_next<E: Eprint, R: Read + Drop, W: Write>(
     rows: &mut RowReader<R>,
     out: &mut W,
 ) -> Result<Option<bool>, CommandFault>
-    ensures prints { IfOk result (PrintsNext rows.old rows.new (W.contents out.old) (W.contents out.new)) }
+    ensures prints { IfOk result
+        (PrintsNext rows.old rows.new (W.contents out.old) (W.contents out.new)) }
     ensures fault { IfErr result IsMapFault }
 {
     if !rows.read_next()? {

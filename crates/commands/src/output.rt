@@ -56,7 +56,8 @@ impl<W: Write + Drop> Write for NotedWriter<W> {
 
     fn write(&mut self, bytes: &[u8]) -> io::Result<usize>
         ensures bound { WritesAtMost result bytes.now }
-        ensures bytes { WriteAppends (W.contents self.old.inner) (W.contents self.new.inner) result bytes.now }
+        ensures bytes { WriteAppends (W.contents self.old.inner)
+            (W.contents self.new.inner) result bytes.now }
         ensures last { self.new.last ≡ last_error result self.old.last }
     {
         let written = self.inner.write(bytes);

@@ -71,7 +71,8 @@ pub fn schedule(alloc: Global, matches: &ArgMatches<'_>) -> Result<Option<String
 /// The seed in the arguments, if there is one.
 pub fn seed(matches: &ArgMatches<'_>) -> Option<u64>
     ensures { IfSome result
-        (λ seed. option_map number_in (one_text (found_of matches.now) (codes "seed")) ≡ Some seed) }
+        (λ seed. option_map number_in (one_text (found_of matches.now) (codes "seed"))
+        ≡ Some seed) }
 {
     matches.get_one("seed")
 }
@@ -79,14 +80,16 @@ pub fn seed(matches: &ArgMatches<'_>) -> Option<u64>
 /// The number of events in the arguments, if there is one.
 pub fn count(matches: &ArgMatches<'_>) -> Option<u32>
     ensures { IfSome result
-        (λ count. option_map number_in (one_text (found_of matches.now) (codes "events")) ≡ Some count) }
+        (λ count. option_map number_in (one_text (found_of matches.now) (codes "events"))
+        ≡ Some count) }
 {
     matches.get_one("events")
 }
 
 /// Whether the arguments ask for every record to be settled after the events.
 pub fn settles(matches: &ArgMatches<'_>) -> bool
-    ensures { one_text (found_of matches.now) (codes "settle") ≡ Some (codes "true") → result ≡ true }
+    ensures { one_text (found_of matches.now) (codes "settle") ≡ Some (codes "true")
+        → result ≡ true }
 {
     matches.get_flag("settle")
 }

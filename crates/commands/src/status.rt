@@ -203,7 +203,8 @@ impl From<io::Error> for CommandFault {
 }
 
 impl From<UnreadFile> for CommandFault {
-    ghost from_gives = { λ unread fault. fault ≡ unread_fault (source_part unread.kind) unread.error };
+    ghost from_gives = { λ unread fault. fault
+        ≡ unread_fault (source_part unread.kind) unread.error };
 
     fn from(unread: UnreadFile) -> CommandFault {
         unread_fault(source_part(unread.kind), unread.error)

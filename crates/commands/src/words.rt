@@ -20,7 +20,8 @@ pub const MOST_REQUESTS: u32 = 1_000_000;
 
 /// The base in the arguments, or the default.
 pub fn base(alloc: Global, matches: &ArgMatches<'_>) -> Result<Base, CommandFault>
-    ensures { Gives Memory result (wanted_base (first_value (found_of matches.now) (codes "base"))) }
+    ensures { Gives Memory result
+        (wanted_base (first_value (found_of matches.now) (codes "base"))) }
 {
     match matches.get_str("base") {
         Some(text) => Base::read(alloc, text).map_err(base_fault),
@@ -84,7 +85,8 @@ pub fn groups(alloc: Global, matches: &ArgMatches<'_>) -> Result<Option<String>,
 
 /// The address to listen on, from the arguments. Port 0 takes a free port.
 pub fn address(alloc: Global, matches: &ArgMatches<'_>) -> Result<String, CommandFault>
-    ensures { GivesAddress string_bytes 0 Listen (first_value (found_of matches.now) (codes "listen")) result }
+    ensures { GivesAddress string_bytes 0 Listen
+        (first_value (found_of matches.now) (codes "listen")) result }
 {
     address_in(alloc, matches.get_str("listen"), 0, CommandFault::Listen)
 }
@@ -122,7 +124,8 @@ pub fn journal(alloc: Global, matches: &ArgMatches<'_>) -> Result<Option<String>
 
 /// The provider's address in the arguments.
 pub fn to(alloc: Global, matches: &ArgMatches<'_>) -> Result<String, CommandFault>
-    ensures { GivesAddress string_bytes 1 To (first_value (found_of matches.now) (codes "to")) result }
+    ensures { GivesAddress string_bytes 1 To
+        (first_value (found_of matches.now) (codes "to")) result }
 {
     address_in(alloc, matches.get_str("to"), 1, CommandFault::To)
 }
@@ -131,7 +134,8 @@ pub fn to(alloc: Global, matches: &ArgMatches<'_>) -> Result<String, CommandFaul
 pub fn requests(matches: &ArgMatches<'_>) -> Result<u32, CommandFault>
     ensures range { IfOk result (λ count. (0 < count) × (count ≤ MOST_REQUESTS)) }
     ensures value { IfOk result
-        (λ count. option_map number_in (one_text (found_of matches.now) (codes "requests")) ≡ Some count) }
+        (λ count. option_map number_in (one_text (found_of matches.now) (codes "requests"))
+        ≡ Some count) }
 {
     match matches.get_one("requests") {
         Some(count) if (1..=MOST_REQUESTS).contains(&count) => Ok(count),

@@ -106,7 +106,8 @@ impl<'a, S: Read + Write + OpenStream + Drop, C: Clock> Ending<'a, S, C> {
 
     /// Sends what the peer takes now of the answer.
     fn send(&mut self) -> io::Result<()>
-        ensures { Keeps (with_unsent (S.contents self.old.stream.stream) self.old.unsent.items self.old.sent)
+        ensures { Keeps
+            (with_unsent (S.contents self.old.stream.stream) self.old.unsent.items self.old.sent)
             (with_unsent (S.contents self.new.stream.stream) self.new.unsent.items self.new.sent) }
     {
         while self.sent < self.unsent.len() {

@@ -75,7 +75,8 @@ impl<'a, S: Read + Write + OpenStream + Drop, C: Clock> Endings<'a, S, C> {
 
     /// Keeps an ending. If there are too many, the one on which nothing moved for the longest is closed.
     pub(crate) fn keep(&mut self, ending: Ending<'a, S, C>, now: Instant)
-        ensures { vec_len self.old.endings ≤ MOST_ENDINGS → vec_len self.new.endings ≤ MOST_ENDINGS }
+        ensures { vec_len self.old.endings ≤ MOST_ENDINGS
+            → vec_len self.new.endings ≤ MOST_ENDINGS }
     {
         if !ending.is_sent() {
             self.make_room(ending.size(), now);

@@ -29,7 +29,8 @@ impl<W: Write + Drop> LateWriter<W> {
     /// Keeps bytes for later.
     fn keep(&mut self, bytes: &[u8]) -> io::Result<usize>
         ensures bound { WritesAtMost result bytes.now }
-        ensures bytes { WriteAppends (append_known (W.contents self.old.writer) self.old.unsent.items)
+        ensures bytes { WriteAppends
+            (append_known (W.contents self.old.writer) self.old.unsent.items)
             (append_known (W.contents self.new.writer) self.new.unsent.items) result bytes.now }
     {
         match self.unsent.extend_from_slice(bytes) {
@@ -46,7 +47,8 @@ impl<W: Write + Drop> Write for LateWriter<W> {
 
     fn write(&mut self, bytes: &[u8]) -> io::Result<usize>
         ensures bound { WritesAtMost result bytes.now }
-        ensures bytes { WriteAppends (append_known (W.contents self.old.writer) self.old.unsent.items)
+        ensures bytes { WriteAppends
+            (append_known (W.contents self.old.writer) self.old.unsent.items)
             (append_known (W.contents self.new.writer) self.new.unsent.items) result bytes.now }
     {
         if !self.unsent.is_empty() {

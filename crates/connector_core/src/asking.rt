@@ -105,14 +105,17 @@ fn replacement(
 
 /// The place, from 0, of the first of a group's members whose user has no id.
 fn place_without_id(book: &Book, row: &GroupRow) -> Option<usize>
-    ensures { result ≡ position_from (λ key. is_none (known_id (book_of book.now) (user key))) 0 row.now.members }
+    ensures { result
+        ≡ position_from
+        (λ key. is_none (known_id (book_of book.now) (user key))) 0 row.now.members }
 {
     row.members().iter().position(|key| book.id(key).is_none())
 }
 
 /// The search for a row's resource, if the row has an image. It makes no image.
 fn search_if_ready(alloc: Global, book: &Book, row: &Row) -> Result<Request, ImageFault>
-    ensures { Gives ImageFault.Memory result (requested (λ _. search_for row.now) (imaged (known_id (book_of book.now)) row.now)) }
+    ensures { Gives ImageFault.Memory result
+        (requested (λ _. search_for row.now) (imaged (known_id (book_of book.now)) row.now)) }
 {
     if let Row::Group(group) = row
         && let Some(place) = place_without_id(book, group)
@@ -124,7 +127,9 @@ fn search_if_ready(alloc: Global, book: &Book, row: &Row) -> Result<Request, Ima
 
 /// The request for a record that isn't confirmed, by what was seen of it, if its row has an image.
 fn request_for(alloc: Global, book: &Book, known: &Known) -> Result<Request, ImageFault>
-    ensures { Gives ImageFault.Memory result (requested (request_for known.now.seen known.now.id known.now.wanted) (imaged (known_id (book_of book.now)) known.now.wanted)) }
+    ensures { Gives ImageFault.Memory result
+        (requested (request_for known.now.seen known.now.id known.now.wanted)
+        (imaged (known_id (book_of book.now)) known.now.wanted)) }
 {
     match (&known.seen, &known.id) {
         (Seen::Absent, _) => Ok(Request::Create {
@@ -141,7 +146,8 @@ fn request_for(alloc: Global, book: &Book, known: &Known) -> Result<Request, Ima
 impl<J: Journal> Connector<J> {
     /// What the connector asks for next for a record. It writes nothing and changes nothing.
     pub fn ask(&self, name: &RecordName) -> Result<Ask, AskFault>
-        ensures { Gives AskFault.Memory result (ok_or (asking (book_of self.now.book) name.now) AskFault.NoSuchRecord) }
+        ensures { Gives AskFault.Memory result
+            (ok_or (asking (book_of self.now.book) name.now) AskFault.NoSuchRecord) }
     {
         let Some(known) = self.book.get(name) else {
             return Err(AskFault::NoSuchRecord);

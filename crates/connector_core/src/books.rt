@@ -41,8 +41,10 @@ impl Model for Book {
 /// Sets another wanted row for an existing record, and gives the one before.
 fn want(records: &mut BTreeMap<Key, Known>, key: &Key, row: Row) -> Option<Row>
     requires { IsSome (get_in key_cmp records.old key.now) }
-    ensures updates { Updates key_cmp records.old records.new key.now (option_map (wanting_now row) (get_in key_cmp records.old key.now)) }
-    ensures last { result ≡ option_map (λ known. known.wanted) (get_in key_cmp records.old key.now) }
+    ensures updates { Updates key_cmp records.old records.new key.now
+        (option_map (wanting_now row) (get_in key_cmp records.old key.now)) }
+    ensures last { result
+        ≡ option_map (λ known. known.wanted) (get_in key_cmp records.old key.now) }
 {
     match records.get_mut(key) {
         Some(known) => Some(replace(&mut known.wanted, row)),
@@ -53,7 +55,8 @@ fn want(records: &mut BTreeMap<Key, Known>, key: &Key, row: Row) -> Option<Row>
 /// Sets what was seen of an existing record.
 fn see(records: &mut BTreeMap<Key, Known>, key: &Key, seen: Seen)
     requires { IsSome (get_in key_cmp records.old key.now) }
-    ensures { Updates key_cmp records.old records.new key.now (option_map (seeing seen) (get_in key_cmp records.old key.now)) }
+    ensures { Updates key_cmp records.old records.new key.now
+        (option_map (seeing seen) (get_in key_cmp records.old key.now)) }
 {
     if let Some(known) = records.get_mut(key) {
         known.seen = seen;
@@ -69,7 +72,8 @@ fn learn(
     seen: Seen,
 )
     requires { IsSome (get_in key_cmp records.old key.now) }
-    ensures { Updates key_cmp records.old records.new key.now (option_map (learning confirmed id seen) (get_in key_cmp records.old key.now)) }
+    ensures { Updates key_cmp records.old records.new key.now
+        (option_map (learning confirmed id seen) (get_in key_cmp records.old key.now)) }
 {
     if let Some(known) = records.get_mut(key) {
         known.confirmed = confirmed;
@@ -84,7 +88,8 @@ fn push_names(
     kind: Kind,
     known: &BTreeMap<Key, Known>,
 ) -> Result<(), AllocError>
-    ensures names { OnOk result (names.new.items ≡ names.old.items ++ map (of kind) (keys_in known.now)) }
+    ensures names { OnOk result (names.new.items ≡ names.old.items
+        ++ map (of kind) (keys_in known.now)) }
     ensures ordered { IsOrdered key_cmp known.now }
 {
     for key in known.keys() {

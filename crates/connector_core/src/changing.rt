@@ -187,7 +187,8 @@ pub(crate) fn judge(
 ) -> Result<Verdict, ChangeFault>
     requires kind { kind ≡ (row_name row.now).kind }
     requires last { option_copied last ≡ wanted_row (book_of book.now) (row_name row.now) }
-    ensures gives { Gives ChangeFault.Memory result (judging (book_of book.now) (keys book.now) row.now) }
+    ensures gives { Gives ChangeFault.Memory result
+        (judging (book_of book.now) (keys book.now) row.now) }
     ensures counted { IfErr result (λ fault. (n : ℕ) → CountsChange n n fault) }
 {
     let no_room = last.is_none() && is_full(book, kind);
@@ -210,15 +211,30 @@ pub(crate) fn first_known(row: Row) -> Known
 impl<J: Journal> Connector<J> {
     /// Takes a row that the source offers.
     pub fn change(&mut self, row: Row) -> Result<Verdict, ChangeFault>
-        ensures verdict { GivesUnless IsNoVerdict result (judging (book_of self.old.book) (keys self.old.book) row) }
-        ensures ok { OnOk result (self.new.book ≡ accepted_map self.old.book row (judging (book_of self.old.book) (keys self.old.book) row)) }
+        ensures verdict { GivesUnless IsNoVerdict result
+            (judging (book_of self.old.book) (keys self.old.book) row) }
+        ensures ok { OnOk result (self.new.book
+            ≡ accepted_map self.old.book row
+            (judging (book_of self.old.book) (keys self.old.book) row)) }
         ensures err { OnErr result (self.new.book ≡ self.old.book) }
-        ensures kept { J.is_faithful self.new.journal → IsKept (J.entries self.new.journal) self.new.book }
-        ensures journal { Writes J.Journal CountsChange self.old.journal self.new.journal (accepted_entries (J.entries self.old.journal) row (judging (book_of self.old.book) (keys self.old.book) row)) result }
-        ensures quiet { IfOk result (λ verdict. verdict ≢ verdicts.New → J.writes self.new.journal ≡ J.writes self.old.journal) }
-        ensures rejected { IfErr result (λ fault. IsRejection fault → self.new.journal ≡ self.old.journal) }
-        ensures open { J.is_honest self.new.journal → J.is_faithful self.old.journal → OnOk result (J.is_faithful self.new.journal) }
-        ensures leaves { J.is_honest self.new.journal → LeavesBook J.Journal self.old → Leaves J.Journal self.old self.new (book_after (book_of self.old.book) row (judging (book_of self.old.book) (keys self.old.book) row)) (keys (accepted_map self.old.book row (judging (book_of self.old.book) (keys self.old.book) row))) result }
+        ensures kept { J.is_faithful self.new.journal
+            → IsKept (J.entries self.new.journal) self.new.book }
+        ensures journal { Writes J.Journal CountsChange self.old.journal self.new.journal
+            (accepted_entries (J.entries self.old.journal) row
+            (judging (book_of self.old.book) (keys self.old.book) row)) result }
+        ensures quiet { IfOk result (λ verdict. verdict ≢ verdicts.New
+            → J.writes self.new.journal ≡ J.writes self.old.journal) }
+        ensures rejected { IfErr result (λ fault. IsRejection fault
+            → self.new.journal ≡ self.old.journal) }
+        ensures open { J.is_honest self.new.journal → J.is_faithful self.old.journal
+            → OnOk result (J.is_faithful self.new.journal) }
+        ensures leaves { J.is_honest self.new.journal → LeavesBook J.Journal self.old
+            → Leaves J.Journal self.old self.new
+            (book_after (book_of self.old.book) row
+            (judging (book_of self.old.book) (keys self.old.book) row))
+            (keys
+            (accepted_map self.old.book row
+            (judging (book_of self.old.book) (keys self.old.book) row))) result }
     {
         let name = row.record_name(self.alloc)?;
         let last = last_row(&self.book, &name);
@@ -243,10 +259,14 @@ impl<J: Journal> Connector<J> {
         requires new { judging (book_of self.old.book) (keys self.old.book) row ≡ Ok verdicts.New }
         ensures new { IfOk result (λ verdict. verdict ≡ verdicts.New) }
         ensures fault { IfErr result IsNoVerdict }
-        ensures ok { OnOk result (self.new.book ≡ insert self.old.book (row_name row) (wanting (get self.old.book (row_name row)) row)) }
+        ensures ok { OnOk result (self.new.book
+            ≡ insert self.old.book (row_name row)
+            (wanting (get self.old.book (row_name row)) row)) }
         ensures err { OnErr result (self.new.book ≡ self.old.book) }
-        ensures kept { J.is_faithful self.new.journal → IsKept (J.entries self.new.journal) self.new.book }
-        ensures journal { Writes J.Journal CountsChange self.old.journal self.new.journal (with_row (J.entries self.old.journal) row) result }
+        ensures kept { J.is_faithful self.new.journal
+            → IsKept (J.entries self.new.journal) self.new.book }
+        ensures journal { Writes J.Journal CountsChange self.old.journal self.new.journal
+            (with_row (J.entries self.old.journal) row) result }
         ensures open { J.is_honest self.new.journal → OnOk result (J.is_faithful self.new.journal) }
     {
         if is_first {
@@ -263,10 +283,14 @@ impl<J: Journal> Connector<J> {
         requires there { IsSome (get self.old.book name.now) }
         ensures new { IfOk result (λ verdict. verdict ≡ verdicts.New) }
         ensures fault { IfErr result IsNoVerdict }
-        ensures ok { OnOk result (self.new.book ≡ insert self.old.book (row_name row) (wanting (get self.old.book (row_name row)) row)) }
+        ensures ok { OnOk result (self.new.book
+            ≡ insert self.old.book (row_name row)
+            (wanting (get self.old.book (row_name row)) row)) }
         ensures err { OnErr result (self.new.book ≡ self.old.book) }
-        ensures kept { J.is_faithful self.new.journal → IsKept (J.entries self.new.journal) self.new.book }
-        ensures journal { Writes J.Journal CountsChange self.old.journal self.new.journal (with_row (J.entries self.old.journal) row) result }
+        ensures kept { J.is_faithful self.new.journal
+            → IsKept (J.entries self.new.journal) self.new.book }
+        ensures journal { Writes J.Journal CountsChange self.old.journal self.new.journal
+            (with_row (J.entries self.old.journal) row) result }
         ensures open { J.is_honest self.new.journal → OnOk result (J.is_faithful self.new.journal) }
     {
         self.journal.put_row(&row)?;
@@ -281,10 +305,14 @@ impl<J: Journal> Connector<J> {
         requires free { get self.old.book name ≡ None }
         ensures new { IfOk result (λ verdict. verdict ≡ verdicts.New) }
         ensures fault { IfErr result IsNoVerdict }
-        ensures ok { OnOk result (self.new.book ≡ insert self.old.book (row_name row) (wanting (get self.old.book (row_name row)) row)) }
+        ensures ok { OnOk result (self.new.book
+            ≡ insert self.old.book (row_name row)
+            (wanting (get self.old.book (row_name row)) row)) }
         ensures err { OnErr result (self.new.book ≡ self.old.book) }
-        ensures kept { J.is_faithful self.new.journal → IsKept (J.entries self.new.journal) self.new.book }
-        ensures journal { Writes J.Journal CountsChange self.old.journal self.new.journal (with_row (J.entries self.old.journal) row) result }
+        ensures kept { J.is_faithful self.new.journal
+            → IsKept (J.entries self.new.journal) self.new.book }
+        ensures journal { Writes J.Journal CountsChange self.old.journal self.new.journal
+            (with_row (J.entries self.old.journal) row) result }
         ensures open { J.is_honest self.new.journal → OnOk result (J.is_faithful self.new.journal) }
     {
         self.book.put(name.clone()?, first_known(row.clone()?))?;

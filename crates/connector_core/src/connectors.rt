@@ -38,17 +38,21 @@ impl<J: Journal> Model for Connector<J> {
 
     ghost view = { λ c. record { journal = c.journal; book = c.book } };
 
-    ghost invariant = { λ c. (J.is_faithful c.journal → IsKept (J.entries c.journal) c.book) × AllLocated (book_of c.book) };
+    ghost invariant = { λ c. (J.is_faithful c.journal → IsKept (J.entries c.journal) c.book)
+        × AllLocated (book_of c.book) };
 }
 
 impl<J: Journal> Connector<J> {
     /// A connector over the entries of a journal. It has seen nothing yet. If it fails, it hands the
     /// journal back.
     pub fn open(alloc: Global, mut journal: J) -> Result<Connector<J>, (ConnectorOpenFault, J)>
-        ensures opened { IfOk result (λ connector. J.is_faithful connector.journal → IsOpened (J.entries journal) connector.book) }
-        ensures kept { IfOk result (λ connector. J.is_faithful connector.journal → IsKept (J.entries connector.journal) connector.book) }
+        ensures opened { IfOk result (λ connector. J.is_faithful connector.journal
+            → IsOpened (J.entries journal) connector.book) }
+        ensures kept { IfOk result (λ connector. J.is_faithful connector.journal
+            → IsKept (J.entries connector.journal) connector.book) }
         ensures reads { Reads J.Journal CountsOpenFault journal (journal_after result) result }
-        ensures leaves { IfOk result (λ connector. J.is_honest connector.journal → LeavesBook J.Journal connector) }
+        ensures leaves { IfOk result (λ connector. J.is_honest connector.journal
+            → LeavesBook J.Journal connector) }
     {
         let list = match journal.load() {
             Ok(list) => list,

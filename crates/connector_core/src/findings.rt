@@ -29,7 +29,8 @@ fn none_shown(known: &Known) -> News
 
 /// The news if an answer says that what was seen is outdated, provided that the answer is about it.
 fn forgetting(is_concerned: bool) -> News
-    ensures gives { (known : KnownRecord) → lesson_of known result ≡ spec.forgetting is_concerned known }
+    ensures gives { (known : KnownRecord)
+        → lesson_of known result ≡ spec.forgetting is_concerned known }
     ensures news { (known : KnownRecord) → IsNewsOf known result }
 {
     if is_concerned {
@@ -73,7 +74,8 @@ fn listed(
     known: &Known,
     list: &ListResponse,
 ) -> Result<News, LearnFault>
-    ensures gives { GivesBy (lesson_of known.now) LearnFault.Memory result (lesson_if name.now known.now (spec.listed list.now.total list.now.resources)) }
+    ensures gives { GivesBy (lesson_of known.now) LearnFault.Memory result
+        (lesson_if name.now known.now (spec.listed list.now.total list.now.resources)) }
     ensures news { IfOk result (IsNewsOf known.now) }
     ensures counted { IfErr result (λ fault. (n : ℕ) → CountsLearn n n fault) }
 {
@@ -91,7 +93,8 @@ fn from_creating(
     known: &Known,
     answer: &Answer,
 ) -> Result<News, LearnFault>
-    ensures gives { GivesBy (lesson_of known.now) LearnFault.Memory result (lesson_if name.now known.now (spec.found_creating answer.now)) }
+    ensures gives { GivesBy (lesson_of known.now) LearnFault.Memory result
+        (lesson_if name.now known.now (spec.found_creating answer.now)) }
     ensures news { IfOk result (IsNewsOf known.now) }
     ensures counted { IfErr result (λ fault. (n : ℕ) → CountsLearn n n fault) }
 {
@@ -112,7 +115,8 @@ fn from_searching(
     known: &Known,
     answer: &Answer,
 ) -> Result<News, LearnFault>
-    ensures gives { GivesBy (lesson_of known.now) LearnFault.Memory result (lesson_if name.now known.now (spec.found_searching answer.now)) }
+    ensures gives { GivesBy (lesson_of known.now) LearnFault.Memory result
+        (lesson_if name.now known.now (spec.found_searching answer.now)) }
     ensures news { IfOk result (IsNewsOf known.now) }
     ensures counted { IfErr result (λ fault. (n : ℕ) → CountsLearn n n fault) }
 {
@@ -133,7 +137,8 @@ fn from_replacing(
     if_match: &Condition,
     answer: &Answer,
 ) -> Result<News, LearnFault>
-    ensures gives { GivesBy (lesson_of known.now) LearnFault.Memory result (lesson_if name.now known.now (spec.found_replacing if_match.now answer.now)) }
+    ensures gives { GivesBy (lesson_of known.now) LearnFault.Memory result
+        (lesson_if name.now known.now (spec.found_replacing if_match.now answer.now)) }
     ensures news { IfOk result (IsNewsOf known.now) }
     ensures counted { IfErr result (λ fault. (n : ℕ) → CountsLearn n n fault) }
 {
@@ -157,7 +162,8 @@ pub(crate) fn news_in(
     request: &Request,
     answer: &Answer,
 ) -> Result<News, LearnFault>
-    ensures gives { GivesBy (lesson_of known.now) LearnFault.Memory result (lesson_if name.now known.now (spec.finding request.now answer.now)) }
+    ensures gives { GivesBy (lesson_of known.now) LearnFault.Memory result
+        (lesson_if name.now known.now (spec.finding request.now answer.now)) }
     ensures news { IfOk result (IsNewsOf known.now) }
     ensures counted { IfErr result (λ fault. (n : ℕ) → CountsLearn n n fault) }
 {

@@ -148,7 +148,8 @@ pub(crate) fn shown(
     known: &Known,
     shown: &Shown,
 ) -> Result<News, LearnFault>
-    ensures gives { GivesBy (lesson_of known.now) LearnFault.Memory result (spec.lesson name.now known.now (spec.Shows shown.now)) }
+    ensures gives { GivesBy (lesson_of known.now) LearnFault.Memory result
+        (spec.lesson name.now known.now (spec.Shows shown.now)) }
     ensures news { IfOk result (IsNewsOf known.now) }
     ensures counted { IfErr result (λ fault. (n : ℕ) → CountsLearn n n fault) }
 {

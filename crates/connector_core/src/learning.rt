@@ -112,7 +112,8 @@ fn sought(
 
 /// The record that a request is about: the record of its content, or the one that it searches for by name.
 fn subject(alloc: Global, request: &Request) -> Result<RecordName, LearnFault>
-    ensures gives { Gives LearnFault.Memory result (or_fault LearnFault.Unfit (subject request.now)) }
+    ensures gives { Gives LearnFault.Memory result
+        (or_fault LearnFault.Unfit (subject request.now)) }
     ensures counted { IfErr result (λ fault. (n : ℕ) → CountsLearn n n fault) }
 {
     match request {
@@ -147,16 +148,30 @@ fn judge(
 impl<J: Journal> Connector<J> {
     /// Learns from the answer to a request. The answer may be an old one.
     pub fn learn(&mut self, request: &Request, answer: &Answer) -> Result<Learnt, LearnFault>
-        ensures learnt { GivesUnless (MayStandFor (learn (book_of self.old.book) request.now answer.now)) result (learnt_of (learn (book_of self.old.book) request.now answer.now)) }
-        ensures ok { OnOk result (book_of self.new.book ≡ after_learning (book_of self.old.book) (learn (book_of self.old.book) request.now answer.now)) }
+        ensures learnt { GivesUnless
+            (MayStandFor (learn (book_of self.old.book) request.now answer.now)) result
+            (learnt_of (learn (book_of self.old.book) request.now answer.now)) }
+        ensures ok { OnOk result (book_of self.new.book
+            ≡ after_learning (book_of self.old.book)
+            (learn (book_of self.old.book) request.now answer.now)) }
         ensures err { OnErr result (self.new.book ≡ self.old.book) }
         ensures names { keys self.new.book ≡ keys self.old.book }
-        ensures kept { J.is_faithful self.new.journal → IsKept (J.entries self.new.journal) self.new.book }
-        ensures journal { Writes J.Journal CountsLearn self.old.journal self.new.journal (noted_entries (J.entries self.old.journal) (note (book_of self.old.book) request.now answer.now)) result }
-        ensures quiet { KeepsEntries self.old.book self.new.book → J.writes self.new.journal ≡ J.writes self.old.journal }
-        ensures rejected { IfErr result (λ fault. IsRejection fault → self.new.journal ≡ self.old.journal) }
-        ensures open { J.is_honest self.new.journal → J.is_faithful self.old.journal → OnOk result (J.is_faithful self.new.journal) }
-        ensures leaves { J.is_honest self.new.journal → LeavesBook J.Journal self.old → Leaves J.Journal self.old self.new (after_learning (book_of self.old.book) (learn (book_of self.old.book) request.now answer.now)) (keys self.old.book) result }
+        ensures kept { J.is_faithful self.new.journal
+            → IsKept (J.entries self.new.journal) self.new.book }
+        ensures journal { Writes J.Journal CountsLearn self.old.journal self.new.journal
+            (noted_entries (J.entries self.old.journal)
+            (note (book_of self.old.book) request.now answer.now)) result }
+        ensures quiet { KeepsEntries self.old.book self.new.book
+            → J.writes self.new.journal ≡ J.writes self.old.journal }
+        ensures rejected { IfErr result (λ fault. IsRejection fault
+            → self.new.journal ≡ self.old.journal) }
+        ensures open { J.is_honest self.new.journal → J.is_faithful self.old.journal
+            → OnOk result (J.is_faithful self.new.journal) }
+        ensures leaves { J.is_honest self.new.journal → LeavesBook J.Journal self.old
+            → Leaves J.Journal self.old self.new
+            (after_learning (book_of self.old.book)
+            (learn (book_of self.old.book) request.now answer.now))
+            (keys self.old.book) result }
     {
         let (name, news) = judge(self.alloc, &self.book, request, answer)?;
         self.take_news(&name, news)
@@ -167,13 +182,18 @@ impl<J: Journal> Connector<J> {
         requires { IsNewsAt (get self.old.book name.now) news }
         ensures learnt { IfOk result (λ learnt. learnt ≡ news_learnt news) }
         ensures fault { IfErr result IsOfJournal }
-        ensures ok { OnOk result (self.new.book ≡ changed (after_news news) self.old.book name.now) }
+        ensures ok { OnOk result (self.new.book
+            ≡ changed (after_news news) self.old.book name.now) }
         ensures err { OnErr result (self.new.book ≡ self.old.book) }
-        ensures kept { J.is_faithful self.new.journal → IsKept (J.entries self.new.journal) self.new.book }
-        ensures journal { Writes J.Journal CountsLearn self.old.journal self.new.journal (entries_with (J.entries self.old.journal) name.now news) result }
+        ensures kept { J.is_faithful self.new.journal
+            → IsKept (J.entries self.new.journal) self.new.book }
+        ensures journal { Writes J.Journal CountsLearn self.old.journal self.new.journal
+            (entries_with (J.entries self.old.journal) name.now news) result }
         ensures quiet { IsPassing news → J.writes self.new.journal ≡ J.writes self.old.journal }
-        ensures open { J.is_honest self.new.journal → J.is_faithful self.old.journal → OnOk result (J.is_faithful self.new.journal) }
-        ensures leaves { J.is_honest self.new.journal → LeavesBook J.Journal self.old → OnOk result (LeavesBook J.Journal self.new) }
+        ensures open { J.is_honest self.new.journal → J.is_faithful self.old.journal
+            → OnOk result (J.is_faithful self.new.journal) }
+        ensures leaves { J.is_honest self.new.journal → LeavesBook J.Journal self.old
+            → OnOk result (LeavesBook J.Journal self.new) }
     {
         match news {
             News::Lasting {

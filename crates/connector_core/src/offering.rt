@@ -67,7 +67,8 @@ fn take_first(
 ) -> Result<(), AllocError>
     requires named { name ≡ row_name row }
     requires free { get book.old name ≡ None }
-    ensures ok { OnOk result (book.new ≡ insert book.old (row_name row) (wanting (get book.old (row_name row)) row)) }
+    ensures ok { OnOk result (book.new
+        ≡ insert book.old (row_name row) (wanting (get book.old (row_name row)) row)) }
     ensures back { all_back notes.new.items book.new ≡ all_back notes.old.items book.old }
 {
     notes.push(Note {
@@ -87,7 +88,8 @@ fn take_next(
 ) -> Result<(), AllocError>
     requires named { name ≡ row_name row }
     requires there { IsSome (get book.old name) }
-    ensures ok { OnOk result (book.new ≡ insert book.old (row_name row) (wanting (get book.old (row_name row)) row)) }
+    ensures ok { OnOk result (book.new
+        ≡ insert book.old (row_name row) (wanting (get book.old (row_name row)) row)) }
     ensures back { all_back notes.new.items book.new ≡ all_back notes.old.items book.old }
 {
     let last = book.want(&name, row);
@@ -108,7 +110,8 @@ fn take_row(
 ) -> Result<(), AllocError>
     requires named { name ≡ row_name row }
     requires first { is_first ≡ is_none (get book.old name) }
-    ensures ok { OnOk result (book.new ≡ insert book.old (row_name row) (wanting (get book.old (row_name row)) row)) }
+    ensures ok { OnOk result (book.new
+        ≡ insert book.old (row_name row) (wanting (get book.old (row_name row)) row)) }
     ensures back { all_back notes.new.items book.new ≡ all_back notes.old.items book.old }
 {
     if is_first {
@@ -153,10 +156,13 @@ impl Offered {
 
     /// Takes one more row that is offered.
     fn take(&mut self, alloc: Global, book: &mut Book, row: Row) -> Result<(), AllocError>
-        ensures said { OnOk result (self.new.said.items ≡ self.old.said.items ++ judged book.old row ∷ []) }
-        ensures fresh { OnOk result (self.new.fresh.items ≡ self.old.fresh.items ++ if_new row (judged book.old row)) }
+        ensures said { OnOk result (self.new.said.items ≡ self.old.said.items ++ judged book.old row
+            ∷ []) }
+        ensures fresh { OnOk result (self.new.fresh.items ≡ self.old.fresh.items
+            ++ if_new row (judged book.old row)) }
         ensures taken { OnOk result (book.new ≡ taking book.old row) }
-        ensures back { all_back self.new.notes.items book.new ≡ all_back self.old.notes.items book.old }
+        ensures back { all_back self.new.notes.items book.new
+            ≡ all_back self.old.notes.items book.old }
     {
         let name = row.record_name(alloc)?;
         let last = last_row(book, &name);
@@ -179,7 +185,8 @@ impl Offered {
         requires said { self.old.said.items ≡ [] }
         requires fresh { self.old.fresh.items ≡ [] }
         ensures ok { OnOk result (AreOffered book.old book.new rows.items self.new) }
-        ensures back { all_back self.new.notes.items book.new ≡ all_back self.old.notes.items book.old }
+        ensures back { all_back self.new.notes.items book.new
+            ≡ all_back self.old.notes.items book.old }
     {
         for row in rows {
             self.take(alloc, book, row)?;
@@ -215,11 +222,17 @@ impl<J: Journal> Connector<J> {
         ensures fault { IfErr result IsNoVerdict }
         ensures ok { OnOk result (self.new.book ≡ taking_all self.old.book rows.items) }
         ensures err { OnErr result (self.new.book ≡ self.old.book) }
-        ensures kept { J.is_faithful self.new.journal → IsKept (J.entries self.new.journal) self.new.book }
-        ensures journal { Writes J.Journal CountsChange self.old.journal self.new.journal (entries_all (J.entries self.old.journal) self.old.book rows.items) result }
-        ensures quiet { OnOk result (new_rows self.old.book rows.items ≡ [] → J.writes self.new.journal ≡ J.writes self.old.journal) }
-        ensures open { J.is_honest self.new.journal → J.is_faithful self.old.journal → OnOk result (J.is_faithful self.new.journal) }
-        ensures leaves { J.is_honest self.new.journal → LeavesBook J.Journal self.old → Leaves J.Journal self.old self.new (book_of (taking_all self.old.book rows.items)) (keys (taking_all self.old.book rows.items)) result }
+        ensures kept { J.is_faithful self.new.journal
+            → IsKept (J.entries self.new.journal) self.new.book }
+        ensures journal { Writes J.Journal CountsChange self.old.journal self.new.journal
+            (entries_all (J.entries self.old.journal) self.old.book rows.items) result }
+        ensures quiet { OnOk result (new_rows self.old.book rows.items ≡ []
+            → J.writes self.new.journal ≡ J.writes self.old.journal) }
+        ensures open { J.is_honest self.new.journal → J.is_faithful self.old.journal
+            → OnOk result (J.is_faithful self.new.journal) }
+        ensures leaves { J.is_honest self.new.journal → LeavesBook J.Journal self.old
+            → Leaves J.Journal self.old self.new (book_of (taking_all self.old.book rows.items))
+            (keys (taking_all self.old.book rows.items)) result }
     {
         let Offered { said, fresh, notes } = offer(self.alloc, &mut self.book, rows)?;
         let put = fresh.as_slice();

@@ -99,7 +99,8 @@ fn read_length(text: &[u8]) -> Option<u64>
 
 fn is_host_wrong(message: &Incoming) -> bool
     ensures { result
-        ≡ is_host_wrong (minor_of message.now.head.start) (values (codes "host") message.now.head.fields) }
+        ≡ is_host_wrong (minor_of message.now.head.start)
+        (values (codes "host") message.now.head.fields) }
 {
     let mut hosts = message.fields("host");
     if hosts.next().is_none() {

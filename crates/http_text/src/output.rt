@@ -42,7 +42,12 @@ impl<W: Write> Model for Output<W> {
 impl<W: Write> Output<W> {
     /// A writer that has counted nothing yet. Pass it `&mut writer` to get the writer back.
     pub fn new(writer: W) -> Output<W>
-        ensures { result ≡ record { contents = W.contents writer; calls = 0; failures = 0; flushes = 0 } }
+        ensures { result ≡ record {
+          contents = W.contents writer;
+          calls = 0;
+          failures = 0;
+          flushes = 0;
+        } }
     {
         Output {
             writer,

@@ -20,7 +20,8 @@ use std::io::Read;
 pub fn read_response<R: Read>(alloc: Global, reader: &mut Input<R>) -> Result<Incoming, ReadFault>
     // What was taken from the reader: a whole response, or the bytes that the refusal is about.
     ensures message { IfOk result (TakesResponse reader.old.remaining reader.new.remaining) }
-    ensures refused { IfErr result (TakesRefusedResponse reader.old.remaining reader.new.remaining) }
+    ensures refused { IfErr result
+        (TakesRefusedResponse reader.old.remaining reader.new.remaining) }
 
     // A response at the reader's front is found, whatever follows it, unless the stream has a fault.
     ensures found { FindsResponse reader.old.remaining reader.new.remaining result }

@@ -60,21 +60,25 @@ pub trait Journal {
 
     /// All entries, in order of the records' names.
     fn load(&mut self) -> Result<Vec<Entry>, JournalFault>
-        ensures ok { is_faithful self.new → IfOk result (λ list. IsListOf (entries self.old) list.items) }
-        ensures reads { OnlyReads entries is_faithful is_honest may_hold faults writes CountsFault self.old self.new result };
+        ensures ok { is_faithful self.new
+            → IfOk result (λ list. IsListOf (entries self.old) list.items) }
+        ensures reads { OnlyReads entries is_faithful is_honest may_hold faults writes CountsFault
+            self.old self.new result };
 
     /// Replaces the last row of the row's record, whose id and confirmed revision stay. A new record has
     /// neither.
     fn put_row(&mut self, row: &Row) -> Result<(), JournalFault>
         requires lawful { is_faithful self.old → CanPutRow (entries self.old) row.now }
-        ensures puts { WritesOnce entries is_faithful is_honest may_hold faults writes CountsFault self.old self.new (with_row (entries self.old) row.now) result }
+        ensures puts { WritesOnce entries is_faithful is_honest may_hold faults writes CountsFault
+            self.old self.new (with_row (entries self.old) row.now) result }
         ensures open { is_honest self.new → OnOk result (is_faithful self.new) }
         ensures counted { OnOk result (HasRisen (writes self.old) (writes self.new)) };
 
     /// Puts these rows, one after another, by one write: all or none.
     fn put_rows(&mut self, rows: &[Row]) -> Result<(), JournalFault>
         requires lawful { is_faithful self.old → CanPutRows (entries self.old) rows.now }
-        ensures puts { WritesOnce entries is_faithful is_honest may_hold faults writes CountsFault self.old self.new (with_rows (entries self.old) rows.now) result }
+        ensures puts { WritesOnce entries is_faithful is_honest may_hold faults writes CountsFault
+            self.old self.new (with_rows (entries self.old) rows.now) result }
         ensures open { is_honest self.new → OnOk result (is_faithful self.new) }
         ensures counted { OnOk result (HasRisen (writes self.old) (writes self.new)) };
 
@@ -85,8 +89,10 @@ pub trait Journal {
         confirmed: Revision,
         id: &ResourceId,
     ) -> Result<(), JournalFault>
-        requires lawful { is_faithful self.old → CanPutLearnt (entries self.old) name.now confirmed }
-        ensures puts { WritesOnce entries is_faithful is_honest may_hold faults writes CountsFault self.old self.new (with_learnt (entries self.old) name.now confirmed id.now) result }
+        requires lawful { is_faithful self.old
+            → CanPutLearnt (entries self.old) name.now confirmed }
+        ensures puts { WritesOnce entries is_faithful is_honest may_hold faults writes CountsFault
+            self.old self.new (with_learnt (entries self.old) name.now confirmed id.now) result }
         ensures open { is_honest self.new → OnOk result (is_faithful self.new) }
         ensures counted { OnOk result (HasRisen (writes self.old) (writes self.new)) };
 
@@ -94,7 +100,8 @@ pub trait Journal {
     ghost is_so: { (s : Self) → is_faithful s → is_honest s };
 
     /// A stop at this moment leaves nothing but the entries of a faithful store.
-    ghost settled: { (s : Self) (found : EntryMap) → is_faithful s → may_hold s found → found ≡ entries s };
+    ghost settled: { (s : Self) (found : EntryMap) → is_faithful s → may_hold s found
+        → found ≡ entries s };
 
     /// A stop at this moment may leave the entries of a faithful store.
     ghost stays: { (s : Self) → is_faithful s → may_hold s (entries s) };

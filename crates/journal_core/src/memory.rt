@@ -71,7 +71,9 @@ fn put_row(
     name: RecordName,
     row: Row,
 ) -> Result<(), AllocFailed<(RecordName, Entry)>>
-    ensures ok { OnOk result (Updates name_cmp entries.old entries.new name (Some (entry_with row (get name_cmp entries.old name)))) }
+    ensures ok { OnOk result
+        (Updates name_cmp entries.old entries.new name
+        (Some (entry_with row (get name_cmp entries.old name)))) }
     ensures err { OnErr result (entries.new.entries ≡ entries.old.entries) }
 {
     match entries.get_mut(&name) {
@@ -118,7 +120,8 @@ fn copy_with(
     requires lawful { AreLawful entries.now }
     requires can { CanPutRows (entries_in entries.now) rows.now }
     ensures lawful { IfOk result AreLawful }
-    ensures put { IfOk result (λ copy. entries_in copy ≡ with_rows (entries_in entries.now) rows.now) }
+    ensures put { IfOk result (λ copy. entries_in copy
+        ≡ with_rows (entries_in entries.now) rows.now) }
     ensures fault { IfErr result (λ fault. fault ≡ Memory) }
 {
     let mut copy = entries.clone()?;
@@ -136,7 +139,8 @@ fn put_learnt(
     id: ResourceId,
 )
     requires { IsSome (get name_cmp entries.old name.now) }
-    ensures { Updates name_cmp entries.old entries.new name.now (option_map (entry_learnt confirmed id) (get name_cmp entries.old name.now)) }
+    ensures { Updates name_cmp entries.old entries.new name.now
+        (option_map (entry_learnt confirmed id) (get name_cmp entries.old name.now)) }
 {
     if let Some(entry) = entries.get_mut(name) {
         entry.confirmed = confirmed;

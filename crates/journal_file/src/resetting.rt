@@ -16,7 +16,8 @@ pub fn reset_entries<K: EntryStorage, W: Write>(
     storage: &K,
     out: &mut W,
 ) -> Result<(), ShowJournalFault>
-    ensures { OnOk result (PrintsReset K.Entries.Journal (W.contents out.old) (W.contents out.new)) }
+    ensures { OnOk result
+        (PrintsReset K.Entries.Journal (W.contents out.old) (W.contents out.new)) }
 {
     let count = reset_stored(storage)?;
     write_count(alloc, count, out)

@@ -95,7 +95,9 @@ pub fn write_entries<J: Journal, W: Write>(
     journal: &mut J,
     out: &mut W,
 ) -> Result<(), ShowJournalFault>
-    ensures { J.is_faithful journal.new → OnOk result (WritesEntries (J.entries journal.old) (W.contents out.old) (W.contents out.new)) }
+    ensures { J.is_faithful journal.new
+        → OnOk result
+        (WritesEntries (J.entries journal.old) (W.contents out.old) (W.contents out.new)) }
 {
     let entries = journal.load()?;
     write_lines(alloc, entries.as_slice(), out)?;
@@ -107,7 +109,8 @@ fn write_lines<W: Write>(
     entries: &[Entry],
     out: &mut W,
 ) -> Result<(), ShowJournalFault>
-    ensures { OnOk result (Appends (W.contents out.old) (W.contents out.new) (lines_of entries.now)) }
+    ensures { OnOk result
+        (Appends (W.contents out.old) (W.contents out.new) (lines_of entries.now)) }
 {
     for entry in entries {
         let line = entry_line(alloc, entry)?;

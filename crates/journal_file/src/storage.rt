@@ -19,8 +19,10 @@ pub trait StoredEntries: Journal {
     /// Forgets the confirmed revision and the id of each record, by one write: of all records or of none.
     /// The rows stay. Returns how many entries that changes.
     fn reset(&mut self) -> Result<usize, JournalFault>
-        ensures puts { Writes Self.Journal CountsFault self.old self.new (forgotten (Self.entries self.old)) result }
-        ensures count { Self.is_faithful self.new → IfOk result (λ count. count ≡ learnt_count (Self.entries self.old)) }
+        ensures puts { Writes Self.Journal CountsFault self.old self.new
+            (forgotten (Self.entries self.old)) result }
+        ensures count { Self.is_faithful self.new
+            → IfOk result (λ count. count ≡ learnt_count (Self.entries self.old)) }
         ensures open { Self.is_honest self.new → OnOk result (Self.is_faithful self.new) };
 
     /// Closes the entries. What was committed stays, even if closing fails.

@@ -29,9 +29,13 @@ use std::alloc::Global;
 /// Checks that the store is open: the end of an empty transaction doesn't show it.
 fn check_open<S: Alter>(tables: &mut Transaction<'_, S>) -> Result<(), TableFault>
     ensures same_reference { tables.new.conn.ghost_name ≡ tables.old.conn.ghost_name }
-    ensures same { HasCleanDisk (state S.Store tables.new.conn.now) → OnOk result (IsUnchanged (state S.Store tables.old.conn.now) (state S.Store tables.new.conn.now)) }
-    ensures left { HasCleanDisk (state S.Store tables.new.conn.now) → LeavesStore (state S.Store tables.old.conn.now) (state S.Store tables.new.conn.now) }
-    ensures quiet { Survives (state S.Store tables.old.conn.now) (state S.Store tables.new.conn.now) (λ _. ⊥) }
+    ensures same { HasCleanDisk (state S.Store tables.new.conn.now)
+        → OnOk result
+        (IsUnchanged (state S.Store tables.old.conn.now) (state S.Store tables.new.conn.now)) }
+    ensures left { HasCleanDisk (state S.Store tables.new.conn.now)
+        → LeavesStore (state S.Store tables.old.conn.now) (state S.Store tables.new.conn.now) }
+    ensures quiet { Survives (state S.Store tables.old.conn.now) (state S.Store tables.new.conn.now)
+        (λ _. ⊥) }
 {
     match tables.prepare(find_statement(Kind::User)) {
         Ok(_) => Ok(()),
@@ -47,10 +51,15 @@ fn find_in<S: Alter>(
 ) -> Result<Option<Entry>, TableFault>
     requires under_way { IsUnderWay (state S.Store tables.old.conn.now) }
     ensures same_reference { tables.new.conn.ghost_name ≡ tables.old.conn.ghost_name }
-    ensures found { HasCleanDisk (state S.Store tables.new.conn.now) → IfOk result (Finds (state S.Store tables.old.conn.now).now.trees name.now) }
-    ensures same { HasCleanDisk (state S.Store tables.new.conn.now) → OnOk result (IsUnchanged (state S.Store tables.old.conn.now) (state S.Store tables.new.conn.now)) }
-    ensures left { HasCleanDisk (state S.Store tables.new.conn.now) → LeavesStore (state S.Store tables.old.conn.now) (state S.Store tables.new.conn.now) }
-    ensures quiet { Survives (state S.Store tables.old.conn.now) (state S.Store tables.new.conn.now) (λ _. ⊥) }
+    ensures found { HasCleanDisk (state S.Store tables.new.conn.now)
+        → IfOk result (Finds (state S.Store tables.old.conn.now).now.trees name.now) }
+    ensures same { HasCleanDisk (state S.Store tables.new.conn.now)
+        → OnOk result
+        (IsUnchanged (state S.Store tables.old.conn.now) (state S.Store tables.new.conn.now)) }
+    ensures left { HasCleanDisk (state S.Store tables.new.conn.now)
+        → LeavesStore (state S.Store tables.old.conn.now) (state S.Store tables.new.conn.now) }
+    ensures quiet { Survives (state S.Store tables.old.conn.now) (state S.Store tables.new.conn.now)
+        (λ _. ⊥) }
 {
     match tables.query_all(find_statement(name.kind), &[text_param(name.key.as_str())]) {
         Ok(rows) => only(alloc, name.kind, rows.as_slice()),
@@ -67,10 +76,16 @@ pub(crate) fn write_in<S: Alter>(
     requires edit { IsEditText sql.now }
     requires under_way { IsUnderWay (state S.Store tables.old.conn.now) }
     ensures same_reference { tables.new.conn.ghost_name ≡ tables.old.conn.ghost_name }
-    ensures ran { HasCleanDisk (state S.Store tables.new.conn.now) → OnOk result (Ran sql.now (bound params.now) (settled (state S.Store tables.old.conn.now)) (settled (state S.Store tables.new.conn.now))) }
-    ensures inside { HasCleanDisk (state S.Store tables.new.conn.now) → OnOk result (IsTrue (state S.Store tables.new.conn.now).in_transaction) }
-    ensures left { HasCleanDisk (state S.Store tables.new.conn.now) → LeavesStore (state S.Store tables.old.conn.now) (state S.Store tables.new.conn.now) }
-    ensures quiet { Survives (state S.Store tables.old.conn.now) (state S.Store tables.new.conn.now) (λ _. ⊥) }
+    ensures ran { HasCleanDisk (state S.Store tables.new.conn.now)
+        → OnOk result
+        (Ran sql.now (bound params.now) (settled (state S.Store tables.old.conn.now))
+        (settled (state S.Store tables.new.conn.now))) }
+    ensures inside { HasCleanDisk (state S.Store tables.new.conn.now)
+        → OnOk result (IsTrue (state S.Store tables.new.conn.now).in_transaction) }
+    ensures left { HasCleanDisk (state S.Store tables.new.conn.now)
+        → LeavesStore (state S.Store tables.old.conn.now) (state S.Store tables.new.conn.now) }
+    ensures quiet { Survives (state S.Store tables.old.conn.now) (state S.Store tables.new.conn.now)
+        (λ _. ⊥) }
 {
     match tables.execute(sql, params) {
         Ok(_) => Ok(()),
@@ -91,10 +106,17 @@ fn write_user_in<S: Alter>(
     requires under_way { IsUnderWay (state S.Store tables.old.conn.now) }
     ensures lawful { IsUserRow user.now }
     ensures same_reference { tables.new.conn.ghost_name ≡ tables.old.conn.ghost_name }
-    ensures ran { HasCleanDisk (state S.Store tables.new.conn.now) → OnOk result (Ran sql.now (row_by (User user.now) confirmed id.now) (settled (state S.Store tables.old.conn.now)) (settled (state S.Store tables.new.conn.now))) }
-    ensures inside { HasCleanDisk (state S.Store tables.new.conn.now) → OnOk result (IsTrue (state S.Store tables.new.conn.now).in_transaction) }
-    ensures left { HasCleanDisk (state S.Store tables.new.conn.now) → LeavesStore (state S.Store tables.old.conn.now) (state S.Store tables.new.conn.now) }
-    ensures quiet { Survives (state S.Store tables.old.conn.now) (state S.Store tables.new.conn.now) (λ _. ⊥) }
+    ensures ran { HasCleanDisk (state S.Store tables.new.conn.now)
+        → OnOk result
+        (Ran sql.now (row_by (User user.now) confirmed id.now)
+        (settled (state S.Store tables.old.conn.now))
+        (settled (state S.Store tables.new.conn.now))) }
+    ensures inside { HasCleanDisk (state S.Store tables.new.conn.now)
+        → OnOk result (IsTrue (state S.Store tables.new.conn.now).in_transaction) }
+    ensures left { HasCleanDisk (state S.Store tables.new.conn.now)
+        → LeavesStore (state S.Store tables.old.conn.now) (state S.Store tables.new.conn.now) }
+    ensures quiet { Survives (state S.Store tables.old.conn.now) (state S.Store tables.new.conn.now)
+        (λ _. ⊥) }
 {
     let revision = user.revision();
     let key = user.login().key(alloc)?;
@@ -115,10 +137,17 @@ fn write_group_in<S: Alter>(
     requires under_way { IsUnderWay (state S.Store tables.old.conn.now) }
     ensures lawful { IsGroupRow group.now }
     ensures same_reference { tables.new.conn.ghost_name ≡ tables.old.conn.ghost_name }
-    ensures ran { HasCleanDisk (state S.Store tables.new.conn.now) → OnOk result (Ran sql.now (row_by (Group group.now) confirmed id.now) (settled (state S.Store tables.old.conn.now)) (settled (state S.Store tables.new.conn.now))) }
-    ensures inside { HasCleanDisk (state S.Store tables.new.conn.now) → OnOk result (IsTrue (state S.Store tables.new.conn.now).in_transaction) }
-    ensures left { HasCleanDisk (state S.Store tables.new.conn.now) → LeavesStore (state S.Store tables.old.conn.now) (state S.Store tables.new.conn.now) }
-    ensures quiet { Survives (state S.Store tables.old.conn.now) (state S.Store tables.new.conn.now) (λ _. ⊥) }
+    ensures ran { HasCleanDisk (state S.Store tables.new.conn.now)
+        → OnOk result
+        (Ran sql.now (row_by (Group group.now) confirmed id.now)
+        (settled (state S.Store tables.old.conn.now))
+        (settled (state S.Store tables.new.conn.now))) }
+    ensures inside { HasCleanDisk (state S.Store tables.new.conn.now)
+        → OnOk result (IsTrue (state S.Store tables.new.conn.now).in_transaction) }
+    ensures left { HasCleanDisk (state S.Store tables.new.conn.now)
+        → LeavesStore (state S.Store tables.old.conn.now) (state S.Store tables.new.conn.now) }
+    ensures quiet { Survives (state S.Store tables.old.conn.now) (state S.Store tables.new.conn.now)
+        (λ _. ⊥) }
 {
     let revision = group.revision();
     let key = group.name().key(alloc)?;
@@ -138,12 +167,20 @@ fn put_entry_in<S: Alter>(
     entry: &Entry,
 ) -> Result<(), TableFault>
     requires under_way { IsUnderWay (state S.Store tables.old.conn.now) }
-    requires there { HasCleanDisk (state S.Store tables.old.conn.now) → IsTrue (state S.Store tables.old.conn.now).is_open → is_there ≡ true → IsThere (state S.Store tables.old.conn.now).now.trees (row_name entry.now.row) }
+    requires there { HasCleanDisk (state S.Store tables.old.conn.now)
+        → IsTrue (state S.Store tables.old.conn.now).is_open → is_there ≡ true
+        → IsThere (state S.Store tables.old.conn.now).now.trees (row_name entry.now.row) }
     ensures same_reference { tables.new.conn.ghost_name ≡ tables.old.conn.ghost_name }
-    ensures made { HasCleanDisk (state S.Store tables.new.conn.now) → OnOk result (Makes is_there entry.now (settled (state S.Store tables.old.conn.now)) (settled (state S.Store tables.new.conn.now))) }
-    ensures inside { HasCleanDisk (state S.Store tables.new.conn.now) → OnOk result (IsTrue (state S.Store tables.new.conn.now).in_transaction) }
-    ensures left { HasCleanDisk (state S.Store tables.new.conn.now) → LeavesStore (state S.Store tables.old.conn.now) (state S.Store tables.new.conn.now) }
-    ensures quiet { Survives (state S.Store tables.old.conn.now) (state S.Store tables.new.conn.now) (λ _. ⊥) }
+    ensures made { HasCleanDisk (state S.Store tables.new.conn.now)
+        → OnOk result
+        (Makes is_there entry.now (settled (state S.Store tables.old.conn.now))
+        (settled (state S.Store tables.new.conn.now))) }
+    ensures inside { HasCleanDisk (state S.Store tables.new.conn.now)
+        → OnOk result (IsTrue (state S.Store tables.new.conn.now).in_transaction) }
+    ensures left { HasCleanDisk (state S.Store tables.new.conn.now)
+        → LeavesStore (state S.Store tables.old.conn.now) (state S.Store tables.new.conn.now) }
+    ensures quiet { Survives (state S.Store tables.old.conn.now) (state S.Store tables.new.conn.now)
+        (λ _. ⊥) }
 {
     let sql = put_statement(kind_of(&entry.row), is_there);
     match &entry.row {
@@ -168,13 +205,21 @@ fn put_in<S: Alter>(
     row: &SourceRow,
 ) -> Result<(), TableFault>
     requires under_way { IsUnderWay (state S.Store tables.old.conn.now) }
-    requires numbers { HasCleanDisk (state S.Store tables.old.conn.now) → IsTrue (state S.Store tables.old.conn.now).is_open → HasNumbers (state S.Store tables.old.conn.now).now.trees }
+    requires numbers { HasCleanDisk (state S.Store tables.old.conn.now)
+        → IsTrue (state S.Store tables.old.conn.now).is_open
+        → HasNumbers (state S.Store tables.old.conn.now).now.trees }
     ensures same_reference { tables.new.conn.ghost_name ≡ tables.old.conn.ghost_name }
-    ensures put { HasCleanDisk (state S.Store tables.new.conn.now) → OnOk result (PutsRow row.now (state S.Store tables.old.conn.now).now.trees (state S.Store tables.new.conn.now).now.trees) }
-    ensures open { HasCleanDisk (state S.Store tables.new.conn.now) → OnOk result (IsTrue (state S.Store tables.new.conn.now).is_open) }
+    ensures put { HasCleanDisk (state S.Store tables.new.conn.now)
+        → OnOk result
+        (PutsRow row.now (state S.Store tables.old.conn.now).now.trees
+        (state S.Store tables.new.conn.now).now.trees) }
+    ensures open { HasCleanDisk (state S.Store tables.new.conn.now)
+        → OnOk result (IsTrue (state S.Store tables.new.conn.now).is_open) }
     ensures under_way { OnOk result (IsUnderWay (state S.Store tables.new.conn.now)) }
-    ensures left { HasCleanDisk (state S.Store tables.new.conn.now) → LeavesStore (state S.Store tables.old.conn.now) (state S.Store tables.new.conn.now) }
-    ensures quiet { Survives (state S.Store tables.old.conn.now) (state S.Store tables.new.conn.now) (λ _. ⊥) }
+    ensures left { HasCleanDisk (state S.Store tables.new.conn.now)
+        → LeavesStore (state S.Store tables.old.conn.now) (state S.Store tables.new.conn.now) }
+    ensures quiet { Survives (state S.Store tables.old.conn.now) (state S.Store tables.new.conn.now)
+        (λ _. ⊥) }
 {
     let name = row.record_name(alloc)?;
     let row = row.clone()?;
@@ -190,14 +235,24 @@ fn put_each<S: Alter>(
     rows: &[SourceRow],
 ) -> Result<(), TableFault>
     requires under_way { IsUnderWay (state S.Store tables.old.conn.now) }
-    requires numbers { HasCleanDisk (state S.Store tables.old.conn.now) → IsTrue (state S.Store tables.old.conn.now).is_open → HasNumbers (state S.Store tables.old.conn.now).now.trees }
-    requires lawful { HasCleanDisk (state S.Store tables.old.conn.now) → IsTrue (state S.Store tables.old.conn.now).is_open → CanPutRows (entries_in (state S.Store tables.old.conn.now).now.trees) rows.now }
+    requires numbers { HasCleanDisk (state S.Store tables.old.conn.now)
+        → IsTrue (state S.Store tables.old.conn.now).is_open
+        → HasNumbers (state S.Store tables.old.conn.now).now.trees }
+    requires lawful { HasCleanDisk (state S.Store tables.old.conn.now)
+        → IsTrue (state S.Store tables.old.conn.now).is_open
+        → CanPutRows (entries_in (state S.Store tables.old.conn.now).now.trees) rows.now }
     ensures same_reference { tables.new.conn.ghost_name ≡ tables.old.conn.ghost_name }
-    ensures put { HasCleanDisk (state S.Store tables.new.conn.now) → OnOk result (PutsRows rows.now (state S.Store tables.old.conn.now).now.trees (state S.Store tables.new.conn.now).now.trees) }
-    ensures open { HasCleanDisk (state S.Store tables.new.conn.now) → OnOk result (IsTrue (state S.Store tables.new.conn.now).is_open) }
+    ensures put { HasCleanDisk (state S.Store tables.new.conn.now)
+        → OnOk result
+        (PutsRows rows.now (state S.Store tables.old.conn.now).now.trees
+        (state S.Store tables.new.conn.now).now.trees) }
+    ensures open { HasCleanDisk (state S.Store tables.new.conn.now)
+        → OnOk result (IsTrue (state S.Store tables.new.conn.now).is_open) }
     ensures under_way { OnOk result (IsUnderWay (state S.Store tables.new.conn.now)) }
-    ensures left { HasCleanDisk (state S.Store tables.new.conn.now) → LeavesStore (state S.Store tables.old.conn.now) (state S.Store tables.new.conn.now) }
-    ensures quiet { Survives (state S.Store tables.old.conn.now) (state S.Store tables.new.conn.now) (λ _. ⊥) }
+    ensures left { HasCleanDisk (state S.Store tables.new.conn.now)
+        → LeavesStore (state S.Store tables.old.conn.now) (state S.Store tables.new.conn.now) }
+    ensures quiet { Survives (state S.Store tables.old.conn.now) (state S.Store tables.new.conn.now)
+        (λ _. ⊥) }
 {
     check_open(tables)?;
     for row in rows {
@@ -214,12 +269,20 @@ pub(crate) fn put_all<S: Alter>(
     conn: &mut Connection<S>,
     rows: &[SourceRow],
 ) -> Result<(), TableFault>
-    requires laid { HasCleanDisk (state S.Store conn.old) → IsTrue (state S.Store conn.old).is_open → IsLaid (state S.Store conn.old) }
-    requires numbers { HasCleanDisk (state S.Store conn.old) → IsTrue (state S.Store conn.old).is_open → HasNumbers (state S.Store conn.old).now.trees }
-    requires lawful { HasCleanDisk (state S.Store conn.old) → IsTrue (state S.Store conn.old).is_open → CanPutRows (entries_in (state S.Store conn.old).now.trees) rows.now }
-    ensures made { HasCleanDisk (state S.Store conn.new) → OnOk result (MakesRows rows.now (state S.Store conn.old) (state S.Store conn.new)) }
-    ensures keeps { HasCleanDisk (state S.Store conn.new) → OnErr result (Keeps (state S.Store conn.old) (state S.Store conn.new)) }
-    ensures stop { Survives (state S.Store conn.old) (state S.Store conn.new) (λ db. IsTrue (state S.Store conn.old).is_open × PutsRows rows.now (state S.Store conn.old).now.trees db) }
+    requires laid { HasCleanDisk (state S.Store conn.old) → IsTrue (state S.Store conn.old).is_open
+        → IsLaid (state S.Store conn.old) }
+    requires numbers { HasCleanDisk (state S.Store conn.old)
+        → IsTrue (state S.Store conn.old).is_open → HasNumbers (state S.Store conn.old).now.trees }
+    requires lawful { HasCleanDisk (state S.Store conn.old)
+        → IsTrue (state S.Store conn.old).is_open
+        → CanPutRows (entries_in (state S.Store conn.old).now.trees) rows.now }
+    ensures made { HasCleanDisk (state S.Store conn.new)
+        → OnOk result (MakesRows rows.now (state S.Store conn.old) (state S.Store conn.new)) }
+    ensures keeps { HasCleanDisk (state S.Store conn.new)
+        → OnErr result (Keeps (state S.Store conn.old) (state S.Store conn.new)) }
+    ensures stop { Survives (state S.Store conn.old) (state S.Store conn.new)
+        (λ db. IsTrue (state S.Store conn.old).is_open
+        × PutsRows rows.now (state S.Store conn.old).now.trees db) }
 {
     if !conn.is_autocommit() {
         return Err(TableFault::Store);

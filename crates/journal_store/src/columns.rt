@@ -29,7 +29,8 @@ use std::{array, str};
 fn text_at(row: &Row, at: usize) -> Result<&str, TableFault>
     ensures some { IfOk result (λ text. column row.now at ≡ Text text.now) }
     ensures utf8 { IfOk result (λ text. IsUtf8 text.now) }
-    ensures none { OnErr result ((text : List ℕ) → column row.now at ≡ Text text → IsUtf8 text → ⊥) }
+    ensures none { OnErr result ((text : List ℕ) → column row.now at ≡ Text text → IsUtf8 text
+        → ⊥) }
     ensures fault { IfErr result (λ fault. fault ≡ Damaged) }
 {
     let Some(bytes) = bytes_at(row, at) else {
@@ -54,7 +55,8 @@ fn cell_at(row: &Row, at: usize) -> ValueRef<'_>
 fn value_of(alloc: Global, cell: ValueRef<'_>) -> Result<FieldValue, TableFault>
     ensures some { IfOk result (λ value. owned cell.entry ≡ Text value) }
     ensures utf8 { IfOk result IsUtf8 }
-    ensures none { IfErr result (HasCause ((text : List ℕ) → owned cell.entry ≡ Text text → IsUtf8 text → ⊥)) }
+    ensures none { IfErr result (HasCause ((text : List ℕ) → owned cell.entry ≡ Text text
+        → IsUtf8 text → ⊥)) }
     ensures read { IfErr result IsOfRow }
 {
     let ValueRef::Text(bytes) = cell else {
@@ -68,9 +70,11 @@ fn value_of(alloc: Global, cell: ValueRef<'_>) -> Result<FieldValue, TableFault>
 
 /// The revision whose epoch and number are in these columns.
 fn revision_at(row: &Row, epoch: usize, number: usize) -> Result<Revision, TableFault>
-    ensures value { IfOk result (λ revision. revision_in (column row.now epoch) (column row.now number) ≡ Some revision) }
+    ensures value { IfOk result
+        (λ revision. revision_in (column row.now epoch) (column row.now number) ≡ Some revision) }
     ensures lawful { IfOk result (λ revision. IsRevision revision) }
-    ensures none { OnErr result (revision_in (column row.now epoch) (column row.now number) ≡ None) }
+    ensures none { OnErr result (revision_in (column row.now epoch) (column row.now number)
+        ≡ None) }
     ensures fault { IfErr result (λ fault. fault ≡ Damaged) }
 {
     let (Some(epoch), Some(number)) = (number_at(row, epoch), number_at(row, number)) else {
@@ -84,8 +88,10 @@ fn revision_at(row: &Row, epoch: usize, number: usize) -> Result<Revision, Table
 
 /// The confirmed revision whose epoch and number are in these columns; 0 and 0 mean none.
 fn confirmed_at(row: &Row, epoch: usize, number: usize) -> Result<Revision, TableFault>
-    ensures some { IfOk result (λ revision. confirmed_in (column row.now epoch) (column row.now number) ≡ Some revision) }
-    ensures none { OnErr result (confirmed_in (column row.now epoch) (column row.now number) ≡ None) }
+    ensures some { IfOk result
+        (λ revision. confirmed_in (column row.now epoch) (column row.now number) ≡ Some revision) }
+    ensures none { OnErr result (confirmed_in (column row.now epoch) (column row.now number)
+        ≡ None) }
     ensures fault { IfErr result (λ fault. fault ≡ Damaged) }
 {
     let (Some(epoch), Some(number)) = (number_at(row, epoch), number_at(row, number)) else {
@@ -113,7 +119,8 @@ fn active_at(row: &Row, at: usize) -> Result<bool, TableFault>
 fn id_at(alloc: Global, row: &Row, at: usize) -> Result<Option<ResourceId>, TableFault>
     ensures some { IfOk result (λ id. id_in (column row.now at) ≡ Some id) }
     ensures lawful { IfOk result IsLawfulId }
-    ensures none { IfErr result (HasCause ((id : Option (List ℕ)) → id_in (column row.now at) ≡ Some id → IsLawfulId id → ⊥)) }
+    ensures none { IfErr result (HasCause ((id : Option (List ℕ))
+        → id_in (column row.now at) ≡ Some id → IsLawfulId id → ⊥)) }
     ensures read { IfErr result IsOfRow }
 {
     match row.get_ref(at) {
@@ -165,7 +172,8 @@ fn text_cells(row: &Row) -> [ValueRef<'_>; TEXT_FIELD_COUNT]
 fn texts_at(alloc: Global, row: &Row) -> Result<[FieldValue; TEXT_FIELD_COUNT], TableFault>
     ensures some { IfOk result (λ texts. texts_in row.now ≡ Some texts) }
     ensures utf8 { IfOk result (λ _. AllByRecursion IsReadable (text_columns row.now)) }
-    ensures none { IfErr result (HasCause ((texts : List (List ℕ)) → texts_in row.now ≡ Some texts → AllByRecursion IsReadable (text_columns row.now) → ⊥)) }
+    ensures none { IfErr result (HasCause ((texts : List (List ℕ)) → texts_in row.now ≡ Some texts
+        → AllByRecursion IsReadable (text_columns row.now) → ⊥)) }
     ensures read { IfErr result IsOfRow }
 {
     text_cells(row).try_map(|cell| value_of(alloc, cell))
@@ -204,9 +212,12 @@ fn group_at(alloc: Global, row: &Row) -> Result<SourceRow, TableFault>
 
 /// Whether the first column has the key of the entry's record, which is of this type.
 fn has_its_key(alloc: Global, kind: Kind, row: &Row, source: &SourceRow) -> Result<bool, TableFault>
-    ensures key { IfOk result (λ is. IsTrue is → column row.now 0 ≡ Text (row_name source.now).key) }
+    ensures key { IfOk result (λ is. IsTrue is
+        → column row.now 0 ≡ Text (row_name source.now).key) }
     ensures kind { IfOk result (λ is. IsTrue is → (row_name source.now).kind ≡ kind) }
-    ensures other { IfOk result (λ is. is ≡ false → column row.now 0 ≡ Text (row_name source.now).key → (row_name source.now).kind ≡ kind → ⊥) }
+    ensures other { IfOk result (λ is. is ≡ false
+        → column row.now 0 ≡ Text (row_name source.now).key → (row_name source.now).kind ≡ kind
+        → ⊥) }
     ensures none { IfErr result (HasCause (column row.now 0 ≡ Text (row_name source.now).key → ⊥)) }
     ensures read { IfErr result IsOfRow }
 {
@@ -225,7 +236,8 @@ fn entry_of(
     requires { after ≤ 4 + TEXT_FIELD_COUNT }
     ensures some { IfOk result (ShowsRest kind row.now source after) }
     ensures lawful { OnOk result (IsRow source) }
-    ensures none { IfErr result (HasCause ((entry : _) → ShowsRest kind row.now source after entry → ⊥)) }
+    ensures none { IfErr result (HasCause ((entry : _) → ShowsRest kind row.now source after entry
+        → ⊥)) }
     ensures read { IfErr result IsOfRow }
 {
     let confirmed = confirmed_at(row, after + 3, after)?;

@@ -262,7 +262,8 @@ fn is_first_groups(table: &Table, keys: &Index) -> bool
 /// Whether the table of entries has this name, this tree and these columns.
 fn is_table(name: &[u8], tree: u32, columns: &[EntryColumn], table: &Table) -> bool
     ensures is { IsTrue result → IsEntryTable name.now tree (map column_of columns.now) table.now }
-    ensures known { IsEntryTable name.now tree (map column_of columns.now) table.now → IsTrue result }
+    ensures known { IsEntryTable name.now tree (map column_of columns.now) table.now
+        → IsTrue result }
 {
     table.name.as_slice() == name
         && table.tree == tree

@@ -48,9 +48,19 @@ impl<S: Alter> Model for SqlJournal<S> {
 
     ghost coded = { kept_code S.code };
 
-    ghost view = { λ r. record { conn = r.conn; is_usable = r.is_usable; faults = r.faults; writes = r.writes } };
+    ghost view = { λ r. record {
+      conn = r.conn;
+      is_usable = r.is_usable;
+      faults = r.faults;
+      writes = r.writes;
+    } };
 
-    ghost invariant = { λ r. IsSound S.Store (record { conn = r.conn; is_usable = r.is_usable; faults = r.faults; writes = r.writes }) };
+    ghost invariant = { λ r. IsSound S.Store (record {
+      conn = r.conn;
+      is_usable = r.is_usable;
+      faults = r.faults;
+      writes = r.writes;
+    }) };
 }
 
 /// Returns the fault, and counts it if it is a fault of the store.
@@ -86,10 +96,14 @@ fn fault_of(fault: TableFault) -> JournalFault
 impl<S: Alter> SqlJournal<S> {
     /// The entry with this name, if there is one.
     fn look_up(&mut self, name: &RecordName) -> Result<Option<Entry>, JournalFault>
-        ensures found { IsFaithful S.Store self.new → IfOk result (Finds (state S.Store self.new.conn).now.trees name.now) }
+        ensures found { IsFaithful S.Store self.new
+            → IfOk result (Finds (state S.Store self.new.conn).now.trees name.now) }
         ensures reads { Reads S.Store self.old self.new result }
         ensures shut { IsRefused self.old result }
-        ensures failed { IsTrue self.old.is_usable → IsHonest S.Store self.new → IfErr result (CallFailsFor (HasFailed (state S.Store self.old.conn) (state S.Store self.new.conn) ⊎ IsDamagedAt (state S.Store self.old.conn).now.trees name.now)) }
+        ensures failed { IsTrue self.old.is_usable → IsHonest S.Store self.new
+            → IfErr result
+            (CallFailsFor (HasFailed (state S.Store self.old.conn) (state S.Store self.new.conn)
+            ⊎ IsDamagedAt (state S.Store self.old.conn).now.trees name.now)) }
     {
         if !self.is_usable {
             return Err(refusal(&mut self.faults));
@@ -102,13 +116,21 @@ impl<S: Alter> SqlJournal<S> {
 
     /// The entries of one type, in order of their names.
     fn list(&mut self, kind: Kind) -> Result<Vec<Entry>, JournalFault>
-        ensures tables { IsFaithful S.Store self.new → (state S.Store self.new.conn).now.trees ≡ (state S.Store self.old.conn).now.trees }
-        ensures all { IsFaithful S.Store self.new → IfOk result (λ list. ListsAll kind (state S.Store self.new.conn).now.trees list.items) }
+        ensures tables { IsFaithful S.Store self.new
+            → (state S.Store self.new.conn).now.trees ≡ (state S.Store self.old.conn).now.trees }
+        ensures all { IsFaithful S.Store self.new
+            → IfOk result
+            (λ list. ListsAll kind (state S.Store self.new.conn).now.trees list.items) }
         ensures reads { Reads S.Store self.old self.new result }
         ensures shut { IsRefused self.old result }
-        ensures quiet { Survives (state S.Store self.old.conn) (state S.Store self.new.conn) (λ _. ⊥) }
+        ensures quiet { Survives (state S.Store self.old.conn) (state S.Store self.new.conn)
+            (λ _. ⊥) }
         ensures usable { self.new.is_usable ≡ self.old.is_usable }
-        ensures failed { IsTrue self.old.is_usable → IsHonest S.Store self.new → IfErr result (CallFailsFor (HasFailed (state S.Store self.old.conn) (state S.Store self.new.conn) ⊎ (IsFaithful S.Store self.new × ListsNone kind (state S.Store self.new.conn).now.trees))) }
+        ensures failed { IsTrue self.old.is_usable → IsHonest S.Store self.new
+            → IfErr result
+            (CallFailsFor (HasFailed (state S.Store self.old.conn) (state S.Store self.new.conn)
+            ⊎ (IsFaithful S.Store self.new
+            × ListsNone kind (state S.Store self.new.conn).now.trees))) }
     {
         if !self.is_usable {
             return Err(refusal(&mut self.faults));
@@ -121,9 +143,12 @@ impl<S: Alter> SqlJournal<S> {
 
     /// Replaces the entry with the same name, or adds a new one.
     fn put(&mut self, is_there: bool, entry: &Entry) -> Result<(), JournalFault>
-        requires found { IsFaithful S.Store self.old → FindsIf (state S.Store self.old.conn).now.trees (row_name entry.now.row) is_there }
-        requires spelled { IsFaithful S.Store self.old → IsRow entry.now.row → entry_in (row_name entry.now.row).kind (row_of entry.now) ≡ Some entry.now }
-        ensures puts { Writes S.Store self.old self.new (insert (kept_entries S.Store self.old) (row_name entry.now.row) entry.now) result }
+        requires found { IsFaithful S.Store self.old
+            → FindsIf (state S.Store self.old.conn).now.trees (row_name entry.now.row) is_there }
+        requires spelled { IsFaithful S.Store self.old → IsRow entry.now.row
+            → entry_in (row_name entry.now.row).kind (row_of entry.now) ≡ Some entry.now }
+        ensures puts { Writes S.Store self.old self.new
+            (insert (kept_entries S.Store self.old) (row_name entry.now.row) entry.now) result }
         ensures open { IsHonest S.Store self.new → OnOk result (IsFaithful S.Store self.new) }
         ensures counted { OnOk result (HasRisen self.old.writes self.new.writes) }
         ensures shut { IsRefused self.old result }
@@ -157,10 +182,14 @@ impl<S: Alter> Journal for SqlJournal<S> {
     ghost writes = { λ k. k.writes };
 
     fn load(&mut self) -> Result<Vec<Entry>, JournalFault>
-        ensures ok { IsFaithful S.Store self.new → IfOk result (λ list. IsListOf (kept_entries S.Store self.old) list.items) }
+        ensures ok { IsFaithful S.Store self.new
+            → IfOk result (λ list. IsListOf (kept_entries S.Store self.old) list.items) }
         ensures reads { Reads S.Store self.old self.new result }
         ensures shut { IsRefused self.old result }
-        ensures failed { IsTrue self.old.is_usable → IsHonest S.Store self.new → IfErr result (CallFailsFor (HasFailed (state S.Store self.old.conn) (state S.Store self.new.conn) ⊎ ((kind : _) × ListsNone kind (state S.Store self.old.conn).now.trees))) }
+        ensures failed { IsTrue self.old.is_usable → IsHonest S.Store self.new
+            → IfErr result
+            (CallFailsFor (HasFailed (state S.Store self.old.conn) (state S.Store self.new.conn)
+            ⊎ ((kind : _) × ListsNone kind (state S.Store self.old.conn).now.trees))) }
     {
         let mut all = self.list(Kind::User)?;
         let mut groups = self.list(Kind::Group)?;
@@ -169,8 +198,10 @@ impl<S: Alter> Journal for SqlJournal<S> {
     }
 
     fn put_row(&mut self, row: &Row) -> Result<(), JournalFault>
-        requires lawful { IsFaithful S.Store self.old → CanPutRow (kept_entries S.Store self.old) row.now }
-        ensures puts { Writes S.Store self.old self.new (with_row (kept_entries S.Store self.old) row.now) result }
+        requires lawful { IsFaithful S.Store self.old
+            → CanPutRow (kept_entries S.Store self.old) row.now }
+        ensures puts { Writes S.Store self.old self.new
+            (with_row (kept_entries S.Store self.old) row.now) result }
         ensures open { IsHonest S.Store self.new → OnOk result (IsFaithful S.Store self.new) }
         ensures counted { OnOk result (HasRisen self.old.writes self.new.writes) }
         ensures shut { IsRefused self.old result }
@@ -186,8 +217,10 @@ impl<S: Alter> Journal for SqlJournal<S> {
     }
 
     fn put_rows(&mut self, rows: &[Row]) -> Result<(), JournalFault>
-        requires lawful { IsFaithful S.Store self.old → CanPutRows (kept_entries S.Store self.old) rows.now }
-        ensures puts { Writes S.Store self.old self.new (with_rows (kept_entries S.Store self.old) rows.now) result }
+        requires lawful { IsFaithful S.Store self.old
+            → CanPutRows (kept_entries S.Store self.old) rows.now }
+        ensures puts { Writes S.Store self.old self.new
+            (with_rows (kept_entries S.Store self.old) rows.now) result }
         ensures open { IsHonest S.Store self.new → OnOk result (IsFaithful S.Store self.new) }
         ensures counted { OnOk result (HasRisen self.old.writes self.new.writes) }
         ensures shut { IsRefused self.old result }
@@ -210,8 +243,10 @@ impl<S: Alter> Journal for SqlJournal<S> {
         confirmed: Revision,
         id: &ResourceId,
     ) -> Result<(), JournalFault>
-        requires lawful { IsFaithful S.Store self.old → CanPutLearnt (kept_entries S.Store self.old) name.now confirmed }
-        ensures puts { Writes S.Store self.old self.new (with_learnt (kept_entries S.Store self.old) name.now confirmed id.now) result }
+        requires lawful { IsFaithful S.Store self.old
+            → CanPutLearnt (kept_entries S.Store self.old) name.now confirmed }
+        ensures puts { Writes S.Store self.old self.new
+            (with_learnt (kept_entries S.Store self.old) name.now confirmed id.now) result }
         ensures open { IsHonest S.Store self.new → OnOk result (IsFaithful S.Store self.new) }
         ensures counted { OnOk result (HasRisen self.old.writes self.new.writes) }
         ensures shut { IsRefused self.old result }
@@ -240,8 +275,10 @@ impl<S: Alter> Journal for SqlJournal<S> {
 impl<S: Alter> SqlJournal<S> {
     /// Of how many records a revision is confirmed or the id is known.
     fn count_learnt(&mut self) -> Result<usize, JournalFault>
-        ensures listed { IsFaithful S.Store self.new → OnOk result (AreListed (state S.Store self.new.conn).now.trees) }
-        ensures count { IsFaithful S.Store self.new → IfOk result (λ count. count ≡ learnt_count (kept_entries S.Store self.old)) }
+        ensures listed { IsFaithful S.Store self.new
+            → OnOk result (AreListed (state S.Store self.new.conn).now.trees) }
+        ensures count { IsFaithful S.Store self.new
+            → IfOk result (λ count. count ≡ learnt_count (kept_entries S.Store self.old)) }
         ensures reads { Reads S.Store self.old self.new result }
         ensures shut { IsRefused self.old result }
     {
@@ -253,8 +290,10 @@ impl<S: Alter> SqlJournal<S> {
 
     /// Forgets what was learnt of each record.
     fn forget(&mut self) -> Result<(), JournalFault>
-        requires listed { IsFaithful S.Store self.old → AreListed (state S.Store self.old.conn).now.trees }
-        ensures puts { Writes S.Store self.old self.new (forgotten (kept_entries S.Store self.old)) result }
+        requires listed { IsFaithful S.Store self.old
+            → AreListed (state S.Store self.old.conn).now.trees }
+        ensures puts { Writes S.Store self.old self.new
+            (forgotten (kept_entries S.Store self.old)) result }
         ensures open { IsHonest S.Store self.new → OnOk result (IsFaithful S.Store self.new) }
         ensures counted { OnOk result (HasRisen self.old.writes self.new.writes) }
         ensures shut { IsRefused self.old result }
@@ -274,8 +313,10 @@ impl<S: Alter> SqlJournal<S> {
     /// Forgets the confirmed revision and the id of each record, by one write: of all records or of none.
     /// The rows stay. Returns how many entries that changes.
     pub fn reset(&mut self) -> Result<usize, JournalFault>
-        ensures puts { Writes S.Store self.old self.new (forgotten (kept_entries S.Store self.old)) result }
-        ensures count { IsFaithful S.Store self.new → IfOk result (λ count. count ≡ learnt_count (kept_entries S.Store self.old)) }
+        ensures puts { Writes S.Store self.old self.new
+            (forgotten (kept_entries S.Store self.old)) result }
+        ensures count { IsFaithful S.Store self.new
+            → IfOk result (λ count. count ≡ learnt_count (kept_entries S.Store self.old)) }
         ensures open { IsHonest S.Store self.new → OnOk result (IsFaithful S.Store self.new) }
         ensures counted { OnOk result (HasRisen self.old.writes self.new.writes) }
         ensures shut { IsRefused self.old result }
@@ -308,13 +349,21 @@ impl<S: Alter> SqlJournal<S> {
         mut conn: Connection<S>,
     ) -> Result<SqlJournal<S>, (JournalOpenFault, Connection<S>)>
         ensures faithful { IfOk result (λ j. IsHonest S.Store j → IsFaithful S.Store j) }
-        ensures entries { IfOk result (λ j. IsHonest S.Store j → Stands (state S.Store conn) (kept_entries S.Store j)) }
+        ensures entries { IfOk result (λ j. IsHonest S.Store j
+            → Stands (state S.Store conn) (kept_entries S.Store j)) }
         ensures counts { IfOk result (λ j. (j.faults ≡ 0) × (j.writes ≡ 0)) }
-        ensures stop { IfOk result (λ j. Survives (state S.Store conn) (state S.Store j.conn) (LeavesStanding (state S.Store conn))) }
-        ensures cause { IfErr result (λ e. HasCleanDisk (state S.Store e.1) → IsCause (state S.Store conn) e.0) }
-        ensures failed { IfErr result (λ e. HasCleanDisk (state S.Store e.1) → OpenFailsFor (OpeningFails (state S.Store conn) (state S.Store e.1)) e.0) }
-        ensures left { IfErr result (λ e. HasCleanDisk (state S.Store e.1) → LeavesStore (state S.Store conn) (state S.Store e.1)) }
-        ensures refused { IfErr result (λ e. Survives (state S.Store conn) (state S.Store e.1) (LeavesStanding (state S.Store conn))) }
+        ensures stop { IfOk result
+            (λ j. Survives (state S.Store conn) (state S.Store j.conn)
+            (LeavesStanding (state S.Store conn))) }
+        ensures cause { IfErr result (λ e. HasCleanDisk (state S.Store e.1)
+            → IsCause (state S.Store conn) e.0) }
+        ensures failed { IfErr result (λ e. HasCleanDisk (state S.Store e.1)
+            → OpenFailsFor (OpeningFails (state S.Store conn) (state S.Store e.1)) e.0) }
+        ensures left { IfErr result (λ e. HasCleanDisk (state S.Store e.1)
+            → LeavesStore (state S.Store conn) (state S.Store e.1)) }
+        ensures refused { IfErr result
+            (λ e. Survives (state S.Store conn) (state S.Store e.1)
+            (LeavesStanding (state S.Store conn))) }
     {
         match open_tables(alloc, &mut conn) {
             Ok(()) => Ok(SqlJournal {

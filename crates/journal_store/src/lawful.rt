@@ -45,7 +45,8 @@ fn is_among(keys: &[Key], key: &Key) -> bool
 
 fn are_among(keys: &[Key], members: &[Key]) -> bool
     ensures are { IsTrue result → AllByRecursion (Has keys.now) members.now }
-    ensures not { result ≡ false → AreInOrder keys.now → AllByRecursion (Has keys.now) members.now → ⊥ }
+    ensures not { result ≡ false → AreInOrder keys.now → AllByRecursion (Has keys.now) members.now
+        → ⊥ }
 {
     for member in members {
         if !is_among(keys, member) {
@@ -68,7 +69,8 @@ fn has_members(keys: &[Key], group: &Entry) -> bool
 
 fn have_members(keys: &[Key], groups: &[Entry]) -> bool
     ensures have { IsTrue result → AllByRecursion (HasMembersOf keys.now) groups.now }
-    ensures not { result ≡ false → AreInOrder keys.now → AllByRecursion (HasMembersOf keys.now) groups.now → ⊥ }
+    ensures not { result ≡ false → AreInOrder keys.now
+        → AllByRecursion (HasMembersOf keys.now) groups.now → ⊥ }
 {
     for group in groups {
         if !has_members(keys, group) {
@@ -85,7 +87,8 @@ pub(crate) fn check_lists(
     groups: &[Entry],
 ) -> Result<(), JournalOpenFault>
     ensures lawful { OnOk result (AreLawful users.now groups.now) }
-    ensures cause { IfErr result (IsFor ⊥ (AreInOrder (keys_of users.now) → AreLawful users.now groups.now → ⊥)) }
+    ensures cause { IfErr result (IsFor ⊥ (AreInOrder (keys_of users.now)
+        → AreLawful users.now groups.now → ⊥)) }
     ensures failed { IfErr result (OpenFailsFor ⊥) }
 {
     if users.len() > USER_LIMIT || groups.len() > GROUP_LIMIT {

@@ -50,12 +50,22 @@ pub(crate) fn learn<S: Alter>(
     confirmed: Revision,
     id: &ResourceId,
 ) -> Result<(), TableFault>
-    requires laid { HasCleanDisk (state S.Store conn.old) → IsTrue (state S.Store conn.old).is_open → IsLaid (state S.Store conn.old) }
-    requires numbers { HasCleanDisk (state S.Store conn.old) → IsTrue (state S.Store conn.old).is_open → HasNumbers (state S.Store conn.old).now.trees }
-    requires lawful { HasCleanDisk (state S.Store conn.old) → IsTrue (state S.Store conn.old).is_open → CanPutLearnt (entries_in (state S.Store conn.old).now.trees) name.now confirmed }
-    ensures made { HasCleanDisk (state S.Store conn.new) → OnOk result (Commits (Learns name.now confirmed id.now) (state S.Store conn.old) (state S.Store conn.new)) }
-    ensures keeps { HasCleanDisk (state S.Store conn.new) → OnErr result (Keeps (state S.Store conn.old) (state S.Store conn.new)) }
-    ensures stop { Survives (state S.Store conn.old) (state S.Store conn.new) (λ db. IsTrue (state S.Store conn.old).is_open × Learns name.now confirmed id.now (state S.Store conn.old).now.trees db) }
+    requires laid { HasCleanDisk (state S.Store conn.old) → IsTrue (state S.Store conn.old).is_open
+        → IsLaid (state S.Store conn.old) }
+    requires numbers { HasCleanDisk (state S.Store conn.old)
+        → IsTrue (state S.Store conn.old).is_open → HasNumbers (state S.Store conn.old).now.trees }
+    requires lawful { HasCleanDisk (state S.Store conn.old)
+        → IsTrue (state S.Store conn.old).is_open
+        → CanPutLearnt (entries_in (state S.Store conn.old).now.trees) name.now confirmed }
+    ensures made { HasCleanDisk (state S.Store conn.new)
+        → OnOk result
+        (Commits (Learns name.now confirmed id.now) (state S.Store conn.old)
+        (state S.Store conn.new)) }
+    ensures keeps { HasCleanDisk (state S.Store conn.new)
+        → OnErr result (Keeps (state S.Store conn.old) (state S.Store conn.new)) }
+    ensures stop { Survives (state S.Store conn.old) (state S.Store conn.new)
+        (λ db. IsTrue (state S.Store conn.old).is_open
+        × Learns name.now confirmed id.now (state S.Store conn.old).now.trees db) }
 {
     // The tables obey their schema, so at most one row has the key.
     let _schema = conn.schema();

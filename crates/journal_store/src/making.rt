@@ -23,14 +23,22 @@ use sqlite_value::value::ValueRef;
 
 /// Makes the tables of the first format, with the row of its number.
 fn make_first<S: Alter>(tables: &mut Transaction<'_, S>) -> Result<(), Error>
-    requires inside { HasCleanDisk (state S.Store tables.old.conn.now) → IsTrue (state S.Store tables.old.conn.now).in_transaction }
-    requires blank { HasCleanDisk (state S.Store tables.old.conn.now) → IsTrue (state S.Store tables.old.conn.now).is_open → IsBlank (settled (state S.Store tables.old.conn.now)) }
+    requires inside { HasCleanDisk (state S.Store tables.old.conn.now)
+        → IsTrue (state S.Store tables.old.conn.now).in_transaction }
+    requires blank { HasCleanDisk (state S.Store tables.old.conn.now)
+        → IsTrue (state S.Store tables.old.conn.now).is_open
+        → IsBlank (settled (state S.Store tables.old.conn.now)) }
     ensures same_reference { tables.new.conn.ghost_name ≡ tables.old.conn.ghost_name }
-    ensures made { HasCleanDisk (state S.Store tables.new.conn.now) → OnOk result (IsFirstStore (settled (state S.Store tables.new.conn.now)) empty) }
-    ensures open { HasCleanDisk (state S.Store tables.new.conn.now) → OnOk result (IsTrue (state S.Store tables.new.conn.now).is_open) }
-    ensures inside { HasCleanDisk (state S.Store tables.new.conn.now) → OnOk result (IsTrue (state S.Store tables.new.conn.now).in_transaction) }
-    ensures left { HasCleanDisk (state S.Store tables.new.conn.now) → LeavesStore (state S.Store tables.old.conn.now) (state S.Store tables.new.conn.now) }
-    ensures quiet { Survives (state S.Store tables.old.conn.now) (state S.Store tables.new.conn.now) (λ _. ⊥) }
+    ensures made { HasCleanDisk (state S.Store tables.new.conn.now)
+        → OnOk result (IsFirstStore (settled (state S.Store tables.new.conn.now)) empty) }
+    ensures open { HasCleanDisk (state S.Store tables.new.conn.now)
+        → OnOk result (IsTrue (state S.Store tables.new.conn.now).is_open) }
+    ensures inside { HasCleanDisk (state S.Store tables.new.conn.now)
+        → OnOk result (IsTrue (state S.Store tables.new.conn.now).in_transaction) }
+    ensures left { HasCleanDisk (state S.Store tables.new.conn.now)
+        → LeavesStore (state S.Store tables.old.conn.now) (state S.Store tables.new.conn.now) }
+    ensures quiet { Survives (state S.Store tables.old.conn.now) (state S.Store tables.new.conn.now)
+        (λ _. ⊥) }
 {
     tables.execute(
         "CREATE TABLE IF NOT EXISTS journal_format (one INTEGER PRIMARY KEY CHECK (one = 1), number INTEGER NOT NULL)",
@@ -141,14 +149,23 @@ fn move_part<S: Alter>(
     table: Moved,
     last: u32,
 ) -> Result<usize, Error>
-    requires inside { HasCleanDisk (state S.Store tables.old.conn.now) → IsTrue (state S.Store tables.old.conn.now).in_transaction }
-    requires movable { HasCleanDisk (state S.Store tables.old.conn.now) → IsTrue (state S.Store tables.old.conn.now).is_open → CanMove table (state S.Store tables.old.conn.now) }
+    requires inside { HasCleanDisk (state S.Store tables.old.conn.now)
+        → IsTrue (state S.Store tables.old.conn.now).in_transaction }
+    requires movable { HasCleanDisk (state S.Store tables.old.conn.now)
+        → IsTrue (state S.Store tables.old.conn.now).is_open
+        → CanMove table (state S.Store tables.old.conn.now) }
     ensures same_reference { tables.new.conn.ghost_name ≡ tables.old.conn.ghost_name }
-    ensures moved { HasCleanDisk (state S.Store tables.new.conn.now) → OnOk result (Moves table (state S.Store tables.old.conn.now) (state S.Store tables.new.conn.now)) }
-    ensures open { HasCleanDisk (state S.Store tables.new.conn.now) → OnOk result (IsTrue (state S.Store tables.new.conn.now).is_open) }
-    ensures inside { HasCleanDisk (state S.Store tables.new.conn.now) → OnOk result (IsTrue (state S.Store tables.new.conn.now).in_transaction) }
-    ensures left { HasCleanDisk (state S.Store tables.new.conn.now) → LeavesStore (state S.Store tables.old.conn.now) (state S.Store tables.new.conn.now) }
-    ensures quiet { Survives (state S.Store tables.old.conn.now) (state S.Store tables.new.conn.now) (λ _. ⊥) }
+    ensures moved { HasCleanDisk (state S.Store tables.new.conn.now)
+        → OnOk result
+        (Moves table (state S.Store tables.old.conn.now) (state S.Store tables.new.conn.now)) }
+    ensures open { HasCleanDisk (state S.Store tables.new.conn.now)
+        → OnOk result (IsTrue (state S.Store tables.new.conn.now).is_open) }
+    ensures inside { HasCleanDisk (state S.Store tables.new.conn.now)
+        → OnOk result (IsTrue (state S.Store tables.new.conn.now).in_transaction) }
+    ensures left { HasCleanDisk (state S.Store tables.new.conn.now)
+        → LeavesStore (state S.Store tables.old.conn.now) (state S.Store tables.new.conn.now) }
+    ensures quiet { Survives (state S.Store tables.old.conn.now) (state S.Store tables.new.conn.now)
+        (λ _. ⊥) }
 {
     let last = [ValueRef::Int(i64::from(last))];
     let count = tables.execute(copy_part_statement(table), &last)?;
@@ -159,13 +176,21 @@ fn move_part<S: Alter>(
 /// Moves the rows part by part, as long as a part has any. So it never holds more rows than a part has.
 /// Rows whose numbers lie further on may stay.
 fn move_parts<S: Alter>(tables: &mut Transaction<'_, S>, table: Moved) -> Result<(), Error>
-    requires inside { HasCleanDisk (state S.Store tables.old.conn.now) → IsTrue (state S.Store tables.old.conn.now).in_transaction }
-    requires movable { HasCleanDisk (state S.Store tables.old.conn.now) → IsTrue (state S.Store tables.old.conn.now).is_open → CanMove table (state S.Store tables.old.conn.now) }
+    requires inside { HasCleanDisk (state S.Store tables.old.conn.now)
+        → IsTrue (state S.Store tables.old.conn.now).in_transaction }
+    requires movable { HasCleanDisk (state S.Store tables.old.conn.now)
+        → IsTrue (state S.Store tables.old.conn.now).is_open
+        → CanMove table (state S.Store tables.old.conn.now) }
     ensures same_reference { tables.new.conn.ghost_name ≡ tables.old.conn.ghost_name }
-    ensures moved { HasCleanDisk (state S.Store tables.new.conn.now) → OnOk result (IsTrue (state S.Store tables.new.conn.now).is_open → Moves table (state S.Store tables.old.conn.now) (state S.Store tables.new.conn.now)) }
-    ensures inside { HasCleanDisk (state S.Store tables.new.conn.now) → OnOk result (IsTrue (state S.Store tables.new.conn.now).in_transaction) }
-    ensures left { HasCleanDisk (state S.Store tables.new.conn.now) → LeavesStore (state S.Store tables.old.conn.now) (state S.Store tables.new.conn.now) }
-    ensures quiet { Survives (state S.Store tables.old.conn.now) (state S.Store tables.new.conn.now) (λ _. ⊥) }
+    ensures moved { HasCleanDisk (state S.Store tables.new.conn.now)
+        → OnOk result (IsTrue (state S.Store tables.new.conn.now).is_open
+        → Moves table (state S.Store tables.old.conn.now) (state S.Store tables.new.conn.now)) }
+    ensures inside { HasCleanDisk (state S.Store tables.new.conn.now)
+        → OnOk result (IsTrue (state S.Store tables.new.conn.now).in_transaction) }
+    ensures left { HasCleanDisk (state S.Store tables.new.conn.now)
+        → LeavesStore (state S.Store tables.old.conn.now) (state S.Store tables.new.conn.now) }
+    ensures quiet { Survives (state S.Store tables.old.conn.now) (state S.Store tables.new.conn.now)
+        (λ _. ⊥) }
 {
     for part in 1..MOST_PARTS {
         let count = move_part(tables, table, part * PART_ROWS)?;
@@ -178,14 +203,23 @@ fn move_parts<S: Alter>(tables: &mut Transaction<'_, S>, table: Moved) -> Result
 
 /// Moves the rows that are left.
 fn move_rest<S: Alter>(tables: &mut Transaction<'_, S>, table: Moved) -> Result<(), Error>
-    requires inside { HasCleanDisk (state S.Store tables.old.conn.now) → IsTrue (state S.Store tables.old.conn.now).in_transaction }
-    requires movable { HasCleanDisk (state S.Store tables.old.conn.now) → IsTrue (state S.Store tables.old.conn.now).is_open → CanMove table (state S.Store tables.old.conn.now) }
+    requires inside { HasCleanDisk (state S.Store tables.old.conn.now)
+        → IsTrue (state S.Store tables.old.conn.now).in_transaction }
+    requires movable { HasCleanDisk (state S.Store tables.old.conn.now)
+        → IsTrue (state S.Store tables.old.conn.now).is_open
+        → CanMove table (state S.Store tables.old.conn.now) }
     ensures same_reference { tables.new.conn.ghost_name ≡ tables.old.conn.ghost_name }
-    ensures moved { HasCleanDisk (state S.Store tables.new.conn.now) → OnOk result (MovesAll table (state S.Store tables.old.conn.now) (state S.Store tables.new.conn.now)) }
-    ensures open { HasCleanDisk (state S.Store tables.new.conn.now) → OnOk result (IsTrue (state S.Store tables.new.conn.now).is_open) }
-    ensures inside { HasCleanDisk (state S.Store tables.new.conn.now) → OnOk result (IsTrue (state S.Store tables.new.conn.now).in_transaction) }
-    ensures left { HasCleanDisk (state S.Store tables.new.conn.now) → LeavesStore (state S.Store tables.old.conn.now) (state S.Store tables.new.conn.now) }
-    ensures quiet { Survives (state S.Store tables.old.conn.now) (state S.Store tables.new.conn.now) (λ _. ⊥) }
+    ensures moved { HasCleanDisk (state S.Store tables.new.conn.now)
+        → OnOk result
+        (MovesAll table (state S.Store tables.old.conn.now) (state S.Store tables.new.conn.now)) }
+    ensures open { HasCleanDisk (state S.Store tables.new.conn.now)
+        → OnOk result (IsTrue (state S.Store tables.new.conn.now).is_open) }
+    ensures inside { HasCleanDisk (state S.Store tables.new.conn.now)
+        → OnOk result (IsTrue (state S.Store tables.new.conn.now).in_transaction) }
+    ensures left { HasCleanDisk (state S.Store tables.new.conn.now)
+        → LeavesStore (state S.Store tables.old.conn.now) (state S.Store tables.new.conn.now) }
+    ensures quiet { Survives (state S.Store tables.old.conn.now) (state S.Store tables.new.conn.now)
+        (λ _. ⊥) }
 {
     tables.execute(copy_statement(table), &[])?;
     tables.execute(empty_statement(table), &[])?;
@@ -194,14 +228,23 @@ fn move_rest<S: Alter>(tables: &mut Transaction<'_, S>, table: Moved) -> Result<
 
 /// Moves all rows.
 fn move_all<S: Alter>(tables: &mut Transaction<'_, S>, table: Moved) -> Result<(), Error>
-    requires inside { HasCleanDisk (state S.Store tables.old.conn.now) → IsTrue (state S.Store tables.old.conn.now).in_transaction }
-    requires movable { HasCleanDisk (state S.Store tables.old.conn.now) → IsTrue (state S.Store tables.old.conn.now).is_open → CanMove table (state S.Store tables.old.conn.now) }
+    requires inside { HasCleanDisk (state S.Store tables.old.conn.now)
+        → IsTrue (state S.Store tables.old.conn.now).in_transaction }
+    requires movable { HasCleanDisk (state S.Store tables.old.conn.now)
+        → IsTrue (state S.Store tables.old.conn.now).is_open
+        → CanMove table (state S.Store tables.old.conn.now) }
     ensures same_reference { tables.new.conn.ghost_name ≡ tables.old.conn.ghost_name }
-    ensures moved { HasCleanDisk (state S.Store tables.new.conn.now) → OnOk result (MovesAll table (state S.Store tables.old.conn.now) (state S.Store tables.new.conn.now)) }
-    ensures open { HasCleanDisk (state S.Store tables.new.conn.now) → OnOk result (IsTrue (state S.Store tables.new.conn.now).is_open) }
-    ensures inside { HasCleanDisk (state S.Store tables.new.conn.now) → OnOk result (IsTrue (state S.Store tables.new.conn.now).in_transaction) }
-    ensures left { HasCleanDisk (state S.Store tables.new.conn.now) → LeavesStore (state S.Store tables.old.conn.now) (state S.Store tables.new.conn.now) }
-    ensures quiet { Survives (state S.Store tables.old.conn.now) (state S.Store tables.new.conn.now) (λ _. ⊥) }
+    ensures moved { HasCleanDisk (state S.Store tables.new.conn.now)
+        → OnOk result
+        (MovesAll table (state S.Store tables.old.conn.now) (state S.Store tables.new.conn.now)) }
+    ensures open { HasCleanDisk (state S.Store tables.new.conn.now)
+        → OnOk result (IsTrue (state S.Store tables.new.conn.now).is_open) }
+    ensures inside { HasCleanDisk (state S.Store tables.new.conn.now)
+        → OnOk result (IsTrue (state S.Store tables.new.conn.now).in_transaction) }
+    ensures left { HasCleanDisk (state S.Store tables.new.conn.now)
+        → LeavesStore (state S.Store tables.old.conn.now) (state S.Store tables.new.conn.now) }
+    ensures quiet { Survives (state S.Store tables.old.conn.now) (state S.Store tables.new.conn.now)
+        (λ _. ⊥) }
 {
     move_parts(tables, table)?;
     move_rest(tables, table)
@@ -212,15 +255,26 @@ fn move_all<S: Alter>(tables: &mut Transaction<'_, S>, table: Moved) -> Result<(
 /// Carries the tables of the first format over to the second one. `QueryReturnedNoRows` says that the row of the
 /// format isn't numbered 1.
 fn carry_first<S: Alter>(tables: &mut Transaction<'_, S>) -> Result<(), Error>
-    requires inside { HasCleanDisk (state S.Store tables.old.conn.now) → IsTrue (state S.Store tables.old.conn.now).in_transaction }
-    requires first { HasCleanDisk (state S.Store tables.old.conn.now) → IsTrue (state S.Store tables.old.conn.now).is_open → (entries : EntryMap) × IsFirstStore (settled (state S.Store tables.old.conn.now)) entries }
+    requires inside { HasCleanDisk (state S.Store tables.old.conn.now)
+        → IsTrue (state S.Store tables.old.conn.now).in_transaction }
+    requires first { HasCleanDisk (state S.Store tables.old.conn.now)
+        → IsTrue (state S.Store tables.old.conn.now).is_open → (entries : EntryMap)
+        × IsFirstStore (settled (state S.Store tables.old.conn.now)) entries }
     ensures same_reference { tables.new.conn.ghost_name ≡ tables.old.conn.ghost_name }
-    ensures carried { HasCleanDisk (state S.Store tables.new.conn.now) → OnOk result ((entries : EntryMap) → IsFirstStore (settled (state S.Store tables.old.conn.now)) entries → IsSecondStore (settled (state S.Store tables.new.conn.now)) entries) }
-    ensures emptied { HasCleanDisk (state S.Store tables.new.conn.now) → OnOk result ((state S.Store tables.new.conn.now).now.trees (first_tree User) ≡ []) }
-    ensures open { HasCleanDisk (state S.Store tables.new.conn.now) → OnOk result (IsTrue (state S.Store tables.new.conn.now).is_open) }
-    ensures inside { HasCleanDisk (state S.Store tables.new.conn.now) → OnOk result (IsTrue (state S.Store tables.new.conn.now).in_transaction) }
-    ensures left { HasCleanDisk (state S.Store tables.new.conn.now) → LeavesStore (state S.Store tables.old.conn.now) (state S.Store tables.new.conn.now) }
-    ensures quiet { Survives (state S.Store tables.old.conn.now) (state S.Store tables.new.conn.now) (λ _. ⊥) }
+    ensures carried { HasCleanDisk (state S.Store tables.new.conn.now)
+        → OnOk result ((entries : EntryMap)
+        → IsFirstStore (settled (state S.Store tables.old.conn.now)) entries
+        → IsSecondStore (settled (state S.Store tables.new.conn.now)) entries) }
+    ensures emptied { HasCleanDisk (state S.Store tables.new.conn.now)
+        → OnOk result ((state S.Store tables.new.conn.now).now.trees (first_tree User) ≡ []) }
+    ensures open { HasCleanDisk (state S.Store tables.new.conn.now)
+        → OnOk result (IsTrue (state S.Store tables.new.conn.now).is_open) }
+    ensures inside { HasCleanDisk (state S.Store tables.new.conn.now)
+        → OnOk result (IsTrue (state S.Store tables.new.conn.now).in_transaction) }
+    ensures left { HasCleanDisk (state S.Store tables.new.conn.now)
+        → LeavesStore (state S.Store tables.old.conn.now) (state S.Store tables.new.conn.now) }
+    ensures quiet { Survives (state S.Store tables.old.conn.now) (state S.Store tables.new.conn.now)
+        (λ _. ⊥) }
 {
     tables.execute(
         "CREATE TABLE user_entry_2 (name_key TEXT PRIMARY KEY NOT NULL, login TEXT NOT NULL, revision INTEGER NOT NULL, number TEXT NOT NULL, given TEXT NOT NULL, family TEXT NOT NULL, mail TEXT NOT NULL, department TEXT NOT NULL, active INTEGER NOT NULL, confirmed INTEGER NOT NULL, id TEXT)",
@@ -239,14 +293,23 @@ fn carry_first<S: Alter>(tables: &mut Transaction<'_, S>) -> Result<(), Error>
 
 /// Makes the tables of the entries, beside those of the second format.
 fn make_entries<S: Alter>(tables: &mut Transaction<'_, S>) -> Result<(), Error>
-    requires inside { HasCleanDisk (state S.Store tables.old.conn.now) → IsTrue (state S.Store tables.old.conn.now).in_transaction }
-    requires second { HasCleanDisk (state S.Store tables.old.conn.now) → IsTrue (state S.Store tables.old.conn.now).is_open → IsSecond (state S.Store tables.old.conn.now).now.schema }
+    requires inside { HasCleanDisk (state S.Store tables.old.conn.now)
+        → IsTrue (state S.Store tables.old.conn.now).in_transaction }
+    requires second { HasCleanDisk (state S.Store tables.old.conn.now)
+        → IsTrue (state S.Store tables.old.conn.now).is_open
+        → IsSecond (state S.Store tables.old.conn.now).now.schema }
     ensures same_reference { tables.new.conn.ghost_name ≡ tables.old.conn.ghost_name }
-    ensures made { HasCleanDisk (state S.Store tables.new.conn.now) → OnOk result (MakesTables (state S.Store tables.old.conn.now) (state S.Store tables.new.conn.now)) }
-    ensures open { HasCleanDisk (state S.Store tables.new.conn.now) → OnOk result (IsTrue (state S.Store tables.new.conn.now).is_open) }
-    ensures inside { HasCleanDisk (state S.Store tables.new.conn.now) → OnOk result (IsTrue (state S.Store tables.new.conn.now).in_transaction) }
-    ensures left { HasCleanDisk (state S.Store tables.new.conn.now) → LeavesStore (state S.Store tables.old.conn.now) (state S.Store tables.new.conn.now) }
-    ensures quiet { Survives (state S.Store tables.old.conn.now) (state S.Store tables.new.conn.now) (λ _. ⊥) }
+    ensures made { HasCleanDisk (state S.Store tables.new.conn.now)
+        → OnOk result
+        (MakesTables (state S.Store tables.old.conn.now) (state S.Store tables.new.conn.now)) }
+    ensures open { HasCleanDisk (state S.Store tables.new.conn.now)
+        → OnOk result (IsTrue (state S.Store tables.new.conn.now).is_open) }
+    ensures inside { HasCleanDisk (state S.Store tables.new.conn.now)
+        → OnOk result (IsTrue (state S.Store tables.new.conn.now).in_transaction) }
+    ensures left { HasCleanDisk (state S.Store tables.new.conn.now)
+        → LeavesStore (state S.Store tables.old.conn.now) (state S.Store tables.new.conn.now) }
+    ensures quiet { Survives (state S.Store tables.old.conn.now) (state S.Store tables.new.conn.now)
+        (λ _. ⊥) }
 {
     tables.execute(
         "CREATE TABLE user_entry_3 (name_key TEXT PRIMARY KEY NOT NULL, login TEXT NOT NULL, revision INTEGER NOT NULL, number TEXT NOT NULL, given TEXT NOT NULL, family TEXT NOT NULL, mail TEXT NOT NULL, department TEXT NOT NULL, active INTEGER NOT NULL, confirmed INTEGER NOT NULL, id TEXT, epoch INTEGER NOT NULL, confirmed_epoch INTEGER NOT NULL)",
@@ -261,16 +324,30 @@ fn make_entries<S: Alter>(tables: &mut Transaction<'_, S>) -> Result<(), Error>
 
 /// Carries the tables of the second format over to the current one, as `carry_first` does.
 fn carry_second<S: Alter>(tables: &mut Transaction<'_, S>) -> Result<(), Error>
-    requires inside { HasCleanDisk (state S.Store tables.old.conn.now) → IsTrue (state S.Store tables.old.conn.now).in_transaction }
-    requires second { HasCleanDisk (state S.Store tables.old.conn.now) → IsTrue (state S.Store tables.old.conn.now).is_open → (entries : EntryMap) × IsSecondStore (settled (state S.Store tables.old.conn.now)) entries }
+    requires inside { HasCleanDisk (state S.Store tables.old.conn.now)
+        → IsTrue (state S.Store tables.old.conn.now).in_transaction }
+    requires second { HasCleanDisk (state S.Store tables.old.conn.now)
+        → IsTrue (state S.Store tables.old.conn.now).is_open → (entries : EntryMap)
+        × IsSecondStore (settled (state S.Store tables.old.conn.now)) entries }
     ensures same_reference { tables.new.conn.ghost_name ≡ tables.old.conn.ghost_name }
-    ensures carried { HasCleanDisk (state S.Store tables.new.conn.now) → OnOk result ((entries : EntryMap) → IsSecondStore (settled (state S.Store tables.old.conn.now)) entries → IsStore (settled (state S.Store tables.new.conn.now)) entries) }
-    ensures emptied { HasCleanDisk (state S.Store tables.new.conn.now) → OnOk result ((kind : KindData) → (state S.Store tables.new.conn.now).now.trees (second_tree kind) ≡ []) }
-    ensures firsts { HasCleanDisk (state S.Store tables.new.conn.now) → OnOk result ((state S.Store tables.new.conn.now).now.trees (first_tree User) ≡ (state S.Store tables.old.conn.now).now.trees (first_tree User)) }
-    ensures open { HasCleanDisk (state S.Store tables.new.conn.now) → OnOk result (IsTrue (state S.Store tables.new.conn.now).is_open) }
-    ensures inside { HasCleanDisk (state S.Store tables.new.conn.now) → OnOk result (IsTrue (state S.Store tables.new.conn.now).in_transaction) }
-    ensures left { HasCleanDisk (state S.Store tables.new.conn.now) → LeavesStore (state S.Store tables.old.conn.now) (state S.Store tables.new.conn.now) }
-    ensures quiet { Survives (state S.Store tables.old.conn.now) (state S.Store tables.new.conn.now) (λ _. ⊥) }
+    ensures carried { HasCleanDisk (state S.Store tables.new.conn.now)
+        → OnOk result ((entries : EntryMap)
+        → IsSecondStore (settled (state S.Store tables.old.conn.now)) entries
+        → IsStore (settled (state S.Store tables.new.conn.now)) entries) }
+    ensures emptied { HasCleanDisk (state S.Store tables.new.conn.now)
+        → OnOk result ((kind : KindData)
+        → (state S.Store tables.new.conn.now).now.trees (second_tree kind) ≡ []) }
+    ensures firsts { HasCleanDisk (state S.Store tables.new.conn.now)
+        → OnOk result ((state S.Store tables.new.conn.now).now.trees (first_tree User)
+        ≡ (state S.Store tables.old.conn.now).now.trees (first_tree User)) }
+    ensures open { HasCleanDisk (state S.Store tables.new.conn.now)
+        → OnOk result (IsTrue (state S.Store tables.new.conn.now).is_open) }
+    ensures inside { HasCleanDisk (state S.Store tables.new.conn.now)
+        → OnOk result (IsTrue (state S.Store tables.new.conn.now).in_transaction) }
+    ensures left { HasCleanDisk (state S.Store tables.new.conn.now)
+        → LeavesStore (state S.Store tables.old.conn.now) (state S.Store tables.new.conn.now) }
+    ensures quiet { Survives (state S.Store tables.old.conn.now) (state S.Store tables.new.conn.now)
+        (λ _. ⊥) }
 {
     make_entries(tables)?;
     move_all(tables, Moved::SecondUsers)?;
@@ -289,15 +366,27 @@ fn carry_second<S: Alter>(tables: &mut Transaction<'_, S>) -> Result<(), Error>
 pub(crate) trait Older: Format {
     /// Carries the tables over, and leaves those of the format empty.
     fn carry_over<S: Alter>(tables: &mut Transaction<'_, S>) -> Result<(), Error>
-        requires inside { HasCleanDisk (state S.Store tables.old.conn.now) → IsTrue (state S.Store tables.old.conn.now).in_transaction }
-        requires older { HasCleanDisk (state S.Store tables.old.conn.now) → IsTrue (state S.Store tables.old.conn.now).is_open → (entries : EntryMap) × IsStoreBy Self.Format (settled (state S.Store tables.old.conn.now)) entries }
+        requires inside { HasCleanDisk (state S.Store tables.old.conn.now)
+            → IsTrue (state S.Store tables.old.conn.now).in_transaction }
+        requires older { HasCleanDisk (state S.Store tables.old.conn.now)
+            → IsTrue (state S.Store tables.old.conn.now).is_open → (entries : EntryMap)
+            × IsStoreBy Self.Format (settled (state S.Store tables.old.conn.now)) entries }
         ensures same_reference { tables.new.conn.ghost_name ≡ tables.old.conn.ghost_name }
-        ensures carried { HasCleanDisk (state S.Store tables.new.conn.now) → OnOk result ((entries : EntryMap) → IsStoreBy Self.Format (settled (state S.Store tables.old.conn.now)) entries → IsStore (settled (state S.Store tables.new.conn.now)) entries) }
-        ensures emptied { HasCleanDisk (state S.Store tables.new.conn.now) → OnOk result ((kind : KindData) → (state S.Store tables.new.conn.now).now.trees (Self.tree kind) ≡ []) }
-        ensures open { HasCleanDisk (state S.Store tables.new.conn.now) → OnOk result (IsTrue (state S.Store tables.new.conn.now).is_open) }
-        ensures inside { HasCleanDisk (state S.Store tables.new.conn.now) → OnOk result (IsTrue (state S.Store tables.new.conn.now).in_transaction) }
-        ensures left { HasCleanDisk (state S.Store tables.new.conn.now) → LeavesStore (state S.Store tables.old.conn.now) (state S.Store tables.new.conn.now) }
-        ensures quiet { Survives (state S.Store tables.old.conn.now) (state S.Store tables.new.conn.now) (λ _. ⊥) };
+        ensures carried { HasCleanDisk (state S.Store tables.new.conn.now)
+            → OnOk result ((entries : EntryMap)
+            → IsStoreBy Self.Format (settled (state S.Store tables.old.conn.now)) entries
+            → IsStore (settled (state S.Store tables.new.conn.now)) entries) }
+        ensures emptied { HasCleanDisk (state S.Store tables.new.conn.now)
+            → OnOk result ((kind : KindData)
+            → (state S.Store tables.new.conn.now).now.trees (Self.tree kind) ≡ []) }
+        ensures open { HasCleanDisk (state S.Store tables.new.conn.now)
+            → OnOk result (IsTrue (state S.Store tables.new.conn.now).is_open) }
+        ensures inside { HasCleanDisk (state S.Store tables.new.conn.now)
+            → OnOk result (IsTrue (state S.Store tables.new.conn.now).in_transaction) }
+        ensures left { HasCleanDisk (state S.Store tables.new.conn.now)
+            → LeavesStore (state S.Store tables.old.conn.now) (state S.Store tables.new.conn.now) }
+        ensures quiet { Survives (state S.Store tables.old.conn.now)
+            (state S.Store tables.new.conn.now) (λ _. ⊥) };
 }
 
 impl Older for Second {
@@ -318,9 +407,13 @@ impl Older for First {
 /// Makes the tables, all or none.
 pub(crate) fn make_tables<S: Alter>(conn: &mut Connection<S>) -> Result<(), Error>
     requires outside { (state S.Store conn.old).in_transaction ≡ false }
-    requires blank { HasCleanDisk (state S.Store conn.old) → IsTrue (state S.Store conn.old).is_open → IsBlank (state S.Store conn.old) }
-    ensures made { HasCleanDisk (state S.Store conn.new) → OnOk result (IsTrue (state S.Store conn.new).is_open × IsBlank (state S.Store conn.old) × IsStore (state S.Store conn.new) empty) }
-    ensures left { HasCleanDisk (state S.Store conn.new) → OnErr result (LeavesStore (state S.Store conn.old) (state S.Store conn.new)) }
+    requires blank { HasCleanDisk (state S.Store conn.old) → IsTrue (state S.Store conn.old).is_open
+        → IsBlank (state S.Store conn.old) }
+    ensures made { HasCleanDisk (state S.Store conn.new)
+        → OnOk result (IsTrue (state S.Store conn.new).is_open × IsBlank (state S.Store conn.old)
+        × IsStore (state S.Store conn.new) empty) }
+    ensures left { HasCleanDisk (state S.Store conn.new)
+        → OnErr result (LeavesStore (state S.Store conn.old) (state S.Store conn.new)) }
     ensures stop { Survives (state S.Store conn.old) (state S.Store conn.new) LeavesNone }
 {
     let mut tables = conn.transaction();
@@ -332,10 +425,17 @@ pub(crate) fn make_tables<S: Alter>(conn: &mut Connection<S>) -> Result<(), Erro
 /// Carries a journal of an older format over by one transaction: all of it or none.
 pub(crate) fn carry<S: Alter, F: Older>(conn: &mut Connection<S>) -> Result<(), Error>
     requires outside { (state S.Store conn.old).in_transaction ≡ false }
-    requires older { HasCleanDisk (state S.Store conn.old) → IsTrue (state S.Store conn.old).is_open → (entries : EntryMap) × IsStoreBy F.Format (state S.Store conn.old) entries }
-    ensures made { HasCleanDisk (state S.Store conn.new) → OnOk result (IsTrue (state S.Store conn.new).is_open × ((entries : EntryMap) → IsStoreBy F.Format (state S.Store conn.old) entries → IsStore (state S.Store conn.new) entries)) }
-    ensures left { HasCleanDisk (state S.Store conn.new) → OnErr result (LeavesStore (state S.Store conn.old) (state S.Store conn.new)) }
-    ensures stop { Survives (state S.Store conn.old) (state S.Store conn.new) (λ db. (entries : EntryMap) × IsStoreBy F.Format (state S.Store conn.old) entries × (entries_in db ≡ entries) × ((kind : KindData) → db (F.tree kind) ≡ [])) }
+    requires older { HasCleanDisk (state S.Store conn.old) → IsTrue (state S.Store conn.old).is_open
+        → (entries : EntryMap) × IsStoreBy F.Format (state S.Store conn.old) entries }
+    ensures made { HasCleanDisk (state S.Store conn.new)
+        → OnOk result (IsTrue (state S.Store conn.new).is_open
+        × ((entries : EntryMap) → IsStoreBy F.Format (state S.Store conn.old) entries
+        → IsStore (state S.Store conn.new) entries)) }
+    ensures left { HasCleanDisk (state S.Store conn.new)
+        → OnErr result (LeavesStore (state S.Store conn.old) (state S.Store conn.new)) }
+    ensures stop { Survives (state S.Store conn.old) (state S.Store conn.new)
+        (λ db. (entries : EntryMap) × IsStoreBy F.Format (state S.Store conn.old) entries
+        × (entries_in db ≡ entries) × ((kind : KindData) → db (F.tree kind) ≡ [])) }
 {
     let mut journal = conn.transaction();
     F::carry_over(&mut journal)?;

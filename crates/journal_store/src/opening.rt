@@ -68,7 +68,8 @@ impl From<Error> for JournalOpenFault {
     ghost use Rattle.journal_store.specs.Faults.{statement_fault};
     ghost use Rattle.journal_store.specs.Opening.{open_fault};
 
-    ghost from_gives = { λ error fault. (fault ≡ open_fault (statement_fault error)) × IsFor ⊥ ⊥ fault };
+    ghost from_gives = { λ error fault. (fault ≡ open_fault (statement_fault error))
+        × IsFor ⊥ ⊥ fault };
 
     fn from(error: Error) -> JournalOpenFault {
         JournalOpenFault::from(TableFault::from(error))
@@ -82,11 +83,16 @@ fn mark_of<S: Alter, F: Marked>(
     conn: &mut Connection<S>,
     number: u64,
 ) -> Result<Mark, JournalOpenFault>
-    requires laid { HasCleanDisk (state S.Store conn.old) → IsTrue (state S.Store conn.old).is_open → IsLaidBy F.layout (state S.Store conn.old) }
-    ensures mark { HasCleanDisk (state S.Store conn.new) → IfOk result (IsMark (IsFormat (state S.Store conn.old)) number) }
+    requires laid { HasCleanDisk (state S.Store conn.old) → IsTrue (state S.Store conn.old).is_open
+        → IsLaidBy F.layout (state S.Store conn.old) }
+    ensures mark { HasCleanDisk (state S.Store conn.new)
+        → IfOk result (IsMark (IsFormat (state S.Store conn.old)) number) }
     ensures cause { IfErr result (IsFor ⊥ ⊥) }
-    ensures failed { HasCleanDisk (state S.Store conn.new) → IfErr result (OpenFailsFor (HasFailed (state S.Store conn.old) (state S.Store conn.new))) }
-    ensures open { HasCleanDisk (state S.Store conn.new) → OnOk result (IsTrue (state S.Store conn.new).is_open) }
+    ensures failed { HasCleanDisk (state S.Store conn.new)
+        → IfErr result
+        (OpenFailsFor (HasFailed (state S.Store conn.old) (state S.Store conn.new))) }
+    ensures open { HasCleanDisk (state S.Store conn.new)
+        → OnOk result (IsTrue (state S.Store conn.new).is_open) }
     ensures looks { Looks (state S.Store conn.old) (state S.Store conn.new) }
 {
     match find_mark::<S, F>(conn, F::marked_statement(), number) {
@@ -98,10 +104,16 @@ fn mark_of<S: Alter, F: Marked>(
 /// The fault for a number above that of the format: either it is above each known one, or the tables aren't
 /// those of its format.
 fn number_fault<S: Alter, F: Format>(conn: &mut Connection<S>) -> JournalOpenFault
-    requires laid { HasCleanDisk (state S.Store conn.old) → IsTrue (state S.Store conn.old).is_open → IsLaidBy F.layout (state S.Store conn.old) }
-    requires above { HasCleanDisk (state S.Store conn.old) → IsTrue (state S.Store conn.old).is_open → (number : ℕ) × (F.number < number) × IsFormat (state S.Store conn.old) number }
-    ensures cause { HasCleanDisk (state S.Store conn.new) → IsFor (IsTrue (state S.Store conn.new).is_open × IsNewer (state S.Store conn.old)) (IsTrue (state S.Store conn.new).is_open × IsUnmarkedBy F.number (state S.Store conn.old)) result }
-    ensures failed { HasCleanDisk (state S.Store conn.new) → OpenFailsFor (HasFailed (state S.Store conn.old) (state S.Store conn.new)) result }
+    requires laid { HasCleanDisk (state S.Store conn.old) → IsTrue (state S.Store conn.old).is_open
+        → IsLaidBy F.layout (state S.Store conn.old) }
+    requires above { HasCleanDisk (state S.Store conn.old) → IsTrue (state S.Store conn.old).is_open
+        → (number : ℕ) × (F.number < number) × IsFormat (state S.Store conn.old) number }
+    ensures cause { HasCleanDisk (state S.Store conn.new)
+        → IsFor (IsTrue (state S.Store conn.new).is_open
+        × IsNewer (state S.Store conn.old)) (IsTrue (state S.Store conn.new).is_open
+        × IsUnmarkedBy F.number (state S.Store conn.old)) result }
+    ensures failed { HasCleanDisk (state S.Store conn.new)
+        → OpenFailsFor (HasFailed (state S.Store conn.old) (state S.Store conn.new)) result }
     ensures looks { Looks (state S.Store conn.old) (state S.Store conn.new) }
 {
     match mark_of::<S, F>(conn, FORMAT) {
@@ -113,11 +125,19 @@ fn number_fault<S: Alter, F: Format>(conn: &mut Connection<S>) -> JournalOpenFau
 
 /// Checks the number of the format.
 fn check_format<S: Alter, F: Format>(conn: &mut Connection<S>) -> Result<(), JournalOpenFault>
-    requires laid { HasCleanDisk (state S.Store conn.old) → IsTrue (state S.Store conn.old).is_open → IsLaidBy F.layout (state S.Store conn.old) }
-    ensures known { HasCleanDisk (state S.Store conn.new) → OnOk result (IsFormat (state S.Store conn.old) F.number) }
-    ensures cause { HasCleanDisk (state S.Store conn.new) → IfErr result (IsFor (IsNewer (state S.Store conn.old)) (IsUnmarkedBy F.number (state S.Store conn.old))) }
-    ensures failed { HasCleanDisk (state S.Store conn.new) → IfErr result (OpenFailsFor (HasFailed (state S.Store conn.old) (state S.Store conn.new))) }
-    ensures open { HasCleanDisk (state S.Store conn.new) → OnOk result (IsTrue (state S.Store conn.new).is_open) }
+    requires laid { HasCleanDisk (state S.Store conn.old) → IsTrue (state S.Store conn.old).is_open
+        → IsLaidBy F.layout (state S.Store conn.old) }
+    ensures known { HasCleanDisk (state S.Store conn.new)
+        → OnOk result (IsFormat (state S.Store conn.old) F.number) }
+    ensures cause { HasCleanDisk (state S.Store conn.new)
+        → IfErr result
+        (IsFor (IsNewer (state S.Store conn.old))
+        (IsUnmarkedBy F.number (state S.Store conn.old))) }
+    ensures failed { HasCleanDisk (state S.Store conn.new)
+        → IfErr result
+        (OpenFailsFor (HasFailed (state S.Store conn.old) (state S.Store conn.new))) }
+    ensures open { HasCleanDisk (state S.Store conn.new)
+        → OnOk result (IsTrue (state S.Store conn.new).is_open) }
     ensures looks { Looks (state S.Store conn.old) (state S.Store conn.new) }
 {
     match mark_of::<S, F>(conn, F::number()) {
@@ -165,11 +185,18 @@ fn check_table<S: Alter, F: Format>(
     conn: &mut Connection<S>,
     kind: Kind,
 ) -> Result<(), JournalOpenFault>
-    requires laid { HasCleanDisk (state S.Store conn.old) → IsTrue (state S.Store conn.old).is_open → IsLaidBy F.layout (state S.Store conn.old) }
-    ensures numbered { HasCleanDisk (state S.Store conn.new) → OnOk result (AreNumbered ((state S.Store conn.old).now.trees (F.tree kind))) }
-    ensures cause { HasCleanDisk (state S.Store conn.new) → IfErr result (IsFor ⊥ (IsTrue (state S.Store conn.new).is_open × (AreNumbered ((state S.Store conn.old).now.trees (F.tree kind)) → ⊥))) }
-    ensures failed { HasCleanDisk (state S.Store conn.new) → IfErr result (OpenFailsFor (HasFailed (state S.Store conn.old) (state S.Store conn.new))) }
-    ensures open { HasCleanDisk (state S.Store conn.new) → OnOk result (IsTrue (state S.Store conn.new).is_open) }
+    requires laid { HasCleanDisk (state S.Store conn.old) → IsTrue (state S.Store conn.old).is_open
+        → IsLaidBy F.layout (state S.Store conn.old) }
+    ensures numbered { HasCleanDisk (state S.Store conn.new)
+        → OnOk result (AreNumbered ((state S.Store conn.old).now.trees (F.tree kind))) }
+    ensures cause { HasCleanDisk (state S.Store conn.new)
+        → IfErr result (IsFor ⊥ (IsTrue (state S.Store conn.new).is_open
+        × (AreNumbered ((state S.Store conn.old).now.trees (F.tree kind)) → ⊥))) }
+    ensures failed { HasCleanDisk (state S.Store conn.new)
+        → IfErr result
+        (OpenFailsFor (HasFailed (state S.Store conn.old) (state S.Store conn.new))) }
+    ensures open { HasCleanDisk (state S.Store conn.new)
+        → OnOk result (IsTrue (state S.Store conn.new).is_open) }
     ensures looks { Looks (state S.Store conn.old) (state S.Store conn.new) }
 {
     match ask::<S, F>(conn, F::numbers_statement(kind), &[]) {
@@ -180,11 +207,18 @@ fn check_table<S: Alter, F: Format>(
 
 /// Checks the numbers of the rows of both tables.
 fn check_numbers<S: Alter, F: Format>(conn: &mut Connection<S>) -> Result<(), JournalOpenFault>
-    requires laid { HasCleanDisk (state S.Store conn.old) → IsTrue (state S.Store conn.old).is_open → IsLaidBy F.layout (state S.Store conn.old) }
-    ensures numbered { HasCleanDisk (state S.Store conn.new) → OnOk result (HasNumbersBy F.tree (state S.Store conn.old).now.trees) }
-    ensures cause { HasCleanDisk (state S.Store conn.new) → IfErr result (IsFor ⊥ (IsTrue (state S.Store conn.new).is_open × (HasNumbersBy F.tree (state S.Store conn.old).now.trees → ⊥))) }
-    ensures failed { HasCleanDisk (state S.Store conn.new) → IfErr result (OpenFailsFor (HasFailed (state S.Store conn.old) (state S.Store conn.new))) }
-    ensures open { HasCleanDisk (state S.Store conn.new) → OnOk result (IsTrue (state S.Store conn.new).is_open) }
+    requires laid { HasCleanDisk (state S.Store conn.old) → IsTrue (state S.Store conn.old).is_open
+        → IsLaidBy F.layout (state S.Store conn.old) }
+    ensures numbered { HasCleanDisk (state S.Store conn.new)
+        → OnOk result (HasNumbersBy F.tree (state S.Store conn.old).now.trees) }
+    ensures cause { HasCleanDisk (state S.Store conn.new)
+        → IfErr result (IsFor ⊥ (IsTrue (state S.Store conn.new).is_open
+        × (HasNumbersBy F.tree (state S.Store conn.old).now.trees → ⊥))) }
+    ensures failed { HasCleanDisk (state S.Store conn.new)
+        → IfErr result
+        (OpenFailsFor (HasFailed (state S.Store conn.old) (state S.Store conn.new))) }
+    ensures open { HasCleanDisk (state S.Store conn.new)
+        → OnOk result (IsTrue (state S.Store conn.new).is_open) }
     ensures looks { Looks (state S.Store conn.old) (state S.Store conn.new) }
 {
     check_table::<S, F>(conn, Kind::User)?;
@@ -196,11 +230,18 @@ fn check_entries<S: Alter, F: Format>(
     alloc: Global,
     conn: &mut Connection<S>,
 ) -> Result<(), JournalOpenFault>
-    requires laid { HasCleanDisk (state S.Store conn.old) → IsTrue (state S.Store conn.old).is_open → IsLaidBy F.layout (state S.Store conn.old) }
-    ensures holds { HasCleanDisk (state S.Store conn.new) → OnOk result (HoldsEntriesBy F.Format (state S.Store conn.old).now.trees) }
-    ensures cause { HasCleanDisk (state S.Store conn.new) → IfErr result (IsFor ⊥ (IsTrue (state S.Store conn.new).is_open × (HoldsEntriesBy F.Format (state S.Store conn.old).now.trees → ⊥))) }
-    ensures failed { HasCleanDisk (state S.Store conn.new) → IfErr result (OpenFailsFor (HasFailed (state S.Store conn.old) (state S.Store conn.new))) }
-    ensures open { HasCleanDisk (state S.Store conn.new) → OnOk result (IsTrue (state S.Store conn.new).is_open) }
+    requires laid { HasCleanDisk (state S.Store conn.old) → IsTrue (state S.Store conn.old).is_open
+        → IsLaidBy F.layout (state S.Store conn.old) }
+    ensures holds { HasCleanDisk (state S.Store conn.new)
+        → OnOk result (HoldsEntriesBy F.Format (state S.Store conn.old).now.trees) }
+    ensures cause { HasCleanDisk (state S.Store conn.new)
+        → IfErr result (IsFor ⊥ (IsTrue (state S.Store conn.new).is_open
+        × (HoldsEntriesBy F.Format (state S.Store conn.old).now.trees → ⊥))) }
+    ensures failed { HasCleanDisk (state S.Store conn.new)
+        → IfErr result
+        (OpenFailsFor (HasFailed (state S.Store conn.old) (state S.Store conn.new))) }
+    ensures open { HasCleanDisk (state S.Store conn.new)
+        → OnOk result (IsTrue (state S.Store conn.new).is_open) }
     ensures looks { Looks (state S.Store conn.old) (state S.Store conn.new) }
 {
     let users = list_entries::<S, F>(alloc, conn, Kind::User)?;
@@ -215,11 +256,19 @@ fn check_laid<S: Alter, F: Format>(
     alloc: Global,
     conn: &mut Connection<S>,
 ) -> Result<(), JournalOpenFault>
-    requires laid { HasCleanDisk (state S.Store conn.old) → IsTrue (state S.Store conn.old).is_open → IsLaidBy F.layout (state S.Store conn.old) }
-    ensures store { HasCleanDisk (state S.Store conn.new) → OnOk result ((entries : EntryMap) × IsStoreBy F.Format (state S.Store conn.old) entries) }
-    ensures cause { HasCleanDisk (state S.Store conn.new) → IfErr result (IsFor (IsNewer (state S.Store conn.old)) (ShowsDamageBy F.Format (state S.Store conn.old))) }
-    ensures failed { HasCleanDisk (state S.Store conn.new) → IfErr result (OpenFailsFor (HasFailed (state S.Store conn.old) (state S.Store conn.new))) }
-    ensures open { HasCleanDisk (state S.Store conn.new) → OnOk result (IsTrue (state S.Store conn.new).is_open) }
+    requires laid { HasCleanDisk (state S.Store conn.old) → IsTrue (state S.Store conn.old).is_open
+        → IsLaidBy F.layout (state S.Store conn.old) }
+    ensures store { HasCleanDisk (state S.Store conn.new)
+        → OnOk result ((entries : EntryMap) × IsStoreBy F.Format (state S.Store conn.old) entries) }
+    ensures cause { HasCleanDisk (state S.Store conn.new)
+        → IfErr result
+        (IsFor (IsNewer (state S.Store conn.old))
+        (ShowsDamageBy F.Format (state S.Store conn.old))) }
+    ensures failed { HasCleanDisk (state S.Store conn.new)
+        → IfErr result
+        (OpenFailsFor (HasFailed (state S.Store conn.old) (state S.Store conn.new))) }
+    ensures open { HasCleanDisk (state S.Store conn.new)
+        → OnOk result (IsTrue (state S.Store conn.new).is_open) }
     ensures looks { Looks (state S.Store conn.old) (state S.Store conn.new) }
 {
     check_format::<S, F>(conn)?;
@@ -229,7 +278,8 @@ fn check_laid<S: Alter, F: Format>(
 
 /// Whether the tables are laid out and no transaction is open.
 fn is_laid<S: Alter, F: Marked>(conn: &Connection<S>) -> bool
-    ensures is { IsTrue result → IsTrue (state S.Store conn.now).is_open → IsLaidBy F.layout (state S.Store conn.now) }
+    ensures is { IsTrue result → IsTrue (state S.Store conn.now).is_open
+        → IsLaidBy F.layout (state S.Store conn.now) }
     ensures one { IsTrue result → IsOne F.layout (state S.Store conn.now).now.schema }
     ensures not { result ≡ false → IsNotLaidBy F.layout (state S.Store conn.now) }
 {
@@ -241,12 +291,20 @@ pub(crate) fn check_tables<S: Alter, F: Format>(
     alloc: Global,
     conn: &mut Connection<S>,
 ) -> Result<(), JournalOpenFault>
-    ensures store { HasCleanDisk (state S.Store conn.new) → OnOk result ((entries : EntryMap) × IsStoreBy F.Format (state S.Store conn.old) entries) }
-    ensures cause { HasCleanDisk (state S.Store conn.new) → IfErr result (IsFor (IsNewer (state S.Store conn.old)) (IsNotLaidBy F.layout (state S.Store conn.old) ⊎ IsSpoiltBy F.Format (state S.Store conn.old))) }
-    ensures failed { HasCleanDisk (state S.Store conn.new) → IfErr result (OpenFailsFor (HasFailed (state S.Store conn.old) (state S.Store conn.new))) }
-    ensures open { HasCleanDisk (state S.Store conn.new) → OnOk result (IsTrue (state S.Store conn.new).is_open) }
+    ensures store { HasCleanDisk (state S.Store conn.new)
+        → OnOk result ((entries : EntryMap) × IsStoreBy F.Format (state S.Store conn.old) entries) }
+    ensures cause { HasCleanDisk (state S.Store conn.new)
+        → IfErr result
+        (IsFor (IsNewer (state S.Store conn.old)) (IsNotLaidBy F.layout (state S.Store conn.old)
+        ⊎ IsSpoiltBy F.Format (state S.Store conn.old))) }
+    ensures failed { HasCleanDisk (state S.Store conn.new)
+        → IfErr result
+        (OpenFailsFor (HasFailed (state S.Store conn.old) (state S.Store conn.new))) }
+    ensures open { HasCleanDisk (state S.Store conn.new)
+        → OnOk result (IsTrue (state S.Store conn.new).is_open) }
     ensures looks { Looks (state S.Store conn.old) (state S.Store conn.new) }
-    ensures left { HasCleanDisk (state S.Store conn.new) → LeavesStore (state S.Store conn.old) (state S.Store conn.new) }
+    ensures left { HasCleanDisk (state S.Store conn.new)
+        → LeavesStore (state S.Store conn.old) (state S.Store conn.new) }
 {
     if is_laid::<S, F>(conn) {
         check_laid::<S, F>(alloc, conn)
@@ -262,11 +320,18 @@ fn open_older<S: Alter, F: Older>(
 ) -> Result<(), JournalOpenFault>
     requires outside { (state S.Store conn.old).in_transaction ≡ false }
     requires older { IsOne F.layout (state S.Store conn.old).now.schema }
-    ensures stands { HasCleanDisk (state S.Store conn.new) → OnOk result ((entries : EntryMap) × IsStoreBy F.Format (state S.Store conn.old) entries × IsStore (state S.Store conn.new) entries) }
-    ensures cause { HasCleanDisk (state S.Store conn.new) → IfErr result (IsFor (IsNewer (state S.Store conn.old)) (IsSpoiltBy F.Format (state S.Store conn.old))) }
-    ensures open { HasCleanDisk (state S.Store conn.new) → OnOk result (IsTrue (state S.Store conn.new).is_open) }
-    ensures left { HasCleanDisk (state S.Store conn.new) → OnErr result (LeavesStore (state S.Store conn.old) (state S.Store conn.new)) }
-    ensures stop { Survives (state S.Store conn.old) (state S.Store conn.new) (LeavesCarriedBy F.Format (state S.Store conn.old)) }
+    ensures stands { HasCleanDisk (state S.Store conn.new)
+        → OnOk result ((entries : EntryMap) × IsStoreBy F.Format (state S.Store conn.old) entries
+        × IsStore (state S.Store conn.new) entries) }
+    ensures cause { HasCleanDisk (state S.Store conn.new)
+        → IfErr result
+        (IsFor (IsNewer (state S.Store conn.old)) (IsSpoiltBy F.Format (state S.Store conn.old))) }
+    ensures open { HasCleanDisk (state S.Store conn.new)
+        → OnOk result (IsTrue (state S.Store conn.new).is_open) }
+    ensures left { HasCleanDisk (state S.Store conn.new)
+        → OnErr result (LeavesStore (state S.Store conn.old) (state S.Store conn.new)) }
+    ensures stop { Survives (state S.Store conn.old) (state S.Store conn.new)
+        (LeavesCarriedBy F.Format (state S.Store conn.old)) }
 {
     check_tables::<S, F>(alloc, conn)?;
     if !conn.is_autocommit() {
@@ -282,10 +347,17 @@ fn open_older<S: Alter, F: Older>(
 fn refuse_foreign<S: Alter>(conn: &mut Connection<S>) -> Result<(), JournalOpenFault>
     requires outside { (state S.Store conn.old).in_transaction ≡ false }
     ensures refused { OnOk result ⊥ }
-    ensures cause { HasCleanDisk (state S.Store conn.new) → IfErr result (IsFor (IsNewer (state S.Store conn.old)) (HasFormatTable (state S.Store conn.old).now.schema → IsNewer (state S.Store conn.old) → ⊥)) }
-    ensures failed { HasCleanDisk (state S.Store conn.new) → IfErr result (OpenFailsFor (HasFailed (state S.Store conn.old) (state S.Store conn.new))) }
+    ensures cause { HasCleanDisk (state S.Store conn.new)
+        → IfErr result
+        (IsFor (IsNewer (state S.Store conn.old))
+        (HasFormatTable (state S.Store conn.old).now.schema → IsNewer (state S.Store conn.old)
+        → ⊥)) }
+    ensures failed { HasCleanDisk (state S.Store conn.new)
+        → IfErr result
+        (OpenFailsFor (HasFailed (state S.Store conn.old) (state S.Store conn.new))) }
     ensures looks { Looks (state S.Store conn.old) (state S.Store conn.new) }
-    ensures left { HasCleanDisk (state S.Store conn.new) → LeavesStore (state S.Store conn.old) (state S.Store conn.new) }
+    ensures left { HasCleanDisk (state S.Store conn.new)
+        → LeavesStore (state S.Store conn.old) (state S.Store conn.new) }
 {
     if !is_laid::<S, Unknown>(conn) {
         return Err(JournalOpenFault::Damaged);
@@ -310,12 +382,20 @@ pub(crate) fn open_tables<S: Alter>(
     alloc: Global,
     conn: &mut Connection<S>,
 ) -> Result<(), JournalOpenFault>
-    ensures stands { HasCleanDisk (state S.Store conn.new) → OnOk result ((entries : EntryMap) × Stands (state S.Store conn.old) entries × IsStore (state S.Store conn.new) entries) }
-    ensures cause { HasCleanDisk (state S.Store conn.new) → IfErr result (IsCause (state S.Store conn.old)) }
-    ensures failed { HasCleanDisk (state S.Store conn.new) → IfErr result (OpenFailsFor (OpeningFails (state S.Store conn.old) (state S.Store conn.new))) }
-    ensures open { HasCleanDisk (state S.Store conn.new) → OnOk result (IsTrue (state S.Store conn.new).is_open) }
-    ensures left { HasCleanDisk (state S.Store conn.new) → OnErr result (LeavesStore (state S.Store conn.old) (state S.Store conn.new)) }
-    ensures stop { Survives (state S.Store conn.old) (state S.Store conn.new) (LeavesStanding (state S.Store conn.old)) }
+    ensures stands { HasCleanDisk (state S.Store conn.new)
+        → OnOk result ((entries : EntryMap) × Stands (state S.Store conn.old) entries
+        × IsStore (state S.Store conn.new) entries) }
+    ensures cause { HasCleanDisk (state S.Store conn.new)
+        → IfErr result (IsCause (state S.Store conn.old)) }
+    ensures failed { HasCleanDisk (state S.Store conn.new)
+        → IfErr result
+        (OpenFailsFor (OpeningFails (state S.Store conn.old) (state S.Store conn.new))) }
+    ensures open { HasCleanDisk (state S.Store conn.new)
+        → OnOk result (IsTrue (state S.Store conn.new).is_open) }
+    ensures left { HasCleanDisk (state S.Store conn.new)
+        → OnErr result (LeavesStore (state S.Store conn.old) (state S.Store conn.new)) }
+    ensures stop { Survives (state S.Store conn.old) (state S.Store conn.new)
+        (LeavesStanding (state S.Store conn.old)) }
 {
     if !conn.is_autocommit() {
         return Err(JournalOpenFault::Store);

@@ -57,12 +57,20 @@ fn none_params() -> [ValueRef<'static>; 2]
 /// Resets the entries of one type.
 fn reset_in<S: Alter>(tables: &mut Transaction<'_, S>, kind: Kind) -> Result<(), TableFault>
     requires under_way { IsUnderWay (state S.Store tables.old.conn.now) }
-    requires listed { HasCleanDisk (state S.Store tables.old.conn.now) → IsTrue (state S.Store tables.old.conn.now).is_open → IsListed kind (state S.Store tables.old.conn.now).now.trees }
+    requires listed { HasCleanDisk (state S.Store tables.old.conn.now)
+        → IsTrue (state S.Store tables.old.conn.now).is_open
+        → IsListed kind (state S.Store tables.old.conn.now).now.trees }
     ensures same_reference { tables.new.conn.ghost_name ≡ tables.old.conn.ghost_name }
-    ensures made { HasCleanDisk (state S.Store tables.new.conn.now) → OnOk result (Commits (ResetsOne kind) (settled (state S.Store tables.old.conn.now)) (settled (state S.Store tables.new.conn.now))) }
-    ensures inside { HasCleanDisk (state S.Store tables.new.conn.now) → OnOk result (IsTrue (state S.Store tables.new.conn.now).in_transaction) }
-    ensures left { HasCleanDisk (state S.Store tables.new.conn.now) → LeavesStore (state S.Store tables.old.conn.now) (state S.Store tables.new.conn.now) }
-    ensures quiet { Survives (state S.Store tables.old.conn.now) (state S.Store tables.new.conn.now) (λ _. ⊥) }
+    ensures made { HasCleanDisk (state S.Store tables.new.conn.now)
+        → OnOk result
+        (Commits (ResetsOne kind) (settled (state S.Store tables.old.conn.now))
+        (settled (state S.Store tables.new.conn.now))) }
+    ensures inside { HasCleanDisk (state S.Store tables.new.conn.now)
+        → OnOk result (IsTrue (state S.Store tables.new.conn.now).in_transaction) }
+    ensures left { HasCleanDisk (state S.Store tables.new.conn.now)
+        → LeavesStore (state S.Store tables.old.conn.now) (state S.Store tables.new.conn.now) }
+    ensures quiet { Survives (state S.Store tables.old.conn.now) (state S.Store tables.new.conn.now)
+        (λ _. ⊥) }
 {
     write_in(tables, reset_statement(kind), &none_params())
 }
@@ -70,13 +78,21 @@ fn reset_in<S: Alter>(tables: &mut Transaction<'_, S>, kind: Kind) -> Result<(),
 /// Resets the entries of both types.
 fn reset_both<S: Alter>(tables: &mut Transaction<'_, S>) -> Result<(), TableFault>
     requires under_way { IsUnderWay (state S.Store tables.old.conn.now) }
-    requires listed { HasCleanDisk (state S.Store tables.old.conn.now) → IsTrue (state S.Store tables.old.conn.now).is_open → AreListed (state S.Store tables.old.conn.now).now.trees }
+    requires listed { HasCleanDisk (state S.Store tables.old.conn.now)
+        → IsTrue (state S.Store tables.old.conn.now).is_open
+        → AreListed (state S.Store tables.old.conn.now).now.trees }
     ensures same_reference { tables.new.conn.ghost_name ≡ tables.old.conn.ghost_name }
-    ensures reset { HasCleanDisk (state S.Store tables.new.conn.now) → OnOk result (ResetsAll (state S.Store tables.old.conn.now).now.trees (state S.Store tables.new.conn.now).now.trees) }
-    ensures open { HasCleanDisk (state S.Store tables.new.conn.now) → OnOk result (IsTrue (state S.Store tables.new.conn.now).is_open) }
+    ensures reset { HasCleanDisk (state S.Store tables.new.conn.now)
+        → OnOk result
+        (ResetsAll (state S.Store tables.old.conn.now).now.trees
+        (state S.Store tables.new.conn.now).now.trees) }
+    ensures open { HasCleanDisk (state S.Store tables.new.conn.now)
+        → OnOk result (IsTrue (state S.Store tables.new.conn.now).is_open) }
     ensures under_way { OnOk result (IsUnderWay (state S.Store tables.new.conn.now)) }
-    ensures left { HasCleanDisk (state S.Store tables.new.conn.now) → LeavesStore (state S.Store tables.old.conn.now) (state S.Store tables.new.conn.now) }
-    ensures quiet { Survives (state S.Store tables.old.conn.now) (state S.Store tables.new.conn.now) (λ _. ⊥) }
+    ensures left { HasCleanDisk (state S.Store tables.new.conn.now)
+        → LeavesStore (state S.Store tables.old.conn.now) (state S.Store tables.new.conn.now) }
+    ensures quiet { Survives (state S.Store tables.old.conn.now) (state S.Store tables.new.conn.now)
+        (λ _. ⊥) }
 {
     reset_in(tables, Kind::User)?;
     reset_in(tables, Kind::Group)
@@ -86,11 +102,17 @@ fn reset_both<S: Alter>(tables: &mut Transaction<'_, S>) -> Result<(), TableFaul
 
 /// Resets the entries by one transaction: all or none.
 pub(crate) fn reset_all<S: Alter>(conn: &mut Connection<S>) -> Result<(), TableFault>
-    requires laid { HasCleanDisk (state S.Store conn.old) → IsTrue (state S.Store conn.old).is_open → IsLaid (state S.Store conn.old) }
-    requires listed { HasCleanDisk (state S.Store conn.old) → IsTrue (state S.Store conn.old).is_open → AreListed (state S.Store conn.old).now.trees }
-    ensures made { HasCleanDisk (state S.Store conn.new) → OnOk result (Commits ResetsAll (state S.Store conn.old) (state S.Store conn.new)) }
-    ensures keeps { HasCleanDisk (state S.Store conn.new) → OnErr result (Keeps (state S.Store conn.old) (state S.Store conn.new)) }
-    ensures stop { Survives (state S.Store conn.old) (state S.Store conn.new) (λ db. IsTrue (state S.Store conn.old).is_open × ResetsAll (state S.Store conn.old).now.trees db) }
+    requires laid { HasCleanDisk (state S.Store conn.old) → IsTrue (state S.Store conn.old).is_open
+        → IsLaid (state S.Store conn.old) }
+    requires listed { HasCleanDisk (state S.Store conn.old)
+        → IsTrue (state S.Store conn.old).is_open → AreListed (state S.Store conn.old).now.trees }
+    ensures made { HasCleanDisk (state S.Store conn.new)
+        → OnOk result (Commits ResetsAll (state S.Store conn.old) (state S.Store conn.new)) }
+    ensures keeps { HasCleanDisk (state S.Store conn.new)
+        → OnErr result (Keeps (state S.Store conn.old) (state S.Store conn.new)) }
+    ensures stop { Survives (state S.Store conn.old) (state S.Store conn.new)
+        (λ db. IsTrue (state S.Store conn.old).is_open
+        × ResetsAll (state S.Store conn.old).now.trees db) }
 {
     if !conn.is_autocommit() {
         return Err(TableFault::Store);

@@ -129,12 +129,19 @@ pub(crate) fn find_entry<S: Alter>(
     conn: &mut Connection<S>,
     name: &RecordName,
 ) -> Result<Option<Entry>, TableFault>
-    requires laid { HasCleanDisk (state S.Store conn.old) → IsTrue (state S.Store conn.old).is_open → IsLaid (state S.Store conn.old) }
-    ensures found { HasCleanDisk (state S.Store conn.new) → IfOk result (Finds (state S.Store conn.old).now.trees name.now) }
-    ensures none { HasCleanDisk (state S.Store conn.new) → IfErr result (HasCause (IsTrue (state S.Store conn.new).is_open × IsDamagedAt (state S.Store conn.old).now.trees name.now)) }
-    ensures failed { HasCleanDisk (state S.Store conn.new) → IfErr result (FailsFor (HasFailed (state S.Store conn.old) (state S.Store conn.new))) }
-    ensures keeps { HasCleanDisk (state S.Store conn.new) → Keeps (state S.Store conn.old) (state S.Store conn.new) }
-    ensures open { HasCleanDisk (state S.Store conn.new) → OnOk result (IsTrue (state S.Store conn.new).is_open) }
+    requires laid { HasCleanDisk (state S.Store conn.old) → IsTrue (state S.Store conn.old).is_open
+        → IsLaid (state S.Store conn.old) }
+    ensures found { HasCleanDisk (state S.Store conn.new)
+        → IfOk result (Finds (state S.Store conn.old).now.trees name.now) }
+    ensures none { HasCleanDisk (state S.Store conn.new)
+        → IfErr result (HasCause (IsTrue (state S.Store conn.new).is_open
+        × IsDamagedAt (state S.Store conn.old).now.trees name.now)) }
+    ensures failed { HasCleanDisk (state S.Store conn.new)
+        → IfErr result (FailsFor (HasFailed (state S.Store conn.old) (state S.Store conn.new))) }
+    ensures keeps { HasCleanDisk (state S.Store conn.new)
+        → Keeps (state S.Store conn.old) (state S.Store conn.new) }
+    ensures open { HasCleanDisk (state S.Store conn.new)
+        → OnOk result (IsTrue (state S.Store conn.new).is_open) }
     ensures quiet { Survives (state S.Store conn.old) (state S.Store conn.new) (λ _. ⊥) }
 {
     match ask::<S, Journal>(
@@ -270,11 +277,17 @@ fn write_user<S: Alter>(
     id: &Option<ResourceId>,
 ) -> Result<(), TableFault>
     requires edit { IsEditText sql.now }
-    requires laid { HasCleanDisk (state S.Store conn.old) → IsTrue (state S.Store conn.old).is_open → IsLaid (state S.Store conn.old) }
+    requires laid { HasCleanDisk (state S.Store conn.old) → IsTrue (state S.Store conn.old).is_open
+        → IsLaid (state S.Store conn.old) }
     ensures lawful { IsUserRow user.now }
-    ensures ran { HasCleanDisk (state S.Store conn.new) → OnOk result (Ran sql.now (row_by (User user.now) confirmed id.now) (state S.Store conn.old) (state S.Store conn.new)) }
-    ensures keeps { HasCleanDisk (state S.Store conn.new) → OnErr result (Keeps (state S.Store conn.old) (state S.Store conn.new)) }
-    ensures stop { Survives (state S.Store conn.old) (state S.Store conn.new) (MayLeave sql.now (row_by (User user.now) confirmed id.now) (state S.Store conn.old)) }
+    ensures ran { HasCleanDisk (state S.Store conn.new)
+        → OnOk result
+        (Ran sql.now (row_by (User user.now) confirmed id.now) (state S.Store conn.old)
+        (state S.Store conn.new)) }
+    ensures keeps { HasCleanDisk (state S.Store conn.new)
+        → OnErr result (Keeps (state S.Store conn.old) (state S.Store conn.new)) }
+    ensures stop { Survives (state S.Store conn.old) (state S.Store conn.new)
+        (MayLeave sql.now (row_by (User user.now) confirmed id.now) (state S.Store conn.old)) }
 {
     let revision = user.revision();
     let key = user.login().key(alloc)?;
@@ -295,11 +308,17 @@ fn write_group<S: Alter>(
     id: &Option<ResourceId>,
 ) -> Result<(), TableFault>
     requires edit { IsEditText sql.now }
-    requires laid { HasCleanDisk (state S.Store conn.old) → IsTrue (state S.Store conn.old).is_open → IsLaid (state S.Store conn.old) }
+    requires laid { HasCleanDisk (state S.Store conn.old) → IsTrue (state S.Store conn.old).is_open
+        → IsLaid (state S.Store conn.old) }
     ensures lawful { IsGroupRow group.now }
-    ensures ran { HasCleanDisk (state S.Store conn.new) → OnOk result (Ran sql.now (row_by (Group group.now) confirmed id.now) (state S.Store conn.old) (state S.Store conn.new)) }
-    ensures keeps { HasCleanDisk (state S.Store conn.new) → OnErr result (Keeps (state S.Store conn.old) (state S.Store conn.new)) }
-    ensures stop { Survives (state S.Store conn.old) (state S.Store conn.new) (MayLeave sql.now (row_by (Group group.now) confirmed id.now) (state S.Store conn.old)) }
+    ensures ran { HasCleanDisk (state S.Store conn.new)
+        → OnOk result
+        (Ran sql.now (row_by (Group group.now) confirmed id.now) (state S.Store conn.old)
+        (state S.Store conn.new)) }
+    ensures keeps { HasCleanDisk (state S.Store conn.new)
+        → OnErr result (Keeps (state S.Store conn.old) (state S.Store conn.new)) }
+    ensures stop { Survives (state S.Store conn.old) (state S.Store conn.new)
+        (MayLeave sql.now (row_by (Group group.now) confirmed id.now) (state S.Store conn.old)) }
 {
     let revision = group.revision();
     let key = group.name().key(alloc)?;
@@ -321,11 +340,17 @@ pub(crate) fn put_entry<S: Alter>(
     is_there: bool,
     entry: &Entry,
 ) -> Result<(), TableFault>
-    requires laid { HasCleanDisk (state S.Store conn.old) → IsTrue (state S.Store conn.old).is_open → IsLaid (state S.Store conn.old) }
-    requires there { HasCleanDisk (state S.Store conn.old) → IsTrue (state S.Store conn.old).is_open → is_there ≡ true → IsThere (state S.Store conn.old).now.trees (row_name entry.now.row) }
-    ensures made { HasCleanDisk (state S.Store conn.new) → OnOk result (Makes is_there entry.now (state S.Store conn.old) (state S.Store conn.new)) }
-    ensures keeps { HasCleanDisk (state S.Store conn.new) → OnErr result (Keeps (state S.Store conn.old) (state S.Store conn.new)) }
-    ensures stop { Survives (state S.Store conn.old) (state S.Store conn.new) (λ db. IsTrue (state S.Store conn.old).is_open × PutsIn is_there entry.now (state S.Store conn.old).now.trees db) }
+    requires laid { HasCleanDisk (state S.Store conn.old) → IsTrue (state S.Store conn.old).is_open
+        → IsLaid (state S.Store conn.old) }
+    requires there { HasCleanDisk (state S.Store conn.old) → IsTrue (state S.Store conn.old).is_open
+        → is_there ≡ true → IsThere (state S.Store conn.old).now.trees (row_name entry.now.row) }
+    ensures made { HasCleanDisk (state S.Store conn.new)
+        → OnOk result (Makes is_there entry.now (state S.Store conn.old) (state S.Store conn.new)) }
+    ensures keeps { HasCleanDisk (state S.Store conn.new)
+        → OnErr result (Keeps (state S.Store conn.old) (state S.Store conn.new)) }
+    ensures stop { Survives (state S.Store conn.old) (state S.Store conn.new)
+        (λ db. IsTrue (state S.Store conn.old).is_open
+        × PutsIn is_there entry.now (state S.Store conn.old).now.trees db) }
 {
     let sql = put_statement(kind_of(&entry.row), is_there);
     match &entry.row {
@@ -412,8 +437,10 @@ pub(crate) fn first_all_statement(kind: Kind) -> &'static str
 
 /// Whether the name comes after the previous one, if there is one.
 fn comes_after(previous: &Option<RecordName>, name: &RecordName) -> bool
-    ensures is { IsTrue result → MatchOption previous.now (Unit {0}) (λ p. name_cmp p name.now ≡ Less) }
-    ensures not { result ≡ false → MatchOption previous.now ⊥ (λ p. is_lt (name_cmp p name.now) ≡ false) }
+    ensures is { IsTrue result
+        → MatchOption previous.now (Unit {0}) (λ p. name_cmp p name.now ≡ Less) }
+    ensures not { result ≡ false
+        → MatchOption previous.now ⊥ (λ p. is_lt (name_cmp p name.now) ≡ false) }
 {
     match previous {
         Some(previous) => previous < name,
@@ -448,12 +475,22 @@ pub(crate) fn list_entries<S: Alter, F: Format>(
     conn: &mut Connection<S>,
     kind: Kind,
 ) -> Result<Vec<Entry>, TableFault>
-    requires laid { HasCleanDisk (state S.Store conn.old) → IsTrue (state S.Store conn.old).is_open → IsLaidBy F.layout (state S.Store conn.old) }
-    ensures all { HasCleanDisk (state S.Store conn.new) → IfOk result (λ list. ListsAllBy (Shows kind) (F.columns kind) ((state S.Store conn.old).now.trees (F.tree kind)) list.items) }
-    ensures none { HasCleanDisk (state S.Store conn.new) → IfErr result (HasCause (IsTrue (state S.Store conn.new).is_open × ListsNoneBy (Shows kind) (F.columns kind) ((state S.Store conn.old).now.trees (F.tree kind)))) }
-    ensures failed { HasCleanDisk (state S.Store conn.new) → IfErr result (FailsFor (HasFailed (state S.Store conn.old) (state S.Store conn.new))) }
-    ensures keeps { HasCleanDisk (state S.Store conn.new) → Keeps (state S.Store conn.old) (state S.Store conn.new) }
-    ensures open { HasCleanDisk (state S.Store conn.new) → OnOk result (IsTrue (state S.Store conn.new).is_open) }
+    requires laid { HasCleanDisk (state S.Store conn.old) → IsTrue (state S.Store conn.old).is_open
+        → IsLaidBy F.layout (state S.Store conn.old) }
+    ensures all { HasCleanDisk (state S.Store conn.new)
+        → IfOk result
+        (λ list. ListsAllBy (Shows kind) (F.columns kind)
+        ((state S.Store conn.old).now.trees (F.tree kind)) list.items) }
+    ensures none { HasCleanDisk (state S.Store conn.new)
+        → IfErr result (HasCause (IsTrue (state S.Store conn.new).is_open
+        × ListsNoneBy (Shows kind) (F.columns kind)
+        ((state S.Store conn.old).now.trees (F.tree kind)))) }
+    ensures failed { HasCleanDisk (state S.Store conn.new)
+        → IfErr result (FailsFor (HasFailed (state S.Store conn.old) (state S.Store conn.new))) }
+    ensures keeps { HasCleanDisk (state S.Store conn.new)
+        → Keeps (state S.Store conn.old) (state S.Store conn.new) }
+    ensures open { HasCleanDisk (state S.Store conn.new)
+        → OnOk result (IsTrue (state S.Store conn.new).is_open) }
     ensures quiet { Survives (state S.Store conn.old) (state S.Store conn.new) (λ _. ⊥) }
 {
     match ask::<S, F>(conn, F::list_statement(kind), &[]) {

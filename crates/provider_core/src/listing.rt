@@ -29,9 +29,9 @@ pub(crate) fn list<R: Registry>(
     count: Option<i64>,
 ) -> Result<Pending, ProviderFault>
     requires { KeepsPlaces R.Registry registry.old places.old }
-    ensures ok { R.is_faithful registry.new →
-        IfOk result
-        (λ pending. pending ≡ outcome (R.rows registry.old) (Request.Search kind None start count)) }
+    ensures ok { R.is_faithful registry.new
+        → IfOk result (λ pending. pending
+        ≡ outcome (R.rows registry.old) (Request.Search kind None start count)) }
     ensures reads { Reads R.Registry CountsProviderFault registry.old registry.new result }
     ensures keeps { KeepsPlaces R.Registry registry.new places.new }
 {
@@ -90,8 +90,9 @@ fn add_page<R: Registry>(
     after: u32,
     places: &mut KindPlaces,
 ) -> Result<(), ProviderFault>
-    ensures ok { R.is_faithful registry.new →
-        OnOk result (AddsRows (take ROWS_AT_ONCE (drop after (R.rows registry.old))) places.old places.new) }
+    ensures ok { R.is_faithful registry.new
+        → OnOk result
+        (AddsRows (take ROWS_AT_ONCE (drop after (R.rows registry.old))) places.old places.new) }
     ensures reads { Reads R.Registry CountsProviderFault registry.old registry.new result }
 {
     let rows = registry.scan(after, ROWS_AT_ONCE as usize)?;
@@ -109,9 +110,9 @@ fn list_page<R: Registry>(
     count: Option<i64>,
 ) -> Result<Pending, ProviderFault>
     requires { R.is_honest registry.old → R.is_faithful registry.old }
-    ensures ok { R.is_faithful registry.new → places.now ≡ places_of (R.rows registry.old) →
-        IfOk result
-        (λ pending. pending ≡ outcome (R.rows registry.old) (Request.Search kind None start count)) }
+    ensures ok { R.is_faithful registry.new → places.now ≡ places_of (R.rows registry.old)
+        → IfOk result (λ pending. pending
+        ≡ outcome (R.rows registry.old) (Request.Search kind None start count)) }
     ensures reads { Reads R.Registry CountsProviderFault registry.old registry.new result }
 {
     let first = first_place(start);
@@ -129,8 +130,9 @@ fn show_rows<R: Registry>(
 ) -> Result<(), ProviderFault>
     requires few { length places.now ≤ 200 }
     requires open { R.is_honest registry.old → R.is_faithful registry.old }
-    ensures ok { R.is_faithful registry.new →
-        OnOk result (page.new.items ≡ page.old.items ++ map shown (rows_at places.now (R.rows registry.old))) }
+    ensures ok { R.is_faithful registry.new
+        → OnOk result (page.new.items ≡ page.old.items
+        ++ map shown (rows_at places.now (R.rows registry.old))) }
     ensures numbered { R.is_faithful registry.new →
         OnOk result (0 < length places.now → IsNumberedFrom 1 (R.rows registry.old)) }
     ensures reads { Reads R.Registry CountsProviderFault registry.old registry.new result }
@@ -151,7 +153,8 @@ fn run_length(places: &[u32]) -> usize
     ensures some { 0 < result }
     ensures within { result ≤ length places.now }
     ensures follow { take result places.now ≡ range_with_len (slice_index places.now 0) result }
-    ensures longest { result < length places.now → slice_index places.now result ≢ slice_index places.now 0 + result }
+    ensures longest { result < length places.now
+        → slice_index places.now result ≢ slice_index places.now 0 + result }
 {
     let first = places[0] as usize;
     let mut run = 1;
@@ -169,9 +172,11 @@ fn show_run<R: Registry>(
     page: &mut Vec<Shown>,
 ) -> Result<(), ProviderFault>
     requires few { run ≤ 200 }
-    ensures ok { R.is_faithful registry.new →
-        OnOk result (page.new.items ≡ page.old.items ++ map shown (take run (drop after (R.rows registry.old)))) }
-    ensures numbered { R.is_faithful registry.new → OnOk result (IsNumberedFrom 1 (R.rows registry.old)) }
+    ensures ok { R.is_faithful registry.new
+        → OnOk result (page.new.items ≡ page.old.items
+        ++ map shown (take run (drop after (R.rows registry.old)))) }
+    ensures numbered { R.is_faithful registry.new
+        → OnOk result (IsNumberedFrom 1 (R.rows registry.old)) }
     ensures reads { Reads R.Registry CountsProviderFault registry.old registry.new result }
 {
     let rows = registry.scan(after, run)?;

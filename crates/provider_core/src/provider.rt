@@ -133,8 +133,9 @@ impl<R: Registry> Provider<R> {
     }
 
     fn prepare_create(&mut self, alloc: Global, content: &Content) -> Result<Pending, ProviderFault>
-        ensures ok { R.is_faithful self.new →
-            IfOk result (λ pending. pending ≡ outcome (R.rows self.old) (Request.Create content.now)) }
+        ensures ok { R.is_faithful self.new
+            → IfOk result (λ pending. pending
+            ≡ outcome (R.rows self.old) (Request.Create content.now)) }
         ensures reads { Reads R.Registry CountsProviderFault self.old self.new result }
     {
         let name = content.name(alloc)?;
@@ -167,10 +168,10 @@ impl<R: Registry> Provider<R> {
         if_match: &Condition,
         if_none_match: &Condition,
     ) -> Result<Pending, ProviderFault>
-        ensures ok { R.is_faithful self.new →
-            IfOk result
-            (λ pending. pending
-            ≡ outcome (R.rows self.old) (Request.Retrieve kind id.now if_match.now if_none_match.now)) }
+        ensures ok { R.is_faithful self.new
+            → IfOk result (λ pending. pending
+            ≡ outcome (R.rows self.old)
+            (Request.Retrieve kind id.now if_match.now if_none_match.now)) }
         ensures reads { Reads R.Registry CountsProviderFault self.old self.new result }
     {
         match self.resource(kind, id)? {
@@ -187,9 +188,9 @@ impl<R: Registry> Provider<R> {
         start: i64,
         count: Option<i64>,
     ) -> Result<Pending, ProviderFault>
-        ensures ok { R.is_faithful self.new →
-            IfOk result
-            (λ pending. pending ≡ outcome (R.rows self.old) (Request.Search kind filter.now start count)) }
+        ensures ok { R.is_faithful self.new
+            → IfOk result (λ pending. pending
+            ≡ outcome (R.rows self.old) (Request.Search kind filter.now start count)) }
         ensures reads { Reads R.Registry CountsProviderFault self.old self.new result }
     {
         if filter.is_none() {
@@ -207,9 +208,9 @@ impl<R: Registry> Provider<R> {
         start: i64,
         count: Option<i64>,
     ) -> Result<Pending, ProviderFault>
-        ensures ok { R.is_faithful self.new →
-            IfOk result
-            (λ pending. pending ≡ outcome (R.rows self.old) (Request.Search kind None start count)) }
+        ensures ok { R.is_faithful self.new
+            → IfOk result (λ pending. pending
+            ≡ outcome (R.rows self.old) (Request.Search kind None start count)) }
         ensures reads { Reads R.Registry CountsProviderFault self.old self.new result }
     {
         list(
@@ -287,8 +288,10 @@ impl<R: Registry> Provider<R> {
         after: u32,
         gathered: &mut Gathered,
     ) -> Result<(), ProviderFault>
-        ensures ok { R.is_faithful self.new →
-            OnOk result (GoesThrough kind filter.now (take ROWS_AT_ONCE (drop after (R.rows self.old))) gathered.old gathered.new) }
+        ensures ok { R.is_faithful self.new
+            → OnOk result
+            (GoesThrough kind filter.now
+            (take ROWS_AT_ONCE (drop after (R.rows self.old))) gathered.old gathered.new) }
         ensures reads { Reads R.Registry CountsProviderFault self.old self.new result }
     {
         let rows = self.registry.scan(after, ROWS_AT_ONCE as usize)?;
@@ -304,10 +307,10 @@ impl<R: Registry> Provider<R> {
         if_match: &Condition,
         if_none_match: &Condition,
     ) -> Result<Pending, ProviderFault>
-        ensures ok { R.is_faithful self.new →
-            IfOk result
-            (λ pending. pending
-            ≡ outcome (R.rows self.old) (Request.Replace id.now content.now if_match.now if_none_match.now)) }
+        ensures ok { R.is_faithful self.new
+            → IfOk result (λ pending. pending
+            ≡ outcome (R.rows self.old)
+            (Request.Replace id.now content.now if_match.now if_none_match.now)) }
         ensures reads { Reads R.Registry CountsProviderFault self.old self.new result }
     {
         match self.resource(content.kind(), id)? {

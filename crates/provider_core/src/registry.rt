@@ -62,44 +62,56 @@ pub trait Registry {
     /// How many rows there are.
     fn count(&mut self) -> Result<u32, RegistryFault>
         ensures ok { is_faithful self.new → IfOk result (λ n. n ≡ length (rows self.old)) }
-        ensures reads { OnlyReads rows is_faithful is_honest may_hold faults writes CountsFault self.old self.new result };
+        ensures reads { OnlyReads rows is_faithful is_honest may_hold faults writes CountsFault
+            self.old self.new result };
 
     /// The row of a record, if there is one.
     fn by_key(&mut self, name: &RecordName) -> Result<Option<Stored>, RegistryFault>
-        ensures ok { is_faithful self.new → IfOk result (λ row. row ≡ row_named name.now (rows self.old)) }
+        ensures ok { is_faithful self.new
+            → IfOk result (λ row. row ≡ row_named name.now (rows self.old)) }
         ensures apart { is_faithful self.new → AreNamedApart (rows self.old) }
-        ensures reads { OnlyReads rows is_faithful is_honest may_hold faults writes CountsFault self.old self.new result };
+        ensures reads { OnlyReads rows is_faithful is_honest may_hold faults writes CountsFault
+            self.old self.new result };
 
     /// How many rows there are, if none of them is of this record.
     fn count_if_free(&mut self, name: &RecordName) -> Result<Option<u32>, RegistryFault>
-        ensures ok { is_faithful self.new → IfOk result (λ count. count ≡ count_if_free name.now (rows self.old)) }
-        ensures reads { OnlyReads rows is_faithful is_honest may_hold faults writes CountsFault self.old self.new result };
+        ensures ok { is_faithful self.new
+            → IfOk result (λ count. count ≡ count_if_free name.now (rows self.old)) }
+        ensures reads { OnlyReads rows is_faithful is_honest may_hold faults writes CountsFault
+            self.old self.new result };
 
     /// The row with this id, if there is one.
     fn by_id(&mut self, id: &ResourceId) -> Result<Option<Stored>, RegistryFault>
-        ensures ok { is_faithful self.new → IfOk result (λ row. row ≡ row_with_id id.now (rows self.old)) }
-        ensures reads { OnlyReads rows is_faithful is_honest may_hold faults writes CountsFault self.old self.new result };
+        ensures ok { is_faithful self.new
+            → IfOk result (λ row. row ≡ row_with_id id.now (rows self.old)) }
+        ensures reads { OnlyReads rows is_faithful is_honest may_hold faults writes CountsFault
+            self.old self.new result };
 
     /// At most `limit` rows, in order, from the first with a number above `after`.
     fn scan(&mut self, after: u32, limit: usize) -> Result<Vec<Stored>, RegistryFault>
         requires few { limit ≤ 200 }
-        ensures ok { is_faithful self.new → IfOk result (λ page. page.items ≡ page_after after limit (rows self.old)) }
+        ensures ok { is_faithful self.new
+            → IfOk result (λ page. page.items ≡ page_after after limit (rows self.old)) }
         ensures numbered { is_faithful self.new → IsNumberedFrom 1 (rows self.old) }
         ensures apart { is_faithful self.new → AreNamedApart (rows self.old) }
-        ensures reads { OnlyReads rows is_faithful is_honest may_hold faults writes CountsFault self.old self.new result };
+        ensures reads { OnlyReads rows is_faithful is_honest may_hold faults writes CountsFault
+            self.old self.new result };
 
     /// Adds a row, with the next number and a free name.
     fn insert(&mut self, row: Stored) -> Result<(), RegistryFault>
         requires next { is_faithful self.old → row.number ≡ length (rows self.old) + 1 }
-        requires free { is_faithful self.old → row_named (content_name row.content) (rows self.old) ≡ None }
-        ensures adds { WritesOnce rows is_faithful is_honest may_hold faults writes CountsFault self.old self.new (rows self.old ++ row ∷ []) result }
+        requires free { is_faithful self.old
+            → row_named (content_name row.content) (rows self.old) ≡ None }
+        ensures adds { WritesOnce rows is_faithful is_honest may_hold faults writes CountsFault
+            self.old self.new (rows self.old ++ row ∷ []) result }
         ensures open { is_honest self.new → OnOk result (is_faithful self.new) }
         ensures counted { OnOk result (HasRisen (writes self.old) (writes self.new)) };
 
     /// Replaces the row with the same number, which must have the same name.
     fn update(&mut self, row: &Stored) -> Result<(), RegistryFault>
         requires there { is_faithful self.old → HoldsNumber (rows self.old) row.now }
-        ensures replaces { WritesOnce rows is_faithful is_honest may_hold faults writes CountsFault self.old self.new (with_row row.now (rows self.old)) result }
+        ensures replaces { WritesOnce rows is_faithful is_honest may_hold faults writes CountsFault
+            self.old self.new (with_row row.now (rows self.old)) result }
         ensures open { is_honest self.new → OnOk result (is_faithful self.new) }
         ensures counted { OnOk result (HasRisen (writes self.old) (writes self.new)) };
 
@@ -107,7 +119,8 @@ pub trait Registry {
     ghost is_so: { (s : Self) → is_faithful s → is_honest s };
 
     /// A stop at this moment leaves nothing but the rows of a faithful store.
-    ghost settled: { (s : Self) (found : List StoredRecord) → is_faithful s → may_hold s found → found ≡ rows s };
+    ghost settled: { (s : Self) (found : List StoredRecord) → is_faithful s → may_hold s found
+        → found ≡ rows s };
 
     /// A stop at this moment may leave the rows of a faithful store.
     ghost stays: { (s : Self) → is_faithful s → may_hold s (rows s) };

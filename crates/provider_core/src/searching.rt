@@ -57,7 +57,12 @@ impl Model for Gathered {
 
     ghost Value = { spec.Gathered };
 
-    ghost view = { λ g. record { first = g.first; size = g.size; total = g.total; page = g.page.items } };
+    ghost view = { λ g. record {
+      first = g.first;
+      size = g.size;
+      total = g.total;
+      page = g.page.items;
+    } };
 }
 
 impl Gathered {
@@ -132,7 +137,11 @@ impl Gathered {
 
 /// A list of this many resources in all, and the page from this place on, without a change.
 pub(crate) fn listed(total: u64, first: u64, page: Vec<Shown>) -> Pending
-    ensures { result ≡ replied (answers.List (record { total = total; start = first; resources = page.items })) }
+    ensures { result ≡ replied (answers.List (record {
+      total = total;
+      start = first;
+      resources = page.items;
+    })) }
 {
     let list = ListResponse {
         total,

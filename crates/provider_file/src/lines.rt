@@ -44,7 +44,8 @@ fn group_line(
     version: u64,
     members: usize,
 ) -> Result<String, AllocError>
-    ensures { IfOk result (λ line. string_bytes line ≡ group_line name.now.key held version members) }
+    ensures { IfOk result (λ line. string_bytes line
+        ≡ group_line name.now.key held version members) }
 {
     let key = name.key.as_str();
     format!(in alloc; "group {key} held={held} version={version} members={members}\n")

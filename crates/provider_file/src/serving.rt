@@ -21,7 +21,8 @@ pub fn serve_one<K: RowStorage, I: Read, O: Write>(
     reader: &mut Input<I>,
     writer: &mut Output<O>,
 ) -> Result<Served, RegistryOpenFault>
-    ensures answers { IfOk result (AnswersFrom K.Rows.Registry base.now reader.old reader.new writer.old writer.new) }
+    ensures answers { IfOk result
+        (AnswersFrom K.Rows.Registry base.now reader.old reader.new writer.old writer.new) }
     ensures refused { OnErr result ((reader.new ≡ reader.old) × (writer.new ≡ writer.old)) }
     ensures cause { IfErr result (K.refuses storage.now) }
 {
@@ -43,8 +44,9 @@ pub fn serve_stored<K: RowStorage, L: Listen>(
     count: u32,
     base: &Base,
 ) -> Result<Result<(), ConnectionFault>, RegistryOpenFault>
-    ensures served { IfOk result (λ outcome. (last : K.Rows) × ServesFrom L.waiting L.Reader.remaining L.Writer.contents
-        K.Rows.Registry base.now listener.old listener.new rows last count outcome) }
+    ensures served { IfOk result (λ outcome. (last : K.Rows)
+        × ServesFrom L.waiting L.Reader.remaining L.Writer.contents K.Rows.Registry base.now
+        listener.old listener.new rows last count outcome) }
     ensures refused { OnErr result (IsRefused L.waiting L.Reader.remaining L.Writer.contents
         K.Rows.Registry base.now listener.old listener.new rows count) }
     ensures cause { IfErr result (K.refuses storage.now) }

@@ -99,7 +99,9 @@ pub fn write_rows<R: Registry, W: Write>(
     rows: &mut R,
     out: &mut W,
 ) -> Result<(), ShowStoreFault>
-    ensures { R.is_faithful rows.new → OnOk result (Appends (W.contents out.old) (W.contents out.new) (lines_of (R.rows rows.old))) }
+    ensures { R.is_faithful rows.new
+        → OnOk result
+        (Appends (W.contents out.old) (W.contents out.new) (lines_of (R.rows rows.old))) }
 {
     write_pages(alloc, rows, out)?;
     Ok(out.flush()?)
@@ -110,7 +112,9 @@ fn write_pages<R: Registry, W: Write>(
     rows: &mut R,
     out: &mut W,
 ) -> Result<(), ShowStoreFault>
-    ensures { R.is_faithful rows.new → OnOk result (Appends (W.contents out.old) (W.contents out.new) (lines_of (R.rows rows.old))) }
+    ensures { R.is_faithful rows.new
+        → OnOk result
+        (Appends (W.contents out.old) (W.contents out.new) (lines_of (R.rows rows.old))) }
 {
     let all = rows.count()?;
     let mut after = 0;
@@ -128,7 +132,9 @@ fn write_page<R: Registry, W: Write>(
     after: u32,
     out: &mut W,
 ) -> Result<(), ShowStoreFault>
-    ensures page { R.is_faithful rows.new → OnOk result (Appends (W.contents out.old) (W.contents out.new)
+    ensures page { R.is_faithful rows.new
+        → OnOk result
+        (Appends (W.contents out.old) (W.contents out.new)
         (lines_of (take ROWS_AT_ONCE (drop after (R.rows rows.old))))) }
     ensures reads { ReadsOn R.Registry rows.old rows.new }
 {

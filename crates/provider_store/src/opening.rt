@@ -77,7 +77,8 @@ impl From<Error> for RegistryOpenFault {
     ghost use Rattle.provider_store.specs.Faults.{statement_fault};
     ghost use Rattle.provider_store.specs.Opening.{open_fault};
 
-    ghost from_gives = { λ error fault. (fault ≡ open_fault (statement_fault error)) × IsFor ⊥ (λ _. ⊥) fault };
+    ghost from_gives = { λ error fault. (fault ≡ open_fault (statement_fault error))
+        × IsFor ⊥ (λ _. ⊥) fault };
 
     fn from(error: Error) -> RegistryOpenFault {
         RegistryOpenFault::from(fault_of(error))
@@ -89,9 +90,13 @@ impl From<Error> for RegistryOpenFault {
 /// Makes the tables and the row of the format, all or none.
 fn make_tables<S: Alter>(conn: &mut Connection<S>) -> Result<(), Error>
     requires outside { (state S.Store conn.old).in_transaction ≡ false }
-    requires blank { HasCleanDisk (state S.Store conn.old) → IsTrue (state S.Store conn.old).is_open → IsBlank (state S.Store conn.old) }
-    ensures made { HasCleanDisk (state S.Store conn.new) → OnOk result (IsTrue (state S.Store conn.new).is_open × IsBlank (state S.Store conn.old) × IsStore (state S.Store conn.new) []) }
-    ensures left { HasCleanDisk (state S.Store conn.new) → OnErr result (LeavesStore (state S.Store conn.old) (state S.Store conn.new)) }
+    requires blank { HasCleanDisk (state S.Store conn.old) → IsTrue (state S.Store conn.old).is_open
+        → IsBlank (state S.Store conn.old) }
+    ensures made { HasCleanDisk (state S.Store conn.new)
+        → OnOk result (IsTrue (state S.Store conn.new).is_open × IsBlank (state S.Store conn.old)
+        × IsStore (state S.Store conn.new) []) }
+    ensures left { HasCleanDisk (state S.Store conn.new)
+        → OnErr result (LeavesStore (state S.Store conn.old) (state S.Store conn.new)) }
     ensures stop { Survives (state S.Store conn.old) (state S.Store conn.new) LeavesNone }
 {
     let mut tables = conn.transaction();
@@ -112,12 +117,22 @@ fn make_tables<S: Alter>(conn: &mut Connection<S>) -> Result<(), Error>
 
 /// Checks the number of the format.
 fn check_format<S: Alter>(conn: &mut Connection<S>) -> Result<(), RegistryOpenFault>
-    requires laid { HasCleanDisk (state S.Store conn.old) → IsTrue (state S.Store conn.old).is_open → IsLaid (state S.Store conn.old) }
-    ensures known { HasCleanDisk (state S.Store conn.new) → OnOk result (IsFormat (state S.Store conn.old) format_number) }
-    ensures cause { HasCleanDisk (state S.Store conn.new) → IfErr result (IsFor (IsNewer (state S.Store conn.old)) (λ told. (told ≡ 0) × IsUnmarked (state S.Store conn.old))) }
-    ensures told { HasCleanDisk (state S.Store conn.new) → IfErr result (IsFor (IsTrue (state S.Store conn.new).is_open) (λ _. IsTrue (state S.Store conn.new).is_open)) }
-    ensures open { HasCleanDisk (state S.Store conn.new) → OnOk result (IsTrue (state S.Store conn.new).is_open) }
-    ensures failed { HasCleanDisk (state S.Store conn.new) → IfErr result (OpenFailsFor (HasFailed (state S.Store conn.old) (state S.Store conn.new))) }
+    requires laid { HasCleanDisk (state S.Store conn.old) → IsTrue (state S.Store conn.old).is_open
+        → IsLaid (state S.Store conn.old) }
+    ensures known { HasCleanDisk (state S.Store conn.new)
+        → OnOk result (IsFormat (state S.Store conn.old) format_number) }
+    ensures cause { HasCleanDisk (state S.Store conn.new)
+        → IfErr result (IsFor (IsNewer (state S.Store conn.old)) (λ told. (told ≡ 0)
+        × IsUnmarked (state S.Store conn.old))) }
+    ensures told { HasCleanDisk (state S.Store conn.new)
+        → IfErr result
+        (IsFor (IsTrue (state S.Store conn.new).is_open)
+        (λ _. IsTrue (state S.Store conn.new).is_open)) }
+    ensures open { HasCleanDisk (state S.Store conn.new)
+        → OnOk result (IsTrue (state S.Store conn.new).is_open) }
+    ensures failed { HasCleanDisk (state S.Store conn.new)
+        → IfErr result
+        (OpenFailsFor (HasFailed (state S.Store conn.old) (state S.Store conn.new))) }
     ensures looks { Looks (state S.Store conn.old) (state S.Store conn.new) }
 {
     match find_mark::<S, Provider>(conn, "SELECT number FROM provider_format", FORMAT) {
@@ -136,12 +151,21 @@ fn check_row<S: Alter>(
     conn: &mut Connection<S>,
     number: u32,
 ) -> Result<bool, RegistryOpenFault>
-    requires laid { HasCleanDisk (state S.Store conn.old) → IsTrue (state S.Store conn.old).is_open → IsLaid (state S.Store conn.old) }
-    ensures lawful { HasCleanDisk (state S.Store conn.new) → IfOk result (λ is. IsTrue is → IsLawfulAt (resources (state S.Store conn.old)) number) }
-    ensures absent { HasCleanDisk (state S.Store conn.new) → IfOk result (λ is. is ≡ false → filter (has_rowid (pos number)) (resources (state S.Store conn.old)) ≡ []) }
-    ensures cause { HasCleanDisk (state S.Store conn.new) → IfErr result (IsFor ⊥ (λ told. IsTrue (state S.Store conn.new).is_open × (told ≡ number) × IsWrong (resources (state S.Store conn.old)) number)) }
-    ensures open { HasCleanDisk (state S.Store conn.new) → OnOk result (IsTrue (state S.Store conn.new).is_open) }
-    ensures failed { HasCleanDisk (state S.Store conn.new) → IfErr result (OpenFailsFor (HasFailed (state S.Store conn.old) (state S.Store conn.new))) }
+    requires laid { HasCleanDisk (state S.Store conn.old) → IsTrue (state S.Store conn.old).is_open
+        → IsLaid (state S.Store conn.old) }
+    ensures lawful { HasCleanDisk (state S.Store conn.new)
+        → IfOk result (λ is. IsTrue is → IsLawfulAt (resources (state S.Store conn.old)) number) }
+    ensures absent { HasCleanDisk (state S.Store conn.new)
+        → IfOk result (λ is. is ≡ false
+        → filter (has_rowid (pos number)) (resources (state S.Store conn.old)) ≡ []) }
+    ensures cause { HasCleanDisk (state S.Store conn.new)
+        → IfErr result (IsFor ⊥ (λ told. IsTrue (state S.Store conn.new).is_open × (told ≡ number)
+        × IsWrong (resources (state S.Store conn.old)) number)) }
+    ensures open { HasCleanDisk (state S.Store conn.new)
+        → OnOk result (IsTrue (state S.Store conn.new).is_open) }
+    ensures failed { HasCleanDisk (state S.Store conn.new)
+        → IfErr result
+        (OpenFailsFor (HasFailed (state S.Store conn.old) (state S.Store conn.new))) }
     ensures looks { Looks (state S.Store conn.old) (state S.Store conn.new) }
 {
     match find_numbered(alloc, conn, number)? {
@@ -160,12 +184,24 @@ fn check_name<S: Alter>(
     conn: &mut Connection<S>,
     row: &Stored,
 ) -> Result<(), RegistryOpenFault>
-    requires laid { HasCleanDisk (state S.Store conn.old) → IsTrue (state S.Store conn.old).is_open → IsLaid (state S.Store conn.old) }
-    ensures alone { HasCleanDisk (state S.Store conn.new) → OnOk result (IsAlone (resources (state S.Store conn.old)) (content_name row.now.content)) }
-    ensures named { HasCleanDisk (state S.Store conn.new) → OnOk result ((r : _) × (filter (has_name (content_name row.now.content)) (resources (state S.Store conn.old)) ≡ r ∷ [])) }
-    ensures cause { HasCleanDisk (state S.Store conn.new) → IfErr result (IsFor ⊥ (λ told. IsTrue (state S.Store conn.new).is_open × (told ≡ row.now.number) × NoneNamed (resources (state S.Store conn.old)) (content_name row.now.content))) }
-    ensures open { HasCleanDisk (state S.Store conn.new) → OnOk result (IsTrue (state S.Store conn.new).is_open) }
-    ensures failed { HasCleanDisk (state S.Store conn.new) → IfErr result (OpenFailsFor (HasFailed (state S.Store conn.old) (state S.Store conn.new))) }
+    requires laid { HasCleanDisk (state S.Store conn.old) → IsTrue (state S.Store conn.old).is_open
+        → IsLaid (state S.Store conn.old) }
+    ensures alone { HasCleanDisk (state S.Store conn.new)
+        → OnOk result
+        (IsAlone (resources (state S.Store conn.old)) (content_name row.now.content)) }
+    ensures named { HasCleanDisk (state S.Store conn.new)
+        → OnOk result ((r : _)
+        × (filter (has_name (content_name row.now.content)) (resources (state S.Store conn.old))
+        ≡ r ∷ [])) }
+    ensures cause { HasCleanDisk (state S.Store conn.new)
+        → IfErr result (IsFor ⊥ (λ told. IsTrue (state S.Store conn.new).is_open
+        × (told ≡ row.now.number)
+        × NoneNamed (resources (state S.Store conn.old)) (content_name row.now.content))) }
+    ensures open { HasCleanDisk (state S.Store conn.new)
+        → OnOk result (IsTrue (state S.Store conn.new).is_open) }
+    ensures failed { HasCleanDisk (state S.Store conn.new)
+        → IfErr result
+        (OpenFailsFor (HasFailed (state S.Store conn.old) (state S.Store conn.new))) }
     ensures looks { Looks (state S.Store conn.old) (state S.Store conn.new) }
 {
     let name = row.content().name(alloc)?;
@@ -181,13 +217,21 @@ fn check_from<S: Alter>(
     conn: &mut Connection<S>,
     from: u32,
 ) -> Result<u32, RegistryOpenFault>
-    requires laid { HasCleanDisk (state S.Store conn.old) → IsTrue (state S.Store conn.old).is_open → IsLaid (state S.Store conn.old) }
+    requires laid { HasCleanDisk (state S.Store conn.old) → IsTrue (state S.Store conn.old).is_open
+        → IsLaid (state S.Store conn.old) }
     requires within { from ≤ last_number }
-    requires before { HasCleanDisk (state S.Store conn.old) → AreLawfulTo (resources (state S.Store conn.old)) from }
-    ensures lawful { HasCleanDisk (state S.Store conn.new) → IfOk result (AreLawfulTo (resources (state S.Store conn.old))) }
-    ensures ends { HasCleanDisk (state S.Store conn.new) → IfOk result (EndsAt (resources (state S.Store conn.old))) }
-    ensures cause { HasCleanDisk (state S.Store conn.new) → IfErr result (IsFor ⊥ (λ told. IsTrue (state S.Store conn.new).is_open × IsFirstWrong (resources (state S.Store conn.old)) told)) }
-    ensures failed { HasCleanDisk (state S.Store conn.new) → IfErr result (OpenFailsFor (HasFailed (state S.Store conn.old) (state S.Store conn.new))) }
+    requires before { HasCleanDisk (state S.Store conn.old)
+        → AreLawfulTo (resources (state S.Store conn.old)) from }
+    ensures lawful { HasCleanDisk (state S.Store conn.new)
+        → IfOk result (AreLawfulTo (resources (state S.Store conn.old))) }
+    ensures ends { HasCleanDisk (state S.Store conn.new)
+        → IfOk result (EndsAt (resources (state S.Store conn.old))) }
+    ensures cause { HasCleanDisk (state S.Store conn.new)
+        → IfErr result (IsFor ⊥ (λ told. IsTrue (state S.Store conn.new).is_open
+        × IsFirstWrong (resources (state S.Store conn.old)) told)) }
+    ensures failed { HasCleanDisk (state S.Store conn.new)
+        → IfErr result
+        (OpenFailsFor (HasFailed (state S.Store conn.old) (state S.Store conn.new))) }
     ensures looks { Looks (state S.Store conn.old) (state S.Store conn.new) }
 {
     for count in from..LAST_NUMBER {
@@ -200,12 +244,18 @@ fn check_from<S: Alter>(
 
 /// Whether each row has a number. SQLite gives one to each row, but its contracts don't say so.
 fn are_numbered<S: Alter>(conn: &mut Connection<S>) -> Result<bool, RegistryOpenFault>
-    requires laid { HasCleanDisk (state S.Store conn.old) → IsTrue (state S.Store conn.old).is_open → IsLaid (state S.Store conn.old) }
-    ensures all { HasCleanDisk (state S.Store conn.new) → IfOk result (λ are. IsTrue are → AreNumbered (resources (state S.Store conn.old))) }
-    ensures some { HasCleanDisk (state S.Store conn.new) → IfOk result (λ are. are ≡ false → AreNumbered (resources (state S.Store conn.old)) → ⊥) }
+    requires laid { HasCleanDisk (state S.Store conn.old) → IsTrue (state S.Store conn.old).is_open
+        → IsLaid (state S.Store conn.old) }
+    ensures all { HasCleanDisk (state S.Store conn.new)
+        → IfOk result (λ are. IsTrue are → AreNumbered (resources (state S.Store conn.old))) }
+    ensures some { HasCleanDisk (state S.Store conn.new)
+        → IfOk result (λ are. are ≡ false → AreNumbered (resources (state S.Store conn.old)) → ⊥) }
     ensures cause { IfErr result (IsFor ⊥ (λ _. ⊥)) }
-    ensures open { HasCleanDisk (state S.Store conn.new) → OnOk result (IsTrue (state S.Store conn.new).is_open) }
-    ensures failed { HasCleanDisk (state S.Store conn.new) → IfErr result (OpenFailsFor (HasFailed (state S.Store conn.old) (state S.Store conn.new))) }
+    ensures open { HasCleanDisk (state S.Store conn.new)
+        → OnOk result (IsTrue (state S.Store conn.new).is_open) }
+    ensures failed { HasCleanDisk (state S.Store conn.new)
+        → IfErr result
+        (OpenFailsFor (HasFailed (state S.Store conn.old) (state S.Store conn.new))) }
     ensures looks { Looks (state S.Store conn.old) (state S.Store conn.new) }
 {
     match ask::<S, Provider>(
@@ -229,16 +279,26 @@ fn page_end(after: u32, page: &[Stored], last: u32) -> u32
 /// Checks the rows by pages, and returns how many follow each other from 1, up to a page that is broken. It
 /// looks up no name, because kind and key are unique in sound tables.
 fn check_pages<S: Alter>(alloc: Global, conn: &mut Connection<S>) -> Result<u32, RegistryOpenFault>
-    requires laid { HasCleanDisk (state S.Store conn.old) → IsTrue (state S.Store conn.old).is_open → IsLaid (state S.Store conn.old) }
-    requires sound { HasCleanDisk (state S.Store conn.old) → IsTrue (state S.Store conn.old).is_open → IsDatabase (state S.Store conn.old).now }
-    requires numbered { HasCleanDisk (state S.Store conn.old) → AreNumbered (resources (state S.Store conn.old)) }
-    requires open { HasCleanDisk (state S.Store conn.old) → IsTrue (state S.Store conn.old).is_open }
-    ensures lawful { HasCleanDisk (state S.Store conn.new) → IfOk result (AreLawfulTo (resources (state S.Store conn.old))) }
+    requires laid { HasCleanDisk (state S.Store conn.old) → IsTrue (state S.Store conn.old).is_open
+        → IsLaid (state S.Store conn.old) }
+    requires sound { HasCleanDisk (state S.Store conn.old) → IsTrue (state S.Store conn.old).is_open
+        → IsDatabase (state S.Store conn.old).now }
+    requires numbered { HasCleanDisk (state S.Store conn.old)
+        → AreNumbered (resources (state S.Store conn.old)) }
+    requires open { HasCleanDisk (state S.Store conn.old)
+        → IsTrue (state S.Store conn.old).is_open }
+    ensures lawful { HasCleanDisk (state S.Store conn.new)
+        → IfOk result (AreLawfulTo (resources (state S.Store conn.old))) }
     ensures within { IfOk result (λ count. count ≤ last_number) }
-    ensures ends { HasCleanDisk (state S.Store conn.new) → IfOk result (λ count. EndsAt (resources (state S.Store conn.old)) count ⊎ ((last : ℕ) × IsBroken (resources (state S.Store conn.old)) count last)) }
+    ensures ends { HasCleanDisk (state S.Store conn.new)
+        → IfOk result (λ count. EndsAt (resources (state S.Store conn.old)) count
+        ⊎ ((last : ℕ) × IsBroken (resources (state S.Store conn.old)) count last)) }
     ensures cause { IfErr result (IsFor ⊥ (λ _. ⊥)) }
-    ensures open { HasCleanDisk (state S.Store conn.new) → OnOk result (IsTrue (state S.Store conn.new).is_open) }
-    ensures failed { HasCleanDisk (state S.Store conn.new) → IfErr result (OpenFailsFor (HasFailed (state S.Store conn.old) (state S.Store conn.new))) }
+    ensures open { HasCleanDisk (state S.Store conn.new)
+        → OnOk result (IsTrue (state S.Store conn.new).is_open) }
+    ensures failed { HasCleanDisk (state S.Store conn.new)
+        → IfErr result
+        (OpenFailsFor (HasFailed (state S.Store conn.old) (state S.Store conn.new))) }
     ensures looks { Looks (state S.Store conn.old) (state S.Store conn.new) }
 {
     let mut count = 0;
@@ -257,12 +317,20 @@ fn check_pages<S: Alter>(alloc: Global, conn: &mut Connection<S>) -> Result<u32,
 
 /// Checks the rows in order of their numbers, and returns how many follow each other from 1.
 fn check_rows<S: Alter>(alloc: Global, conn: &mut Connection<S>) -> Result<u32, RegistryOpenFault>
-    requires laid { HasCleanDisk (state S.Store conn.old) → IsTrue (state S.Store conn.old).is_open → IsLaid (state S.Store conn.old) }
-    requires sound { HasCleanDisk (state S.Store conn.old) → IsTrue (state S.Store conn.old).is_open → IsDatabase (state S.Store conn.old).now }
-    ensures lawful { HasCleanDisk (state S.Store conn.new) → IfOk result (AreLawfulTo (resources (state S.Store conn.old))) }
-    ensures ends { HasCleanDisk (state S.Store conn.new) → IfOk result (EndsAt (resources (state S.Store conn.old))) }
-    ensures cause { HasCleanDisk (state S.Store conn.new) → IfErr result (IsFor ⊥ (λ told. IsTrue (state S.Store conn.new).is_open × IsFirstWrong (resources (state S.Store conn.old)) told)) }
-    ensures failed { HasCleanDisk (state S.Store conn.new) → IfErr result (OpenFailsFor (HasFailed (state S.Store conn.old) (state S.Store conn.new))) }
+    requires laid { HasCleanDisk (state S.Store conn.old) → IsTrue (state S.Store conn.old).is_open
+        → IsLaid (state S.Store conn.old) }
+    requires sound { HasCleanDisk (state S.Store conn.old) → IsTrue (state S.Store conn.old).is_open
+        → IsDatabase (state S.Store conn.old).now }
+    ensures lawful { HasCleanDisk (state S.Store conn.new)
+        → IfOk result (AreLawfulTo (resources (state S.Store conn.old))) }
+    ensures ends { HasCleanDisk (state S.Store conn.new)
+        → IfOk result (EndsAt (resources (state S.Store conn.old))) }
+    ensures cause { HasCleanDisk (state S.Store conn.new)
+        → IfErr result (IsFor ⊥ (λ told. IsTrue (state S.Store conn.new).is_open
+        × IsFirstWrong (resources (state S.Store conn.old)) told)) }
+    ensures failed { HasCleanDisk (state S.Store conn.new)
+        → IfErr result
+        (OpenFailsFor (HasFailed (state S.Store conn.old) (state S.Store conn.new))) }
     ensures looks { Looks (state S.Store conn.old) (state S.Store conn.new) }
 {
     if !are_numbered(conn)? {
@@ -274,12 +342,21 @@ fn check_rows<S: Alter>(alloc: Global, conn: &mut Connection<S>) -> Result<u32, 
 
 /// Checks that there is no row other than the first `count`.
 fn check_rest<S: Alter>(conn: &mut Connection<S>, count: u32) -> Result<(), RegistryOpenFault>
-    requires laid { HasCleanDisk (state S.Store conn.old) → IsTrue (state S.Store conn.old).is_open → IsLaid (state S.Store conn.old) }
-    ensures none { HasCleanDisk (state S.Store conn.new) → OnOk result ((n : ℕ) → count < n → filter (has_rowid (pos n)) (resources (state S.Store conn.old)) ≡ []) }
-    ensures within { HasCleanDisk (state S.Store conn.new) → OnOk result (AreWithin (resources (state S.Store conn.old)) count) }
-    ensures cause { HasCleanDisk (state S.Store conn.new) → IfErr result (IsFor ⊥ (λ told. IsTrue (state S.Store conn.new).is_open × IsOutside (resources (state S.Store conn.old)) count told)) }
-    ensures open { HasCleanDisk (state S.Store conn.new) → OnOk result (IsTrue (state S.Store conn.new).is_open) }
-    ensures failed { HasCleanDisk (state S.Store conn.new) → IfErr result (OpenFailsFor (HasFailed (state S.Store conn.old) (state S.Store conn.new))) }
+    requires laid { HasCleanDisk (state S.Store conn.old) → IsTrue (state S.Store conn.old).is_open
+        → IsLaid (state S.Store conn.old) }
+    ensures none { HasCleanDisk (state S.Store conn.new)
+        → OnOk result ((n : ℕ) → count < n
+        → filter (has_rowid (pos n)) (resources (state S.Store conn.old)) ≡ []) }
+    ensures within { HasCleanDisk (state S.Store conn.new)
+        → OnOk result (AreWithin (resources (state S.Store conn.old)) count) }
+    ensures cause { HasCleanDisk (state S.Store conn.new)
+        → IfErr result (IsFor ⊥ (λ told. IsTrue (state S.Store conn.new).is_open
+        × IsOutside (resources (state S.Store conn.old)) count told)) }
+    ensures open { HasCleanDisk (state S.Store conn.new)
+        → OnOk result (IsTrue (state S.Store conn.new).is_open) }
+    ensures failed { HasCleanDisk (state S.Store conn.new)
+        → IfErr result
+        (OpenFailsFor (HasFailed (state S.Store conn.old) (state S.Store conn.new))) }
     ensures looks { Looks (state S.Store conn.old) (state S.Store conn.new) }
 {
     match ask::<S, Provider>(
@@ -295,7 +372,8 @@ fn check_rest<S: Alter>(conn: &mut Connection<S>, count: u32) -> Result<(), Regi
 /// Checks that there is no row; otherwise the fault has the number of the first.
 fn none_in(rows: &[Row]) -> Result<(), RegistryOpenFault>
     ensures none { OnOk result (rows.now ≡ []) }
-    ensures cause { IfErr result (IsFor ⊥ (λ told. (r : _) × Has rows.now r × (told ≡ number_at (column r 0)))) }
+    ensures cause { IfErr result (IsFor ⊥ (λ told. (r : _) × Has rows.now r
+        × (told ≡ number_at (column r 0)))) }
     ensures read { IfErr result IsOfRows }
 {
     match rows {
@@ -308,12 +386,21 @@ fn none_in(rows: &[Row]) -> Result<(), RegistryOpenFault>
 
 /// Checks the format and each row, and returns how many rows there are.
 fn check_laid<S: Alter>(alloc: Global, conn: &mut Connection<S>) -> Result<u32, RegistryOpenFault>
-    requires laid { HasCleanDisk (state S.Store conn.old) → IsTrue (state S.Store conn.old).is_open → IsLaid (state S.Store conn.old) }
-    requires sound { HasCleanDisk (state S.Store conn.old) → IsTrue (state S.Store conn.old).is_open → IsDatabase (state S.Store conn.old).now }
-    ensures store { HasCleanDisk (state S.Store conn.new) → IfOk result (λ count. (rows : List StoredRecord) × IsStore (state S.Store conn.old) rows × (length rows ≡ count)) }
-    ensures cause { HasCleanDisk (state S.Store conn.new) → IfErr result (IsFor (IsNewer (state S.Store conn.old)) (IsSpoilt (state S.Store conn.old))) }
-    ensures open { HasCleanDisk (state S.Store conn.new) → OnOk result (IsTrue (state S.Store conn.new).is_open) }
-    ensures failed { HasCleanDisk (state S.Store conn.new) → IfErr result (OpenFailsFor (HasFailed (state S.Store conn.old) (state S.Store conn.new))) }
+    requires laid { HasCleanDisk (state S.Store conn.old) → IsTrue (state S.Store conn.old).is_open
+        → IsLaid (state S.Store conn.old) }
+    requires sound { HasCleanDisk (state S.Store conn.old) → IsTrue (state S.Store conn.old).is_open
+        → IsDatabase (state S.Store conn.old).now }
+    ensures store { HasCleanDisk (state S.Store conn.new)
+        → IfOk result (λ count. (rows : List StoredRecord) × IsStore (state S.Store conn.old) rows
+        × (length rows ≡ count)) }
+    ensures cause { HasCleanDisk (state S.Store conn.new)
+        → IfErr result
+        (IsFor (IsNewer (state S.Store conn.old)) (IsSpoilt (state S.Store conn.old))) }
+    ensures open { HasCleanDisk (state S.Store conn.new)
+        → OnOk result (IsTrue (state S.Store conn.new).is_open) }
+    ensures failed { HasCleanDisk (state S.Store conn.new)
+        → IfErr result
+        (OpenFailsFor (HasFailed (state S.Store conn.old) (state S.Store conn.new))) }
     ensures looks { Looks (state S.Store conn.old) (state S.Store conn.new) }
 {
     check_format(conn)?;
@@ -324,8 +411,10 @@ fn check_laid<S: Alter>(alloc: Global, conn: &mut Connection<S>) -> Result<u32, 
 
 /// Whether the tables are laid out and no transaction is open.
 fn is_laid<S: Alter>(conn: &Connection<S>) -> bool
-    ensures is { IsTrue result → IsTrue (state S.Store conn.now).is_open → IsLaid (state S.Store conn.now) }
-    ensures sound { IsTrue result → IsTrue (state S.Store conn.now).is_open → IsDatabase (state S.Store conn.now).now }
+    ensures is { IsTrue result → IsTrue (state S.Store conn.now).is_open
+        → IsLaid (state S.Store conn.now) }
+    ensures sound { IsTrue result → IsTrue (state S.Store conn.now).is_open
+        → IsDatabase (state S.Store conn.now).now }
     ensures not { result ≡ false → IsNotLaid (state S.Store conn.now) }
 {
     conn.is_autocommit() && is_provider(conn.schema())
@@ -336,12 +425,21 @@ pub(crate) fn check_tables<S: Alter>(
     alloc: Global,
     conn: &mut Connection<S>,
 ) -> Result<u32, RegistryOpenFault>
-    ensures store { HasCleanDisk (state S.Store conn.new) → IfOk result (λ count. (rows : List StoredRecord) × IsStore (state S.Store conn.old) rows × (length rows ≡ count)) }
-    ensures cause { HasCleanDisk (state S.Store conn.new) → IfErr result (IsFor (IsNewer (state S.Store conn.old)) (λ told. ((told ≡ 0) × IsNotLaid (state S.Store conn.old)) ⊎ IsSpoilt (state S.Store conn.old) told)) }
-    ensures open { HasCleanDisk (state S.Store conn.new) → OnOk result (IsTrue (state S.Store conn.new).is_open) }
-    ensures failed { HasCleanDisk (state S.Store conn.new) → IfErr result (OpenFailsFor (HasFailed (state S.Store conn.old) (state S.Store conn.new))) }
+    ensures store { HasCleanDisk (state S.Store conn.new)
+        → IfOk result (λ count. (rows : List StoredRecord) × IsStore (state S.Store conn.old) rows
+        × (length rows ≡ count)) }
+    ensures cause { HasCleanDisk (state S.Store conn.new)
+        → IfErr result (IsFor (IsNewer (state S.Store conn.old)) (λ told. ((told ≡ 0)
+        × IsNotLaid (state S.Store conn.old))
+        ⊎ IsSpoilt (state S.Store conn.old) told)) }
+    ensures open { HasCleanDisk (state S.Store conn.new)
+        → OnOk result (IsTrue (state S.Store conn.new).is_open) }
+    ensures failed { HasCleanDisk (state S.Store conn.new)
+        → IfErr result
+        (OpenFailsFor (HasFailed (state S.Store conn.old) (state S.Store conn.new))) }
     ensures looks { Looks (state S.Store conn.old) (state S.Store conn.new) }
-    ensures left { HasCleanDisk (state S.Store conn.new) → LeavesStore (state S.Store conn.old) (state S.Store conn.new) }
+    ensures left { HasCleanDisk (state S.Store conn.new)
+        → LeavesStore (state S.Store conn.old) (state S.Store conn.new) }
 {
     if is_laid(conn) {
         check_laid(alloc, conn)
@@ -355,12 +453,20 @@ pub(crate) fn open_tables<S: Alter>(
     alloc: Global,
     conn: &mut Connection<S>,
 ) -> Result<u32, RegistryOpenFault>
-    ensures stands { HasCleanDisk (state S.Store conn.new) → IfOk result (λ count. (rows : List StoredRecord) × Stands (state S.Store conn.old) rows × IsStore (state S.Store conn.new) rows × (length rows ≡ count)) }
-    ensures sound { HasCleanDisk (state S.Store conn.new) → OnOk result ((number : ℕ) → IsDamaged (state S.Store conn.old) number → ⊥) }
-    ensures cause { HasCleanDisk (state S.Store conn.new) → IfErr result (IsCause (state S.Store conn.old)) }
-    ensures failed { HasCleanDisk (state S.Store conn.new) → IfErr result (OpenFailsFor (OpeningFails (state S.Store conn.old) (state S.Store conn.new))) }
-    ensures open { HasCleanDisk (state S.Store conn.new) → OnOk result (IsTrue (state S.Store conn.new).is_open) }
-    ensures left { HasCleanDisk (state S.Store conn.new) → OnErr result (LeavesStore (state S.Store conn.old) (state S.Store conn.new)) }
+    ensures stands { HasCleanDisk (state S.Store conn.new)
+        → IfOk result (λ count. (rows : List StoredRecord) × Stands (state S.Store conn.old) rows
+        × IsStore (state S.Store conn.new) rows × (length rows ≡ count)) }
+    ensures sound { HasCleanDisk (state S.Store conn.new)
+        → OnOk result ((number : ℕ) → IsDamaged (state S.Store conn.old) number → ⊥) }
+    ensures cause { HasCleanDisk (state S.Store conn.new)
+        → IfErr result (IsCause (state S.Store conn.old)) }
+    ensures failed { HasCleanDisk (state S.Store conn.new)
+        → IfErr result
+        (OpenFailsFor (OpeningFails (state S.Store conn.old) (state S.Store conn.new))) }
+    ensures open { HasCleanDisk (state S.Store conn.new)
+        → OnOk result (IsTrue (state S.Store conn.new).is_open) }
+    ensures left { HasCleanDisk (state S.Store conn.new)
+        → OnErr result (LeavesStore (state S.Store conn.old) (state S.Store conn.new)) }
     ensures stop { Survives (state S.Store conn.old) (state S.Store conn.new) LeavesNone }
 {
     if !conn.is_autocommit() {

@@ -43,9 +43,21 @@ impl<S: Alter> Model for SqlRegistry<S> {
 
     ghost coded = { kept_code S.code };
 
-    ghost view = { λ r. record { conn = r.conn; is_usable = r.is_usable; count = r.count; faults = r.faults; writes = r.writes } };
+    ghost view = { λ r. record {
+      conn = r.conn;
+      is_usable = r.is_usable;
+      count = r.count;
+      faults = r.faults;
+      writes = r.writes;
+    } };
 
-    ghost invariant = { λ r. IsSound S.Store (record { conn = r.conn; is_usable = r.is_usable; count = r.count; faults = r.faults; writes = r.writes }) };
+    ghost invariant = { λ r. IsSound S.Store (record {
+      conn = r.conn;
+      is_usable = r.is_usable;
+      count = r.count;
+      faults = r.faults;
+      writes = r.writes;
+    }) };
 }
 
 /// Returns the fault, and counts it if it is a fault of the store.
@@ -121,14 +133,21 @@ impl<S: Alter> SqlRegistry<S> {
         mut conn: Connection<S>,
     ) -> Result<SqlRegistry<S>, (RegistryOpenFault, Connection<S>)>
         ensures faithful { IfOk result (λ r. IsHonest S.Store r → IsFaithful S.Store r) }
-        ensures rows { IfOk result (λ r. IsHonest S.Store r → Stands (state S.Store conn) (kept_rows S.Store r)) }
+        ensures rows { IfOk result (λ r. IsHonest S.Store r
+            → Stands (state S.Store conn) (kept_rows S.Store r)) }
         ensures counts { IfOk result (λ r. (r.faults ≡ 0) × (r.writes ≡ 0)) }
-        ensures stop { IfOk result (λ r. Survives (state S.Store conn) (state S.Store r.conn) LeavesNone) }
-        ensures sound { IfOk result (λ r. IsHonest S.Store r → (number : ℕ) → IsDamaged (state S.Store conn) number → ⊥) }
-        ensures cause { IfErr result (λ e. HasCleanDisk (state S.Store e.1) → IsCause (state S.Store conn) e.0) }
-        ensures failed { IfErr result (λ e. HasCleanDisk (state S.Store e.1) → OpenFailsFor (OpeningFails (state S.Store conn) (state S.Store e.1)) e.0) }
-        ensures left { IfErr result (λ e. HasCleanDisk (state S.Store e.1) → LeavesStore (state S.Store conn) (state S.Store e.1)) }
-        ensures refused { IfErr result (λ e. Survives (state S.Store conn) (state S.Store e.1) LeavesNone) }
+        ensures stop { IfOk result
+            (λ r. Survives (state S.Store conn) (state S.Store r.conn) LeavesNone) }
+        ensures sound { IfOk result (λ r. IsHonest S.Store r → (number : ℕ)
+            → IsDamaged (state S.Store conn) number → ⊥) }
+        ensures cause { IfErr result (λ e. HasCleanDisk (state S.Store e.1)
+            → IsCause (state S.Store conn) e.0) }
+        ensures failed { IfErr result (λ e. HasCleanDisk (state S.Store e.1)
+            → OpenFailsFor (OpeningFails (state S.Store conn) (state S.Store e.1)) e.0) }
+        ensures left { IfErr result (λ e. HasCleanDisk (state S.Store e.1)
+            → LeavesStore (state S.Store conn) (state S.Store e.1)) }
+        ensures refused { IfErr result
+            (λ e. Survives (state S.Store conn) (state S.Store e.1) LeavesNone) }
     {
         match open_tables(alloc, &mut conn) {
             Ok(count) => Ok(SqlRegistry {
@@ -168,11 +187,15 @@ impl<S: Alter> SqlRegistry<S> {
     /// The row with this number, if there is one.
     fn row_at(&mut self, number: u32) -> Result<Option<Stored>, RegistryFault>
         requires { 1 ≤ number }
-        ensures ok { IsFaithful S.Store self.new → IfOk result (λ row. row ≡ slice_get (kept_rows S.Store self.old) (number - 1)) }
+        ensures ok { IsFaithful S.Store self.new
+            → IfOk result (λ row. row ≡ slice_get (kept_rows S.Store self.old) (number - 1)) }
         ensures reads { Reads S.Store self.old self.new result }
         ensures shut { IsRefused self.old result }
         ensures counted { self.new.count ≡ self.old.count }
-        ensures failed { IsTrue self.old.is_usable → IsHonest S.Store self.new → IfErr result (FailsFor (HasFailed (state S.Store self.old.conn) (state S.Store self.new.conn) ⊎ FindsNumber (resources (state S.Store self.old.conn)) number Damaged)) }
+        ensures failed { IsTrue self.old.is_usable → IsHonest S.Store self.new
+            → IfErr result
+            (FailsFor (HasFailed (state S.Store self.old.conn) (state S.Store self.new.conn)
+            ⊎ FindsNumber (resources (state S.Store self.old.conn)) number Damaged)) }
     {
         if !self.is_usable {
             return Err(refusal(&mut self.faults));
@@ -183,11 +206,15 @@ impl<S: Alter> SqlRegistry<S> {
 
     /// The row of a record, if there is one.
     fn row_of(&mut self, name: &RecordName) -> Result<Option<Stored>, RegistryFault>
-        ensures ok { IsFaithful S.Store self.new → IfOk result (λ row. row ≡ row_named name.now (kept_rows S.Store self.old)) }
+        ensures ok { IsFaithful S.Store self.new
+            → IfOk result (λ row. row ≡ row_named name.now (kept_rows S.Store self.old)) }
         ensures reads { Reads S.Store self.old self.new result }
         ensures shut { IsRefused self.old result }
         ensures counted { self.new.count ≡ self.old.count }
-        ensures failed { IsTrue self.old.is_usable → IsHonest S.Store self.new → IfErr result (FailsFor (HasFailed (state S.Store self.old.conn) (state S.Store self.new.conn) ⊎ FindsName (resources (state S.Store self.old.conn)) name.now Damaged)) }
+        ensures failed { IsTrue self.old.is_usable → IsHonest S.Store self.new
+            → IfErr result
+            (FailsFor (HasFailed (state S.Store self.old.conn) (state S.Store self.new.conn)
+            ⊎ FindsName (resources (state S.Store self.old.conn)) name.now Damaged)) }
     {
         if !self.is_usable {
             return Err(refusal(&mut self.faults));
@@ -221,30 +248,42 @@ impl<S: Alter> Registry for SqlRegistry<S> {
     ghost writes = { λ k. k.writes };
 
     fn count(&mut self) -> Result<u32, RegistryFault>
-        ensures ok { IsFaithful S.Store self.new → IfOk result (λ n. n ≡ length (kept_rows S.Store self.old)) }
+        ensures ok { IsFaithful S.Store self.new
+            → IfOk result (λ n. n ≡ length (kept_rows S.Store self.old)) }
         ensures reads { Reads S.Store self.old self.new result }
         ensures shut { IsRefused self.old result }
-        ensures failed { IsTrue self.old.is_usable → IsHonest S.Store self.new → IfErr result (FailsFor (HasFailed (state S.Store self.old.conn) (state S.Store self.new.conn) ⊎ FindsNumber (resources (state S.Store self.old.conn)) 1 Damaged)) }
+        ensures failed { IsTrue self.old.is_usable → IsHonest S.Store self.new
+            → IfErr result
+            (FailsFor (HasFailed (state S.Store self.old.conn) (state S.Store self.new.conn)
+            ⊎ FindsNumber (resources (state S.Store self.old.conn)) 1 Damaged)) }
     {
         self.row_at(1)?;
         Ok(self.count)
     }
 
     fn by_key(&mut self, name: &RecordName) -> Result<Option<Stored>, RegistryFault>
-        ensures ok { IsFaithful S.Store self.new → IfOk result (λ row. row ≡ row_named name.now (kept_rows S.Store self.old)) }
+        ensures ok { IsFaithful S.Store self.new
+            → IfOk result (λ row. row ≡ row_named name.now (kept_rows S.Store self.old)) }
         ensures apart { IsFaithful S.Store self.new → AreNamedApart (kept_rows S.Store self.old) }
         ensures reads { Reads S.Store self.old self.new result }
         ensures shut { IsRefused self.old result }
-        ensures failed { IsTrue self.old.is_usable → IsHonest S.Store self.new → IfErr result (FailsFor (HasFailed (state S.Store self.old.conn) (state S.Store self.new.conn) ⊎ FindsName (resources (state S.Store self.old.conn)) name.now Damaged)) }
+        ensures failed { IsTrue self.old.is_usable → IsHonest S.Store self.new
+            → IfErr result
+            (FailsFor (HasFailed (state S.Store self.old.conn) (state S.Store self.new.conn)
+            ⊎ FindsName (resources (state S.Store self.old.conn)) name.now Damaged)) }
     {
         self.row_of(name)
     }
 
     fn count_if_free(&mut self, name: &RecordName) -> Result<Option<u32>, RegistryFault>
-        ensures ok { IsFaithful S.Store self.new → IfOk result (λ count. count ≡ count_if_free name.now (kept_rows S.Store self.old)) }
+        ensures ok { IsFaithful S.Store self.new
+            → IfOk result (λ count. count ≡ count_if_free name.now (kept_rows S.Store self.old)) }
         ensures reads { Reads S.Store self.old self.new result }
         ensures shut { IsRefused self.old result }
-        ensures failed { IsTrue self.old.is_usable → IsHonest S.Store self.new → IfErr result (FailsFor (HasFailed (state S.Store self.old.conn) (state S.Store self.new.conn) ⊎ FindsName (resources (state S.Store self.old.conn)) name.now Damaged)) }
+        ensures failed { IsTrue self.old.is_usable → IsHonest S.Store self.new
+            → IfErr result
+            (FailsFor (HasFailed (state S.Store self.old.conn) (state S.Store self.new.conn)
+            ⊎ FindsName (resources (state S.Store self.old.conn)) name.now Damaged)) }
     {
         match self.row_of(name)? {
             Some(_) => Ok(None),
@@ -253,10 +292,15 @@ impl<S: Alter> Registry for SqlRegistry<S> {
     }
 
     fn by_id(&mut self, id: &ResourceId) -> Result<Option<Stored>, RegistryFault>
-        ensures ok { IsFaithful S.Store self.new → IfOk result (λ row. row ≡ row_with_id id.now (kept_rows S.Store self.old)) }
+        ensures ok { IsFaithful S.Store self.new
+            → IfOk result (λ row. row ≡ row_with_id id.now (kept_rows S.Store self.old)) }
         ensures reads { Reads S.Store self.old self.new result }
         ensures shut { IsRefused self.old result }
-        ensures failed { IsTrue self.old.is_usable → IsHonest S.Store self.new → IfErr result (FailsFor (HasFailed (state S.Store self.old.conn) (state S.Store self.new.conn) ⊎ ((number : ℕ) × FindsNumber (resources (state S.Store self.old.conn)) number Damaged))) }
+        ensures failed { IsTrue self.old.is_usable → IsHonest S.Store self.new
+            → IfErr result
+            (FailsFor (HasFailed (state S.Store self.old.conn) (state S.Store self.new.conn)
+            ⊎ ((number : ℕ)
+            × FindsNumber (resources (state S.Store self.old.conn)) number Damaged))) }
     {
         match id.number() {
             Some(number) => self.row_at(number),
@@ -269,8 +313,11 @@ impl<S: Alter> Registry for SqlRegistry<S> {
 
     fn scan(&mut self, after: u32, limit: usize) -> Result<Vec<Stored>, RegistryFault>
         requires few { limit ≤ 200 }
-        ensures ok { IsFaithful S.Store self.new → IfOk result (λ page. page.items ≡ page_after after limit (kept_rows S.Store self.old)) }
-        ensures numbered { IsFaithful S.Store self.new → IsNumberedFrom 1 (kept_rows S.Store self.old) }
+        ensures ok { IsFaithful S.Store self.new
+            → IfOk result (λ page. page.items
+            ≡ page_after after limit (kept_rows S.Store self.old)) }
+        ensures numbered { IsFaithful S.Store self.new
+            → IsNumberedFrom 1 (kept_rows S.Store self.old) }
         ensures apart { IsFaithful S.Store self.new → AreNamedApart (kept_rows S.Store self.old) }
         ensures reads { Reads S.Store self.old self.new result }
         ensures shut { IsRefused self.old result }
@@ -284,9 +331,12 @@ impl<S: Alter> Registry for SqlRegistry<S> {
     }
 
     fn insert(&mut self, row: Stored) -> Result<(), RegistryFault>
-        requires next { IsFaithful S.Store self.old → row.number ≡ length (kept_rows S.Store self.old) + 1 }
-        requires free { IsFaithful S.Store self.old → row_named (content_name row.content) (kept_rows S.Store self.old) ≡ None }
-        ensures adds { Writes S.Store self.old self.new (kept_rows S.Store self.old ++ row ∷ []) result }
+        requires next { IsFaithful S.Store self.old
+            → row.number ≡ length (kept_rows S.Store self.old) + 1 }
+        requires free { IsFaithful S.Store self.old
+            → row_named (content_name row.content) (kept_rows S.Store self.old) ≡ None }
+        ensures adds { Writes S.Store self.old self.new (kept_rows S.Store self.old ++ row
+            ∷ []) result }
         ensures open { IsHonest S.Store self.new → OnOk result (IsFaithful S.Store self.new) }
         ensures counted { OnOk result (HasRisen self.old.writes self.new.writes) }
         ensures shut { IsRefused self.old result }
@@ -305,8 +355,10 @@ impl<S: Alter> Registry for SqlRegistry<S> {
     }
 
     fn update(&mut self, row: &Stored) -> Result<(), RegistryFault>
-        requires there { IsFaithful S.Store self.old → HoldsNumber (kept_rows S.Store self.old) row.now }
-        ensures replaces { Writes S.Store self.old self.new (with_row row.now (kept_rows S.Store self.old)) result }
+        requires there { IsFaithful S.Store self.old
+            → HoldsNumber (kept_rows S.Store self.old) row.now }
+        ensures replaces { Writes S.Store self.old self.new
+            (with_row row.now (kept_rows S.Store self.old)) result }
         ensures open { IsHonest S.Store self.new → OnOk result (IsFaithful S.Store self.new) }
         ensures counted { OnOk result (HasRisen self.old.writes self.new.writes) }
         ensures shut { IsRefused self.old result }

@@ -68,7 +68,8 @@ fn code_of(kind: Kind) -> i64
 /// The content that a text spells, or none.
 fn read_content(alloc: Global, text: &[u8], kind: Kind) -> Result<Option<Content>, AllocError>
     ensures some { IfOk result (λ content. IfSome content (λ c. content_in kind text.now ≡ Ok c)) }
-    ensures none { IfOk result (λ content. IfNone content ((c : Content) → content_in kind text.now ≡ Ok c → ⊥)) }
+    ensures none { IfOk result (λ content. IfNone content ((c : Content)
+        → content_in kind text.now ≡ Ok c → ⊥)) }
 {
     match Content::from_slice(alloc, text, kind) {
         Ok(content) => Ok(Some(content)),
@@ -79,8 +80,14 @@ fn read_content(alloc: Global, text: &[u8], kind: Kind) -> Result<Option<Content
 
 /// Whether the content is of this kind and its name has this key.
 fn has_key(alloc: Global, content: &Content, kind: Kind, key: &[u8]) -> Result<bool, AllocError>
-    ensures same { IfOk result (λ is. IsTrue is → content_name content.now ≡ record { kind = kind; key = key.now }) }
-    ensures other { IfOk result (λ is. is ≡ false → content_name content.now ≡ record { kind = kind; key = key.now } → ⊥) }
+    ensures same { IfOk result (λ is. IsTrue is → content_name content.now ≡ record {
+      kind = kind;
+      key = key.now;
+    }) }
+    ensures other { IfOk result (λ is. is ≡ false → content_name content.now ≡ record {
+      kind = kind;
+      key = key.now;
+    } → ⊥) }
 {
     let name = content.name(alloc)?;
     Ok(name.kind == kind && name.key.as_str().as_bytes() == key)
@@ -89,7 +96,8 @@ fn has_key(alloc: Global, content: &Content, kind: Kind, key: &[u8]) -> Result<b
 /// The resource that a row of a result shows, or none if the row is invalid.
 fn read_row(alloc: Global, row: &Row) -> Result<Option<Stored>, AllocError>
     ensures some { IfOk result (λ stored. IfSome stored (IsRowOf row.now)) }
-    ensures none { IfOk result (λ stored. IfNone stored ((s : StoredRecord) → IsRowOf row.now s → ⊥)) }
+    ensures none { IfOk result (λ stored. IfNone stored ((s : StoredRecord) → IsRowOf row.now s
+        → ⊥)) }
 {
     let (Some(number), Some(code), Some(key), Some(version), Some(text)) = (
         number_at(row, 0),
@@ -114,9 +122,17 @@ fn read_row(alloc: Global, row: &Row) -> Result<Option<Stored>, AllocError>
 
 /// A row with this number and version, if both are within their limits.
 fn stored(number: u64, version: u64, content: Content) -> Option<Stored>
-    ensures value { IfSome result (λ s. s ≡ record { number = number; version = version; content = content }) }
+    ensures value { IfSome result (λ s. s ≡ record {
+      number = number;
+      version = version;
+      content = content;
+    }) }
     ensures lawful { IfSome result IsStored }
-    ensures none { IfNone result (IsStored (record { number = number; version = version; content = content }) → ⊥) }
+    ensures none { IfNone result (IsStored (record {
+      number = number;
+      version = version;
+      content = content;
+    }) → ⊥) }
 {
     let number = u32::try_from(number).ok()?;
     if number == 0 || number > LAST_NUMBER || version == 0 || version > LAST_VERSION {
@@ -145,11 +161,16 @@ pub(crate) fn find_numbered<S: Alter>(
     conn: &mut Connection<S>,
     number: u32,
 ) -> Result<Found, RegistryFault>
-    requires laid { HasCleanDisk (state S.Store conn.old) → IsTrue (state S.Store conn.old).is_open → IsLaid (state S.Store conn.old) }
-    ensures found { HasCleanDisk (state S.Store conn.new) → IfOk result (FindsNumber (resources (state S.Store conn.old)) number) }
-    ensures failed { HasCleanDisk (state S.Store conn.new) → IfErr result (FailsFor (HasFailed (state S.Store conn.old) (state S.Store conn.new))) }
-    ensures keeps { HasCleanDisk (state S.Store conn.new) → Keeps (state S.Store conn.old) (state S.Store conn.new) }
-    ensures open { HasCleanDisk (state S.Store conn.new) → OnOk result (IsTrue (state S.Store conn.new).is_open) }
+    requires laid { HasCleanDisk (state S.Store conn.old) → IsTrue (state S.Store conn.old).is_open
+        → IsLaid (state S.Store conn.old) }
+    ensures found { HasCleanDisk (state S.Store conn.new)
+        → IfOk result (FindsNumber (resources (state S.Store conn.old)) number) }
+    ensures failed { HasCleanDisk (state S.Store conn.new)
+        → IfErr result (FailsFor (HasFailed (state S.Store conn.old) (state S.Store conn.new))) }
+    ensures keeps { HasCleanDisk (state S.Store conn.new)
+        → Keeps (state S.Store conn.old) (state S.Store conn.new) }
+    ensures open { HasCleanDisk (state S.Store conn.new)
+        → OnOk result (IsTrue (state S.Store conn.new).is_open) }
     ensures quiet { Survives (state S.Store conn.old) (state S.Store conn.new) (λ _. ⊥) }
 {
     match ask::<S, Provider>(
@@ -165,8 +186,10 @@ pub(crate) fn find_numbered<S: Alter>(
 /// The resources that the rows show, or none if a row is invalid or the numbers don't follow each other from
 /// the one after `after`.
 fn read_page(alloc: Global, rows: &[Row], after: u32) -> Result<Option<Vec<Stored>>, AllocError>
-    ensures some { IfOk result (λ page. IfSome page (λ records. AreRowsFrom (suc after) rows.now records.items)) }
-    ensures none { IfOk result (λ page. IfNone page ((records : List StoredRecord) → AreRowsFrom (suc after) rows.now records → ⊥)) }
+    ensures some { IfOk result
+        (λ page. IfSome page (λ records. AreRowsFrom (suc after) rows.now records.items)) }
+    ensures none { IfOk result (λ page. IfNone page ((records : List StoredRecord)
+        → AreRowsFrom (suc after) rows.now records → ⊥)) }
 {
     let mut page = Vec::new(alloc);
     let mut last = after;
@@ -191,12 +214,21 @@ pub(crate) fn find_page<S: Alter>(
     after: u32,
     last: u32,
 ) -> Result<Option<Vec<Stored>>, RegistryFault>
-    requires laid { HasCleanDisk (state S.Store conn.old) → IsTrue (state S.Store conn.old).is_open → IsLaid (state S.Store conn.old) }
-    ensures found { HasCleanDisk (state S.Store conn.new) → IfOk result (λ page. IfSome page (λ records. HoldsPage (resources (state S.Store conn.old)) after last records.items)) }
-    ensures broken { HasCleanDisk (state S.Store conn.new) → IfOk result (λ page. IfNone page (IsBroken (resources (state S.Store conn.old)) after last)) }
-    ensures failed { HasCleanDisk (state S.Store conn.new) → IfErr result (FailsFor (HasFailed (state S.Store conn.old) (state S.Store conn.new))) }
-    ensures keeps { HasCleanDisk (state S.Store conn.new) → Keeps (state S.Store conn.old) (state S.Store conn.new) }
-    ensures open { HasCleanDisk (state S.Store conn.new) → OnOk result (IsTrue (state S.Store conn.new).is_open) }
+    requires laid { HasCleanDisk (state S.Store conn.old) → IsTrue (state S.Store conn.old).is_open
+        → IsLaid (state S.Store conn.old) }
+    ensures found { HasCleanDisk (state S.Store conn.new)
+        → IfOk result
+        (λ page. IfSome page
+        (λ records. HoldsPage (resources (state S.Store conn.old)) after last records.items)) }
+    ensures broken { HasCleanDisk (state S.Store conn.new)
+        → IfOk result
+        (λ page. IfNone page (IsBroken (resources (state S.Store conn.old)) after last)) }
+    ensures failed { HasCleanDisk (state S.Store conn.new)
+        → IfErr result (FailsFor (HasFailed (state S.Store conn.old) (state S.Store conn.new))) }
+    ensures keeps { HasCleanDisk (state S.Store conn.new)
+        → Keeps (state S.Store conn.old) (state S.Store conn.new) }
+    ensures open { HasCleanDisk (state S.Store conn.new)
+        → OnOk result (IsTrue (state S.Store conn.new).is_open) }
     ensures quiet { Survives (state S.Store conn.old) (state S.Store conn.new) (λ _. ⊥) }
 {
     match ask::<S, Provider>(
@@ -218,11 +250,16 @@ pub(crate) fn find_named<S: Alter>(
     conn: &mut Connection<S>,
     name: &RecordName,
 ) -> Result<Found, RegistryFault>
-    requires laid { HasCleanDisk (state S.Store conn.old) → IsTrue (state S.Store conn.old).is_open → IsLaid (state S.Store conn.old) }
-    ensures found { HasCleanDisk (state S.Store conn.new) → IfOk result (FindsName (resources (state S.Store conn.old)) name.now) }
-    ensures failed { HasCleanDisk (state S.Store conn.new) → IfErr result (FailsFor (HasFailed (state S.Store conn.old) (state S.Store conn.new))) }
-    ensures keeps { HasCleanDisk (state S.Store conn.new) → Keeps (state S.Store conn.old) (state S.Store conn.new) }
-    ensures open { HasCleanDisk (state S.Store conn.new) → OnOk result (IsTrue (state S.Store conn.new).is_open) }
+    requires laid { HasCleanDisk (state S.Store conn.old) → IsTrue (state S.Store conn.old).is_open
+        → IsLaid (state S.Store conn.old) }
+    ensures found { HasCleanDisk (state S.Store conn.new)
+        → IfOk result (FindsName (resources (state S.Store conn.old)) name.now) }
+    ensures failed { HasCleanDisk (state S.Store conn.new)
+        → IfErr result (FailsFor (HasFailed (state S.Store conn.old) (state S.Store conn.new))) }
+    ensures keeps { HasCleanDisk (state S.Store conn.new)
+        → Keeps (state S.Store conn.old) (state S.Store conn.new) }
+    ensures open { HasCleanDisk (state S.Store conn.new)
+        → OnOk result (IsTrue (state S.Store conn.new).is_open) }
     ensures quiet { Survives (state S.Store conn.old) (state S.Store conn.new) (λ _. ⊥) }
 {
     match ask::<S, Provider>(
@@ -241,7 +278,8 @@ pub(crate) fn find_named<S: Alter>(
 /// The compact text of a content.
 fn text_of(alloc: Global, content: &Content) -> Result<Vec<u8>, AllocError>
     ensures text { IfOk result (λ text. text.items ≡ content_text content.now) }
-    ensures spelled { OnOk result (content_in (content_kind content.now) (content_text content.now) ≡ Ok content.now) }
+    ensures spelled { OnOk result (content_in (content_kind content.now) (content_text content.now)
+        ≡ Ok content.now) }
 {
     content.text(alloc)
 }
@@ -252,10 +290,17 @@ pub(crate) fn insert_row<S: Alter>(
     conn: &mut Connection<S>,
     row: &Stored,
 ) -> Result<(), RegistryFault>
-    requires laid { HasCleanDisk (state S.Store conn.old) → IsTrue (state S.Store conn.old).is_open → IsLaid (state S.Store conn.old) }
-    ensures made { HasCleanDisk (state S.Store conn.new) → OnOk result (Makes (state S.Store conn.old) (state S.Store conn.new) row.now (added row.now (resources (state S.Store conn.old)))) }
-    ensures keeps { HasCleanDisk (state S.Store conn.new) → OnErr result (Keeps (state S.Store conn.old) (state S.Store conn.new)) }
-    ensures stop { Survives (state S.Store conn.old) (state S.Store conn.new) (λ db. IsTrue (state S.Store conn.old).is_open × Leaves row.now (added row.now (resources (state S.Store conn.old))) db) }
+    requires laid { HasCleanDisk (state S.Store conn.old) → IsTrue (state S.Store conn.old).is_open
+        → IsLaid (state S.Store conn.old) }
+    ensures made { HasCleanDisk (state S.Store conn.new)
+        → OnOk result
+        (Makes (state S.Store conn.old) (state S.Store conn.new) row.now
+        (added row.now (resources (state S.Store conn.old)))) }
+    ensures keeps { HasCleanDisk (state S.Store conn.new)
+        → OnErr result (Keeps (state S.Store conn.old) (state S.Store conn.new)) }
+    ensures stop { Survives (state S.Store conn.old) (state S.Store conn.new)
+        (λ db. IsTrue (state S.Store conn.old).is_open
+        × Leaves row.now (added row.now (resources (state S.Store conn.old))) db) }
 {
     let name = row.content().name(alloc)?;
     let text = text_of(alloc, row.content())?;
@@ -281,11 +326,19 @@ pub(crate) fn update_row<S: Alter>(
     conn: &mut Connection<S>,
     row: &Stored,
 ) -> Result<(), RegistryFault>
-    requires laid { HasCleanDisk (state S.Store conn.old) → IsTrue (state S.Store conn.old).is_open → IsLaid (state S.Store conn.old) }
-    requires there { HasCleanDisk (state S.Store conn.old) → IsTrue (state S.Store conn.old).is_open → IsThere (resources (state S.Store conn.old)) row.now }
-    ensures made { HasCleanDisk (state S.Store conn.new) → OnOk result (Makes (state S.Store conn.old) (state S.Store conn.new) row.now (renewed row.now (resources (state S.Store conn.old)))) }
-    ensures keeps { HasCleanDisk (state S.Store conn.new) → OnErr result (Keeps (state S.Store conn.old) (state S.Store conn.new)) }
-    ensures stop { Survives (state S.Store conn.old) (state S.Store conn.new) (λ db. IsTrue (state S.Store conn.old).is_open × Leaves row.now (renewed row.now (resources (state S.Store conn.old))) db) }
+    requires laid { HasCleanDisk (state S.Store conn.old) → IsTrue (state S.Store conn.old).is_open
+        → IsLaid (state S.Store conn.old) }
+    requires there { HasCleanDisk (state S.Store conn.old) → IsTrue (state S.Store conn.old).is_open
+        → IsThere (resources (state S.Store conn.old)) row.now }
+    ensures made { HasCleanDisk (state S.Store conn.new)
+        → OnOk result
+        (Makes (state S.Store conn.old) (state S.Store conn.new) row.now
+        (renewed row.now (resources (state S.Store conn.old)))) }
+    ensures keeps { HasCleanDisk (state S.Store conn.new)
+        → OnErr result (Keeps (state S.Store conn.old) (state S.Store conn.new)) }
+    ensures stop { Survives (state S.Store conn.old) (state S.Store conn.new)
+        (λ db. IsTrue (state S.Store conn.old).is_open
+        × Leaves row.now (renewed row.now (resources (state S.Store conn.old))) db) }
 {
     let text = text_of(alloc, row.content())?;
     match write::<S, Provider>(

@@ -102,7 +102,8 @@ fn carry_here<'a, N: Net + Clock, R: StoredRows + 'a, J: Journal, W: Write>(
     sources: &Sources,
     out: &mut W,
 ) -> (Provider<R>, Result<Outcome, RunFault>)
-    ensures { CarriesHere ⟦<OwnReader<'a, 'a, 'a, N, Sockets<'a, N::Listener, N>, R> as Read>⟧.remaining
+    ensures { CarriesHere
+        ⟦<OwnReader<'a, 'a, 'a, N, Sockets<'a, N::Listener, N>, R> as Read>⟧.remaining
         ⟦<TimedHandle<'a, N::Stream, N> as Write>⟧.contents J.Journal service.now sources.now
         connector.old connector.new result.1 }
 {

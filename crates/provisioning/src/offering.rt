@@ -73,7 +73,8 @@ fn tell_all<T: Hear>(
     said: Vec<Result<Verdict, ChangeFault>>,
     teller: &mut T,
 ) -> Result<bool, OfferFault>
-    ensures { Tells (judged_of kind 1 records.now said.items) (T.heard teller.old) (T.heard teller.new) result }
+    ensures { Tells (judged_of kind 1 records.now said.items) (T.heard teller.old)
+        (T.heard teller.new) result }
 {
     let mut is_taken = true;
     let mut verdicts = said.into_iter();

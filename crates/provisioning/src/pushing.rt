@@ -107,7 +107,8 @@ fn push_each<J: Journal, D: Dial, T: Tell>(
 
 /// Reports the result for a record.
 fn tell<T: Tell>(teller: &mut T, name: &RecordName, pushed: &Pushed) -> Result<(), RunFault>
-    ensures told { OnOk result (Tells (T.told teller.old) (T.told teller.new) ((name.now, pushed.now) ∷ [])) }
+    ensures told { OnOk result
+        (Tells (T.told teller.old) (T.told teller.new) ((name.now, pushed.now) ∷ [])) }
     ensures fault { IfErr result IsUntold }
 {
     teller

@@ -20,7 +20,8 @@ fn row_of<R: Registry>(
     provider: Provider<R>,
     name: &RecordName,
 ) -> (Provider<R>, Result<Option<Stored>, RegistryFault>)
-    ensures { R.is_faithful result.0 → IfOk result.1 (λ row. row ≡ row_named name.now (R.rows provider)) }
+    ensures { R.is_faithful result.0
+        → IfOk result.1 (λ row. row ≡ row_named name.now (R.rows provider)) }
 {
     let mut registry = provider.close();
     let row = registry.by_key(name);
@@ -33,8 +34,10 @@ fn view<R: Registry, J: Journal>(
     provider: &mut Provider<R>,
     name: RecordName,
 ) -> Result<View, LoopFault>
-    ensures { R.is_faithful provider.new → IfOk result (λ view. view ≡
-        viewed name (wanted_of (book_of connector.now.book) name) (confirmed_of (book_of connector.now.book) name)
+    ensures { R.is_faithful provider.new
+        → IfOk result (λ view. view
+        ≡ viewed name (wanted_of (book_of connector.now.book) name)
+        (confirmed_of (book_of connector.now.book) name)
         (row_named name (R.rows provider.old))) }
 {
     let wanted = connector.wanted(&name);

@@ -79,7 +79,9 @@ fn fields_of<'a>(
     if_none_match: Option<&'a [u8]>,
 ) -> Result<Vec<FieldLine<'a>>, AllocError>
     ensures { IfOk result (λ fields. map named_value fields.items
-        ≡ written_lines (spec.lines_of host.now (option_map (λ t. t.now) length.entry) (option_map (λ t. t.now) if_match.entry)
+        ≡ written_lines
+        (spec.lines_of host.now (option_map (λ t. t.now) length.entry)
+        (option_map (λ t. t.now) if_match.entry)
         (option_map (λ t. t.now) if_none_match.entry))) }
 {
     let media_type = stated_type(length);
@@ -131,7 +133,8 @@ fn condition_value(
 ) -> Result<Option<Vec<u8>>, AllocError>
     ensures value { IfOk result (λ value. option_map (λ t. t.items) value
         ≡ spec.condition_value (option_map_or (λ t. t.now) condition.entry Always)) }
-    ensures lawful { OnOk result (HasEntityTags (option_map_or (λ t. t.now) condition.entry Always)) }
+    ensures lawful { OnOk result
+        (HasEntityTags (option_map_or (λ t. t.now) condition.entry Always)) }
 {
     match condition {
         None | Some(Condition::Always) => Ok(None),
@@ -176,7 +179,8 @@ fn push_tag(text: &mut Vec<u8>, tag: &EntityTag) -> Result<(), AllocError>
 
 /// The compact text of the content that a request sends, if it sends one.
 fn body_of(alloc: Global, request: &Request) -> Result<Option<Vec<u8>>, AllocError>
-    ensures text { IfOk result (λ body. option_map (λ t. t.items) body ≡ spec.body_sent request.now) }
+    ensures text { IfOk result (λ body. option_map (λ t. t.items) body
+        ≡ spec.body_sent request.now) }
     ensures lawful { OnOk result (IfSome (spec.content_sent request.now) IsSentContent) }
 {
     match request {

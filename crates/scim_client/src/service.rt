@@ -46,8 +46,8 @@ impl ScimService {
     pub fn bytes_of(&self, alloc: Global, request: &Request) -> Result<Vec<u8>, AllocError>
         ensures text { IfOk result (λ text. text.items ≡ text_of self.now request.now) }
         // The bytes spell this request and no other, if they are within the limits.
-        ensures spelled { IfOk result (λ text. IsWritable request.now → KeepsLimits self.now request.now
-            → SpellsRequest text.items request.now) }
+        ensures spelled { IfOk result (λ text. IsWritable request.now
+            → KeepsLimits self.now request.now → SpellsRequest text.items request.now) }
     {
         bytes_of(alloc, &self.base, request)
     }
@@ -64,7 +64,10 @@ impl ScimService {
 
     /// The resource of this type with this id.
     pub fn retrieve_request<'a>(&'a self, kind: Kind, id: &'a ResourceId) -> RetrieveRequest<'a>
-        ensures { result ≡ record { base = self.now; request = requests.Retrieve kind id.now Always Always } }
+        ensures { result ≡ record {
+          base = self.now;
+          request = requests.Retrieve kind id.now Always Always;
+        } }
     {
         RetrieveRequest {
             service: self,
@@ -75,7 +78,10 @@ impl ScimService {
 
     /// The resources of this type, from the first on, as many as the provider lists at once.
     pub fn search_request(&self, kind: Kind) -> SearchRequest<'_>
-        ensures { result ≡ record { base = self.now; request = requests.Search kind None (pos 1) None } }
+        ensures { result ≡ record {
+          base = self.now;
+          request = requests.Search kind None (pos 1) None;
+        } }
     {
         SearchRequest {
             service: self,
@@ -90,7 +96,10 @@ impl ScimService {
         content: &'a Content,
         id: &'a ResourceId,
     ) -> ReplaceRequest<'a>
-        ensures { result ≡ record { base = self.now; request = requests.Replace id.now content.now Always Always } }
+        ensures { result ≡ record {
+          base = self.now;
+          request = requests.Replace id.now content.now Always Always;
+        } }
     {
         ReplaceRequest {
             service: self,
@@ -134,7 +143,8 @@ impl<'a> CreateRequest<'a> {
     /// Its bytes.
     pub fn build(&self, alloc: Global) -> Result<Vec<u8>, AllocError>
         ensures text { IfOk result (λ text. text.items ≡ text_of self.now.base self.now.request) }
-        ensures spelled { IfOk result (λ text. IsWritable self.now.request → KeepsLimits self.now.base self.now.request
+        ensures spelled { IfOk result (λ text. IsWritable self.now.request
+            → KeepsLimits self.now.base self.now.request
             → SpellsRequest text.items self.now.request) }
     {
         let create = self.request(alloc)?;
@@ -161,7 +171,10 @@ impl<'a> Model for RetrieveRequest<'a> {
 
     ghost coded = { Prim.hlevel (codes, expression_code) };
 
-    ghost view = { λ r. record { base = r.service.now; request = Retrieve r.kind r.id.now Always Always } };
+    ghost view = { λ r. record {
+      base = r.service.now;
+      request = Retrieve r.kind r.id.now Always Always;
+    } };
 }
 
 impl<'a> RetrieveRequest<'a> {
@@ -180,7 +193,8 @@ impl<'a> RetrieveRequest<'a> {
     /// Its bytes.
     pub fn build(&self, alloc: Global) -> Result<Vec<u8>, AllocError>
         ensures text { IfOk result (λ text. text.items ≡ text_of self.now.base self.now.request) }
-        ensures spelled { IfOk result (λ text. IsWritable self.now.request → KeepsLimits self.now.base self.now.request
+        ensures spelled { IfOk result (λ text. IsWritable self.now.request
+            → KeepsLimits self.now.base self.now.request
             → SpellsRequest text.items self.now.request) }
     {
         let retrieve = self.request(alloc)?;
@@ -216,7 +230,10 @@ impl<'a> Model for SearchRequest<'a> {
 impl<'a> SearchRequest<'a> {
     /// Only the resources that this filter finds.
     pub fn filter(mut self, filter: &'a Filter) -> SearchRequest<'a>
-        ensures { result ≡ record { base = self.entry.base; request = through_filter filter.now self.entry.request } }
+        ensures { result ≡ record {
+          base = self.entry.base;
+          request = through_filter filter.now self.entry.request;
+        } }
     {
         self.filter = Some(filter);
         self
@@ -241,7 +258,8 @@ impl<'a> SearchRequest<'a> {
     /// Its bytes.
     pub fn build(&self, alloc: Global) -> Result<Vec<u8>, AllocError>
         ensures text { IfOk result (λ text. text.items ≡ text_of self.now.base self.now.request) }
-        ensures spelled { IfOk result (λ text. IsWritable self.now.request → KeepsLimits self.now.base self.now.request
+        ensures spelled { IfOk result (λ text. IsWritable self.now.request
+            → KeepsLimits self.now.base self.now.request
             → SpellsRequest text.items self.now.request) }
     {
         let search = self.request(alloc)?;
@@ -279,7 +297,10 @@ impl<'a> Model for ReplaceRequest<'a> {
 impl<'a> ReplaceRequest<'a> {
     /// Replaces only if the resource has the version with this tag (RFC 7232 section 3.1).
     pub fn if_match(mut self, tag: &'a EntityTag) -> ReplaceRequest<'a>
-        ensures { result ≡ record { base = self.entry.base; request = under_tag tag.now self.entry.request } }
+        ensures { result ≡ record {
+          base = self.entry.base;
+          request = under_tag tag.now self.entry.request;
+        } }
     {
         self.if_match = Some(tag);
         self
@@ -300,7 +321,8 @@ impl<'a> ReplaceRequest<'a> {
     /// Its bytes.
     pub fn build(&self, alloc: Global) -> Result<Vec<u8>, AllocError>
         ensures text { IfOk result (λ text. text.items ≡ text_of self.now.base self.now.request) }
-        ensures spelled { IfOk result (λ text. IsWritable self.now.request → KeepsLimits self.now.base self.now.request
+        ensures spelled { IfOk result (λ text. IsWritable self.now.request
+            → KeepsLimits self.now.base self.now.request
             → SpellsRequest text.items self.now.request) }
     {
         let replace = self.request(alloc)?;

@@ -47,7 +47,8 @@ fn contains(exact: bool, text: &[u8], given: &[u8]) -> bool
 
 /// Whether the comparison of the text with the given one holds.
 pub(crate) fn compares(exact: bool, operator: TextOperator, text: &str, given: &str) -> bool
-    ensures { result ≡ spec.compares operator (spec.folded exact text.now) (spec.folded exact given.now) }
+    ensures { result
+        ≡ spec.compares operator (spec.folded exact text.now) (spec.folded exact given.now) }
 {
     let (text, given) = (text.as_bytes(), given.as_bytes());
     match operator {

@@ -84,7 +84,8 @@ impl Filter {
     /// more than `TEXT_LIMIT` bytes, or nests parentheses deeper than `DEPTH_LIMIT`.
     pub fn read(alloc: Global, text: &str) -> Result<Filter, FilterFault>
         ensures found { IfOk result (λ f. Spells text.now f) }
-        ensures only { (f : Expression) → Spells text.now f → Gives FilterFault.Memory result (Ok f) }
+        ensures only { (f : Expression) → Spells text.now f
+            → Gives FilterFault.Memory result (Ok f) }
     {
         if text.len() > TEXT_LIMIT {
             return Err(FilterFault::Unsupported);
@@ -120,8 +121,8 @@ impl Filter {
     pub fn to_text(&self, alloc: Global) -> Result<String, AllocError>
         ensures text { IfOk result (λ s. string_bytes s ≡ filter_text self.now) }
         // If the text is within both limits, it spells the filter.
-        ensures spells { IfOk result (λ s. length (string_bytes s) ≤ text_limit → nesting self.now ≤ depth_limit
-            → Spells (string_bytes s) self.now) }
+        ensures spells { IfOk result (λ s. length (string_bytes s) ≤ text_limit
+            → nesting self.now ≤ depth_limit → Spells (string_bytes s) self.now) }
     {
         let mut out = String::new(alloc);
         write_filter(alloc, &mut out, &self.root)?;

@@ -12,7 +12,8 @@ pub fn one_filter()
 
 /// The text that is written for a filter spells it, if the text is within the limits.
 pub fn text_spells()
-    ensures { (e : Expression) → length (filter_text e) ≤ text_limit → nesting e ≤ depth_limit → Spells (filter_text e) e }
+    ensures { (e : Expression) → length (filter_text e) ≤ text_limit → nesting e ≤ depth_limit
+        → Spells (filter_text e) e }
 {}
 
 /// A filter that names one record holds only for that record's rows.

@@ -28,21 +28,26 @@ struct Question<'a> {
 impl Question<'_> {
     /// Whether the comparison holds for a text.
     fn compares(&self, text: &str) -> bool
-        ensures { result ≡ compares self.now.operator (folded self.now.exact text.now) (folded self.now.exact self.now.given.now) }
+        ensures { result
+            ≡ compares self.now.operator (folded self.now.exact text.now)
+            (folded self.now.exact self.now.given.now) }
     {
         compares(self.exact, self.operator, text, self.given)
     }
 
     #[tactic(auto, unfolding(crate::specs::Matching::some_compares))]
     fn of_one(&self, text: &str) -> bool
-        ensures { result ≡ spec.some_compares self.now.exact self.now.operator self.now.given.now (text.now ∷ []) }
+        ensures { result
+            ≡ spec.some_compares self.now.exact self.now.operator self.now.given.now (text.now
+            ∷ []) }
     {
         self.compares(text)
     }
 
     #[tactic(auto, unfolding(crate::specs::Matching::some_compares))]
     fn of_none(&self) -> bool
-        ensures { result ≡ spec.some_compares self.now.exact self.now.operator self.now.given.now [] }
+        ensures { result
+            ≡ spec.some_compares self.now.exact self.now.operator self.now.given.now [] }
     {
         false
     }
@@ -59,13 +64,17 @@ impl Question<'_> {
 
     #[tactic(auto, unfolding(crate::specs::Matching::some_compares))]
     fn of_texts(&self, texts: &[Text]) -> bool
-        ensures { result ≡ spec.some_compares self.now.exact self.now.operator self.now.given.now texts.now }
+        ensures { result
+            ≡ spec.some_compares self.now.exact self.now.operator self.now.given.now texts.now }
     {
         texts.iter().any(|text| self.compares(text.as_str()))
     }
 
     fn of_emails(&self, emails: &[Email]) -> bool
-        ensures { result ≡ list_any (λ e. compares self.now.operator (folded self.now.exact e.value) (folded self.now.exact self.now.given.now)) emails.now }
+        ensures { result
+            ≡ list_any
+            (λ e. compares self.now.operator (folded self.now.exact e.value)
+            (folded self.now.exact self.now.given.now)) emails.now }
     {
         emails
             .iter()
@@ -73,7 +82,10 @@ impl Question<'_> {
     }
 
     fn of_email_types(&self, emails: &[Email]) -> bool
-        ensures { result ≡ list_any (λ e. spec.some_compares self.now.exact self.now.operator self.now.given.now (option_to_list e.type_text)) emails.now }
+        ensures { result
+            ≡ list_any
+            (λ e. spec.some_compares self.now.exact self.now.operator self.now.given.now
+            (option_to_list e.type_text)) emails.now }
     {
         emails
             .iter()
@@ -84,7 +96,8 @@ impl Question<'_> {
 /// Whether the comparison holds for the id of the n-th resource.
 fn asks_id(question: &Question, number: u32) -> bool
     requires { number ≤ last_number }
-    ensures { result ≡ spec.some_compares question.now.exact question.now.operator question.now.given.now
+    ensures { result
+        ≡ spec.some_compares question.now.exact question.now.operator question.now.given.now
         (id_text number ∷ []) }
 {
     let mut buffer = [0; NUMBERED_ID_LENGTH];
@@ -93,7 +106,8 @@ fn asks_id(question: &Question, number: u32) -> bool
 
 /// Whether the comparison holds for the entity tag of a version.
 fn asks_version(question: &Question, version: u64) -> bool
-    ensures { result ≡ spec.some_compares question.now.exact question.now.operator question.now.given.now
+    ensures { result
+        ≡ spec.some_compares question.now.exact question.now.operator question.now.given.now
         (version_tag version ∷ []) }
 {
     let mut digits = Buffer::new();
@@ -105,7 +119,8 @@ fn asks_version(question: &Question, version: u64) -> bool
 }
 
 fn asks_user(question: &Question, attribute: TextAttribute, user: &User) -> bool
-    ensures { result ≡ spec.some_compares question.now.exact question.now.operator question.now.given.now
+    ensures { result
+        ≡ spec.some_compares question.now.exact question.now.operator question.now.given.now
         (spec.user_texts attribute user.now) }
 {
     match attribute {
@@ -120,7 +135,8 @@ fn asks_user(question: &Question, attribute: TextAttribute, user: &User) -> bool
 }
 
 fn asks_group(question: &Question, attribute: TextAttribute, group: &Group) -> bool
-    ensures { result ≡ spec.some_compares question.now.exact question.now.operator question.now.given.now
+    ensures { result
+        ≡ spec.some_compares question.now.exact question.now.operator question.now.given.now
         (spec.group_texts attribute group.now) }
 {
     match attribute {
@@ -132,7 +148,8 @@ fn asks_group(question: &Question, attribute: TextAttribute, group: &Group) -> b
 }
 
 fn asks_content(question: &Question, attribute: TextAttribute, content: &Content) -> bool
-    ensures { result ≡ spec.some_compares question.now.exact question.now.operator question.now.given.now
+    ensures { result
+        ≡ spec.some_compares question.now.exact question.now.operator question.now.given.now
         (spec.content_texts attribute content.now) }
 {
     match content {
@@ -143,7 +160,8 @@ fn asks_content(question: &Question, attribute: TextAttribute, content: &Content
 
 /// Whether the comparison holds for some value of the attribute.
 fn asks_row(question: &Question, attribute: TextAttribute, row: &Stored) -> bool
-    ensures { result ≡ spec.some_compares question.now.exact question.now.operator question.now.given.now
+    ensures { result
+        ≡ spec.some_compares question.now.exact question.now.operator question.now.given.now
         (spec.texts_of attribute row.now) }
 {
     match attribute {
@@ -168,7 +186,9 @@ fn some_compares(
     given: &str,
     row: &Stored,
 ) -> bool
-    ensures { result ≡ spec.some_compares (spec.is_exact attribute) operator given.now (spec.texts_of attribute row.now) }
+    ensures { result
+        ≡ spec.some_compares (spec.is_exact attribute) operator given.now
+        (spec.texts_of attribute row.now) }
 {
     let question = Question {
         exact: is_exact(attribute),
@@ -179,7 +199,9 @@ fn some_compares(
 }
 
 fn text_holds(attribute: TextAttribute, operator: TextOperator, given: &str, row: &Stored) -> bool
-    ensures { result ≡ spec.text_holds operator (spec.is_exact attribute) given.now (spec.texts_of attribute row.now) }
+    ensures { result
+        ≡ spec.text_holds operator (spec.is_exact attribute) given.now
+        (spec.texts_of attribute row.now) }
 {
     match operator {
         TextOperator::NotEqual => !some_compares(attribute, TextOperator::Equal, given, row),
@@ -216,7 +238,8 @@ fn some_is(attribute: FlagAttribute, value: bool, content: &Content) -> bool
 }
 
 fn flag_holds(attribute: FlagAttribute, operator: FlagOperator, value: bool, row: &Stored) -> bool
-    ensures { result ≡ spec.flag_holds operator value (spec.content_flags attribute row.now.content) }
+    ensures { result
+        ≡ spec.flag_holds operator value (spec.content_flags attribute row.now.content) }
 {
     let is = some_is(attribute, value, row.content());
     match operator {

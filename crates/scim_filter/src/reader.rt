@@ -197,7 +197,8 @@ impl Reader {
     }
 
     fn test(self, alloc: Global, test: Option<Test>) -> Result<Reader, FilterFault>
-        ensures { GivesBy state_of FilterFault.Memory result (or_unsupported (test_taken (state_of self) test)) }
+        ensures { GivesBy state_of FilterFault.Memory result
+            (or_unsupported (test_taken (state_of self) test)) }
     {
         match test {
             Some(test) => Ok(self.item(alloc, Filter::of_test(test))?),
@@ -206,7 +207,8 @@ impl Reader {
     }
 
     fn gap(self) -> Result<Reader, FilterFault>
-        ensures { GivesBy state_of FilterFault.Memory result (or_unsupported (after_gap (state_of self))) }
+        ensures { GivesBy state_of FilterFault.Memory result
+            (or_unsupported (after_gap (state_of self))) }
     {
         match place_after_gap(self.place) {
             Some(place) => Ok(self.at(place)),
@@ -215,7 +217,8 @@ impl Reader {
     }
 
     fn opened(self, negated: bool) -> Result<Reader, FilterFault>
-        ensures { GivesBy state_of FilterFault.Memory result (or_unsupported (opened (state_of self) negated)) }
+        ensures { GivesBy state_of FilterFault.Memory result
+            (or_unsupported (opened (state_of self) negated)) }
     {
         let Reader {
             mut outer,
@@ -234,7 +237,8 @@ impl Reader {
     }
 
     fn open(self) -> Result<Reader, FilterFault>
-        ensures { GivesBy state_of FilterFault.Memory result (or_unsupported (open_at (state_of self) self.place)) }
+        ensures { GivesBy state_of FilterFault.Memory result
+            (or_unsupported (open_at (state_of self) self.place)) }
     {
         match self.place {
             Place::BeforeItem(_) => self.opened(false),
@@ -245,7 +249,8 @@ impl Reader {
 
     fn closed(self, alloc: Global) -> Result<Reader, FilterFault>
         ensures { GivesBy state_of FilterFault.Memory result
-            (or_unsupported (closed (state_of self).outer self.level.negated (whole_of self.level))) }
+            (or_unsupported
+            (closed (state_of self).outer self.level.negated (whole_of self.level))) }
     {
         let Reader {
             mut outer,
@@ -267,7 +272,8 @@ impl Reader {
     }
 
     fn close(self, alloc: Global) -> Result<Reader, FilterFault>
-        ensures { GivesBy state_of FilterFault.Memory result (or_unsupported (close_at (state_of self) self.place)) }
+        ensures { GivesBy state_of FilterFault.Memory result
+            (or_unsupported (close_at (state_of self) self.place)) }
     {
         match self.place {
             Place::AfterItem(_) => self.closed(alloc),
@@ -276,7 +282,8 @@ impl Reader {
     }
 
     fn or(self, alloc: Global) -> Result<Reader, FilterFault>
-        ensures { GivesBy state_of FilterFault.Memory result (or_unsupported (after_or (state_of self))) }
+        ensures { GivesBy state_of FilterFault.Memory result
+            (or_unsupported (after_or (state_of self))) }
     {
         let Reader {
             outer,
@@ -297,7 +304,8 @@ impl Reader {
     }
 
     fn word_before_item(self, word: Word) -> Result<Reader, FilterFault>
-        ensures { GivesBy state_of FilterFault.Memory result (or_unsupported (word_before_item (state_of self) word)) }
+        ensures { GivesBy state_of FilterFault.Memory result
+            (or_unsupported (word_before_item (state_of self) word)) }
     {
         match word {
             Word::Not => Ok(self.at(Place::BeforeOpen(true))),
@@ -339,7 +347,8 @@ impl Reader {
     }
 
     fn word_after_item(self, alloc: Global, word: Word) -> Result<Reader, FilterFault>
-        ensures { GivesBy state_of FilterFault.Memory result (or_unsupported (word_after_item (state_of self) word)) }
+        ensures { GivesBy state_of FilterFault.Memory result
+            (or_unsupported (word_after_item (state_of self) word)) }
     {
         match word {
             Word::And => Ok(self.at(Place::AfterConnective)),
@@ -377,7 +386,8 @@ impl Reader {
 
     /// Reads the next token.
     pub(crate) fn take(self, alloc: Global, token: Token) -> Result<Reader, FilterFault>
-        ensures { GivesBy state_of FilterFault.Memory result (or_unsupported (step (state_of self) token)) }
+        ensures { GivesBy state_of FilterFault.Memory result
+            (or_unsupported (step (state_of self) token)) }
     {
         match token {
             Token::Gap => self.gap(),
@@ -390,7 +400,8 @@ impl Reader {
 
     /// The filter, if no token is missing.
     pub(crate) fn finish(self, alloc: Global) -> Result<Filter, FilterFault>
-        ensures { Gives FilterFault.Memory result (or_unsupported (finish (state_of self).outer (state_of self))) }
+        ensures { Gives FilterFault.Memory result
+            (or_unsupported (finish (state_of self).outer (state_of self))) }
     {
         let Reader {
             outer,

@@ -126,7 +126,8 @@ fn is_joined(node: &Node) -> bool
 
 /// Appends the text of a filter.
 pub(crate) fn write_filter(alloc: Global, out: &mut String, node: &Node) -> Result<(), AllocError>
-    ensures { OnOk result (string_bytes out.new ≡ string_bytes out.old ++ filter_text (expression_of node.now)) }
+    ensures { OnOk result (string_bytes out.new ≡ string_bytes out.old
+        ++ filter_text (expression_of node.now)) }
 {
     match node {
         Node::Test(test) => write_test(alloc, out, test),

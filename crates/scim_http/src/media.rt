@@ -9,7 +9,8 @@ use http_text::Incoming;
 
 /// Whether `Content-Type` is absent, or is there once with a supported media type.
 pub(crate) fn is_type_served(incoming: &Incoming) -> bool
-    ensures { result ≡ spec.is_type_served (values (codes "content-type") incoming.now.head.fields) }
+    ensures { result
+        ≡ spec.is_type_served (values (codes "content-type") incoming.now.head.fields) }
 {
     let mut types = incoming.fields("content-type");
     match (types.next(), types.next()) {

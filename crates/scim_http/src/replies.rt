@@ -129,7 +129,9 @@ fn fields_of<'a>(
     created: bool,
 ) -> Result<Vec<FieldLine<'a>>, AllocError>
     ensures { IfOk result (λ fields. map named_value fields.items
-        ≡ spec.written_lines (spec.lines_of (option_map (λ t. t.now) length.entry) (option_map (λ t. t.now) location.entry)
+        ≡ spec.written_lines
+        (spec.lines_of (option_map (λ t. t.now) length.entry)
+        (option_map (λ t. t.now) location.entry)
         (option_map (λ t. t.now) tag.entry) created)) }
 {
     let media_type = stated_type(length);

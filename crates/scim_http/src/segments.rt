@@ -66,8 +66,9 @@ fn unescaped(alloc: Global, segment: &[u8]) -> Result<Option<Vec<u8>>, AllocErro
 /// The first byte that a text spells, and the rest of the text.
 #[tactic(auto, unfolding(crate::specs::Segments::unescaped))]
 fn next_byte(first: u8, more: &[u8]) -> Option<(u8, &[u8])>
-    ensures spelled { MatchOption result (spec.unescaped (first ∷ more.now) ≡ None)
-        (λ next. spec.unescaped (first ∷ more.now) ≡ spec.put_before (Some next.0) (spec.unescaped next.1.now)) }
+    ensures spelled { MatchOption result (spec.unescaped (first ∷ more.now)
+        ≡ None) (λ next. spec.unescaped (first ∷ more.now)
+        ≡ spec.put_before (Some next.0) (spec.unescaped next.1.now)) }
     ensures shorter { IfSome result (λ next. length next.1.now ≤ length more.now) }
 {
     if first != b'%' {

@@ -91,7 +91,8 @@ fn is_text(value: &Value, text: &str) -> bool
 
 /// The text, if the value is a text.
 pub fn text_of(value: Option<&Value>) -> Option<&str>
-    ensures { option_map (λ s. s.now) result ≡ spec.text_of (option_map (λ v. view v.now) value.entry) }
+    ensures { option_map (λ s. s.now) result
+        ≡ spec.text_of (option_map (λ v. view v.now) value.entry) }
 {
     match value {
         Some(Value::String(text)) => Some(text.as_str()),

@@ -19,7 +19,9 @@ pub fn write_text(out: &mut Writer, name: &str, text: &str) -> Result<(), AllocE
 
 /// Writes a member whose value is a text, if there is one.
 pub fn write_text_if(out: &mut Writer, name: &str, text: Option<&str>) -> Result<(), AllocError>
-    ensures { OnOk result (WritesPart name.now (option_map string (option_map (λ t. t.now) text.entry)) out.old out.new) }
+    ensures { OnOk result
+        (WritesPart name.now
+        (option_map string (option_map (λ t. t.now) text.entry)) out.old out.new) }
 {
     match text {
         None => Ok(()),

@@ -202,7 +202,8 @@ fn error_of_members(
     members: &Map<String, Value>,
 ) -> Result<ErrorResponse, AllocError>
     requires { IsErrorStatus status }
-    ensures { IfOk result (λ error. error ≡ spec.error_of_members status (members_view members.now.entries)) }
+    ensures { IfOk result (λ error. error
+        ≡ spec.error_of_members status (members_view members.now.entries)) }
 {
     if repeats(alloc, members)? || !lists_text(attribute(members, "schemas"), error_schema()) {
         return Ok(ErrorResponse::bare(status));

@@ -84,7 +84,8 @@ fn list_schema() -> &'static str
 /// Writes `schemas`, a list with this one URN.
 fn write_schema(out: &mut Writer, schema: &str) -> Result<(), AllocError>
     ensures { OnOk result
-        (WritesPart (codes "schemas") (Some (array (item (string schema.now) no_items))) out.old out.new) }
+        (WritesPart (codes "schemas")
+        (Some (array (item (string schema.now) no_items))) out.old out.new) }
 {
     out.key("schemas")?;
     out.begin_array()?;

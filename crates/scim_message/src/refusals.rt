@@ -126,7 +126,11 @@ impl Model for ErrorResponse {
 
     ghost Value = { ErrorRecord };
 
-    ghost view = { λ e. record { status = e.status; scim_type = option_map string_bytes e.scim_type; detail = option_map string_bytes e.detail } };
+    ghost view = { λ e. record {
+      status = e.status;
+      scim_type = option_map string_bytes e.scim_type;
+      detail = option_map string_bytes e.detail;
+    } };
 
     ghost invariant = { λ e. IsErrorStatus e.status };
 }
@@ -144,7 +148,8 @@ impl Drop for ErrorResponse {
 }
 
 fn owned(alloc: Global, text: Option<&str>) -> Result<Option<String>, AllocError>
-    ensures { IfOk result (λ owned. option_map string_bytes owned ≡ option_map (λ t. t.now) text.entry) }
+    ensures { IfOk result (λ owned. option_map string_bytes owned
+        ≡ option_map (λ t. t.now) text.entry) }
 {
     match text {
         Some(text) => Ok(Some(String::from_str(alloc, text)?)),
@@ -184,7 +189,11 @@ impl ErrorResponse {
         detail: Option<&str>,
     ) -> Result<ErrorResponse, AllocError>
         requires { IsErrorStatus status }
-        ensures { IfOk result (λ error. error ≡ record { status = status; scim_type = option_map (λ text. text.now) scim_type.entry; detail = option_map (λ text. text.now) detail.entry }) }
+        ensures { IfOk result (λ error. error ≡ record {
+          status = status;
+          scim_type = option_map (λ text. text.now) scim_type.entry;
+          detail = option_map (λ text. text.now) detail.entry;
+        }) }
     {
         Ok(ErrorResponse {
             status,

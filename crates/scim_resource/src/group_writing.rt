@@ -37,7 +37,9 @@ pub(crate) fn write_shown_group(
     group: &Group,
 ) -> Result<(), AllocError>
     ensures written { OnOk result
-        (Writes (spec.group_data (Some (string shown.now.id)) (Some (spec.meta_data base.now shown.now)) group.now) out.old out.new) }
+        (Writes
+        (spec.group_data (Some (string shown.now.id))
+        (Some (spec.meta_data base.now shown.now)) group.now) out.old out.new) }
     ensures lawful { OnOk result (IsGroup group.now) }
     ensures shown { OnOk result (IsShown shown.now) }
 {

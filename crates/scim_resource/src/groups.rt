@@ -44,7 +44,8 @@ impl Members {
     /// The list, if it has at most 400 values and none of them twice.
     pub fn from_vec(items: Vec<Text>) -> Option<Members>
         requires { AreTexts items.items }
-        ensures { SomeIff result ((are_distinct items.items ≡ true) × (are_few_members items.items ≡ true)) items.items }
+        ensures { SomeIff result ((are_distinct items.items ≡ true)
+            × (are_few_members items.items ≡ true)) items.items }
     {
         if items.len() <= MEMBER_LIMIT && are_distinct(items.as_slice()) {
             Some(Members { items })
@@ -110,9 +111,19 @@ impl Model for Group {
 
     ghost Value = { GroupRecord };
 
-    ghost view = { λ g. record { display_name = g.display_name; external_id = g.external_id; members = g.members; revision = g.revision } };
+    ghost view = { λ g. record {
+      display_name = g.display_name;
+      external_id = g.external_id;
+      members = g.members;
+      revision = g.revision;
+    } };
 
-    ghost invariant = { λ g. IsGroup (record { display_name = g.display_name; external_id = g.external_id; members = g.members; revision = g.revision }) };
+    ghost invariant = { λ g. IsGroup (record {
+      display_name = g.display_name;
+      external_id = g.external_id;
+      members = g.members;
+      revision = g.revision;
+    }) };
 }
 
 /// Dropping a group is one call, as for a user.
@@ -138,7 +149,12 @@ impl Group {
         requires named { IsGroupName display_name }
         requires listed { IsMemberList members }
         requires given { IsSourceRevision revision }
-        ensures { result ≡ record { display_name = display_name; external_id = None; members = members; revision = revision } }
+        ensures { result ≡ record {
+          display_name = display_name;
+          external_id = None;
+          members = members;
+          revision = revision;
+        } }
     {
         Group {
             display_name,

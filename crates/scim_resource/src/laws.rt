@@ -62,7 +62,8 @@ pub fn repeated_members_are_kept_once()
 /// Values that differ only in the case of names and the order of members are read the same: the body, a
 /// name, emails, members or an extension.
 pub fn alike_values_are_read_the_same()
-    ensures same { (kind : Kind) (d e : Data) → Alike d e → read_content kind d ≡ read_content kind e }
+    ensures same { (kind : Kind) (d e : Data) → Alike d e
+        → read_content kind d ≡ read_content kind e }
     // A name may be spelled in another case.
     ensures renamed { (k l : List ℕ) (d : Data) (ms : Members) → same_name k l ≡ true
         → Alike (object (member k d ms)) (object (member l d ms)) }

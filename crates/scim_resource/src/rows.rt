@@ -31,7 +31,11 @@ impl Model for Stored {
 
     ghost view = { λ s. record { number = s.number; version = s.version; content = s.content } };
 
-    ghost invariant = { λ s. IsStored (record { number = s.number; version = s.version; content = s.content }) };
+    ghost invariant = { λ s. IsStored (record {
+      number = s.number;
+      version = s.version;
+      content = s.content;
+    }) };
 }
 
 /// Dropping a row is one call, as for a user.
@@ -117,7 +121,11 @@ impl Model for Shown {
 
     ghost view = { λ s. record { id = s.id; version = s.version; content = s.content } };
 
-    ghost invariant = { λ s. IsShown (record { id = s.id; version = s.version; content = s.content }) };
+    ghost invariant = { λ s. IsShown (record {
+      id = s.id;
+      version = s.version;
+      content = s.content;
+    }) };
 }
 
 /// Dropping it is one call, as for a user.

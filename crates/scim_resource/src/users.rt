@@ -28,9 +28,21 @@ impl Model for User {
 
     ghost Value = { UserRecord };
 
-    ghost view = { λ u. record { user_name = u.user_name; texts = u.texts; emails = u.emails; active = u.active; revision = u.revision } };
+    ghost view = { λ u. record {
+      user_name = u.user_name;
+      texts = u.texts;
+      emails = u.emails;
+      active = u.active;
+      revision = u.revision;
+    } };
 
-    ghost invariant = { λ u. IsUser (record { user_name = u.user_name; texts = u.texts; emails = u.emails; active = u.active; revision = u.revision }) };
+    ghost invariant = { λ u. IsUser (record {
+      user_name = u.user_name;
+      texts = u.texts;
+      emails = u.emails;
+      active = u.active;
+      revision = u.revision;
+    }) };
 }
 
 /// Dropping a user is one call, and not a step for each field: each step would lengthen every proof that
@@ -52,7 +64,13 @@ impl User {
     pub fn new(alloc: Global, user_name: UserName, active: bool, revision: Option<Revision>) -> User
         requires named { IsUserName user_name }
         requires given { IsSourceRevision revision }
-        ensures { result ≡ record { user_name = user_name; texts = no_texts; emails = []; active = active; revision = revision } }
+        ensures { result ≡ record {
+          user_name = user_name;
+          texts = no_texts;
+          emails = [];
+          active = active;
+          revision = revision;
+        } }
     {
         User {
             user_name,

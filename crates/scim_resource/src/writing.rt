@@ -31,7 +31,8 @@ impl Content {
     /// The text that a store keeps of the resource: its attributes as compact JSON in UTF-8.
     #[tactic(auto, using(scim_json::proofs::Written::written_text))]
     pub fn text(&self, alloc: Global) -> Result<Vec<u8>, AllocError>
-        ensures text { IfOk result (λ text. text.items ≡ compact_text (spec.content_data self.now)) }
+        ensures text { IfOk result (λ text. text.items
+            ≡ compact_text (spec.content_data self.now)) }
         ensures utf8 { IfOk result (λ text. IsUtf8 text.items) }
         ensures lawful { OnOk result (IsContent self.now) }
     {
@@ -72,7 +73,8 @@ impl Shown {
     }
 
     pub(crate) fn write_id(&self, out: &mut Writer) -> Result<(), AllocError>
-        ensures { OnOk result (WritesPart (codes "id") (Some (string self.now.id)) out.old out.new) }
+        ensures { OnOk result
+            (WritesPart (codes "id") (Some (string self.now.id)) out.old out.new) }
     {
         write_text(out, "id", self.id().as_str())
     }
@@ -128,7 +130,9 @@ fn write_shown_user(
     user: &User,
 ) -> Result<(), AllocError>
     ensures written { OnOk result
-        (Writes (spec.user_data (Some (string shown.now.id)) (Some (spec.meta_data base.now shown.now)) user.now) out.old out.new) }
+        (Writes
+        (spec.user_data (Some (string shown.now.id))
+        (Some (spec.meta_data base.now shown.now)) user.now) out.old out.new) }
     ensures lawful { OnOk result (IsUser user.now) }
     ensures shown { OnOk result (IsShown shown.now) }
 {
@@ -222,7 +226,8 @@ fn write_held(
 
 fn write_text_object(out: &mut Writer, user: &User, texts: &[UserText]) -> Result<(), AllocError>
     ensures { OnOk result
-        (Writes (object (members_from (spec.text_parts user.now.texts texts.now))) out.old out.new) }
+        (Writes
+        (object (members_from (spec.text_parts user.now.texts texts.now))) out.old out.new) }
 {
     out.begin_object()?;
     write_texts(out, user, texts)?;
@@ -313,8 +318,10 @@ pub(crate) fn write_schemas(
     core: &str,
     extensions: &[(&str, bool)],
 ) -> Result<(), AllocError>
-    ensures { OnOk result (WritesPart (codes "schemas")
-        (Some (array (spec.schemas_data core.now (map (λ e. (e.0.now, e.1)) extensions.now)))) out.old out.new) }
+    ensures { OnOk result
+        (WritesPart (codes "schemas")
+        (Some (array (spec.schemas_data core.now (map (λ e. (e.0.now, e.1)) extensions.now))))
+        out.old out.new) }
 {
     out.key("schemas")?;
     out.begin_array()?;

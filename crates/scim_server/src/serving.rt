@@ -177,7 +177,8 @@ fn carry_out<R: Registry>(
     ensures reply { IfOk result (spec.AnswersRequest (R.is_faithful provider.new) base.now
         (R.rows provider.old) (R.rows provider.new) leaves_body_out request.now) }
     ensures writes { Writes R.Registry CountsProviderFault provider.old provider.new
-        (changed_rows (R.rows provider.old) (outcome (R.rows provider.old) request.now).change) result }
+        (changed_rows (R.rows provider.old) (outcome (R.rows provider.old) request.now).change)
+        result }
     ensures open { R.is_honest provider.new → OnOk result (R.is_faithful provider.new) }
 {
     let pending = provider.prepare(alloc, request)?;

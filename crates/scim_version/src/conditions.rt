@@ -74,7 +74,8 @@ fn is_star_alone(elements: &[&[u8]]) -> bool
 /// Reads each of these texts as a tag.
 #[tactic(auto, unfolding(crate::specs::Conditions::tags_from))]
 fn tags_of(alloc: Global, texts: &[&[u8]]) -> Result<Vec<EntityTag>, TagFault>
-    ensures { GivesBy (λ tags. tags.items) TagFault.Memory result (tags_from (map (λ e. e.now) texts.now)) }
+    ensures { GivesBy (λ tags. tags.items) TagFault.Memory result
+        (tags_from (map (λ e. e.now) texts.now)) }
 {
     let mut tags = Vec::new(alloc);
     for text in texts {
@@ -106,7 +107,8 @@ impl Condition {
         // The text spells the condition that was read.
         ensures found { IfOk result (λ condition. Spells bytes.now condition) }
         // A condition that the text spells is read, unless memory runs out.
-        ensures only { (condition : Condition) → Spells bytes.now condition → Gives TagFault.Memory result (Ok condition) }
+        ensures only { (condition : Condition) → Spells bytes.now condition
+            → Gives TagFault.Memory result (Ok condition) }
         ensures exact { Gives TagFault.Memory result (condition_of bytes.now) }
     {
         condition_in(alloc, bytes)

@@ -39,7 +39,8 @@ fn without_trailing(text: &[u8]) -> &[u8]
 /// Adds a part of a list without the spaces and tabs around it, unless that leaves it empty.
 #[tactic(auto, unfolding(crate::specs::Lists::kept, crate::specs::Lists::trimmed))]
 fn push_part<'a>(found: &mut Vec<&'a [u8]>, part: &'a [u8]) -> Result<(), AllocError>
-    ensures { OnOk result (map (λ e. e.now) found.new.items ≡ map (λ e. e.now) found.old.items ++ kept (part.now ∷ [])) }
+    ensures { OnOk result (map (λ e. e.now) found.new.items ≡ map (λ e. e.now) found.old.items
+        ++ kept (part.now ∷ [])) }
 {
     let element = without_trailing(without_leading(part));
     if !element.is_empty() {

@@ -91,7 +91,8 @@ impl Columns {
 
     /// The fields in the columns of the texts of a user.
     pub(crate) fn texts<'a>(&self, texts: &'a StringRecord) -> [&'a str; TEXT_FIELD_COUNT]
-        ensures { map (λ f. f.now) result ≡ map (column self.now (fields_of texts.now)) text_columns }
+        ensures { map (λ f. f.now) result
+            ≡ map (column self.now (fields_of texts.now)) text_columns }
     {
         self.texts.map(|place| field(texts, place))
     }

@@ -20,7 +20,8 @@ use std::mem;
 /// The record as text, which takes its buffer. A record that isn't text keeps it.
 #[tactic(auto, unfolding(crate::specs::Fields::read_texts))]
 pub(crate) fn texts_of(alloc: Global, raw: &mut ByteRecord) -> Result<StringRecord, RowCode>
-    ensures { MatchResult result (λ texts. read_texts (fields_of raw.old) ≡ Ok (fields_of texts)) (λ code. read_texts (fields_of raw.old) ≡ Err code) }
+    ensures { MatchResult result (λ texts. read_texts (fields_of raw.old)
+        ≡ Ok (fields_of texts)) (λ code. read_texts (fields_of raw.old) ≡ Err code) }
 {
     match StringRecord::from_byte_record(mem::replace(raw, ByteRecord::new(alloc))) {
         Ok(texts) => Ok(texts),
@@ -83,8 +84,11 @@ pub(crate) fn values_of(
     columns: &Columns,
     texts: &StringRecord,
 ) -> Result<[FieldValue; TEXT_FIELD_COUNT], Refusal>
-    ensures ok { IfOk result (λ values. (values ≡ map (column columns.now (fields_of texts.now)) text_columns) × (list_all is_short values ≡ true)) }
-    ensures err { IfErr result (RefusedFor code.Value (SomeIsLong (column columns.now (fields_of texts.now)))) }
+    ensures ok { IfOk result (λ values. (values
+        ≡ map (column columns.now (fields_of texts.now)) text_columns)
+        × (list_all is_short values ≡ true)) }
+    ensures err { IfErr result
+        (RefusedFor code.Value (SomeIsLong (column columns.now (fields_of texts.now)))) }
 {
     columns.texts(texts).try_map(|text| value_of(alloc, text))
 }

@@ -91,7 +91,9 @@ fn has_field(raw: &ByteRecord, place: usize, name: &str) -> bool
 
 /// Whether the fields of a record are these, from the first on.
 fn has_fields(raw: &ByteRecord, names: &[&str]) -> bool
-    ensures { result ≡ list_all (λ p. bytes_eq (field (fields_of raw.now) p.0) p.1.now) (enumerate_from 0 names.now) }
+    ensures { result
+        ≡ list_all (λ p. bytes_eq (field (fields_of raw.now) p.0) p.1.now)
+        (enumerate_from 0 names.now) }
 {
     names
         .iter()
@@ -111,7 +113,8 @@ fn header_among(
     headers: &[&'static [&'static str]],
     raw: &ByteRecord,
 ) -> Option<&'static [&'static str]>
-    ensures { option_map (λ columns. named columns.now) result ≡ find (same_record (fields_of raw.now)) (map (λ columns. named columns.now) headers.now) }
+    ensures { option_map (λ columns. named columns.now) result
+        ≡ find (same_record (fields_of raw.now)) (map (λ columns. named columns.now) headers.now) }
 {
     headers
         .iter()
@@ -154,7 +157,9 @@ pub(crate) fn row_at(
     place: usize,
     raw: &mut ByteRecord,
 ) -> Result<Result<Row, RowFault>, SourceFault>
-    ensures { MatchResult result (λ row. row ≡ at_place place (read_row kind columns.now (fields_of raw.old))) (λ fault. fault ≡ SourceFault.Memory) }
+    ensures { MatchResult result (λ row. row
+        ≡ at_place place (read_row kind columns.now (fields_of raw.old))) (λ fault. fault
+        ≡ SourceFault.Memory) }
 {
     match read_row(alloc, kind, columns, raw) {
         Ok(row) => Ok(Ok(row)),
@@ -186,7 +191,8 @@ fn record_of(given: Result<ByteRecord, csv::Error>) -> Result<ByteRecord, Source
 
 /// Reads a file of this kind.
 fn read_rows(alloc: Global, kind: Kind, bytes: &[u8]) -> Result<SourceRows, SourceFault>
-    ensures { (records : List Record) → AreRecordsOf bytes.now records → Gives SourceFault.Memory result (rows_of kind records) }
+    ensures { (records : List Record) → AreRecordsOf bytes.now records
+        → Gives SourceFault.Memory result (rows_of kind records) }
 {
     let mut records = records_of(alloc, bytes);
     let header = match records.next() {
@@ -207,14 +213,16 @@ fn read_rows(alloc: Global, kind: Kind, bytes: &[u8]) -> Result<SourceRows, Sour
 
 /// Reads a file of users. Its records are counted from 1 after the header.
 pub fn read_users(alloc: Global, bytes: &[u8]) -> Result<SourceRows, SourceFault>
-    ensures { (records : List Record) → AreRecordsOf bytes.now records → Gives SourceFault.Memory result (rows_of kind.User records) }
+    ensures { (records : List Record) → AreRecordsOf bytes.now records
+        → Gives SourceFault.Memory result (rows_of kind.User records) }
 {
     read_rows(alloc, Kind::User, bytes)
 }
 
 /// Reads a file of groups. Its records are counted from 1 after the header.
 pub fn read_groups(alloc: Global, bytes: &[u8]) -> Result<SourceRows, SourceFault>
-    ensures { (records : List Record) → AreRecordsOf bytes.now records → Gives SourceFault.Memory result (rows_of kind.Group records) }
+    ensures { (records : List Record) → AreRecordsOf bytes.now records
+        → Gives SourceFault.Memory result (rows_of kind.Group records) }
 {
     read_rows(alloc, Kind::Group, bytes)
 }

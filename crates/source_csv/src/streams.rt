@@ -92,7 +92,9 @@ fn read_into<R: Read>(reader: &mut Reader<R>, raw: &mut ByteRecord) -> Result<bo
     ensures plain { has_failed reader.new ≡ false → IsPlain reader.new }
     ensures records { (records : List Record)
         → Leaves (source_of R.remaining reader.old) (reader_state reader.old) records
-        → IfOk result (λ found. Takes found (fields_of raw.new) (source_of R.remaining reader.new) (reader_state reader.new) records) }
+        → IfOk result
+        (λ found. Takes found (fields_of raw.new) (source_of R.remaining reader.new)
+        (reader_state reader.new) records) }
     ensures fault { IfErr result IsReadFault }
 {
     match reader.read_byte_record(raw) {
@@ -133,7 +135,8 @@ impl<R: Read + Drop> RowReader<R> {
         ensures columns { self.new.columns ≡ self.old.columns }
         ensures place { IfOk result (λ found. self.new.place ≡ place_after found self.old.place) }
         ensures records { (records : List Record) → HasLeft self.old records
-            → IfOk result (λ found. Takes found self.new.fields self.new.remaining self.new.state records) }
+            → IfOk result
+            (λ found. Takes found self.new.fields self.new.remaining self.new.state records) }
         ensures fault { IfErr result IsReadFault }
     {
         let found = read_into(&mut self.reader, &mut self.raw)?;
@@ -163,7 +166,8 @@ impl<R: Read + Drop> RowReader<R> {
     /// The row or the fault of the last record. Call it once for each record: one that isn't text may be left
     /// with other fields.
     pub fn row(&mut self) -> Result<Result<Row, RowFault>, SourceFault>
-        ensures row { MatchResult result (λ row. row ≡ last_row self.old) (λ fault. fault ≡ SourceFault.Memory) }
+        ensures row { MatchResult result (λ row. row ≡ last_row self.old) (λ fault. fault
+            ≡ SourceFault.Memory) }
         ensures rest { self.new ≡ record self.old { fields = self.new.fields } }
     {
         row_at(

@@ -30,9 +30,19 @@ impl Model for UserRow {
 
     ghost Value = { UserFields };
 
-    ghost view = { λ u. record { login = u.login; revision = u.revision; texts = u.texts; active = u.active } };
+    ghost view = { λ u. record {
+      login = u.login;
+      revision = u.revision;
+      texts = u.texts;
+      active = u.active;
+    } };
 
-    ghost invariant = { λ u. IsUserRow (record { login = u.login; revision = u.revision; texts = u.texts; active = u.active }) };
+    ghost invariant = { λ u. IsUserRow (record {
+      login = u.login;
+      revision = u.revision;
+      texts = u.texts;
+      active = u.active;
+    }) };
 }
 
 /// Dropping a row is one call, and not a step for each field: each step would lengthen every proof that
@@ -88,7 +98,11 @@ impl UserRow {
         active: bool,
     ) -> Option<UserRow>
         requires { IsRevision revision }
-        ensures { MatchOption result (IsUserRow (record { login = login; revision = revision; texts = texts; active = active }) → ⊥) (λ row. row ≡ record { login = login; revision = revision; texts = texts; active = active }) }
+        ensures { MatchOption result
+            (IsUserRow
+            (record { login = login; revision = revision; texts = texts; active = active })
+            → ⊥) (λ row. row
+            ≡ record { login = login; revision = revision; texts = texts; active = active }) }
     {
         if are_short(&texts) {
             Some(UserRow {
@@ -104,7 +118,12 @@ impl UserRow {
 
     /// The fields of the row, in the order of `new`.
     pub fn into_parts(self) -> (UserName, Revision, [FieldValue; TEXT_FIELD_COUNT], bool)
-        ensures value { self ≡ record { login = result.0; revision = result.1; texts = result.2; active = result.3 } }
+        ensures value { self ≡ record {
+          login = result.0;
+          revision = result.1;
+          texts = result.2;
+          active = result.3;
+        } }
         ensures lawful { IsUserRow self }
     {
         let UserRow {

@@ -69,7 +69,8 @@ fn record_of(given: Result<ByteRecord, csv::Error>) -> Result<ByteRecord, AllocE
 
 /// For each record after the header, how many lines its longest field has.
 fn lines_of(alloc: Global, bytes: &[u8]) -> Result<Vec<usize>, AllocError>
-    ensures { (records : List Record) → AreRecordsOf bytes.now records → IfOk result (λ lines. lines.items ≡ lines_after_header records) }
+    ensures { (records : List Record) → AreRecordsOf bytes.now records
+        → IfOk result (λ lines. lines.items ≡ lines_after_header records) }
 {
     let mut records = records_of(alloc, bytes);
     let mut lines = Vec::new(alloc);
@@ -103,7 +104,8 @@ fn multiline_in(alloc: Global, lines: &[usize]) -> Result<Vec<Multiline>, AllocE
 /// The records of a file with a field over several lines, in order. They are counted from 1 after the
 /// header.
 pub fn multiline_records(alloc: Global, bytes: &[u8]) -> Result<Vec<Multiline>, AllocError>
-    ensures { (records : List Record) → AreRecordsOf bytes.now records → IfOk result (λ found. found.items ≡ multiline_of records) }
+    ensures { (records : List Record) → AreRecordsOf bytes.now records
+        → IfOk result (λ found. found.items ≡ multiline_of records) }
 {
     let lines = lines_of(alloc, bytes)?;
     multiline_in(alloc, lines.as_slice())

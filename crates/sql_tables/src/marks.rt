@@ -28,11 +28,18 @@ pub fn find_mark<S: Alter, L: Layout>(
     requires query { IsQuery L.layout sql.now }
     requires given { IsGiven L.layout sql.now [] }
     requires shows { ShowsFormat L.layout sql.now }
-    requires laid { HasCleanDisk (state S.Store conn.old) → IsTrue (state S.Store conn.old).is_open → IsLaid L.layout (state S.Store conn.old) }
-    ensures mark { HasCleanDisk (state S.Store conn.new) → IfOk result (IsMark (IsFormat (state S.Store conn.old)) own) }
-    ensures failed { HasCleanDisk (state S.Store conn.new) → IfErr result (λ e. FailsFor (HasFailed (state S.Store conn.old) (state S.Store conn.new)) (statement_fault e)) }
-    ensures keeps { HasCleanDisk (state S.Store conn.new) → Keeps (state S.Store conn.old) (state S.Store conn.new) }
-    ensures open { HasCleanDisk (state S.Store conn.new) → OnOk result (IsTrue (state S.Store conn.new).is_open) }
+    requires laid { HasCleanDisk (state S.Store conn.old) → IsTrue (state S.Store conn.old).is_open
+        → IsLaid L.layout (state S.Store conn.old) }
+    ensures mark { HasCleanDisk (state S.Store conn.new)
+        → IfOk result (IsMark (IsFormat (state S.Store conn.old)) own) }
+    ensures failed { HasCleanDisk (state S.Store conn.new)
+        → IfErr result
+        (λ e. FailsFor (HasFailed (state S.Store conn.old) (state S.Store conn.new))
+        (statement_fault e)) }
+    ensures keeps { HasCleanDisk (state S.Store conn.new)
+        → Keeps (state S.Store conn.old) (state S.Store conn.new) }
+    ensures open { HasCleanDisk (state S.Store conn.new)
+        → OnOk result (IsTrue (state S.Store conn.new).is_open) }
     ensures quiet { Survives (state S.Store conn.old) (state S.Store conn.new) (λ _. ⊥) }
 {
     let rows = ask::<S, L>(conn, sql, &[])?;

@@ -69,8 +69,22 @@ fn has_no_stamps(table: &Table) -> bool
 
 /// Whether the column has this name and type, may be NULL or not, and nothing else is declared for it.
 pub fn is_column(column: &Column, name: &[u8], kind: Kind, not_null: bool) -> bool
-    ensures is { IsTrue result → column.now ≡ record { name = name.now; kind = kind; is_strict = false; not_null = not_null; default = Null; collation = Binary } }
-    ensures known { column.now ≡ record { name = name.now; kind = kind; is_strict = false; not_null = not_null; default = Null; collation = Binary } → IsTrue result }
+    ensures is { IsTrue result → column.now ≡ record {
+      name = name.now;
+      kind = kind;
+      is_strict = false;
+      not_null = not_null;
+      default = Null;
+      collation = Binary;
+    } }
+    ensures known { column.now ≡ record {
+      name = name.now;
+      kind = kind;
+      is_strict = false;
+      not_null = not_null;
+      default = Null;
+      collation = Binary;
+    } → IsTrue result }
 {
     column.name.as_slice() == name
         && column.kind == kind

@@ -46,12 +46,23 @@ pub fn ask<S: Alter, L: Layout>(
 ) -> Result<Vec<Row>, Error>
     requires query { IsQuery L.layout sql.now }
     requires given { IsGiven L.layout sql.now (bound params.now) }
-    requires laid { HasCleanDisk (state S.Store conn.old) → IsTrue (state S.Store conn.old).is_open → IsLaid L.layout (state S.Store conn.old) }
-    ensures rows { HasCleanDisk (state S.Store conn.new) → IfOk result (λ rows. Answers sql.now (bound params.now) (state S.Store conn.old) rows.items) }
-    ensures fails { HasCleanDisk (state S.Store conn.new) → IfErr result (FailsToQuery sql.now (bound params.now) (state S.Store conn.old) (state S.Store conn.new)) }
-    ensures failed { HasCleanDisk (state S.Store conn.new) → IfErr result (λ e. FailsFor (HasFailed (state S.Store conn.old) (state S.Store conn.new)) (statement_fault e)) }
-    ensures keeps { HasCleanDisk (state S.Store conn.new) → Keeps (state S.Store conn.old) (state S.Store conn.new) }
-    ensures open { HasCleanDisk (state S.Store conn.new) → OnOk result (IsTrue (state S.Store conn.new).is_open) }
+    requires laid { HasCleanDisk (state S.Store conn.old) → IsTrue (state S.Store conn.old).is_open
+        → IsLaid L.layout (state S.Store conn.old) }
+    ensures rows { HasCleanDisk (state S.Store conn.new)
+        → IfOk result
+        (λ rows. Answers sql.now (bound params.now) (state S.Store conn.old) rows.items) }
+    ensures fails { HasCleanDisk (state S.Store conn.new)
+        → IfErr result
+        (FailsToQuery sql.now (bound params.now) (state S.Store conn.old)
+        (state S.Store conn.new)) }
+    ensures failed { HasCleanDisk (state S.Store conn.new)
+        → IfErr result
+        (λ e. FailsFor (HasFailed (state S.Store conn.old) (state S.Store conn.new))
+        (statement_fault e)) }
+    ensures keeps { HasCleanDisk (state S.Store conn.new)
+        → Keeps (state S.Store conn.old) (state S.Store conn.new) }
+    ensures open { HasCleanDisk (state S.Store conn.new)
+        → OnOk result (IsTrue (state S.Store conn.new).is_open) }
     ensures quiet { Survives (state S.Store conn.old) (state S.Store conn.new) (λ _. ⊥) }
 {
     let statement = conn.prepare(sql)?;
@@ -65,12 +76,22 @@ pub fn write<S: Alter, L: Layout>(
     params: &[ValueRef<'_>],
 ) -> Result<usize, Error>
     requires edit { IsEditText L.layout sql.now }
-    requires laid { HasCleanDisk (state S.Store conn.old) → IsTrue (state S.Store conn.old).is_open → IsLaid L.layout (state S.Store conn.old) }
-    ensures ran { HasCleanDisk (state S.Store conn.new) → OnOk result (Ran sql.now (bound params.now) (state S.Store conn.old) (state S.Store conn.new)) }
-    ensures count { HasCleanDisk (state S.Store conn.new) → IfOk result (RanOn sql.now (bound params.now) (state S.Store conn.old) (state S.Store conn.new)) }
-    ensures fails { HasCleanDisk (state S.Store conn.new) → IfErr result (λ e. Executes sql.now (bound params.now) (state S.Store conn.old) (state S.Store conn.new) (Err e)) }
-    ensures keeps { HasCleanDisk (state S.Store conn.new) → OnErr result (Keeps (state S.Store conn.old) (state S.Store conn.new)) }
-    ensures stop { Survives (state S.Store conn.old) (state S.Store conn.new) (MayLeave sql.now (bound params.now) (state S.Store conn.old)) }
+    requires laid { HasCleanDisk (state S.Store conn.old) → IsTrue (state S.Store conn.old).is_open
+        → IsLaid L.layout (state S.Store conn.old) }
+    ensures ran { HasCleanDisk (state S.Store conn.new)
+        → OnOk result
+        (Ran sql.now (bound params.now) (state S.Store conn.old) (state S.Store conn.new)) }
+    ensures count { HasCleanDisk (state S.Store conn.new)
+        → IfOk result
+        (RanOn sql.now (bound params.now) (state S.Store conn.old) (state S.Store conn.new)) }
+    ensures fails { HasCleanDisk (state S.Store conn.new)
+        → IfErr result
+        (λ e. Executes sql.now (bound params.now) (state S.Store conn.old) (state S.Store conn.new)
+        (Err e)) }
+    ensures keeps { HasCleanDisk (state S.Store conn.new)
+        → OnErr result (Keeps (state S.Store conn.old) (state S.Store conn.new)) }
+    ensures stop { Survives (state S.Store conn.old) (state S.Store conn.new)
+        (MayLeave sql.now (bound params.now) (state S.Store conn.old)) }
 {
     let statement = conn.prepare(sql)?;
     statement.execute(conn, params)

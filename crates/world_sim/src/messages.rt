@@ -53,8 +53,10 @@ fn sent_from(sent: &[Sent], place: usize) -> Option<&Sent>
 
 /// The message with this number, counted from 1.
 pub(crate) fn sent_at(sent: &[Sent], number: usize) -> Option<&Sent>
-    ensures said { option_map (λ s. says s.said) (option_copied result) ≡ message_at (messages_of sent.now) number }
-    ensures text { option_map (λ s. s.bytes.items) (option_copied result) ≡ text_at (texts_of sent.now) number }
+    ensures said { option_map (λ s. says s.said) (option_copied result)
+        ≡ message_at (messages_of sent.now) number }
+    ensures text { option_map (λ s. s.bytes.items) (option_copied result)
+        ≡ text_at (texts_of sent.now) number }
 {
     if number == 0 {
         return None;

@@ -27,7 +27,8 @@ pub(crate) enum ReadingFault {
 pub(crate) fn read_asked(alloc: Global, bytes: &[u8]) -> Result<Request, ReadingFault>
     ensures ok { IfOk result (SpellsRequest bytes.now) }
     // The result is the request that they spell, or out of memory.
-    ensures only { (request : Request) → SpellsRequest bytes.now request → IsOrMemory request result }
+    ensures only { (request : Request) → SpellsRequest bytes.now request
+        → IsOrMemory request result }
 {
     match request_in(alloc, bytes) {
         Ok(Some(incoming)) => asked_by(alloc, &incoming),
@@ -55,7 +56,8 @@ pub(crate) fn read_answered(
 ) -> Result<Answer, ReadingFault>
     ensures ok { IfOk result (AnswersSo bytes.now request.now) }
     // The result is the answer that they are, or out of memory.
-    ensures only { (answer : Answer) → AnswersSo bytes.now request.now answer → IsOrMemory answer result }
+    ensures only { (answer : Answer) → AnswersSo bytes.now request.now answer
+        → IsOrMemory answer result }
 {
     match read_answer(alloc, request, bytes) {
         Ok(answer) => Ok(answer),

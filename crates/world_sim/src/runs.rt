@@ -23,8 +23,11 @@ pub fn run<R: Reopen + Drop, J: ReopenJournal + Drop>(
     base: Base,
     events: &[Event],
 ) -> Result<(World<R, J>, Vec<Report>), WorldFault>
-    ensures ran { IfOk result (λ ran. RunsFromEmpty R.Registry J.Journal registry journal base (events_of events.now) ran.0 ran.1.items) }
-    ensures fault { IfErr result (EndsRun R.Registry J.Journal registry journal base (events_of events.now)) }
+    ensures ran { IfOk result
+        (λ ran. RunsFromEmpty R.Registry J.Journal registry journal base
+        (events_of events.now) ran.0 ran.1.items) }
+    ensures fault { IfErr result
+        (EndsRun R.Registry J.Journal registry journal base (events_of events.now)) }
 {
     let mut world = match World::new(alloc, registry, journal, base) {
         Ok(world) => world,

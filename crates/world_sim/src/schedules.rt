@@ -76,7 +76,8 @@ fn file_of(alloc: Global, columns: &[&str], text: &str) -> Result<String, AllocE
 
 /// The records of a file of this kind.
 fn read_rows(alloc: Global, kind: Kind, bytes: &[u8]) -> Result<SourceRows, SourceFault>
-    ensures { (records : List Record) → AreRecordsOf bytes.now records → Gives SourceFault.Memory result (rows_of kind records) }
+    ensures { (records : List Record) → AreRecordsOf bytes.now records
+        → Gives SourceFault.Memory result (rows_of kind records) }
 {
     match kind {
         Kind::User => read_users(alloc, bytes),
@@ -99,7 +100,8 @@ fn only_row(mut rows: Vec<Result<Row, RowFault>>) -> Option<Row>
 
 /// The row of a file of this kind, if it has exactly one record and that is a row.
 fn only_row_in(alloc: Global, kind: Kind, bytes: &[u8]) -> Result<Option<Row>, AllocError>
-    ensures { (records : List Record) → AreRecordsOf bytes.now records → IfOk result (λ row. row ≡ only_row (rows_of kind records)) }
+    ensures { (records : List Record) → AreRecordsOf bytes.now records
+        → IfOk result (λ row. row ≡ only_row (rows_of kind records)) }
 {
     match read_rows(alloc, kind, bytes) {
         Ok(rows) => Ok(only_row(rows.into_vec())),
@@ -115,7 +117,9 @@ fn row_under(
     headers: &[&[&str]],
     text: &str,
 ) -> Result<Option<Row>, AllocError>
-    ensures { (records_in : List ℕ → List Record) → ReadsFiles records_in → IfOk result (λ row. row ≡ row_under records_in kind text.now (map (λ columns. named columns.now) headers.now)) }
+    ensures { (records_in : List ℕ → List Record) → ReadsFiles records_in
+        → IfOk result (λ row. row
+        ≡ row_under records_in kind text.now (map (λ columns. named columns.now) headers.now)) }
 {
     for columns in headers {
         let file = file_of(alloc, columns, text)?;
@@ -129,7 +133,8 @@ fn row_under(
 /// The event that offers this record of a file of this kind.
 #[tactic(auto, unfolding(crate::specs::Schedules::change_in))]
 pub(crate) fn change_in(alloc: Global, kind: Kind, text: &str) -> Result<Option<Event>, AllocError>
-    ensures { (records_in : List ℕ → List Record) → ReadsFiles records_in → IfOk result (λ event. event ≡ spec.change_in records_in kind text.now) }
+    ensures { (records_in : List ℕ → List Record) → ReadsFiles records_in
+        → IfOk result (λ event. event ≡ spec.change_in records_in kind text.now) }
 {
     let row = match kind {
         Kind::User => row_under(alloc, kind, &USER_HEADERS, text)?,
@@ -241,7 +246,8 @@ fn restart_in(text: &str) -> Option<Event>
 /// The event in a line.
 #[tactic(auto, unfolding(crate::specs::Schedules::event_of_words))]
 fn event_in(alloc: Global, line: &str) -> Result<Option<Event>, AllocError>
-    ensures { (records_in : List ℕ → List Record) → ReadsFiles records_in → IfOk result (λ event. event ≡ event_in records_in line.now) }
+    ensures { (records_in : List ℕ → List Record) → ReadsFiles records_in
+        → IfOk result (λ event. event ≡ event_in records_in line.now) }
 {
     let (word, rest) = words_of(line);
     match word {
@@ -275,7 +281,8 @@ fn lines_of(alloc: Global, text: &str) -> Result<Vec<&str>, AllocError>
 /// The event in the line with this number; none if the line is empty or a comment.
 #[tactic(auto, unfolding(crate::specs::Schedules::said_at))]
 fn said_at(alloc: Global, number: usize, line: &str) -> Result<Option<Event>, ScheduleFault>
-    ensures { (records_in : List ℕ → List Record) → ReadsFiles records_in → Gives ScheduleFault.Memory result (spec.said_at records_in number line.now) }
+    ensures { (records_in : List ℕ → List Record) → ReadsFiles records_in
+        → Gives ScheduleFault.Memory result (spec.said_at records_in number line.now) }
 {
     if is_silent(line) {
         return Ok(None);
@@ -288,7 +295,9 @@ fn said_at(alloc: Global, number: usize, line: &str) -> Result<Option<Event>, Sc
 
 /// The events in these lines, which are numbered from 1.
 fn events_of(alloc: Global, lines: &[&str]) -> Result<Vec<Event>, ScheduleFault>
-    ensures { (records_in : List ℕ → List Record) → ReadsFiles records_in → GivesBy (λ events. events.items) ScheduleFault.Memory result (events_from records_in 1 (map (λ line. line.now) lines.now)) }
+    ensures { (records_in : List ℕ → List Record) → ReadsFiles records_in
+        → GivesBy (λ events. events.items) ScheduleFault.Memory result
+        (events_from records_in 1 (map (λ line. line.now) lines.now)) }
 {
     let mut events = Vec::new(alloc);
     let mut number = 0;
@@ -306,7 +315,9 @@ fn events_of(alloc: Global, lines: &[&str]) -> Result<Vec<Event>, ScheduleFault>
 /// group` and a name, `deliver` and a number, `cut` and two numbers, `restart provider` or `restart
 /// connector`.
 pub fn read_schedule(alloc: Global, text: &str) -> Result<Vec<Event>, ScheduleFault>
-    ensures { (records_in : List ℕ → List Record) → ReadsFiles records_in → GivesBy (λ events. events.items) ScheduleFault.Memory result (events_in records_in text.now) }
+    ensures { (records_in : List ℕ → List Record) → ReadsFiles records_in
+        → GivesBy (λ events. events.items) ScheduleFault.Memory result
+        (events_in records_in text.now) }
 {
     let lines = lines_of(alloc, text)?;
     events_of(alloc, lines.as_slice())

@@ -52,7 +52,8 @@ fn settle_record<R: Registry + Drop, J: Journal + Drop>(
     world: &mut World<R, J>,
     name: &RecordName,
 ) -> Result<u32, WorldFault>
-    ensures settles { IfOk result (SettlesRecord R.Registry J.Journal world.old world.new name.now) }
+    ensures settles { IfOk result
+        (SettlesRecord R.Registry J.Journal world.old world.new name.now) }
     ensures stops { IfErr result (Stops R.Registry J.Journal world.old world.new) }
 {
     for exchanges in 0..MOST_EXCHANGES {

@@ -46,7 +46,8 @@ pub(crate) fn reopened<J: ReopenJournal + Drop>(
     ensures opened { IsOpenedIn J.Journal result.0 }
     ensures open { is_open result.0 ≡ is_ok result.1 }
     ensures steps { OpensThenReads J.Journal (journal_in side) (journal_in result.0) result.1 }
-    ensures reopens { OpensAgain J.Journal CountsWorldFault (journal_in side) (journal_in result.0) result.1 }
+    ensures reopens { OpensAgain J.Journal CountsWorldFault (journal_in side)
+        (journal_in result.0) result.1 }
 {
     let mut journal = journal_of(side);
     match journal.reopen() {

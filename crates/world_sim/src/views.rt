@@ -128,7 +128,8 @@ fn row_of<R: Registry>(
     provider: Provider<R>,
     name: &RecordName,
 ) -> (Provider<R>, Result<Option<Stored>, WorldFault>)
-    ensures ok { R.is_faithful result.0 → IfOk result.1 (λ row. row ≡ row_named name.now (R.rows provider)) }
+    ensures ok { R.is_faithful result.0
+        → IfOk result.1 (λ row. row ≡ row_named name.now (R.rows provider)) }
     ensures reads { Reads R.Registry CountsWorldFault provider result.0 result.1 }
 {
     let mut registry = provider.close();

@@ -68,15 +68,25 @@ fn learn<J: Journal>(
     request: &Request,
     answer: &Answer,
 ) -> Result<Report, WorldFault>
-    ensures report { IfOk result (λ told. report_of told ≡ Taught (learnt_of (spec.learn (book_of connector.old.book) request.now answer.now))) }
-    ensures book { OnOk result (book_of connector.new.book ≡ spec.after_learning (book_of connector.old.book) (spec.learn (book_of connector.old.book) request.now answer.now)) }
+    ensures report { IfOk result (λ told. report_of told
+        ≡ Taught (learnt_of (spec.learn (book_of connector.old.book) request.now answer.now))) }
+    ensures book { OnOk result (book_of connector.new.book
+        ≡ spec.after_learning (book_of connector.old.book)
+        (spec.learn (book_of connector.old.book) request.now answer.now)) }
     ensures names { keys connector.new.book ≡ keys connector.old.book }
     ensures same { OnErr result (connector.new.book ≡ connector.old.book) }
-    ensures still { J.is_faithful connector.new.journal → LeavesBook J.Journal connector.old → OnErr result (LeavesBook J.Journal connector.new) }
+    ensures still { J.is_faithful connector.new.journal → LeavesBook J.Journal connector.old
+        → OnErr result (LeavesBook J.Journal connector.new) }
     ensures honest { J.is_honest connector.new.journal → J.is_honest connector.old.journal }
-    ensures open { J.is_honest connector.new.journal → J.is_faithful connector.old.journal → OnOk result (J.is_faithful connector.new.journal) }
-    ensures leaves { J.is_honest connector.new.journal → LeavesBook J.Journal connector.old → Leaves J.Journal connector.old connector.new (spec.after_learning (book_of connector.old.book) (spec.learn (book_of connector.old.book) request.now answer.now)) (keys connector.old.book) result }
-    ensures counted { IfErr result (CountsWorldFault (J.faults connector.old.journal) (J.faults connector.new.journal)) }
+    ensures open { J.is_honest connector.new.journal → J.is_faithful connector.old.journal
+        → OnOk result (J.is_faithful connector.new.journal) }
+    ensures leaves { J.is_honest connector.new.journal → LeavesBook J.Journal connector.old
+        → Leaves J.Journal connector.old connector.new
+        (spec.after_learning (book_of connector.old.book)
+        (spec.learn (book_of connector.old.book) request.now answer.now))
+        (keys connector.old.book) result }
+    ensures counted { IfErr result
+        (CountsWorldFault (J.faults connector.old.journal) (J.faults connector.new.journal)) }
 {
     match connector.learn(request, answer) {
         Ok(learnt) => Ok(Report::Taught(Ok(learnt))),
@@ -93,14 +103,26 @@ fn learn<J: Journal>(
 
 /// What the connector says about a row.
 fn judge<J: Journal>(connector: &mut Connector<J>, row: Row) -> Result<Report, WorldFault>
-    ensures report { IfOk result (λ told. report_of told ≡ Judged (judging (book_of connector.old.book) (keys connector.old.book) row)) }
-    ensures book { OnOk result (connector.new.book ≡ accepted_map connector.old.book row (judging (book_of connector.old.book) (keys connector.old.book) row)) }
+    ensures report { IfOk result (λ told. report_of told
+        ≡ Judged (judging (book_of connector.old.book) (keys connector.old.book) row)) }
+    ensures book { OnOk result (connector.new.book
+        ≡ accepted_map connector.old.book row
+        (judging (book_of connector.old.book) (keys connector.old.book) row)) }
     ensures same { OnErr result (connector.new.book ≡ connector.old.book) }
-    ensures still { J.is_faithful connector.new.journal → LeavesBook J.Journal connector.old → OnErr result (LeavesBook J.Journal connector.new) }
+    ensures still { J.is_faithful connector.new.journal → LeavesBook J.Journal connector.old
+        → OnErr result (LeavesBook J.Journal connector.new) }
     ensures honest { J.is_honest connector.new.journal → J.is_honest connector.old.journal }
-    ensures open { J.is_honest connector.new.journal → J.is_faithful connector.old.journal → OnOk result (J.is_faithful connector.new.journal) }
-    ensures leaves { J.is_honest connector.new.journal → LeavesBook J.Journal connector.old → Leaves J.Journal connector.old connector.new (book_after (book_of connector.old.book) row (judging (book_of connector.old.book) (keys connector.old.book) row)) (keys (accepted_map connector.old.book row (judging (book_of connector.old.book) (keys connector.old.book) row))) result }
-    ensures counted { IfErr result (CountsWorldFault (J.faults connector.old.journal) (J.faults connector.new.journal)) }
+    ensures open { J.is_honest connector.new.journal → J.is_faithful connector.old.journal
+        → OnOk result (J.is_faithful connector.new.journal) }
+    ensures leaves { J.is_honest connector.new.journal → LeavesBook J.Journal connector.old
+        → Leaves J.Journal connector.old connector.new
+        (book_after (book_of connector.old.book) row
+        (judging (book_of connector.old.book) (keys connector.old.book) row))
+        (keys
+        (accepted_map connector.old.book row
+        (judging (book_of connector.old.book) (keys connector.old.book) row))) result }
+    ensures counted { IfErr result
+        (CountsWorldFault (J.faults connector.old.journal) (J.faults connector.new.journal)) }
 {
     match connector.change(row) {
         Ok(verdict) => Ok(Report::Judged(Ok(verdict))),
@@ -122,17 +144,27 @@ fn hear<J: Journal>(
     bytes: &[u8],
 ) -> Result<Report, WorldFault>
     ensures report { (answer : Answer) → AnswersSo bytes.now request.now answer
-        → IfOk result (λ told. report_of told ≡ Taught (learnt_of (spec.learn (book_of connector.old.book) request.now answer))) }
+        → IfOk result (λ told. report_of told
+        ≡ Taught (learnt_of (spec.learn (book_of connector.old.book) request.now answer))) }
     ensures book { (answer : Answer) → AnswersSo bytes.now request.now answer
-        → OnOk result (book_of connector.new.book ≡ spec.after_learning (book_of connector.old.book) (spec.learn (book_of connector.old.book) request.now answer)) }
+        → OnOk result (book_of connector.new.book
+        ≡ spec.after_learning (book_of connector.old.book)
+        (spec.learn (book_of connector.old.book) request.now answer)) }
     ensures names { keys connector.new.book ≡ keys connector.old.book }
     ensures same { OnErr result (connector.new.book ≡ connector.old.book) }
-    ensures still { J.is_faithful connector.new.journal → LeavesBook J.Journal connector.old → OnErr result (LeavesBook J.Journal connector.new) }
+    ensures still { J.is_faithful connector.new.journal → LeavesBook J.Journal connector.old
+        → OnErr result (LeavesBook J.Journal connector.new) }
     ensures honest { J.is_honest connector.new.journal → J.is_honest connector.old.journal }
-    ensures open { J.is_honest connector.new.journal → J.is_faithful connector.old.journal → OnOk result (J.is_faithful connector.new.journal) }
+    ensures open { J.is_honest connector.new.journal → J.is_faithful connector.old.journal
+        → OnOk result (J.is_faithful connector.new.journal) }
     ensures leaves { (answer : Answer) → AnswersSo bytes.now request.now answer
-        → J.is_honest connector.new.journal → LeavesBook J.Journal connector.old → Leaves J.Journal connector.old connector.new (spec.after_learning (book_of connector.old.book) (spec.learn (book_of connector.old.book) request.now answer)) (keys connector.old.book) result }
-    ensures counted { IfErr result (CountsWorldFault (J.faults connector.old.journal) (J.faults connector.new.journal)) }
+        → J.is_honest connector.new.journal → LeavesBook J.Journal connector.old
+        → Leaves J.Journal connector.old connector.new
+        (spec.after_learning (book_of connector.old.book)
+        (spec.learn (book_of connector.old.book) request.now answer))
+        (keys connector.old.book) result }
+    ensures counted { IfErr result
+        (CountsWorldFault (J.faults connector.old.journal) (J.faults connector.new.journal)) }
 {
     match read_answered(alloc, request, bytes) {
         Ok(answer) => learn(connector, request, &answer),
@@ -173,9 +205,12 @@ fn prepared<R: Registry>(
     base: &Base,
     request: &Request,
 ) -> Result<(Pending, Vec<u8>), WorldFault>
-    ensures ok { R.is_faithful provider.new → IfOk result (λ formed. formed.0 ≡ outcome (R.rows provider.old) request.now) }
-    ensures text { IfOk result (λ formed. formed.1.items ≡ answer_text base.now false formed.0.answer) }
-    ensures formed { IfOk result (λ formed. IsFormed base.now (Answered request.now formed.0.answer)) }
+    ensures ok { R.is_faithful provider.new
+        → IfOk result (λ formed. formed.0 ≡ outcome (R.rows provider.old) request.now) }
+    ensures text { IfOk result (λ formed. formed.1.items
+        ≡ answer_text base.now false formed.0.answer) }
+    ensures formed { IfOk result
+        (λ formed. IsFormed base.now (Answered request.now formed.0.answer)) }
     ensures reads { registries.Reads R.Registry CountsWorldFault provider.old provider.new result }
 {
     let pending = provider.prepare(alloc, request)?;
@@ -196,7 +231,8 @@ impl<R: Registry + Drop, J: Journal + Drop> World<R, J> {
         ensures starts { IfOk result (Starts R.Registry J.Journal registry journal) }
         ensures open { IfOk result (λ world. opens_of world ≡ (true, true)) }
         ensures refused { IfErr result (λ refused. refused.1 ≡ registry) }
-        ensures journal { journals.Reads J.Journal CountsStart journal (journal_after result) result }
+        ensures journal { journals.Reads J.Journal CountsStart journal
+            (journal_after result) result }
     {
         keeps_form(&base);
         match Connector::open(alloc, journal) {
@@ -214,10 +250,14 @@ impl<R: Registry + Drop, J: Journal + Drop> World<R, J> {
 
     /// The source offers a row.
     fn change(&mut self, row: &Row) -> Result<Report, WorldFault>
-        ensures done { IfOk result (Happens R.Registry J.Journal self.old self.new (Changes row.now)) }
-        ensures fails { IfErr result (Fails R.Registry J.Journal self.old self.new (Changes row.now)) }
-        ensures goes_on { IfOk result (GoesOn R.Registry J.Journal self.old self.new (Changes row.now)) }
-        ensures fails_on { IfErr result (FailsOn R.Registry J.Journal self.old self.new (Changes row.now)) }
+        ensures done { IfOk result
+            (Happens R.Registry J.Journal self.old self.new (Changes row.now)) }
+        ensures fails { IfErr result
+            (Fails R.Registry J.Journal self.old self.new (Changes row.now)) }
+        ensures goes_on { IfOk result
+            (GoesOn R.Registry J.Journal self.old self.new (Changes row.now)) }
+        ensures fails_on { IfErr result
+            (FailsOn R.Registry J.Journal self.old self.new (Changes row.now)) }
         ensures keeps { OnErr result (Keeps self.old self.new (Changes row.now)) }
         ensures apart { Apart self.old self.new (Changes row.now) }
         ensures shut { IsShutOff self.old (Changes row.now) → result ≡ Err Store }
@@ -234,10 +274,14 @@ impl<R: Registry + Drop, J: Journal + Drop> World<R, J> {
 
     /// The connector sends its next request for a record.
     pub(crate) fn send(&mut self, name: &RecordName) -> Result<Report, WorldFault>
-        ensures done { IfOk result (Happens R.Registry J.Journal self.old self.new (Sends name.now)) }
-        ensures fails { IfErr result (Fails R.Registry J.Journal self.old self.new (Sends name.now)) }
-        ensures goes_on { IfOk result (GoesOn R.Registry J.Journal self.old self.new (Sends name.now)) }
-        ensures fails_on { IfErr result (FailsOn R.Registry J.Journal self.old self.new (Sends name.now)) }
+        ensures done { IfOk result
+            (Happens R.Registry J.Journal self.old self.new (Sends name.now)) }
+        ensures fails { IfErr result
+            (Fails R.Registry J.Journal self.old self.new (Sends name.now)) }
+        ensures goes_on { IfOk result
+            (GoesOn R.Registry J.Journal self.old self.new (Sends name.now)) }
+        ensures fails_on { IfErr result
+            (FailsOn R.Registry J.Journal self.old self.new (Sends name.now)) }
         ensures keeps { OnErr result (Keeps self.old self.new (Sends name.now)) }
         ensures apart { Apart self.old self.new (Sends name.now) }
         ensures shut { IsShutOff self.old (Sends name.now) → result ≡ Err Store }
@@ -271,10 +315,14 @@ impl<R: Registry + Drop, J: Journal + Drop> World<R, J> {
 
     /// The message with a number arrives.
     pub(crate) fn deliver(&mut self, number: usize) -> Result<Report, WorldFault>
-        ensures done { IfOk result (Happens R.Registry J.Journal self.old self.new (Delivers number)) }
-        ensures fails { IfErr result (Fails R.Registry J.Journal self.old self.new (Delivers number)) }
-        ensures goes_on { IfOk result (GoesOn R.Registry J.Journal self.old self.new (Delivers number)) }
-        ensures fails_on { IfErr result (FailsOn R.Registry J.Journal self.old self.new (Delivers number)) }
+        ensures done { IfOk result
+            (Happens R.Registry J.Journal self.old self.new (Delivers number)) }
+        ensures fails { IfErr result
+            (Fails R.Registry J.Journal self.old self.new (Delivers number)) }
+        ensures goes_on { IfOk result
+            (GoesOn R.Registry J.Journal self.old self.new (Delivers number)) }
+        ensures fails_on { IfErr result
+            (FailsOn R.Registry J.Journal self.old self.new (Delivers number)) }
         ensures keeps { OnErr result (Keeps self.old self.new (Delivers number)) }
         ensures apart { Apart self.old self.new (Delivers number) }
         ensures shut { IsShutOff self.old (Delivers number) → result ≡ Err Store }
@@ -300,8 +348,11 @@ impl<R: Registry + Drop, J: Journal + Drop> World<R, J> {
     /// A request arrives, and its reply is sent. Everything that needs memory is done before the rows
     /// change.
     fn answer(&mut self, request: Request) -> Result<Report, WorldFault>
-        ensures done { IfOk result (Arrives R.Registry (unknown_entries J.Journal) self.old self.new (Asked request)) }
-        ensures fails { IfErr result (FailsToArrive R.Registry (unknown_entries J.Journal) self.old self.new (Asked request)) }
+        ensures done { IfOk result
+            (Arrives R.Registry (unknown_entries J.Journal) self.old self.new (Asked request)) }
+        ensures fails { IfErr result
+            (FailsToArrive R.Registry (unknown_entries J.Journal) self.old self.new
+            (Asked request)) }
         ensures apart { self.new.connector ≡ self.old.connector }
         ensures opens { opens_of self.new ≡ opens_of self.old }
     {
@@ -322,10 +373,14 @@ impl<R: Registry + Drop, J: Journal + Drop> World<R, J> {
 
     /// Only the first bytes of a message arrive. They aren't read as a message, and nothing happens.
     fn cut(&self, number: usize, length: usize) -> Result<Report, WorldFault>
-        ensures done { IfOk result (Happens R.Registry J.Journal self.now self.now (Cuts number length)) }
-        ensures fails { IfErr result (Fails R.Registry J.Journal self.now self.now (Cuts number length)) }
-        ensures goes_on { IfOk result (GoesOn R.Registry J.Journal self.now self.now (Cuts number length)) }
-        ensures fails_on { IfErr result (FailsOn R.Registry J.Journal self.now self.now (Cuts number length)) }
+        ensures done { IfOk result
+            (Happens R.Registry J.Journal self.now self.now (Cuts number length)) }
+        ensures fails { IfErr result
+            (Fails R.Registry J.Journal self.now self.now (Cuts number length)) }
+        ensures goes_on { IfOk result
+            (GoesOn R.Registry J.Journal self.now self.now (Cuts number length)) }
+        ensures fails_on { IfErr result
+            (FailsOn R.Registry J.Journal self.now self.now (Cuts number length)) }
     {
         match sent_at(&self.sent, number) {
             Some(sent) if length < sent.bytes.len() => {
@@ -340,13 +395,19 @@ impl<R: Registry + Drop, J: Journal + Drop> World<R, J> {
 impl<R: Reopen + Drop, J: Journal + Drop> World<R, J> {
     /// Opens the provider again on its rows.
     fn restart_provider(&mut self) -> Result<Report, WorldFault>
-        ensures done { IfOk result (Happens R.Registry J.Journal self.old self.new Restarts_provider) }
-        ensures fails { IfErr result (Fails R.Registry J.Journal self.old self.new Restarts_provider) }
-        ensures goes_on { IfOk result (GoesOn R.Registry J.Journal self.old self.new Restarts_provider) }
-        ensures fails_on { IfErr result (FailsOn R.Registry J.Journal self.old self.new Restarts_provider) }
+        ensures done { IfOk result
+            (Happens R.Registry J.Journal self.old self.new Restarts_provider) }
+        ensures fails { IfErr result
+            (Fails R.Registry J.Journal self.old self.new Restarts_provider) }
+        ensures goes_on { IfOk result
+            (GoesOn R.Registry J.Journal self.old self.new Restarts_provider) }
+        ensures fails_on { IfErr result
+            (FailsOn R.Registry J.Journal self.old self.new Restarts_provider) }
         ensures apart { Apart self.old self.new Restarts_provider }
-        ensures opened { OnOk result (R.is_honest self.new.provider → R.is_faithful self.new.provider) }
-        ensures opens { opens_of self.new ≡ opens_after Restarts_provider (is_ok result) (opens_of self.old) }
+        ensures opened { OnOk result (R.is_honest self.new.provider
+            → R.is_faithful self.new.provider) }
+        ensures opens { opens_of self.new
+            ≡ opens_after Restarts_provider (is_ok result) (opens_of self.old) }
     {
         self.is_provider_open = false;
         self.provider.reopen()?;
@@ -358,13 +419,19 @@ impl<R: Reopen + Drop, J: Journal + Drop> World<R, J> {
 impl<R: Registry + Drop, J: ReopenJournal + Drop> World<R, J> {
     /// Opens the connector again on its journal.
     fn restart_connector(&mut self) -> Result<Report, WorldFault>
-        ensures done { IfOk result (Happens R.Registry J.Journal self.old self.new Restarts_connector) }
-        ensures fails { IfErr result (Fails R.Registry J.Journal self.old self.new Restarts_connector) }
-        ensures goes_on { IfOk result (GoesOn R.Registry J.Journal self.old self.new Restarts_connector) }
-        ensures fails_on { IfErr result (FailsOn R.Registry J.Journal self.old self.new Restarts_connector) }
+        ensures done { IfOk result
+            (Happens R.Registry J.Journal self.old self.new Restarts_connector) }
+        ensures fails { IfErr result
+            (Fails R.Registry J.Journal self.old self.new Restarts_connector) }
+        ensures goes_on { IfOk result
+            (GoesOn R.Registry J.Journal self.old self.new Restarts_connector) }
+        ensures fails_on { IfErr result
+            (FailsOn R.Registry J.Journal self.old self.new Restarts_connector) }
         ensures apart { Apart self.old self.new Restarts_connector }
-        ensures opened { OnOk result (J.is_honest (journal_in self.new.connector) → J.is_faithful (journal_in self.new.connector)) }
-        ensures opens { opens_of self.new ≡ opens_after Restarts_connector (is_ok result) (opens_of self.old) }
+        ensures opened { OnOk result (J.is_honest (journal_in self.new.connector)
+            → J.is_faithful (journal_in self.new.connector)) }
+        ensures opens { opens_of self.new
+            ≡ opens_after Restarts_connector (is_ok result) (opens_of self.old) }
     {
         match replace_with(&mut self.connector, self.alloc, reopened) {
             Ok(()) => Ok(Report::Restarted),
@@ -378,15 +445,21 @@ impl<R: Reopen + Drop, J: ReopenJournal + Drop> World<R, J> {
     /// failed: events that need that side return `WorldFault::Store` until a restart of it succeeds.
     /// Events that need the other side alone go on as before.
     pub fn step(&mut self, event: &Event) -> Result<Report, WorldFault>
-        ensures done { IfOk result (Happens R.Registry J.Journal self.old self.new (event_of event.now)) }
-        ensures fails { IfErr result (Fails R.Registry J.Journal self.old self.new (event_of event.now)) }
-        ensures goes_on { IfOk result (GoesOn R.Registry J.Journal self.old self.new (event_of event.now)) }
-        ensures fails_on { IfErr result (FailsOn R.Registry J.Journal self.old self.new (event_of event.now)) }
+        ensures done { IfOk result
+            (Happens R.Registry J.Journal self.old self.new (event_of event.now)) }
+        ensures fails { IfErr result
+            (Fails R.Registry J.Journal self.old self.new (event_of event.now)) }
+        ensures goes_on { IfOk result
+            (GoesOn R.Registry J.Journal self.old self.new (event_of event.now)) }
+        ensures fails_on { IfErr result
+            (FailsOn R.Registry J.Journal self.old self.new (event_of event.now)) }
         ensures keeps { OnErr result (Keeps self.old self.new (event_of event.now)) }
         ensures apart { Apart self.old self.new (event_of event.now) }
         ensures shut { IsShutOff self.old (event_of event.now) → result ≡ Err Store }
-        ensures opened { OnOk result (IsOpenedBy R.Registry J.Journal self.new (event_of event.now)) }
-        ensures opens { opens_of self.new ≡ opens_after (event_of event.now) (is_ok result) (opens_of self.old) }
+        ensures opened { OnOk result
+            (IsOpenedBy R.Registry J.Journal self.new (event_of event.now)) }
+        ensures opens { opens_of self.new
+            ≡ opens_after (event_of event.now) (is_ok result) (opens_of self.old) }
     {
         match event {
             Event::Change(row) => self.change(row),

@@ -20,7 +20,9 @@ struct Known {
 }
 
 impl Ids for Known {
-    ghost id_of = { λ known name. if bytes_eq name.key (codes "bob") then Some known.bob else if bytes_eq name.key (codes "ann") then known.ann else None };
+    ghost id_of = { λ known name. if bytes_eq name.key
+        (codes "bob") then Some known.bob else if bytes_eq name.key
+        (codes "ann") then known.ann else None };
 
     fn id(&self, key: &Key) -> Option<&ResourceId> {
         match key.as_str() {
