@@ -106,6 +106,11 @@ class DatabaseTest(Case):
     def test_no_such_folder(self):
         self.each_tells("folder/rows.db", "No such file or directory", but="reset")
 
+    def test_names_that_sqlite_has_for_something_else(self):
+        for file in (":memory:", "file:rows.db"):
+            self.each_tells(file, "unable to open database file", but="reset")
+            self.assertFalse((self.folder / file).exists())
+
     def test_a_folder(self):
         (self.folder / "folder").mkdir()
         self.each_tells("folder", "Is a directory")
