@@ -23,6 +23,7 @@ use Rattle.scim_key.proofs.RevisionLaws.{are_read_back}
 use Rattle.scim_key.specs.declared.records.RecordName.{RecordName}
 use Rattle.scim_resource.specs.Contents.{content_kind}
 use Rattle.scim_resource.specs.Schemas.{core_user, core_group, enterprise_extension, source_extension}
+use Rattle.scim_resource.specs.Texts.{text_if}
 use Rattle.scim_resource.specs.UserTexts.{has_some}
 use Rattle.scim_resource.specs.Writing.{Extension, epoch_data, source_data, source_parts, schemas_data, object_if, email_data, email_parts, emails_data, user_data, user_front, user_back, member_data, group_members_data, group_data, content_data}
 use Rattle.scim_resource.specs.declared.contents.Content.{Content}
@@ -36,7 +37,7 @@ use Rattle.source_csv.specs.declared.rows.Row.TheVariants.{User, Group}
 use Rattle.source_book.specs.History.{user, members_of}
 use Rattle.group_sync.specs.Laws.{HaveIds}
 use Rattle.group_sync.proofs.ReadyLemmas.{means}
-use Rattle.mapping.specs.Images.{image_texts, user_image, present, emails_of, work_email, once, group_image, image}
+use Rattle.mapping.specs.Images.{image_texts, user_image, emails_of, work_email, once, group_image, image}
 use Rattle.world_model.specs.Untroubled.{longest_body}
 use Rattle.world_model.proofs.Imaging.{image_with, of_image}
 
@@ -196,9 +197,9 @@ login_most name law = omega (arith, quoted_length name, plain_length name (plain
 text_most : (text : List ℕ) → length text ≤ 256 → length (compact_text (string text)) ≤ 1538
 text_most text short = omega (arith, quoted_most text, short)
 
-present_most : (text : List ℕ) → length text ≤ 256 → (d : Data) → option_map string (present text) ≡ Some d → length (compact_text d) ≤ 1538
-present_most [] short d is = absurd (cc)
-present_most (b ∷ text) short d is = let same : string (b ∷ text) ≡ d = cc in subst (λ (x : Data). length (compact_text x) ≤ 1538) same (text_most (b ∷ text) short)
+text_if_most : (text : List ℕ) → length text ≤ 256 → (d : Data) → option_map string (text_if text) ≡ Some d → length (compact_text d) ≤ 1538
+text_if_most [] short d is = absurd (cc)
+text_if_most (b ∷ text) short d is = let same : string (b ∷ text) ≡ d = cc in subst (λ (x : Data). length (compact_text x) ≤ 1538) same (text_most (b ∷ text) short)
 
 -- the value that is there is this one
 pub just : (x d : Data) (n : ℕ) → length (compact_text x) ≤ n → Some x ≡ Some d → length (compact_text d) ≤ n
@@ -312,7 +313,7 @@ source_part r law d is =
 abbrev enterprise_data : Option (List ℕ) → Option Data
 enterprise_data department = object_if (members_from ((codes "department", option_map string department) ∷ []))
 
-enterprise_part : (text : List ℕ) → length text ≤ 256 → (d : Data) → enterprise_data (present text) ≡ Some d → length (compact_text d) ≤ 1554
+enterprise_part : (text : List ℕ) → length text ≤ 256 → (d : Data) → enterprise_data (text_if text) ≡ Some d → length (compact_text d) ≤ 1554
 enterprise_part [] short d is = absurd (cc)
 enterprise_part (b ∷ text) short d is =
     just (object (member (codes "department") (string (b ∷ text)) no_members)) d 1554 (object_most (member (codes "department") (string (b ∷ text)) no_members) 1553 (with_member (codes "department") (string (b ∷ text)) no_members 12 1538 1 key_department (text_most (b ∷ text) short) no_more_members)) is
@@ -382,12 +383,12 @@ user_size row law =
     let department = text_of row texts.Department in
     let whole : length (compact_text (content_data (user_image row))) ≤ 8325 = object_most _ 8324 (with_part (codes "active") (Some (boolean row.active)) _ 8 5 8309 key_active (λ d is. just (boolean row.active) d 5 (boolean_most row.active) is)
     (with_part (codes "emails") (emails_data (emails_of (text_of row texts.Mail))) _ 8 1582 6717 key_emails (emails_part (text_of row texts.Mail) (short_text row law texts.Mail))
-    (with_part (codes "externalId") (option_map string (present (text_of row texts.Number))) _ 12 1538 5165 key_external_id (present_most (text_of row texts.Number) (short_text row law texts.Number))
-    (with_part (codes "name") (object_if (members_from (name_parts (present (text_of row texts.Given)) (present (text_of row texts.Family))))) _ 6 3105 2052 key_name
-    (name_part (present (text_of row texts.Given)) (present (text_of row texts.Family)) (present_most (text_of row texts.Given) (short_text row law texts.Given)) (present_most (text_of row texts.Family) (short_text row law texts.Family)))
+    (with_part (codes "externalId") (option_map string (text_if (text_of row texts.Number))) _ 12 1538 5165 key_external_id (text_if_most (text_of row texts.Number) (short_text row law texts.Number))
+    (with_part (codes "name") (object_if (members_from (name_parts (text_if (text_of row texts.Given)) (text_if (text_of row texts.Family))))) _ 6 3105 2052 key_name
+    (name_part (text_if (text_of row texts.Given)) (text_if (text_of row texts.Family)) (text_if_most (text_of row texts.Given) (short_text row law texts.Given)) (text_if_most (text_of row texts.Family) (short_text row law texts.Family)))
     (with_part (codes "schemas") (Some (array (schemas_data core_user (extended (has_some (image_texts row) (Department ∷ [])))))) _ 9 163 1878 key_schemas (user_schemas_part (has_some (image_texts row) (Department ∷ [])))
     (with_part source_extension (source_data (Some row.revision)) _ 54 63 1759 extension_length (source_part row.revision law.revision)
-    (with_part enterprise_extension (enterprise_data (present department)) _ 60 1554 143 enterprise_length (enterprise_part department (short_text row law texts.Department))
+    (with_part enterprise_extension (enterprise_data (text_if department)) _ 60 1554 143 enterprise_length (enterprise_part department (short_text row law texts.Department))
     (with_part (codes "userName") (Some (string row.login)) no_members 10 130 1 key_user_name
     (λ d is. just (string row.login) d 130 (login_most row.login law.login) is) no_more_members)))))))) in
     omega (arith, whole)
