@@ -4,13 +4,12 @@ import pathlib
 import resource
 import subprocess
 
+from exchanges import BOB_PATH, GROUPS, USERS
 from support import (
     BOB, BOB_CREATED, CREATE_BOB, GROUP, PATIENCE, SCIM_TYPE, SOURCE,
-    ProgramTest, full_disk, resource_id, scimlink, sql,
+    ProgramTest, full_disk, resource_id, scimlink,
 )
 
-BOB_PATH = f"/v2/Users/{resource_id(1)}"
-USERS, GROUPS = "/v2/Users", "/v2/Groups"
 OTHER_VERSION = "the resource has another version"
 # the body of the one answer to all that the provider couldn't complete
 UNDONE = (
@@ -44,20 +43,6 @@ SCIM_TYPES = {
     "P4": "mutability",
     "P6": "uniqueness",
 }
-
-# Likewise of refusals by the form of a request, which is in bytes
-POST = b"POST /v2/Users HTTP/1.1\r\nHost: h\r\n"
-CHUNKED, EXPECT = b"Transfer-Encoding: chunked\r\n\r\n", b"Expect: 100-continue\r\nContent-Length: 1\r\n\r\n"
-LONG = b"A: " + b"a" * 20_000 + b"\r\n\r\n"
-REFUSED_BYTES = [
-    ("H1", "400 Bad Request", "the request is malformed", b"\x00\r\n"),
-    ("H2", "400 Bad Request", "the Host field is missing or repeated", b"GET /v2/Users HTTP/1.1\r\n\r\n"),
-    ("H3", "411 Length Required", "the length of the body is missing", POST + b"\r\n"),
-    ("H4", "413 Content Too Large", "the body is too long", POST + b"Content-Length: 32769\r\n\r\n"),
-    ("H5", "431 Request Header Fields Too Large", "the head is too long", POST + LONG),
-    ("H6", "501 Not Implemented", "transfer codings are not supported", POST + CHUNKED),
-    ("H7", "417 Expectation Failed", "expectations are not supported", POST + EXPECT),
-]
 
 
 def user(revision, **more):
@@ -147,33 +132,12 @@ class ServeTest(ProgramTest):
                     self.assertEqual((error["status"], error["detail"]), (str(status), detail))
                     self.assertEqual(error.get("scimType"), SCIM_TYPES.get(code))
 
-    def test_refusals_of_a_form(self):
-        with self.serving(len(REFUSED_BYTES)) as provider:
-            for code, status, detail, request in REFUSED_BYTES:
-                with self.subTest(code=code):
-                    head, _, body = provider.exchange(request).partition(b"\r\n\r\n")
-                    self.assertEqual(head.split(b"\r\n")[0].decode(), f"HTTP/1.1 {status}")
-                    self.assertEqual(json.loads(body)["detail"], detail)
-
     def test_the_longest_body(self):
         with self.serving(3) as provider:
             longest = BOB.ljust(32_768)
             self.assert_answer(provider.ask("POST", USERS, longest + " "), 413)
             self.assert_answer(provider.ask("POST", USERS, longest), 201, ETag='"1"')
             self.assert_answer(provider.ask("GET", USERS), 200)
-
-    def test_a_version_that_cannot_grow(self):
-        store = self.folder / "store"
-        with self.serving(2, "--store", store) as provider:
-            provider.exchange(CREATE_BOB)
-            error = self.assert_answer(provider.ask("PUT", BOB_PATH, user(2), If_Match='"2"'), 412)
-            self.assertEqual(error["detail"], OTHER_VERSION)
-        sql(store, "UPDATE resource SET version = 9007199254740991")
-        with self.serving(2, "--store", store) as provider:
-            # the limit is looked at before the condition
-            for fields in ({}, {"If_Match": '"1"'}):
-                error = self.assert_answer(provider.ask("PUT", BOB_PATH, user(2), **fields), 500)
-                self.assertEqual(error["detail"], "a limit of the provider is reached")
 
     def test_a_server_without_memory(self):
         # long users, so that a page of them takes far more memory than the run has left
