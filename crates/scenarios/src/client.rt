@@ -1,6 +1,6 @@
 //! Requests as the client writes them, and the server's answers.
 use crate::support::{
-    BOB_FOUND, CREATE_BOB, answers, assert_that, base, empty, ends, joined, tells, with_bob,
+    BOB_FOUND, CREATE_BOB, answer_to, assert_that, base, empty, ends, joined, tells, with_bob,
 };
 use scim_client::ScimService;
 use scim_filter::Filter;
@@ -140,7 +140,8 @@ fn a_resource_is_asked_for_by_its_id(rt: HostRuntime) {
     is_asked_for(&rt, alloc, Kind::User, "x", "/v2/Users/x");
     let built = retrieval(&rt, alloc, Kind::User, &bob_id(&rt, alloc));
     let mut provider = with_bob(&rt, alloc);
-    answers(&rt, alloc, &mut provider, &built, 200, BOB_FOUND)
+    let answer = answer_to(&rt, alloc, &mut provider, &built, 200);
+    assert_that(&rt, answer.as_slice() == BOB_FOUND);
 }
 
 static ODD_ID: &str = "a/b?c%\u{e9}-._~";

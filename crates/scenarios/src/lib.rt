@@ -1,4 +1,4 @@
-//! The worked examples, as tests of texts, whole connections, the connector's calls, stores and streams.
+//! Tests by worked examples: of texts, answers, streams, the connector's calls and stores.
 #![tactic(auto)]
 
 #[cfg(test)]
@@ -12,19 +12,9 @@ mod connections;
 #[cfg(test)]
 mod connector;
 #[cfg(test)]
-mod creating;
-#[cfg(test)]
-mod departments;
-#[cfg(test)]
-mod epochs;
-#[cfg(test)]
 mod exchanges;
 #[cfg(test)]
-mod grouping;
-#[cfg(test)]
 mod index;
-#[cfg(test)]
-mod limits;
 #[cfg(test)]
 mod lines;
 #[cfg(test)]
@@ -32,19 +22,13 @@ mod pages;
 #[cfg(test)]
 mod readings;
 #[cfg(test)]
-mod refusing;
-#[cfg(test)]
 mod registries;
-#[cfg(test)]
-mod replacing;
 #[cfg(test)]
 mod responses;
 #[cfg(test)]
 mod sayings;
 #[cfg(test)]
 mod scripts;
-#[cfg(test)]
-mod searching;
 #[cfg(test)]
 mod store_faults;
 #[cfg(test)]

@@ -2,7 +2,8 @@
 ghost use Rattle.std.specs.Prelude.{[], ◌≡◌, ◌≤◌, IsErrOf, refl};
 ghost use Rattle.provider_core.specs.Stores.{HasRisen};
 
-use provider_core::{MemoryRegistry, Registry, RegistryFault};
+use crate::support::{CREATE_BOB, ends, tells};
+use provider_core::{MemoryRegistry, Provider, Registry, RegistryFault};
 use scim_key::{RecordName, ResourceId};
 use scim_resource::Stored;
 use std::alloc::Global;
@@ -65,6 +66,20 @@ impl Registry for FullRegistry {
     ghost settled = { λ _ _ faithful _. absurd faithful };
 
     ghost stays = { λ _ faithful. faithful };
+}
+
+#[test]
+fn a_provider_has_at_most_a_million_resources(rt: HostRuntime) {
+    let alloc = rt.alloc();
+    let mut provider = Provider::new(FullRegistry {
+        inserts: 0,
+        room: 1,
+    });
+    let last = "\"id\":\"5c1a0000-0000-8000-8000-0000000f4240\"";
+    tells(&rt, alloc, &mut provider, CREATE_BOB, 201, last);
+    let body =
+        "{\"detail\":\"a limit of the provider is reached\",\"schemas\":[\"urn:ietf:params:scim:api:messages:2.0:Error\"],\"status\":\"500\"}";
+    ends(&rt, alloc, &mut provider, CREATE_BOB, 500, body)
 }
 
 /// Fails at every call, and counts its faults.

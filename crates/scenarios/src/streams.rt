@@ -2,7 +2,7 @@
 use crate::registries::FaultyRegistry;
 use crate::scripts::{Event, ScriptedReader, ScriptedWriter, Turn};
 use crate::support::{
-    BOB_CREATED, CREATE_BOB, GIVEN_UP, asked, assert_same, assert_that, base, empty, exchange,
+    BOB_CREATED, CREATE_BOB, GIVEN_UP, assert_same, assert_that, base, empty, exchange,
 };
 use http_text::{Input, Output, ReadFault};
 use provider_core::{Provider, Registry};
@@ -143,10 +143,11 @@ fn a_read_that_fails_once_at_each_place(rt: HostRuntime) {
 
 /// Asserts that a part of a request isn't a request.
 fn is_none(rt: &impl Abort, alloc: Global, part: &[u8]) {
-    let (served, written, rows) = asked(rt, alloc, part);
+    let mut provider = empty(alloc);
+    let (served, written) = exchange(rt, alloc, &mut provider, part);
     assert_same(rt, served, Served::NoRequest(ReadFault::EndedEarly));
     assert_that(rt, written.is_empty());
-    assert_same(rt, rows, 0);
+    assert_same(rt, provider.close().count().expect(rt, "a count"), 0);
 }
 
 #[test]

@@ -61,18 +61,6 @@ pub fn joined(rt: &impl Abort, alloc: Global, parts: &[&str]) -> String {
     text
 }
 
-/// A whole response with this status line and this body.
-pub fn response(rt: &impl Abort, alloc: Global, line: &str, body: &str) -> String {
-    let length = printed(rt, alloc, body.len());
-    let head = "\r\nConnection: close\r\nContent-Length: ";
-    let kind = "\r\nContent-Type: application/scim+json\r\n\r\n";
-    joined(
-        rt,
-        alloc,
-        &["HTTP/1.1 ", line, head, length.as_str(), kind, body],
-    )
-}
-
 /// A piece, repeated `count` times.
 pub fn repeated(rt: &impl Abort, alloc: Global, piece: &str, count: usize) -> String {
     let mut text = String::new(alloc);
@@ -114,7 +102,7 @@ pub fn exchange<R: Registry>(
 }
 
 /// The bytes of the answer to a request, whose status must be this.
-fn answer_to<R: Registry>(
+pub fn answer_to<R: Registry>(
     rt: &impl Abort,
     alloc: Global,
     provider: &mut Provider<R>,
@@ -124,19 +112,6 @@ fn answer_to<R: Registry>(
     let (served, written) = exchange(rt, alloc, provider, request);
     assert_same(rt, served, Served::Answered { status });
     written
-}
-
-/// Asserts that a request is answered with this status and these bytes.
-pub fn answers<R: Registry>(
-    rt: &impl Abort,
-    alloc: Global,
-    provider: &mut Provider<R>,
-    request: &[u8],
-    status: u16,
-    expected: &[u8],
-) {
-    let written = answer_to(rt, alloc, provider, request, status);
-    assert_that(rt, written.as_slice() == expected);
 }
 
 /// Asserts that a request is answered with this status, and with bytes that end like this.
@@ -166,33 +141,7 @@ pub fn tells<R: Registry>(
     assert_that(rt, text.as_str().contains(part));
 }
 
-/// An empty provider's answer to these bytes, and how many rows it then has.
-pub fn asked(rt: &impl Abort, alloc: Global, request: &[u8]) -> (Served, Vec<u8>, u32) {
-    let mut provider = empty(alloc);
-    let (served, written) = exchange(rt, alloc, &mut provider, request);
-    let rows = provider.close().count().expect(rt, "a count");
-    (served, written, rows)
-}
-
-/// A POST of this body to `/v2/Users`.
-pub fn post(rt: &impl Abort, alloc: Global, body: &str) -> Vec<u8> {
-    request(rt, alloc, "POST /v2/Users", "", body)
-}
-
-// ---- requests by their parts
-
-/// What an answer is: these bytes, bytes that end like this, or a text that contains this.
-#[derive(Clone, Copy)]
-pub enum Said {
-    Whole(&'static [u8]),
-    Ends(&'static str),
-    Tells(&'static str),
-}
-
-/// A request, as its method and target, further field lines and body; and the status and the text of its
-/// answer.
-pub type Round = (&'static str, &'static str, &'static str, u16, Said);
-
+/// A request by its method and target, further field lines, and body.
 pub fn request(rt: &impl Abort, alloc: Global, line: &str, fields: &str, body: &str) -> Vec<u8> {
     let head = " HTTP/1.1\r\nHost: localhost:8080\r\nContent-Type: application/scim+json\r\n";
     let length = printed(rt, alloc, body.len());
@@ -203,22 +152,4 @@ pub fn request(rt: &impl Abort, alloc: Global, line: &str, fields: &str, body: &
         &["Content-Length: ", length.as_str(), "\r\n\r\n", body],
     );
     text.into_bytes()
-}
-
-/// Asserts a provider's answers to these requests, one after the other.
-pub fn converse<R: Registry>(
-    rt: &impl Abort,
-    alloc: Global,
-    provider: &mut Provider<R>,
-    rounds: &[Round],
-) {
-    for (line, fields, body, status, said) in rounds {
-        let request = request(rt, alloc, line, fields, body);
-        let asked = request.as_slice();
-        match said {
-            Said::Whole(bytes) => answers(rt, alloc, provider, asked, *status, bytes),
-            Said::Ends(end) => ends(rt, alloc, provider, asked, *status, end),
-            Said::Tells(part) => tells(rt, alloc, provider, asked, *status, part),
-        }
-    }
 }

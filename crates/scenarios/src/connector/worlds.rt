@@ -2,7 +2,6 @@
 //! in which messages are lost, late and repeated are tests of the program (tests/schedules).
 use crate::connector::failing::{FailingJournal, FailingRegistry};
 use crate::connector::offers::named;
-use crate::departments::CREATED;
 use crate::support::{BOB_CREATED, CREATE_BOB, are_printed, assert_same, assert_that};
 use connector_core::{ChangeFault, LearnFault};
 use journal_core::MemoryJournal;
@@ -96,11 +95,15 @@ const CONFIRMED_IN_SALES: &[Told] = &[("deliver 3", "answer 4 201"), ("deliver 4
 const CREATE_IN_SALES: &[u8] =
     b"POST /v2/Users HTTP/1.1\r\nHost: localhost:8080\r\nAccept: application/scim+json\r\nConnection: close\r\nContent-Length: 359\r\nContent-Type: application/scim+json\r\n\r\n{\"active\":true,\"schemas\":[\"urn:ietf:params:scim:schemas:core:2.0:User\",\"urn:ietf:params:scim:schemas:extension:enterprise:2.0:User\",\"urn:example:params:scim:schemas:extension:source:1.0\"],\"urn:example:params:scim:schemas:extension:source:1.0\":{\"revision\":2},\"urn:ietf:params:scim:schemas:extension:enterprise:2.0:User\":{\"department\":\"Sales\"},\"userName\":\"bob\"}";
 
+/// The answer to it.
+const CREATED_IN_SALES: &[u8] =
+    b"HTTP/1.1 201 Created\r\nConnection: close\r\nContent-Length: 533\r\nContent-Location: http://localhost:8080/v2/Users/5c1a0000-0000-8000-8000-000000000001\r\nContent-Type: application/scim+json\r\nETag: \"1\"\r\nLocation: http://localhost:8080/v2/Users/5c1a0000-0000-8000-8000-000000000001\r\n\r\n{\"active\":true,\"id\":\"5c1a0000-0000-8000-8000-000000000001\",\"meta\":{\"location\":\"http://localhost:8080/v2/Users/5c1a0000-0000-8000-8000-000000000001\",\"resourceType\":\"User\",\"version\":\"\\\"1\\\"\"},\"schemas\":[\"urn:ietf:params:scim:schemas:core:2.0:User\",\"urn:ietf:params:scim:schemas:extension:enterprise:2.0:User\",\"urn:example:params:scim:schemas:extension:source:1.0\"],\"urn:example:params:scim:schemas:extension:source:1.0\":{\"revision\":2},\"urn:ietf:params:scim:schemas:extension:enterprise:2.0:User\":{\"department\":\"Sales\"},\"userName\":\"bob\"}";
+
 #[test]
 fn a_department_is_sent_and_kept(rt: HostRuntime) {
     let world = runs(&rt, rt.alloc(), &[IN_SALES, SENT, CONFIRMED_IN_SALES]);
     assert_that(&rt, world.message(3) == Some(CREATE_IN_SALES));
-    assert_that(&rt, world.message(4) == Some(CREATED));
+    assert_that(&rt, world.message(4) == Some(CREATED_IN_SALES));
 }
 
 /// No run reports one of these for the connector's own requests.
