@@ -156,8 +156,8 @@ impl Offered {
 
     /// Takes one more row that is offered.
     fn take(&mut self, alloc: Global, book: &mut Book, row: Row) -> Result<(), AllocError>
-        ensures said { OnOk result (self.new.said.items ≡ self.old.said.items ++ judged book.old row
-            ∷ []) }
+        ensures said { OnOk result
+            (self.new.said.items ≡ self.old.said.items ++ judged book.old row ∷ []) }
         ensures fresh { OnOk result (self.new.fresh.items ≡ self.old.fresh.items
             ++ if_new row (judged book.old row)) }
         ensures taken { OnOk result (book.new ≡ taking book.old row) }

@@ -1,5 +1,5 @@
 //! Why a database file can't be used.
-use sqlite::{Connection, Error, ErrorCode, FileStore};
+use sqlite::{Alter, Connection, Error, ErrorCode, FileStore};
 use sqlite_disk::{Disk, Tally};
 use sqlite_std_file::OpenError;
 use std::io::{self, ErrorKind};
@@ -20,8 +20,8 @@ pub enum DatabaseReason {
 }
 
 /// Why a database doesn't execute a statement, if it fails.
-pub fn failure_in<D: Disk + Drop>(
-    mut conn: Connection<FileStore<D>>,
+pub fn failure_in<S: Alter + Drop>(
+    mut conn: Connection<S>,
     statement: &str,
 ) -> Option<DatabaseReason> {
     match conn.execute(statement, &[]) {
@@ -61,7 +61,6 @@ fn failure_by(tally: Tally) -> DatabaseReason {
 pub(crate) fn code_of(reason: DatabaseReason) -> ErrorCode {
     match reason {
         DatabaseReason::Failed(code) => code,
-        DatabaseReason::Unopened(OpenError::Busy) => ErrorCode::DatabaseBusy,
         DatabaseReason::Unopened(OpenError::OutOfMemory) => ErrorCode::OutOfMemory,
         DatabaseReason::Unopened(OpenError::Io(error)) if error.kind() == ErrorKind::OutOfMemory =>
             { ErrorCode::OutOfMemory }

@@ -171,9 +171,10 @@ fn split_named<'a>(
 ) -> Option<(&'a [u8], &'a [HeaderSpan])>
     requires { All (IsHeaderWithin (length head.now)) fields.now }
     ensures within { IfSome result (λ found. All (IsHeaderWithin (length head.now)) found.1.now) }
-    ensures first { MatchOption result (values name.now (map (header_bytes head.now) fields.now)
-        ≡ []) (λ found. values name.now (map (header_bytes head.now) fields.now) ≡ found.0.now
-        ∷ values name.now (map (header_bytes head.now) found.1.now)) }
+    ensures first { MatchOption result
+        (values name.now (map (header_bytes head.now) fields.now) ≡ [])
+        (λ found. values name.now (map (header_bytes head.now) fields.now)
+        ≡ found.0.now ∷ values name.now (map (header_bytes head.now) found.1.now)) }
 {
     for (i, field) in fields.iter().enumerate() {
         if field.name.of(head).eq_ignore_ascii_case(name) {

@@ -10,7 +10,7 @@ use Rattle.std.specs.Ordering.{is_eq}
 use Rattle.scim_key.proofs.RevisionLaws.{none_first}
 use Rattle.scim_key.specs.RecordOrder.{tied}
 use Rattle.scim_key.specs.Records.{name_cmp}
-use Rattle.scim_key.specs.Revisions.{RevisionValue, ◌≼◌}
+use Rattle.scim_key.specs.Revisions.{RevisionValue}
 use Rattle.scim_key.specs.declared.records.RecordName.{RecordName}
 use Rattle.source_csv.specs.Records.{row_name, row_revision}
 use Rattle.source_csv.specs.declared.rows.Row.{Row}

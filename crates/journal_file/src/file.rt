@@ -25,12 +25,16 @@ impl<'a> EntryStorage for JournalFile<'a> {
 
     /// If the file is refused, it is closed unchanged.
     fn open(&self) -> Result<Self::Entries, JournalOpenFault> {
-        carried_over(self.file.rt, self.file.open()?)
+        let rt = self.file.rt;
+        carried_over(rt.alloc(), self.file.open()?, |conn| renewed(rt, conn))
     }
 
     fn reason(&self) -> Option<DatabaseReason> {
         match self.file.open_again() {
-            Ok(conn) => refusal(self.file.rt.alloc(), conn),
+            Ok(conn) => match refusal(self.file.rt.alloc(), conn) {
+                Ok(reason) => reason,
+                Err(conn) => Some(failure_since(conn)),
+            },
             Err(reason) => reason,
         }
     }
@@ -57,19 +61,20 @@ impl<D: Disk + Drop> StoredEntries for SqlJournal<FileStore<D>> {
     }
 }
 
-/// The journal of the files of a connection. After an older format was carried over, the connection is renewed.
-fn carried_over<D: Disk + Drop>(
-    rt: &HostRuntime,
-    conn: Connection<FileStore<D>>,
-) -> Result<SqlJournal<FileStore<D>>, JournalOpenFault>
-    ensures opened { IfOk result (IsOpened ⟦<SqlJournal<FileStore<D>> as Journal>⟧) }
+/// The journal of a connection. After an older format was carried over, the connection is renewed.
+fn carried_over<S: Alter + Drop, F: FnOnce(Connection<S>) -> Result<Connection<S>, Error> + Drop>(
+    alloc: Global,
+    conn: Connection<S>,
+    renew: F,
+) -> Result<SqlJournal<S>, JournalOpenFault>
+    ensures opened { IfOk result (IsOpened ⟦<SqlJournal<S> as Journal>⟧) }
 {
     let is_carried = is_older(&conn);
-    let entries = entries_over(rt.alloc(), conn)?;
+    let entries = entries_over(alloc, conn)?;
     if !is_carried {
         return Ok(entries);
     }
-    entries_over(rt.alloc(), renewed(rt, SqlJournal::close(entries))?)
+    entries_over(alloc, renew(SqlJournal::close(entries))?)
 }
 
 /// The journal of a connection. If it is refused, the connection is dropped without a write.
@@ -85,14 +90,15 @@ fn entries_over<S: Alter + Drop>(
     }
 }
 
-/// Why the entries of a file that was opened again can't be used: it opens them, and writes what is there.
-fn refusal<D: Disk + Drop>(
+/// Why the entries of a connection that was opened again can't be used: it opens them, and writes what is there.
+/// If the store fails, the connection is handed back.
+fn refusal<S: Alter + Drop>(
     alloc: Global,
-    conn: Connection<FileStore<D>>,
-) -> Option<DatabaseReason> {
+    conn: Connection<S>,
+) -> Result<Option<DatabaseReason>, Connection<S>> {
     match SqlJournal::open(alloc, conn) {
-        Ok(entries) => failure_in(SqlJournal::close(entries), SAME),
-        Err((JournalOpenFault::Store, conn)) => Some(failure_since(conn)),
-        Err((_fault, _conn)) => None,
+        Ok(entries) => Ok(failure_in(SqlJournal::close(entries), SAME)),
+        Err((JournalOpenFault::Store, conn)) => Err(conn),
+        Err((_fault, _conn)) => Ok(None),
     }
 }

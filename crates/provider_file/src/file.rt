@@ -32,7 +32,10 @@ impl<'a> RowStorage for StoreFile<'a> {
 
     fn reason(&self) -> Option<DatabaseReason> {
         match self.file.open_again() {
-            Ok(conn) => refusal(self.file.rt.alloc(), conn),
+            Ok(conn) => match refusal(self.file.rt.alloc(), conn) {
+                Ok(reason) => reason,
+                Err(conn) => Some(failure_since(conn)),
+            },
             Err(reason) => reason,
         }
     }
@@ -72,14 +75,15 @@ fn rows_over<S: Alter + Drop>(
     }
 }
 
-/// Why the rows of a file that was opened again can't be used: it opens them, and writes what is there.
-fn refusal<D: Disk + Drop>(
+/// Why the rows of a connection that was opened again can't be used: it opens them, and writes what is there.
+/// If the store fails, the connection is handed back.
+fn refusal<S: Alter + Drop>(
     alloc: Global,
-    conn: Connection<FileStore<D>>,
-) -> Option<DatabaseReason> {
+    conn: Connection<S>,
+) -> Result<Option<DatabaseReason>, Connection<S>> {
     match SqlRegistry::open(alloc, conn) {
-        Ok(rows) => failure_in(SqlRegistry::close(rows), SAME),
-        Err((RegistryOpenFault::Store, conn)) => Some(failure_since(conn)),
-        Err((_fault, _conn)) => None,
+        Ok(rows) => Ok(failure_in(SqlRegistry::close(rows), SAME)),
+        Err((RegistryOpenFault::Store, conn)) => Err(conn),
+        Err((_fault, _conn)) => Ok(None),
     }
 }

@@ -335,8 +335,8 @@ impl<S: Alter> Registry for SqlRegistry<S> {
             → row.number ≡ length (kept_rows S.Store self.old) + 1 }
         requires free { IsFaithful S.Store self.old
             → row_named (content_name row.content) (kept_rows S.Store self.old) ≡ None }
-        ensures adds { Writes S.Store self.old self.new (kept_rows S.Store self.old ++ row
-            ∷ []) result }
+        ensures adds { Writes S.Store self.old self.new
+            (kept_rows S.Store self.old ++ row ∷ []) result }
         ensures open { IsHonest S.Store self.new → OnOk result (IsFaithful S.Store self.new) }
         ensures counted { OnOk result (HasRisen self.old.writes self.new.writes) }
         ensures shut { IsRefused self.old result }

@@ -12,6 +12,6 @@ pub trait Tell {
     ghost told: { Self → Option (List Done) } = { λ _. None };
 
     fn tell(&mut self, name: &RecordName, pushed: &Pushed) -> io::Result<()>
-        ensures { OnOk result (Tells (told self.old) (told self.new) ((name.now, pushed.now)
-            ∷ [])) };
+        ensures { OnOk result
+            (Tells (told self.old) (told self.new) ((name.now, pushed.now) ∷ [])) };
 }

@@ -38,8 +38,8 @@ impl Question<'_> {
     #[tactic(auto, unfolding(crate::specs::Matching::some_compares))]
     fn of_one(&self, text: &str) -> bool
         ensures { result
-            ≡ spec.some_compares self.now.exact self.now.operator self.now.given.now (text.now
-            ∷ []) }
+            ≡ spec.some_compares self.now.exact self.now.operator self.now.given.now
+            (text.now ∷ []) }
     {
         self.compares(text)
     }
