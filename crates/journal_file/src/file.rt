@@ -26,7 +26,10 @@ impl<'a> EntryStorage for JournalFile<'a> {
     /// If the file is refused, it is closed unchanged.
     fn open(&self) -> Result<Self::Entries, JournalOpenFault> {
         let rt = self.file.rt;
-        carried_over(rt.alloc(), self.file.open()?, |conn| renewed(rt, conn))
+        match carried_over(rt.alloc(), self.file.open()?)? {
+            Ok(entries) => Ok(entries),
+            Err(conn) => entries_over(rt.alloc(), renewed(rt, conn)?),
+        }
     }
 
     fn reason(&self) -> Option<DatabaseReason> {
@@ -61,20 +64,21 @@ impl<D: Disk + Drop> StoredEntries for SqlJournal<FileStore<D>> {
     }
 }
 
-/// The journal of a connection. After an older format was carried over, the connection is renewed.
-fn carried_over<S: Alter + Drop, F: FnOnce(Connection<S>) -> Result<Connection<S>, Error> + Drop>(
+/// The journal of a connection; or the connection, to be renewed, if an older format was carried over.
+fn carried_over<S: Alter + Drop>(
     alloc: Global,
     conn: Connection<S>,
-    renew: F,
-) -> Result<SqlJournal<S>, JournalOpenFault>
-    ensures opened { IfOk result (IsOpened ⟦<SqlJournal<S> as Journal>⟧) }
+) -> Result<Result<SqlJournal<S>, Connection<S>>, JournalOpenFault>
+    ensures opened { IfOk result
+        (λ opened. IfOk opened (IsOpened ⟦<SqlJournal<S> as Journal>⟧)) }
 {
     let is_carried = is_older(&conn);
     let entries = entries_over(alloc, conn)?;
-    if !is_carried {
-        return Ok(entries);
-    }
-    entries_over(alloc, renew(SqlJournal::close(entries))?)
+    Ok(if is_carried {
+        Err(SqlJournal::close(entries))
+    } else {
+        Ok(entries)
+    })
 }
 
 /// The journal of a connection. If it is refused, the connection is dropped without a write.
