@@ -439,15 +439,15 @@ def compact(content):
     return json.dumps(content, separators=(",", ":"), sort_keys=True)
 
 
-def user_text(name, revision=1, **more):
+def user_text(name, revision=1, /, **more):
     schemas = {"schemas": [USER, SOURCE], SOURCE: {"revision": revision}}
     return compact(schemas | {"userName": name, "active": True} | more)
 
 
-def department_text(name, revision, department):
+def department_text(name, revision, department, /, **more):
     """The text of a user in this department."""
     schemas = {"schemas": [USER, ENTERPRISE, SOURCE], ENTERPRISE: {"department": department}}
-    return user_text(name, revision, **schemas)
+    return user_text(name, revision, **schemas, **more)
 
 
 def group_text(name, members):

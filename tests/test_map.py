@@ -1,11 +1,10 @@
-"""`map`: the image of each row of a users file."""
+"""`map`: its output, reports and faults. (Images of rows and rejected records are in test_sources.py.)"""
 from support import (
-    DEPARTMENTS_HEADER, EXAMPLES, SOURCE, USERS_HEADER, ProgramTest,
-    broken_pipe, department_text, full_disk, scimlink, text, user_text,
+    EXAMPLES, SOURCE, USERS_HEADER, ProgramTest,
+    broken_pipe, full_disk, scimlink, text, user_text,
 )
 
 PERSONNEL = EXAMPLES / "personnel.csv"
-NO_REVISIONS = ["1000000:1", ":5", "1:", "1:0", "1:2000000001", "1:1:1", "1: 1", "0:0"]
 
 
 class MapTest(ProgramTest):
@@ -20,35 +19,6 @@ class MapTest(ProgramTest):
         self.assert_reports(run, 1, "users record 3: S5")
         self.assertEqual(len(run.lines), 3)
         self.assertIn(f'"{SOURCE}":{{"revision":7}},"userName":"ann"', run.lines[0])
-
-    def test_a_header_alone(self):
-        for header in (USERS_HEADER, DEPARTMENTS_HEADER):
-            with self.subTest(header=header):
-                self.assert_prints(scimlink("map", self.write(text(header))))
-
-    def test_other_headers(self):
-        more = [f"{header},more" for header in (USERS_HEADER, DEPARTMENTS_HEADER)]
-        for header in ["", "\n", "name,revision,members\n", USERS_HEADER.upper() + "\n", *map(text, more)]:
-            with self.subTest(header=header):
-                self.assert_prints(scimlink("map", self.write(header)), status=1, errors=["users: S1"])
-
-    def test_departments(self):
-        records = ["bob,2,,,,,active,Sales", "ann,1,,,,,active,", "cid,1,,,,,active", f"dee,1,,,,,active,{'d' * 257}"]
-        run = scimlink("map", self.write(text(DEPARTMENTS_HEADER, *records)))
-        images = [department_text("bob", 2, "Sales"), user_text("ann")]
-        self.assert_prints(run, *images, status=1, errors=["users record 3: S2", "users record 4: S6"])
-
-    def test_revisions_with_an_epoch(self):
-        records = ["ann,0:5,,,,,active", "bob,999999:2000000000,,,,,active", *(f"cid,{it},,,,,active" for it in NO_REVISIONS)]
-        images = [user_text("ann", 5), user_text("bob", **{SOURCE: {"epoch": 999_999, "revision": 2_000_000_000}})]
-        errors = [f"users record {number}: S5" for number in range(3, 3 + len(NO_REVISIONS))]
-        self.assert_prints(scimlink("map", self.write(text(USERS_HEADER, *records))), *images, status=1, errors=errors)
-
-    def test_rejected_records(self):
-        records = ["ann,1", "\xff,1,,,,,active", "bob,1,,,,,active", "c d,1,,,,,active", "cid,1,,,,,gone"]
-        run = scimlink("map", self.write(text(USERS_HEADER, *records)))
-        errors = [f"users record {number}: {code}" for number, code in [(1, "S2"), (2, "S3"), (4, "S4"), (5, "S6")]]
-        self.assert_prints(run, user_text("bob"), status=1, errors=errors)
 
     def test_reports_in_the_order_of_the_file(self):
         records = ['bob,1,,Bob,"Ray\nRay",,active', "c d,1,,,,,active", 'c d,1,,,"Poe\n",,active', "cid,1,,,,,active"]
