@@ -2,11 +2,9 @@
 mod answers_back;
 mod codes;
 mod copies;
-mod departments;
 mod filter_texts;
 mod filters;
 mod groups;
 mod names;
 mod reading_back;
-mod sources;
 mod tags;

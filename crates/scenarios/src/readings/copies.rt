@@ -1,11 +1,10 @@
 //! Contents and rows with every attribute: their texts, and that copies are the same.
-use crate::readings::sources::row;
 use crate::support::{assert_same, assert_that};
 use json::Writer;
 use scim_key::{Base, Kind, RecordName};
 use scim_resource::{Content, Shown, Stored};
 use serde_json::Value;
-use source_csv::{Row, read_groups, read_users};
+use source_csv::{Row, RowFault, read_groups, read_users};
 use std::alloc::{AllocError, Global};
 use std::process::Abort;
 
@@ -89,6 +88,14 @@ fn groups_with_every_attribute(rt: HostRuntime) {
 }
 
 // ---- rows
+
+/// The row of a record.
+pub fn row<'a>(rt: &impl Abort, record: Option<&'a Result<Row, RowFault>>) -> &'a Row {
+    match record {
+        Some(Ok(row)) => row,
+        _ => panic!(rt; "no row"),
+    }
+}
 
 /// Asserts that a row is of this record, and so is its copy.
 fn is_row_of(rt: &impl Abort, alloc: Global, row: &Row, kind: Kind, key: &str) {

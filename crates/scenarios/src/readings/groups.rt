@@ -2,13 +2,13 @@
 ghost use Rattle.std.specs.Prelude.{Some, None, if◌then◌else◌, codes};
 ghost use Rattle.std.specs.Str.{bytes_eq};
 
-use crate::readings::sources::{group, row};
+use crate::readings::copies::row;
 use crate::support::assert_same;
 use group_sync::{Ids, Ready, ready, settle_order};
 use mapping::{ImageFault, group_content, row_content};
 use scim_key::{Key, Kind, RecordName, ResourceId, Revision};
 use scim_resource::{Content, Group};
-use source_csv::{GroupRow, Row, SourceRows, read_groups};
+use source_csv::{GroupRow, Row, RowFault, SourceRows, read_groups};
 use std::alloc::Global;
 use std::process::Abort;
 
@@ -36,6 +36,14 @@ impl Ids for Known {
 /// The row `crew,1,ann bob`.
 fn crew(rt: &impl Abort, alloc: Global) -> SourceRows {
     read_groups(alloc, b"name,revision,members\ncrew,1,ann bob\n").expect(rt, "a file")
+}
+
+/// The group of a record.
+fn group<'a>(rt: &impl Abort, record: Option<&'a Result<Row, RowFault>>) -> &'a GroupRow {
+    match row(rt, record) {
+        Row::Group(group) => group,
+        Row::User(_) => panic!(rt; "no group"),
+    }
 }
 
 /// This id of ann, and the first one for bob.
