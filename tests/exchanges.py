@@ -1,5 +1,6 @@
 """Whole exchanges with a provider: requests from their parts, answers byte for byte, and what is asserted of both."""
 import json
+import urllib.parse
 
 from peers import LIST
 from support import GROUP, SCIM_TYPE, SOURCE, USER, ProgramTest, compact, resource_id
@@ -40,6 +41,15 @@ def request(line, content="", *fields):
 
 def create_user(content):
     return request(f"POST {USERS}", content)
+
+
+def get(target):
+    return f"GET {target} HTTP/1.1\r\nHost: localhost:8080\r\n\r\n".encode()
+
+
+def search(path, text):
+    """A search of a collection by this filter."""
+    return get(f"{path}?filter={urllib.parse.quote(text, safe='')}")
 
 
 # ---- answers
@@ -116,6 +126,14 @@ class ExchangeTest(ProgramTest):
         """An empty provider of its own answers a request with exactly these bytes."""
         with self.serving(1) as provider:
             self.assert_answers(provider, asked, expected)
+
+    def assert_no_filters(self, *tables):
+        """An empty provider refuses a search by each of these texts, in both collections."""
+        texts = [text for table in tables for text in table]
+        with self.serving(2 * len(texts)) as provider:
+            for text in texts:
+                for path in (USERS, GROUPS):
+                    self.assert_answers(provider, search(path, text), FILTER)
 
     def assert_holds(self, provider, users=0, groups=0):
         """The provider holds this many users and groups. To see that takes two requests."""

@@ -3,7 +3,7 @@ import contextlib
 
 from exchanges import (
     FILTER, GROUPS, USERS, VALUE,
-    ExchangeTest, as_json, at_revision, create_user, group, listed, shown_group, shown_user, user,
+    ExchangeTest, as_json, at_revision, create_user, get, group, listed, shown_group, shown_user, user,
 )
 from support import CREATE_BOB
 
@@ -52,10 +52,6 @@ INVALID_FILTERS = [
     "?filter=department+eq+%22x%22",
     "?filter=urn%3Aietf%3Aparams%3Ascim%3Aschemas%3Aextension%3Aenterprise%3A2.0%3AUser%3Adepartment+eq+%22x%22",
 ]
-
-
-def get(target):
-    return f"GET {target} HTTP/1.1\r\nHost: localhost:8080\r\n\r\n".encode()
 
 
 class SearchingTest(ExchangeTest):
