@@ -1,6 +1,6 @@
-//! Which texts aren't filters, how filters are written, and which record they name.
-use crate::readings::filters::{around, filter_of, hits, refuses, rows, text_of};
-use crate::support::assert_same;
+//! How filters are written, and which record they name.
+use crate::readings::filters::{filter_of, hits, rows, text_of};
+use crate::support::{assert_same, joined, repeated};
 use scim_filter::Filter;
 use scim_key::{GroupName, Kind, RecordName, UserName};
 use std::alloc::Global;
@@ -27,7 +27,7 @@ fn record_text(rt: &impl Abort, alloc: Global, name: &RecordName) -> String {
         Kind::User => "user ",
         Kind::Group => "group ",
     };
-    around(rt, alloc, 1, kind, name.key.as_str(), "")
+    joined(rt, alloc, &[kind, name.key.as_str()])
 }
 
 /// The record that a filter names, as a text.
@@ -43,223 +43,6 @@ fn names(rt: &impl Abort, alloc: Global, text: &str, wanted: &str) {
     let filter = filter_of(rt, alloc, text);
     let named = record_named(rt, alloc, &filter);
     assert_same(rt, (text, named.as_str()), (text, wanted));
-}
-
-static OPERATORS_LEFT_OUT: &[&str] = &[
-    r#"userName gt "a""#,
-    r#"userName ge "a""#,
-    r#"userName lt "a""#,
-    r#"userName le "a""#,
-    r#"userName is "a""#,
-    r#"userName = "a""#,
-    r#"userName == "a""#,
-    r#"userName equals "a""#,
-    r#"meta.version gt "1""#,
-    r#"meta.lastModified gt "2011-05-13T04:42:34Z""#,
-    r#"meta.lastModified ge "2011-05-13T04:42:34Z""#,
-    r#"meta.lastModified lt "2011-05-13T04:42:34Z""#,
-    r#"meta.lastModified le "2011-05-13T04:42:34Z""#,
-];
-
-static ATTRIBUTES_LEFT_OUT: &[&str] = &[
-    r#"title pr"#,
-    r#"title pr and userType eq "Employee""#,
-    r#"title pr or userType eq "Intern""#,
-    r#"userName pr or userType ne "Employee""#,
-    r#"schemas eq "urn:ietf:params:scim:schemas:extension:enterprise:2.0:User""#,
-    r#"urn:ietf:params:scim:schemas:core:2.0:User:userName sw "J""#,
-    r#"urn:ietf:params:scim:schemas:core:2.0:User:userName pr"#,
-    r#"urn:example:params:scim:schemas:extension:source:1.0:revision pr"#,
-    r#"revision pr"#,
-    r#"emails[type eq "work"]"#,
-    r#"emails[type eq "work" and value co "@example.com"]"#,
-    r#"emails[type eq "work"].value pr"#,
-    r#"members[value eq "a"]"#,
-    r#"primary eq true"#,
-    r#"value pr"#,
-    r#"name pr"#,
-    r#"name.formatted pr"#,
-    r#"meta pr"#,
-    r#"meta.created pr"#,
-    r#"meta.location pr"#,
-    r#"emails.display pr"#,
-    r#"members.type eq "User""#,
-    r#"members.display pr"#,
-    r#"emails.value.value pr"#,
-    r#".userName pr"#,
-    r#"userName. pr"#,
-    r#"name..givenName pr"#,
-    r#"uſerName pr"#,
-    r#"userNam pr"#,
-    r#"userNames pr"#,
-    r#"user_name pr"#,
-    r#"userName1 pr"#,
-    r#""userName" pr"#,
-];
-
-static VALUES_LEFT_OUT: &[&str] = &[
-    r#"externalId eq null"#,
-    r#"externalId ne NULL"#,
-    r#"userName eq 5"#,
-    r#"userName eq -1"#,
-    r#"userName eq 0.5"#,
-    r#"active eq 1"#,
-    r#"active eq null"#,
-    r#"userName eq ["a"]"#,
-    r#"userName eq {}"#,
-    r#"active co "t""#,
-    r#"active eq "true""#,
-    r#"active eq truth"#,
-    r#"active co true"#,
-    r#"active sw true"#,
-    r#"emails.primary ew false"#,
-    r#"emails.primary eq "true""#,
-    r#"userName eq true"#,
-    r#"emails ne false"#,
-    r#"userName co true"#,
-    r#"userName eq bob"#,
-    r#"userName eq userName"#,
-    r#"userName eq eq"#,
-];
-
-static BAD_STRINGS: &[&str] = &[
-    "userName eq \"bob",
-    "userName eq bob\"",
-    "userName eq \"",
-    "userName eq \"bob\\\"",
-    "userName eq \"b\"ob\"",
-    "userName eq 'bob'",
-    "userName eq “bob”",
-    "userName eq \"\\x\"",
-    "userName eq \"\\u12\"",
-    "userName eq \"\\ud800\"",
-    "userName eq \"\\ude00\\ud83d\"",
-    "userName eq \"a\tb\"",
-    "userName eq \"a\nb\"",
-    "userName eq \"a\0\"",
-];
-
-#[test]
-fn what_is_left_out_is_refused(rt: HostRuntime) {
-    let alloc = rt.alloc();
-    refuses(&rt, alloc, OPERATORS_LEFT_OUT);
-    refuses(&rt, alloc, ATTRIBUTES_LEFT_OUT);
-    refuses(&rt, alloc, VALUES_LEFT_OUT);
-    refuses(&rt, alloc, BAD_STRINGS);
-}
-
-static WORDS: &[&str] = &[
-    r#""#,
-    r#" "#,
-    r#"primary"#,
-    r#"userName"#,
-    r#"userName eq"#,
-    r#"userName eq "#,
-    r#"eq "a""#,
-    r#""a""#,
-    r#""a" eq userName"#,
-    r#"true"#,
-    r#"pr"#,
-    r#"and"#,
-    r#"not"#,
-    r#"or userName pr"#,
-    r#"userName pr and"#,
-    r#"userName pr or "#,
-    r#"and userName pr"#,
-    r#"userName pr and or active pr"#,
-    r#"userName pr and and active pr"#,
-    r#"userName pr active pr"#,
-    r#"userName pr pr"#,
-    r#"userName pr "a""#,
-    r#"userName eq "a" "b""#,
-    r#"userName eq "a" true"#,
-    r#"userName eq eq "a""#,
-    r#"userName userName pr"#,
-    r#"userName pr x"#,
-    r#"userName pr;"#,
-    r#"userName pr xor active pr"#,
-    r#"userName pr & active pr"#,
-    r#"userName pr && active pr"#,
-    r#"userName pr, active pr"#,
-    r#"*"#,
-    r#"%"#,
-];
-
-static MISSING_SPACES: &[&str] = &[
-    r#"userName eq"bob""#,
-    r#"userNameeq "bob""#,
-    r#"userName eqnull"#,
-    r#"userNamepr"#,
-    r#"userName prand active pr"#,
-    r#"userName pr andactive pr"#,
-    r#"active eqtrue"#,
-    r#"userName eq "bob"and active pr"#,
-    r#"userName eq "bob" and(active pr)"#,
-    r#"(userName pr)and (active pr)"#,
-    r#"(userName pr) or(active pr)"#,
-    r#"(userName pr)or(active pr)"#,
-    r#"userName eq "a"or active pr"#,
-];
-
-static TABS_AND_LINE_ENDS: &[&str] = &[
-    "userName\teq \"bob\"",
-    "userName eq\t\"bob\"",
-    "\tuserName pr",
-    "userName pr\t",
-    "userName pr\n",
-    "userName pr\r\n",
-    "userName pr\tand active pr",
-    "(\tuserName pr)",
-    "userName\u{a0}pr",
-    "userName pr\0",
-    "\u{feff}userName pr",
-];
-
-static PARENTHESES: &[&str] = &[
-    r#"(userName pr"#,
-    r#"userName pr)"#,
-    r#"((userName pr)"#,
-    r#"(userName pr))"#,
-    r#")userName pr("#,
-    r#"()"#,
-    r#"( )"#,
-    r#"(userName) pr"#,
-    r#"userName (pr)"#,
-    r#"userName eq ("bob")"#,
-    r#"(userName pr)(active pr)"#,
-    r#"(userName pr) (active pr)"#,
-    r#"(userName pr and) active pr"#,
-    r#"(userName pr and (active pr)"#,
-    r#"userName pr and )"#,
-];
-
-static BARE_NOT: &[&str] = &[
-    r#"not userName pr"#,
-    r#"not userName eq "a""#,
-    r#"not active"#,
-    r#"userName pr and not active pr"#,
-    r#"userName not pr"#,
-    r#"userName not eq "a""#,
-    r#"not not (userName pr)"#,
-    r#"notnot(userName pr)"#,
-    r#"not ()"#,
-    r#"not"#,
-    r#"(not) (userName pr)"#,
-    r#"(userName pr) not"#,
-    r#"not (userName pr"#,
-    r#"not (userName pr) (active pr)"#,
-    r#"not "a""#,
-    r#"!(userName pr)"#,
-];
-
-#[test]
-fn words_spaces_and_parentheses_that_do_not_fit(rt: HostRuntime) {
-    let alloc = rt.alloc();
-    refuses(&rt, alloc, WORDS);
-    refuses(&rt, alloc, MISSING_SPACES);
-    refuses(&rt, alloc, TABS_AND_LINE_ENDS);
-    refuses(&rt, alloc, PARENTHESES);
-    refuses(&rt, alloc, BARE_NOT);
 }
 
 static SPELLINGS: &[(&str, &str)] = &[
@@ -386,17 +169,17 @@ fn a_filter_names_a_record_by_one_test_of_its_name(rt: HostRuntime) {
 #[test]
 fn a_filter_names_a_record_by_the_longest_name(rt: HostRuntime) {
     let alloc = rt.alloc();
-    let longest = around(&rt, alloc, 128, "a", "", "");
-    let lawful = around(&rt, alloc, 1, "userName eq \"", longest.as_str(), "\"");
-    let named = around(&rt, alloc, 1, "user ", longest.as_str(), "");
-    names(&rt, alloc, lawful.as_str(), named.as_str())
+    let longest = repeated(&rt, alloc, "a", 128);
+    let filter = joined(&rt, alloc, &["userName eq \"", longest.as_str(), "\""]);
+    let named = joined(&rt, alloc, &["user ", longest.as_str()]);
+    names(&rt, alloc, filter.as_str(), named.as_str())
 }
 
 #[test]
 fn a_filter_names_no_record_by_a_longer_name(rt: HostRuntime) {
     let alloc = rt.alloc();
-    let longer = around(&rt, alloc, 129, "a", "", "");
-    let filter = around(&rt, alloc, 1, "displayName eq \"", longer.as_str(), "\"");
+    let longer = repeated(&rt, alloc, "a", 129);
+    let filter = joined(&rt, alloc, &["displayName eq \"", longer.as_str(), "\""]);
     names(&rt, alloc, filter.as_str(), "none")
 }
 
