@@ -3,9 +3,9 @@ import contextlib
 
 from exchanges import (
     FILTER, GROUPS, USERS, VALUE,
-    ExchangeTest, as_json, at_revision, create_user, get, group, listed, shown_group, shown_user, user,
+    ExchangeTest, as_json, at_revision, create_user, get, group, listed, request, shown_group, shown_user, user,
 )
-from support import CREATE_BOB
+from support import CREATE_BOB, resource_id
 
 BOB = shown_user("bob") | at_revision(1)
 CREW = as_json(group("crew two")).encode()
@@ -51,6 +51,35 @@ INVALID_FILTERS = [
     "?filter=active+co+%22t%22",
     "?filter=department+eq+%22x%22",
     "?filter=urn%3Aietf%3Aparams%3Ascim%3Aschemas%3Aextension%3Aenterprise%3A2.0%3AUser%3Adepartment+eq+%22x%22",
+]
+
+# Pages at the edges of what there is, and of what may be asked for
+EDGES = [
+    "",
+    "startIndex=0",
+    "startIndex=-7&count=2",
+    "count=0",
+    "count=1",
+    "count=-1",
+    "count=200",
+    "count=201",
+    "startIndex=2&count=1",
+    "startIndex=2&count=2",
+    "startIndex=3&count=2",
+    "startIndex=4",
+    "startIndex=5",
+    "startIndex=6",
+    "startIndex=999999999999999999",
+]
+# The same of a list with two full pages and a user more
+LONG_EDGES = [
+    "",
+    "count=200",
+    "count=201",
+    "startIndex=201",
+    "startIndex=202&count=199",
+    "startIndex=401",
+    "startIndex=402",
 ]
 
 
@@ -125,3 +154,57 @@ class SearchingTest(ExchangeTest):
                     self.assertEqual(answer.partition("\r\n")[0], "HTTP/1.1 200 OK")
                     self.assertIn('"userName":"u200"}],"itemsPerPage":200,', answer)
                     self.assertTrue(answer.endswith('"startIndex":1,"totalResults":201}'))
+
+
+class WalkTest(ExchangeTest):
+    """A list is the page of a search for all names but one that nobody has. Such a search walks through all rows."""
+
+    def creates(self, provider, users=(), groups=()):
+        for content in [*map(user, users), *map(group, groups)]:
+            path = GROUPS if "displayName" in content else USERS
+            self.assertTrue(provider.exchange(request(f"POST {path}", content)).startswith(b"HTTP/1.1 201 Created"))
+
+    def creates_both(self, provider):
+        """Two users, a group, two users, two groups, a user."""
+        self.creates(provider, users=["a", "b"])
+        self.creates(provider, groups=["c"])
+        self.creates(provider, users=["d", "e"])
+        self.creates(provider, groups=["f", "g"])
+        self.creates(provider, users=["h"])
+
+    def assert_as_by_walk(self, provider, path, name, pages):
+        """Each page of the list is answered as the search for this name."""
+        for page in pages:
+            line = f"GET {path}?{page}"
+            answer = provider.exchange(request(line))
+            walked = provider.exchange(request(f"{line}&filter={name}+ne+%22nobody%22"))
+            with self.subTest(line=line):
+                self.assertTrue(answer.startswith(b"HTTP/1.1 200 OK\r\n"), answer)
+                self.assertEqual(answer, walked)
+
+    def assert_edges_as_by_walk(self, provider):
+        """Each page of both types is answered as by a walk. To see that takes 60 requests."""
+        self.assert_as_by_walk(provider, USERS, "userName", EDGES)
+        self.assert_as_by_walk(provider, GROUPS, "displayName", EDGES)
+
+    def test_pages_are_those_of_a_walk(self):
+        with self.serving(8 + 60) as provider:
+            self.creates_both(provider)
+            self.assert_edges_as_by_walk(provider)
+
+    def test_creations_and_replacements_are_listed(self):
+        with self.serving(8 + 1 + 3 * (1 + 60)) as provider:
+            self.creates_both(provider)
+            provider.exchange(request(f"GET {USERS}"))
+            self.creates(provider, users=["i"])
+            self.assert_edges_as_by_walk(provider)
+            self.creates(provider, groups=["j"])
+            self.assert_edges_as_by_walk(provider)
+            replaced = provider.exchange(request(f"PUT {USERS}/{resource_id(2)}", user("B", active=False)))
+            self.assertTrue(replaced.startswith(b"HTTP/1.1 200 OK"), replaced)
+            self.assert_edges_as_by_walk(provider)
+
+    def test_pages_of_a_long_list_are_those_of_a_walk(self):
+        with self.serving(401 + 2 * len(LONG_EDGES)) as provider:
+            self.creates(provider, users=[str(number) for number in range(401)])
+            self.assert_as_by_walk(provider, USERS, "userName", LONG_EDGES)
