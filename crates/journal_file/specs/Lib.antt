@@ -1,5 +1,4 @@
 pub mod Opened
 pub mod Lines
 pub mod Showing
-pub mod Closed
 pub mod Resetting

@@ -48,7 +48,7 @@ impl<'a> EntryStorage for JournalFile<'a> {
 }
 
 impl<D: Disk + Drop> StoredEntries for SqlJournal<FileStore<D>> {
-    ghost use Rattle.journal_file.specs.Closed.{ClosesFiles};
+    ghost use Rattle.database_file.specs.Closed.{ClosesFiles};
 
     type Left = Result<Files<D>, (Error, FileStore<D>)>;
 

@@ -2,4 +2,3 @@ pub mod Opened
 pub mod Serving
 pub mod Lines
 pub mod Showing
-pub mod Closed

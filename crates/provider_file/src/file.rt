@@ -46,7 +46,7 @@ impl<'a> RowStorage for StoreFile<'a> {
 }
 
 impl<D: Disk + Drop> StoredRows for SqlRegistry<FileStore<D>> {
-    ghost use Rattle.provider_file.specs.Closed.{ClosesFiles};
+    ghost use Rattle.database_file.specs.Closed.{ClosesFiles};
 
     type Left = Result<Files<D>, (Error, FileStore<D>)>;
 

@@ -1,5 +1,5 @@
 use Rattle.std.proofs.Common.{subst}
-use Rattle.journal_file.specs.Closed.{ClosesFiles}
+use Rattle.database_file.specs.Closed.{ClosesFiles}
 use Rattle.journal_file.proofs.file.SqlJournalFileStoreStoredEntries.close.Goals as goal
 
 pub returns : goal.returns

@@ -1,5 +1,5 @@
 use Rattle.std.proofs.Common.{subst}
-use Rattle.provider_file.specs.Closed.{ClosesFiles}
+use Rattle.database_file.specs.Closed.{ClosesFiles}
 use Rattle.provider_file.proofs.file.SqlRegistryFileStoreStoredRows.close.Goals as goal
 
 pub returns : goal.returns
