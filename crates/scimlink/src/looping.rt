@@ -1,7 +1,8 @@
 //! `loop`: the connector against a provider in the same program, over TCP.
 use crate::command::SourceFiles;
+use crate::output::standard_output;
 use crate::pushing::open_connector;
-use commands::{CommandFault, NotedWriter, Status, run_status};
+use commands::{CommandFault, Status, run_status};
 use connector_core::Connector;
 use journal_core::{Journal, MemoryJournal};
 use journal_file::StoredEntries;
@@ -10,8 +11,6 @@ use provider_file::{InMemory, RowStorage, StoredRows};
 use provisioning::{RunFault, Sources, read_sources, run_loop};
 use scim_client::ScimService;
 use scim_key::Base;
-use std::io;
-use std::io::BufWriter;
 use std::net::Net;
 use std::rt::Runtime;
 
@@ -104,9 +103,8 @@ fn run_of<R: Runtime + Net + AllocGlobal, S: StoredRows, J: Journal>(
     sources: &Sources,
     base: Base,
 ) -> (Provider<S>, Result<Status, CommandFault>) {
-    match BufWriter::new(rt.alloc(), io::writer(rt)) {
-        Ok(writer) => {
-            let mut out = NotedWriter::new(writer);
+    match standard_output(rt) {
+        Ok(mut out) => {
             let service = ScimService::new(base);
             let (provider, ended) = run_loop(
                 rt,
@@ -122,6 +120,6 @@ fn run_of<R: Runtime + Net + AllocGlobal, S: StoredRows, J: Journal>(
                 Err(fault) => (provider, Err(out.explained(fault))),
             }
         }
-        Err(error) => (provider, Err(CommandFault::from(error))),
+        Err(fault) => (provider, Err(fault)),
     }
 }

@@ -6,6 +6,7 @@ mod command;
 mod looping;
 mod map_users;
 mod options;
+mod output;
 mod parts;
 mod pushing;
 mod resetting;

@@ -204,14 +204,27 @@ static COMMANDS: &[CommandText] = &[
 
 /// The program's arguments. They borrow the help of `events`, which has numbers in it.
 pub fn program<'a>(alloc: Global, events_help: &'a str) -> Result<Command<'a>, AllocError> {
-    let mut program = Command::new(alloc, "scimlink")
-        .version("0.1.0")
-        .about("SCIM 2.0 provisioning, proved")
-        .subcommand_required(true);
+    let mut program = without_commands(alloc);
     for text in COMMANDS {
-        program = program.subcommand(command_of(alloc, *text, events_help)?)?;
+        program = with_command(program, alloc, *text, events_help)?;
     }
     Ok(program)
+}
+
+fn without_commands<'a>(alloc: Global) -> Command<'a> {
+    Command::new(alloc, "scimlink")
+        .version("0.1.0")
+        .about("SCIM 2.0 provisioning, proved")
+        .subcommand_required(true)
+}
+
+fn with_command<'a>(
+    program: Command<'a>,
+    alloc: Global,
+    text: CommandText,
+    events_help: &'a str,
+) -> Result<Command<'a>, AllocError> {
+    program.subcommand(command_of(alloc, text, events_help)?)
 }
 
 fn command_of<'a>(

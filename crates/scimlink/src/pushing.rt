@@ -1,14 +1,13 @@
 //! `push`: the connector against the provider at an address.
 use crate::command::SourceFiles;
-use commands::{CommandFault, NotedWriter, Status, carried_status};
+use crate::output::standard_output;
+use commands::{CommandFault, Status, carried_status};
 use connector_core::Connector;
 use journal_core::Journal;
 use journal_file::{EntryStorage, StoredEntries};
 use provisioning::{RunFault, Sources, read_sources};
 use scim_client::ScimService;
 use scim_key::Base;
-use std::io;
-use std::io::BufWriter;
 use std::net::Net;
 use std::rt::Runtime;
 
@@ -62,7 +61,7 @@ fn push_of<R: Runtime + Net + AllocGlobal, J: Journal>(
     sources: &Sources,
     to: &str,
 ) -> Result<Status, CommandFault> {
-    let mut out = NotedWriter::new(BufWriter::new(rt.alloc(), io::writer(rt))?);
+    let mut out = standard_output(rt)?;
     match provisioning::push(rt, rt.alloc(), service, connector, sources, to, &mut out) {
         Ok(outcome) => Ok(carried_status(outcome)),
         Err(fault) => Err(out.explained(CommandFault::from(fault))),

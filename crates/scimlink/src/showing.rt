@@ -1,9 +1,8 @@
 //! `show`: prints what a file keeps, one line each.
-use commands::{CommandFault, NotedWriter, Status};
+use crate::output::standard_output;
+use commands::{CommandFault, Status};
 use journal_file::show_entries;
 use provider_file::show_rows;
-use std::io;
-use std::io::BufWriter;
 use std::rt::Runtime;
 
 /// Prints what one of the files keeps: the rows of a provider, in order of creation, or the entries of a
@@ -24,7 +23,7 @@ fn show_store<R: Runtime + AllocGlobal, K: provider_file::RowStorage>(
     rt: &R,
     store: &K,
 ) -> Result<Status, CommandFault> {
-    let mut out = NotedWriter::new(BufWriter::new(rt.alloc(), io::writer(rt))?);
+    let mut out = standard_output(rt)?;
     match show_rows(rt.alloc(), store, &mut out) {
         Ok(()) => Ok(Status::Done),
         Err(fault) => Err(out.explained(CommandFault::from(fault))),
@@ -35,7 +34,7 @@ fn show_journal<R: Runtime + AllocGlobal, J: journal_file::EntryStorage>(
     rt: &R,
     journal: &J,
 ) -> Result<Status, CommandFault> {
-    let mut out = NotedWriter::new(BufWriter::new(rt.alloc(), io::writer(rt))?);
+    let mut out = standard_output(rt)?;
     match show_entries(rt.alloc(), journal, &mut out) {
         Ok(()) => Ok(Status::Done),
         Err(fault) => Err(out.explained(CommandFault::from(fault))),

@@ -1,0 +1,12 @@
+//! Standard output.
+use commands::{CommandFault, NotedWriter};
+use std::io;
+use std::io::{BufWriter, Printer};
+use std::rt::Runtime;
+
+/// Standard output, which is written in blocks. It keeps the system's error if a write failed.
+pub fn standard_output<R: Runtime + AllocGlobal>(
+    rt: &R,
+) -> Result<NotedWriter<BufWriter<Printer<'_, R>>>, CommandFault> {
+    Ok(NotedWriter::new(BufWriter::new(rt.alloc(), io::writer(rt))?))
+}
