@@ -210,7 +210,6 @@ class UsersTest(SourceTest):
         self.site.write_users(ANN)
         self.assert_prints(self.site.loop(), "1 new", "settled in 2 exchanges", *settled("user ann", revision=7))
 
-
     def test_rows_count_by_the_last_of_their_record(self):
         schedule = self.folder / "schedule"
         for accepted, offered, verdict in VERDICTS:
