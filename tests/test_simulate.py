@@ -123,9 +123,3 @@ class SimulateTest(ProgramTest):
         self.assertEqual(len(run.lines), 20_100)
         with broken_pipe() as stdout:
             self.assert_fault(self.simulate(events, stdout=stdout), "file fault")
-
-    def test_more_users_than_a_journal_takes(self):
-        run = self.simulate(text(*(f"user user{number},1,,,,,active" for number in range(1, 100_002))))
-        self.assert_reports(run, 1)
-        self.assertEqual(len(run.lines), 200_001)
-        self.assertEqual(run.lines[99_999:100_001], ["100000 new", "100001 S12"])
