@@ -1,6 +1,5 @@
 //! The worked examples of the connector, as tests of its calls.
 mod asking;
-mod changing;
 mod codes;
 mod failing;
 mod learning;

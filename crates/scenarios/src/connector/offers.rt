@@ -1,9 +1,8 @@
 //! Connectors over journals in memory, and the rows offered to them.
-use connector_core::{ChangeFault, Connector};
+use connector_core::Connector;
 use journal_core::MemoryJournal;
 use scim_key::{Key, Kind, RecordName};
-use source_book::Verdict;
-use source_csv::{Row, RowFault, SourceRows, read_groups, read_users};
+use source_csv::{SourceRows, read_groups, read_users};
 use std::alloc::Global;
 use std::process::Abort;
 
@@ -42,105 +41,37 @@ pub fn users(rt: &impl Abort, alloc: Global, records: &str) -> SourceRows {
 }
 
 /// The rows of a file of groups with this text after its header.
-pub fn groups(rt: &impl Abort, alloc: Global, records: &str) -> SourceRows {
+fn groups(rt: &impl Abort, alloc: Global, records: &str) -> SourceRows {
     let text = format!(in alloc; "name,revision,members\n{records}").expect(rt, "memory");
     read_groups(alloc, text.as_bytes()).expect(rt, "a file")
 }
 
-/// A connector's verdict on a row, as it is printed: the verdict, or the code of the refusal.
-fn said(rt: &impl Abort, alloc: Global, verdict: Result<Verdict, ChangeFault>) -> String {
-    match verdict {
-        Ok(Verdict::New) => String::from_str(alloc, "new").expect(rt, "memory"),
-        Ok(Verdict::Known) => String::from_str(alloc, "known").expect(rt, "memory"),
-        Ok(Verdict::Older) => String::from_str(alloc, "older").expect(rt, "memory"),
-        Err(fault) => fault.to_string(alloc).expect(rt, "memory"),
-    }
-}
-
-/// A connector's verdict on the row of a record.
-pub fn offer(
-    rt: &impl Abort,
-    alloc: Global,
-    connector: &mut Connector<MemoryJournal>,
-    record: &Result<Row, RowFault>,
-) -> String {
-    match record {
-        Ok(row) => said(
-            rt,
-            alloc,
-            connector.change(row.clone().expect(rt, "memory")),
-        ),
-        Err(_) => panic!(rt; "no row"),
-    }
-}
-
-/// A connector's verdicts on the rows of a file, which are offered together.
-pub fn offer_all(
-    rt: &impl Abort,
-    alloc: Global,
-    connector: &mut Connector<MemoryJournal>,
-    records: &SourceRows,
-) -> Vec<String> {
-    let mut rows = Vec::new(alloc);
-    for record in records.as_slice() {
-        match record {
-            Ok(row) => rows
-                .push(row.clone().expect(rt, "memory"))
-                .expect(rt, "memory"),
+/// Offers the rows of a file. The connector has a verdict on each.
+fn offer(rt: &impl Abort, connector: &mut Connector<MemoryJournal>, rows: &SourceRows) {
+    for row in rows.as_slice() {
+        match row {
+            Ok(row) => connector
+                .change(row.clone().expect(rt, "memory"))
+                .expect(rt, "a verdict"),
             Err(_) => panic!(rt; "no row"),
-        }
+        };
     }
-    let mut lines = Vec::new(alloc);
-    for verdict in connector.change_all(rows).expect(rt, "verdicts") {
-        lines.push(said(rt, alloc, verdict)).expect(rt, "memory");
-    }
-    lines
 }
 
-/// A connector's verdict on the only row of a file of users.
-pub fn offer_user(
-    rt: &impl Abort,
-    alloc: Global,
-    connector: &mut Connector<MemoryJournal>,
-    record: &str,
-) -> String {
-    let rows = users(rt, alloc, record);
-    offer(
-        rt,
-        alloc,
-        connector,
-        rows.as_slice().first().expect(rt, "no record"),
-    )
-}
-
-/// A connector's verdict on the only row of a file of groups.
-pub fn offer_group(
-    rt: &impl Abort,
-    alloc: Global,
-    connector: &mut Connector<MemoryJournal>,
-    record: &str,
-) -> String {
-    let rows = groups(rt, alloc, record);
-    offer(
-        rt,
-        alloc,
-        connector,
-        rows.as_slice().first().expect(rt, "no record"),
-    )
-}
-
-/// Offers rows of users, then of groups, whatever the verdicts.
+/// Offers rows of users, then of groups.
 pub fn offer_rows(
     rt: &impl Abort,
     alloc: Global,
     connector: &mut Connector<MemoryJournal>,
-    users: &[&str],
-    groups: &[&str],
+    user_records: &[&str],
+    group_records: &[&str],
 ) {
-    for record in users {
-        offer_user(rt, alloc, connector, record);
+    for record in user_records {
+        let rows = users(rt, alloc, record);
+        offer(rt, connector, &rows);
     }
-    for record in groups {
-        offer_group(rt, alloc, connector, record);
+    for record in group_records {
+        let rows = groups(rt, alloc, record);
+        offer(rt, connector, &rows);
     }
 }
