@@ -71,6 +71,7 @@ def refusal(status, detail, scim_type=None):
 SYNTAX = refusal("400 Bad Request", "the body is not a readable resource", "invalidSyntax")
 VALUE = refusal("400 Bad Request", "a value is missing or not allowed", "invalidValue")
 FILTER = refusal("400 Bad Request", "the filter is not supported", "invalidFilter")
+TAKEN = refusal("409 Conflict", "the name is taken", "uniqueness")
 NO_RESOURCE = refusal("404 Not Found", "no such resource")
 NO_PATH = refusal("404 Not Found", "no such path")
 NO_METHOD = refusal("501 Not Implemented", "the method is not supported")

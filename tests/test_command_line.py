@@ -37,11 +37,13 @@ NOT_PARSED = [
 ]
 
 BASE = "error: --base is http://HOST/v2"
+# Its host has a byte more than it may
+LONG_BASE = f"http://{'a' * 101}/v2"
 REQUESTS = "error: --requests is 1 to 1000000"
 SHOW = "error: show takes one of --store FILE and --journal FILE"
 # What is parsed and yet invalid
 INVALID = [
-    *((["answer", "--base", base], BASE) for base in ("ftp://x/v2", "http://x", "http:///v2", "")),
+    *((["answer", "--base", base], BASE) for base in ("ftp://x/v2", "http://x", "http:///v2", LONG_BASE, "")),
     ([*LOOP, "--base", "http://x"], BASE),
     ([*PUSH, "--base", "ftp://x/v2"], BASE),
     ([*SERVE, "--base", "http://x"], BASE),

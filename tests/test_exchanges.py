@@ -1,6 +1,6 @@
 """`serve`: users and groups are created, retrieved and replaced, with departments and epochs."""
 from exchanges import (
-    BOB_PATH, GROUPS, NO_METHOD, NO_RESOURCE, SYNTAX, USERS, VALUE,
+    BOB_PATH, GROUPS, NO_METHOD, NO_RESOURCE, SYNTAX, TAKEN, USERS, VALUE,
     ExchangeTest, at_revision, create_user, created, found, group, refusal, request, shown_group, shown_user, user,
 )
 from support import (
@@ -8,7 +8,6 @@ from support import (
     compact, make_store, resource_id, user_resource, user_text,
 )
 
-TAKEN = refusal("409 Conflict", "the name is taken", "uniqueness")
 FIXED = refusal("400 Bad Request", "the name of a resource is fixed", "mutability")
 OTHER_VERSION = refusal("412 Precondition Failed", "the resource has another version")
 LIMIT = refusal("500 Internal Server Error", "a limit of the provider is reached")
