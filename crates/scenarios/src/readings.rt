@@ -5,6 +5,5 @@ mod copies;
 mod filter_texts;
 mod filters;
 mod groups;
-mod names;
 mod reading_back;
 mod tags;
