@@ -1,7 +1,8 @@
 """`serve`: users and groups are created, retrieved and replaced, with departments and epochs."""
 from exchanges import (
     BOB_PATH, GROUPS, NO_METHOD, NO_RESOURCE, SYNTAX, TAKEN, USERS, VALUE,
-    ExchangeTest, at_revision, create_user, created, found, group, refusal, request, shown_group, shown_user, user,
+    ExchangeTest, at_revision, create_user, created, found, get, group, listed, refusal, request, search,
+    shown_group, shown_user, user,
 )
 from support import (
     BOB_CREATED, CREATE_BOB, ENTERPRISE, GROUP, SOURCE, USER,
@@ -11,10 +12,6 @@ from support import (
 FIXED = refusal("400 Bad Request", "the name of a resource is fixed", "mutability")
 OTHER_VERSION = refusal("412 Precondition Failed", "the resource has another version")
 LIMIT = refusal("500 Internal Server Error", "a limit of the provider is reached")
-NOT_MODIFIED = (
-    b"HTTP/1.1 304 Not Modified\r\nConnection: close\r\n"
-    b"Content-Location: http://localhost:8080/v2/Users/5c1a0000-0000-8000-8000-000000000001\r\nETag: \"1\"\r\n\r\n"
-)
 GET_BOB, PUT_BOB = f"GET {BOB_PATH}", f"PUT {BOB_PATH}"
 
 
@@ -23,8 +20,16 @@ def shown_bob(revision, version=1, name="bob", **epoch):
     return shown_user(name, version=version) | at_revision(revision, **epoch)
 
 
+def not_modified(shown):
+    """The answer that a resource still has its version."""
+    location, version = shown["meta"]["location"], shown["meta"]["version"]
+    lines = ["HTTP/1.1 304 Not Modified", "Connection: close", f"Content-Location: {location}", f"ETag: {version}"]
+    return "\r\n".join([*lines, "", ""]).encode()
+
+
 BOB_FOUND = found(shown_bob(1))
 BOB_REPLACED = found(shown_bob(2, version=2))
+NOT_MODIFIED = not_modified(shown_bob(1))
 
 # Field lines of a replacement of bob, who is at version 1, and the answer
 REPLACEMENTS = [
@@ -50,6 +55,23 @@ RETRIEVALS = [
     (['If-None-Match: "1"', 'If-Match: "2"'], OTHER_VERSION),
     (['If-None-Match: "1"', 'If-Match: "1"'], NOT_MODIFIED),
     (['If-None-Match: "2"'], BOB_FOUND),
+]
+
+CREW_PATH = f"{GROUPS}/{resource_id(2)}"
+CREW_MEMBERS = {"members": [{"value": "b"}, {"value": "a"}]}
+CREW = shown_group("crew", 2) | CREW_MEMBERS
+# Requests to a provider with bob and the crew, and the answers
+READS = [
+    (request(GET_BOB), BOB_FOUND),
+    (request(f"GET {USERS}/x"), NO_RESOURCE),
+    (request(f"GET {CREW_PATH}", "", 'If-None-Match: "1"'), not_modified(CREW)),
+    (get(GROUPS), listed([CREW], 1, 1)),
+    (search(GROUPS, 'displayName eq "CREW"'), listed([CREW], 1, 1)),
+]
+X, SEVEN = {"externalId": "x"}, {"externalId": "7"}
+WRITES = [
+    (request(PUT_BOB, user("bob", **SEVEN)), found(shown_user("bob", version=2) | SEVEN)),
+    (request(f"PUT {CREW_PATH}", group("Crew", **X)), found(shown_group("Crew", 2, 2) | X)),
 ]
 
 # What the creation of bob says beside his name, and the answer
@@ -223,15 +245,28 @@ class ExchangesTest(ExchangeTest):
     # ---- groups
 
     def test_a_group_is_created_retrieved_and_replaced(self):
-        path = f"{GROUPS}/{resource_id(2)}"
-        crew = shown_group("crew two", 2) | {"members": [{"value": "b"}, {"value": "a"}]}
+        crew = shown_group("crew two", 2) | CREW_MEMBERS
         replaced = shown_group("crew two", 2, 2) | {"members": [{"value": "c"}]}
         members = [{"value": member} for member in "bab"]
         rows = [
             (request(f"POST {GROUPS}", group("crew two", members=members)), created(crew)),
-            (request(f"GET {path}"), found(crew)),
-            (request(f"PUT {path}", group("crew two", members=[{"value": "c"}])), found(replaced)),
+            (request(f"GET {CREW_PATH}"), found(crew)),
+            (request(f"PUT {CREW_PATH}", group("crew two", members=[{"value": "c"}])), found(replaced)),
             # the id of a user is unknown among groups
             (request(f"GET {GROUPS}/{resource_id(1)}"), NO_RESOURCE),
         ]
         self.assert_converses_of_bob(rows)
+
+    # ---- users and groups together
+
+    def assert_converses_of_both(self, rows):
+        """A provider with bob and the crew answers each request of the rows as they say."""
+        bob = create_user(user("bob", **{SOURCE: {"revision": 1}}))
+        crew = request(f"POST {GROUPS}", group("crew", **CREW_MEMBERS))
+        self.assert_converses([(bob, BOB_CREATED), (crew, created(CREW)), *rows])
+
+    def test_both_are_retrieved_and_listed(self):
+        self.assert_converses_of_both(READS)
+
+    def test_both_are_replaced(self):
+        self.assert_converses_of_both(WRITES)
