@@ -1,7 +1,8 @@
 //! Requests as the client writes them, and the server's answers.
 use crate::support::{
-    BOB_FOUND, CREATE_BOB, answer_to, assert_that, base, empty, ends, joined, tells, with_bob,
+    CREATE_BOB, answer_to, assert_that, base, empty, ends, exchange, joined, tells,
 };
+use provider_core::{MemoryRegistry, Provider};
 use scim_client::ScimService;
 use scim_filter::Filter;
 use scim_key::{Kind, ResourceId, Revision, UserName};
@@ -10,6 +11,17 @@ use scim_resource::{Content, User};
 use scim_version::{Condition, EntityTag, TagList};
 use std::alloc::Global;
 use std::process::Abort;
+
+/// The answer to a GET of bob after `CREATE_BOB`.
+const BOB_FOUND: &[u8] =
+    b"HTTP/1.1 200 OK\r\nConnection: close\r\nContent-Length: 388\r\nContent-Location: http://localhost:8080/v2/Users/5c1a0000-0000-8000-8000-000000000001\r\nContent-Type: application/scim+json\r\nETag: \"1\"\r\n\r\n{\"active\":true,\"id\":\"5c1a0000-0000-8000-8000-000000000001\",\"meta\":{\"location\":\"http://localhost:8080/v2/Users/5c1a0000-0000-8000-8000-000000000001\",\"resourceType\":\"User\",\"version\":\"\\\"1\\\"\"},\"schemas\":[\"urn:ietf:params:scim:schemas:core:2.0:User\",\"urn:example:params:scim:schemas:extension:source:1.0\"],\"urn:example:params:scim:schemas:extension:source:1.0\":{\"revision\":1},\"userName\":\"bob\"}";
+
+/// A provider with bob at version 1, revision 1.
+fn with_bob(rt: &impl Abort, alloc: Global) -> Provider<MemoryRegistry> {
+    let mut provider = empty(alloc);
+    exchange(rt, alloc, &mut provider, CREATE_BOB);
+    provider
+}
 
 fn service(rt: &impl Abort, alloc: Global) -> ScimService {
     ScimService::new(base(rt, alloc))

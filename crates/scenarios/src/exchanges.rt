@@ -1,7 +1,6 @@
 //! Exchanges of the client, with bytes and with streams that follow a script.
-use crate::answers::{BOB, creation};
 use crate::responses::padded;
-use crate::sayings::{Ask, line, request_for, response};
+use crate::sayings::{Ask, creation, line, request_for, response};
 use crate::scripts::{Event, Script, ScriptedReader, ScriptedWriter, Turn};
 use crate::support::{BOB_CREATED, CREATE_BOB, assert_same, assert_that, base};
 use http_text::{Input, Output, SendFault};
@@ -19,6 +18,10 @@ fn told(rt: &impl Abort, alloc: Global, outcome: &Result<Answer, ExchangeFault>)
         Err(fault) => fault.to_string(alloc).expect(rt, "memory"),
     }
 }
+
+/// The content of bob at revision 1.
+static BOB: &str =
+    "{\"schemas\":[\"urn:ietf:params:scim:schemas:core:2.0:User\"],\"userName\":\"bob\",\"urn:example:params:scim:schemas:extension:source:1.0\":{\"revision\":1}}";
 
 const CREATED: &str = "created 5c1a0000-0000-8000-8000-000000000001 \"1\" bob";
 

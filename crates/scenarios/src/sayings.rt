@@ -1,10 +1,10 @@
 //! Requests for a user, responses as texts, and answers as lines.
-use crate::answers::{creation, replacement, retrieval, search};
 use crate::support::{joined, printed, push_all};
 use scim_key::{Kind, ResourceId};
 use scim_message::{Answer, ErrorResponse, ListResponse, Request};
-use scim_resource::Shown;
+use scim_resource::{Content, Shown};
 use scim_version::{Condition, EntityTag};
+use serde_json::Value;
 use std::alloc::Global;
 use std::process::Abort;
 
@@ -21,11 +21,53 @@ pub enum Ask {
 pub const BOB_ELSEWHERE: &str =
     "{\"id\":\"x\",\"meta\":{\"version\":\"\\\"1\\\"\"},\"schemas\":[\"urn:ietf:params:scim:schemas:core:2.0:User\"],\"userName\":\"bob\"}";
 
+fn content(rt: &impl Abort, alloc: Global, text: &str, kind: Kind) -> Content {
+    let value = Value::from_str(alloc, text).expect(rt, "JSON");
+    Content::read(alloc, &value, kind).expect(rt, "a content")
+}
+
+/// A creation of this content.
+pub fn creation(rt: &impl Abort, alloc: Global, text: &str, kind: Kind) -> Request {
+    Request::Create {
+        content: content(rt, alloc, text, kind),
+    }
+}
+
+/// A replacement by this content, without a condition.
+fn replacement(rt: &impl Abort, alloc: Global, id: &str, text: &str, kind: Kind) -> Request {
+    Request::Replace {
+        id: ResourceId::read(alloc, id).expect(rt, "an id"),
+        content: content(rt, alloc, text, kind),
+        if_match: Condition::Always,
+        if_none_match: Condition::Always,
+    }
+}
+
+/// A retrieval without a condition.
+fn retrieval(rt: &impl Abort, alloc: Global, id: &str, kind: Kind) -> Request {
+    Request::Retrieve {
+        kind,
+        id: ResourceId::read(alloc, id).expect(rt, "an id"),
+        if_match: Condition::Always,
+        if_none_match: Condition::Always,
+    }
+}
+
+/// A search for all resources of a type.
+fn search(kind: Kind) -> Request {
+    Request::Search {
+        kind,
+        filter: None,
+        start: 1,
+        count: None,
+    }
+}
+
 pub fn request_for(rt: &impl Abort, alloc: Global, ask: Ask) -> Request {
     match ask {
         Ask::Create => creation(rt, alloc, BOB_ELSEWHERE, Kind::User),
-        Ask::Find => retrieval(rt, alloc, "x", Kind::User, Condition::Always),
-        Ask::Search => search(Kind::User, None),
+        Ask::Find => retrieval(rt, alloc, "x", Kind::User),
+        Ask::Search => search(Kind::User),
         Ask::Replace => replacement(rt, alloc, "x", BOB_ELSEWHERE, Kind::User),
     }
 }

@@ -15,10 +15,6 @@ pub const CREATE_BOB: &[u8] =
 pub const BOB_CREATED: &[u8] =
     b"HTTP/1.1 201 Created\r\nConnection: close\r\nContent-Length: 388\r\nContent-Location: http://localhost:8080/v2/Users/5c1a0000-0000-8000-8000-000000000001\r\nContent-Type: application/scim+json\r\nETag: \"1\"\r\nLocation: http://localhost:8080/v2/Users/5c1a0000-0000-8000-8000-000000000001\r\n\r\n{\"active\":true,\"id\":\"5c1a0000-0000-8000-8000-000000000001\",\"meta\":{\"location\":\"http://localhost:8080/v2/Users/5c1a0000-0000-8000-8000-000000000001\",\"resourceType\":\"User\",\"version\":\"\\\"1\\\"\"},\"schemas\":[\"urn:ietf:params:scim:schemas:core:2.0:User\",\"urn:example:params:scim:schemas:extension:source:1.0\"],\"urn:example:params:scim:schemas:extension:source:1.0\":{\"revision\":1},\"userName\":\"bob\"}";
 
-/// The answer to a GET of bob after `CREATE_BOB`.
-pub const BOB_FOUND: &[u8] =
-    b"HTTP/1.1 200 OK\r\nConnection: close\r\nContent-Length: 388\r\nContent-Location: http://localhost:8080/v2/Users/5c1a0000-0000-8000-8000-000000000001\r\nContent-Type: application/scim+json\r\nETag: \"1\"\r\n\r\n{\"active\":true,\"id\":\"5c1a0000-0000-8000-8000-000000000001\",\"meta\":{\"location\":\"http://localhost:8080/v2/Users/5c1a0000-0000-8000-8000-000000000001\",\"resourceType\":\"User\",\"version\":\"\\\"1\\\"\"},\"schemas\":[\"urn:ietf:params:scim:schemas:core:2.0:User\",\"urn:example:params:scim:schemas:extension:source:1.0\"],\"urn:example:params:scim:schemas:extension:source:1.0\":{\"revision\":1},\"userName\":\"bob\"}";
-
 /// The fixed response, which needs no memory.
 pub const GIVEN_UP: &[u8] =
     b"HTTP/1.1 500 Internal Server Error\r\nConnection: close\r\nContent-Length: 129\r\nContent-Type: application/scim+json\r\n\r\n{\"detail\":\"the provider could not complete the request\",\"schemas\":[\"urn:ietf:params:scim:api:messages:2.0:Error\"],\"status\":\"500\"}";
@@ -73,13 +69,6 @@ pub fn repeated(rt: &impl Abort, alloc: Global, piece: &str, count: usize) -> St
 /// An empty provider in memory.
 pub fn empty(alloc: Global) -> Provider<MemoryRegistry> {
     Provider::new(MemoryRegistry::new(alloc))
-}
-
-/// A provider with bob at version 1, revision 1.
-pub fn with_bob(rt: &impl Abort, alloc: Global) -> Provider<MemoryRegistry> {
-    let mut provider = empty(alloc);
-    exchange(rt, alloc, &mut provider, CREATE_BOB);
-    provider
 }
 
 /// The base of all tests.
