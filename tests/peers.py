@@ -6,7 +6,7 @@ import socket
 import struct
 import time
 
-from support import PATIENCE, SOURCE, TIME_LIMIT, USER, read_all
+from support import PATIENCE, SOURCE, TIME_LIMIT, USER, ProgramTest, read_all
 
 LIST = "urn:ietf:params:scim:api:messages:2.0:ListResponse"
 # Seconds by which the end of an exchange may be noticed late
@@ -45,6 +45,10 @@ def hits(*users, total=None):
 NO_HITS = hits()
 TAKEN = answer(409)
 
+# The first lines of requests for the user bob
+FIND_BOB = "GET /v2/Users?filter=userName+eq+%22bob%22 HTTP/1.1"
+CREATE = "POST /v2/Users HTTP/1.1"
+
 
 # ---- how it may say that: steps, which are given a connection whose request was read
 
@@ -77,6 +81,37 @@ def say_nothing(stream, seconds=TIME_LIMIT + LATE):
 def reset(stream):
     """Has the end of a connection be a reset."""
     stream.setsockopt(socket.SOL_SOCKET, socket.SO_LINGER, struct.pack("ii", 1, 0))
+
+
+def reset_after(said):
+    """A part of an answer, after which the connection is reset."""
+
+    def step(stream):
+        stream.sendall(said)
+        reset(stream)
+
+    return step
+
+
+def as_far_as_it_is_read(said):
+    """An answer of which the other side may not read all."""
+
+    def step(stream):
+        with contextlib.suppress(ConnectionError):
+            stream.sendall(said)
+
+    return step
+
+
+def in_pieces(size, said):
+    """An answer that is sent some bytes at a time."""
+
+    def step(stream):
+        stream.setsockopt(socket.IPPROTO_TCP, socket.TCP_NODELAY, 1)
+        for place in range(0, len(said), size):
+            stream.sendall(said[place:place + size])
+
+    return step
 
 
 def take_no_request(stream):
@@ -155,3 +190,20 @@ def received_from(stream):
     if not received:
         raise AssertionError("a request ended early")
     return received
+
+
+def asked(requests):
+    """The first lines of requests."""
+    return [lines[0] for lines, _ in requests]
+
+
+# ---- assertions
+
+
+class PeerTest(ProgramTest):
+    def meets(self, steps, *lines, status=0, errors=(), site=None, options=()):
+        """A push prints these lines when its exchanges have these answers: the requests that it sent."""
+        with Peer(steps) as peer:
+            run = (site or self.site).push(peer.address, *options)
+            self.assert_prints(run, *lines, status=status, errors=errors)
+        return peer.requests

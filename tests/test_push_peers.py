@@ -5,12 +5,11 @@ import tempfile
 import threading
 
 from peers import (
-    LATE, NO_HITS, TAKEN, Peer, answer, head, hits, late, reset, stays_after, take_no_request, user,
+    CREATE, FIND_BOB, LATE, NO_HITS, TAKEN, Peer, PeerTest, answer, asked, head, hits, late, reset, stays_after,
+    take_no_request, user,
 )
-from support import SCIM_TYPE, ProgramTest, Running, Site, make_journal, user_entry
+from support import SCIM_TYPE, Running, Site, make_journal, user_entry
 
-FIND_BOB = "GET /v2/Users?filter=userName+eq+%22bob%22 HTTP/1.1"
-CREATE = "POST /v2/Users HTTP/1.1"
 REPLACE_BOB = "PUT /v2/Users/7 HTTP/1.1"
 HTML = b"<html><body>Bad Gateway</body></html>"
 SCIM_ERROR = {"schemas": ["urn:ietf:params:scim:api:messages:2.0:Error"], "status": "500"}
@@ -78,22 +77,10 @@ LAST_FAULTS = [
 ]
 
 
-def asked(requests):
-    """The first lines of requests."""
-    return [lines[0] for lines, _ in requests]
-
-
-class PushPeersTest(ProgramTest):
+class PushPeersTest(PeerTest):
     def setUp(self):
         super().setUp()
         self.site.write_users("bob,1,,,,,active")
-
-    def meets(self, steps, *lines, status=0, errors=(), site=None, options=()):
-        """A push prints these lines when its exchanges have these answers: the requests that it sent."""
-        with Peer(steps) as peer:
-            run = (site or self.site).push(peer.address, *options)
-            self.assert_prints(run, *lines, status=status, errors=errors)
-        return peer.requests
 
     def test_a_provider_that_drops_the_epoch(self):
         # it answers with the number of the revision alone, which is a lower revision than the wanted one
