@@ -24,8 +24,6 @@ mod registries;
 #[cfg(test)]
 mod responses;
 #[cfg(test)]
-mod sayings;
-#[cfg(test)]
 mod scripts;
 #[cfg(test)]
 mod store_faults;
