@@ -1,6 +1,8 @@
 """`push` reads responses of other providers byte by byte, up to their limits, and no part of one."""
+import itertools
+
 from peers import (
-    CREATE, FIND_BOB, NO_HITS, PeerTest, as_far_as_it_is_read, asked, in_pieces, reset_after, stays_after,
+    CREATE, FIND_BOB, NO_HITS, Peer, PeerTest, as_far_as_it_is_read, asked, in_pieces, reset_after, stays_after,
 )
 from responses import ABSENT, AGAIN, ALL, CREATION, NOTHING, REPLACEMENT, SEARCH, ResponseTest, said
 from support import BOB_CREATED, resource_id, scimlink, text
@@ -99,15 +101,23 @@ PARTS = [BOB_CREATED[:length] for length in range(len(BOB_CREATED))]
 class PartsTest(PeerTest):
     """Parts of the answer to the creation of a user, each of whom is called by their length."""
 
+    def assert_same_lines(self, lines, wanted):
+        """Many lines are these. (The difference of so many that are alike takes unittest minutes.)"""
+        differ = [pair for pair in itertools.zip_longest(lines, wanted) if pair[0] != pair[1]]
+        self.assertEqual(differ[:3], [])
+
     def assert_unread(self, step, code):
         """push reads no part of the answer, each sent in this way to two requests, and prints this code."""
         names = [f"u{len(part):03}" for part in PARTS]
         self.site.write_users(*(f"{name},1,,,,,active" for name in names))
         steps = [said for part in PARTS for said in (NO_HITS, step(part), step(part))]
         lines = [f"user {name} unconfirmed {code}" for name in names]
-        requests = self.meets(steps, *lines, status=1)
+        with Peer(steps) as peer:
+            run = self.site.push(peer.address)
+        self.assert_reports(run, 1)
+        self.assert_same_lines(run.lines, lines)
         wanted = [[f"GET /v2/Users?filter=userName+eq+%22{name}%22 HTTP/1.1", CREATE, CREATE] for name in names]
-        self.assertEqual(asked(requests), [line for lines in wanted for line in lines])
+        self.assert_same_lines(asked(peer.requests), [line for lines in wanted for line in lines])
 
     def test_a_stream_that_ends_at_each_place(self):
         self.assert_unread(bytes, "H10")
@@ -126,7 +136,9 @@ class PartsTest(PeerTest):
         reports = [*reports, *["cut"] * len(cuts), "none", "confirmed 1"]
         lines = [f"{place} {report}" for place, report in enumerate(reports, 1)]
         view = "user bob wanted=1 confirmed=1 held=1 version=1 active=true"
-        self.assert_prints(scimlink("simulate", schedule), *lines, view)
+        run = scimlink("simulate", schedule)
+        self.assert_reports(run, 0)
+        self.assert_same_lines(run.lines, [*lines, view])
 
     def test_answers_in_pieces(self):
         self.site.write_users("bob,1,,,,,active")
