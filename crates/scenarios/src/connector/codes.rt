@@ -1,7 +1,8 @@
-//! The codes that faults of the connector and its journal are printed as.
+//! The codes that faults of the connector, its journal and a run are printed as.
 use crate::support::{are_printed, assert_same};
 use connector_core::{AskFault, ChangeFault, ConnectorOpenFault, LearnFault};
 use journal_core::JournalFault;
+use world_sim::{Report, WorldFault};
 
 static JOURNAL_FAULTS: &[(JournalFault, &str)] = &[
     (JournalFault::Store, "J1"),
@@ -41,4 +42,17 @@ fn codes(rt: HostRuntime) {
         .to_string(rt.alloc())
         .expect(&rt, "memory");
     assert_same(&rt, code.as_str(), "C6");
+    // no run reports one of these for the connector's own requests
+    let reports = [
+        (Report::Taught(Err(LearnFault::Unfit)), "C1"),
+        (Report::Taught(Err(LearnFault::Unversioned)), "C2"),
+        (
+            Report::Taught(Err(LearnFault::Refused { status: 502 })),
+            "C4 502",
+        ),
+        (Report::Taught(Err(LearnFault::NoSuchRecord)), "C7"),
+    ];
+    are_printed(&rt, rt.alloc(), &reports);
+    let faults = [(WorldFault::Memory, "Z1"), (WorldFault::Store, "Z2")];
+    are_printed(&rt, rt.alloc(), &faults)
 }
