@@ -72,6 +72,7 @@ SYNTAX = refusal("400 Bad Request", "the body is not a readable resource", "inva
 VALUE = refusal("400 Bad Request", "a value is missing or not allowed", "invalidValue")
 FILTER = refusal("400 Bad Request", "the filter is not supported", "invalidFilter")
 TAKEN = refusal("409 Conflict", "the name is taken", "uniqueness")
+OTHER_VERSION = refusal("412 Precondition Failed", "the resource has another version")
 NO_RESOURCE = refusal("404 Not Found", "no such resource")
 NO_PATH = refusal("404 Not Found", "no such path")
 NO_METHOD = refusal("501 Not Implemented", "the method is not supported")
@@ -99,6 +100,13 @@ def found(shown):
     """The answer that shows a resource."""
     fields = {"Content-Location": shown["meta"]["location"], "ETag": shown["meta"]["version"]}
     return response("200 OK", compact(shown), fields)
+
+
+def not_modified(shown):
+    """The answer that a resource still has its version."""
+    location, version = shown["meta"]["location"], shown["meta"]["version"]
+    lines = ["HTTP/1.1 304 Not Modified", "Connection: close", f"Content-Location: {location}", f"ETag: {version}"]
+    return "\r\n".join([*lines, "", ""]).encode()
 
 
 def created(shown):

@@ -1,7 +1,7 @@
 """`serve`: users and groups are created, retrieved and replaced, with departments and epochs."""
 from exchanges import (
-    BOB_PATH, GROUPS, NO_METHOD, NO_RESOURCE, SYNTAX, TAKEN, USERS, VALUE,
-    ExchangeTest, at_revision, create_user, created, found, get, group, listed, refusal, request, search,
+    BOB_PATH, GROUPS, NO_METHOD, NO_RESOURCE, OTHER_VERSION, SYNTAX, TAKEN, USERS, VALUE,
+    ExchangeTest, at_revision, create_user, created, found, get, group, listed, not_modified, refusal, request, search,
     shown_group, shown_user, user,
 )
 from support import (
@@ -10,7 +10,6 @@ from support import (
 )
 
 FIXED = refusal("400 Bad Request", "the name of a resource is fixed", "mutability")
-OTHER_VERSION = refusal("412 Precondition Failed", "the resource has another version")
 LIMIT = refusal("500 Internal Server Error", "a limit of the provider is reached")
 GET_BOB, PUT_BOB = f"GET {BOB_PATH}", f"PUT {BOB_PATH}"
 
@@ -18,13 +17,6 @@ GET_BOB, PUT_BOB = f"GET {BOB_PATH}", f"PUT {BOB_PATH}"
 def shown_bob(revision, version=1, name="bob", **epoch):
     """Bob at a revision, as the provider shows it."""
     return shown_user(name, version=version) | at_revision(revision, **epoch)
-
-
-def not_modified(shown):
-    """The answer that a resource still has its version."""
-    location, version = shown["meta"]["location"], shown["meta"]["version"]
-    lines = ["HTTP/1.1 304 Not Modified", "Connection: close", f"Content-Location: {location}", f"ETag: {version}"]
-    return "\r\n".join([*lines, "", ""]).encode()
 
 
 BOB_FOUND = found(shown_bob(1))
