@@ -1,10 +1,17 @@
 //! The codes that faults and refusals are printed as.
 use crate::support::are_printed;
 use http_text::{ReadFault, SendFault};
+use mapping::{ImageFault, WriteFault};
 use provider_core::{ProviderFault, RegistryFault};
 use scim_client::{AnswerFault, ExchangeFault};
+use scim_filter::FilterFault;
 use scim_http::MeaningFault;
-use scim_message::Refusal;
+use scim_key::NameFault;
+use scim_message::{BodyFault, Refusal};
+use scim_resource::ContentFault;
+use scim_version::TagFault;
+use source_book::BookFault;
+use source_csv::{RowCode, RowFault, SourceFault};
 
 static REFUSALS: &[(Refusal, &str)] = &[
     (Refusal::UnreadableBody, "P1"),
@@ -84,6 +91,71 @@ static EXCHANGE_FAULTS: &[(ExchangeFault, &str)] = &[
     (ExchangeFault::NoAnswer(AnswerFault::OutOfMemory), "K4"),
 ];
 
+static NAME_FAULTS: &[(NameFault, &str)] = &[
+    (NameFault::Empty, "N1"),
+    (NameFault::TooLong, "N2"),
+    (NameFault::Character, "N3"),
+    (NameFault::SpaceAtEnd, "N4"),
+    (NameFault::Memory, "N5"),
+];
+
+static TAG_FAULTS: &[(TagFault, &str)] = &[(TagFault::Malformed, "V1"), (TagFault::Memory, "V2")];
+
+static CONTENT_FAULTS: &[(ContentFault, &str)] = &[
+    (ContentFault::InvalidSyntax, "P1"),
+    (ContentFault::InvalidValue, "P2"),
+    (ContentFault::Memory, "memory"),
+];
+
+static FILTER_FAULTS: &[(FilterFault, &str)] = &[
+    (FilterFault::Unsupported, "P3"),
+    (FilterFault::Memory, "memory"),
+];
+
+static BODY_FAULTS: &[(BodyFault, &str)] = &[
+    (BodyFault::NotJson, "A1"),
+    (BodyFault::WrongShape, "A2"),
+    (BodyFault::Memory, "memory"),
+];
+
+static SOURCE_FAULTS: &[(SourceFault, &str)] = &[
+    (SourceFault::Header, "S1"),
+    (SourceFault::Memory, "S11"),
+];
+
+static ROW_CODES: &[(RowCode, &str)] = &[
+    (RowCode::FieldCount, "S2"),
+    (RowCode::NotUtf8, "S3"),
+    (RowCode::Name, "S4"),
+    (RowCode::Revision, "S5"),
+    (RowCode::Value, "S6"),
+    (RowCode::RepeatedMember, "S9"),
+    (RowCode::TooManyMembers, "S10"),
+];
+
+static ROW_FAULTS: &[(RowFault, &str)] = &[(
+    RowFault {
+        place: 2,
+        code: RowCode::Revision,
+    },
+    "record 2: S5",
+)];
+
+static BOOK_FAULTS: &[(BookFault, &str)] = &[
+    (BookFault::Differs, "S7"),
+    (BookFault::NoSuchMember { place: 3 }, "S8"),
+];
+
+static WRITE_FAULTS: &[(WriteFault, &str)] = &[
+    (WriteFault::Memory, "memory"),
+    (WriteFault::Output, "output"),
+];
+
+static IMAGE_FAULTS: &[(ImageFault, &str)] = &[
+    (ImageFault::MemberWithoutId { place: 3 }, "M1"),
+    (ImageFault::Memory, "memory"),
+];
+
 #[test]
 fn codes(rt: HostRuntime) {
     are_printed(&rt, rt.alloc(), REFUSALS);
@@ -93,5 +165,16 @@ fn codes(rt: HostRuntime) {
     are_printed(&rt, rt.alloc(), REGISTRY_FAULTS);
     are_printed(&rt, rt.alloc(), PROVIDER_FAULTS);
     are_printed(&rt, rt.alloc(), ANSWER_FAULTS);
-    are_printed(&rt, rt.alloc(), EXCHANGE_FAULTS)
+    are_printed(&rt, rt.alloc(), EXCHANGE_FAULTS);
+    are_printed(&rt, rt.alloc(), NAME_FAULTS);
+    are_printed(&rt, rt.alloc(), TAG_FAULTS);
+    are_printed(&rt, rt.alloc(), CONTENT_FAULTS);
+    are_printed(&rt, rt.alloc(), FILTER_FAULTS);
+    are_printed(&rt, rt.alloc(), BODY_FAULTS);
+    are_printed(&rt, rt.alloc(), SOURCE_FAULTS);
+    are_printed(&rt, rt.alloc(), ROW_CODES);
+    are_printed(&rt, rt.alloc(), ROW_FAULTS);
+    are_printed(&rt, rt.alloc(), BOOK_FAULTS);
+    are_printed(&rt, rt.alloc(), WRITE_FAULTS);
+    are_printed(&rt, rt.alloc(), IMAGE_FAULTS);
 }
