@@ -1,4 +1,4 @@
-"""Runs of the program of which one call fails, and how many such calls there are."""
+"""Runs of the program of which one call fails, how many such calls there are, and streams that follow a script."""
 import concurrent.futures
 import itertools
 import multiprocessing
@@ -8,11 +8,12 @@ import shutil
 import struct
 import subprocess
 import tempfile
+import typing
 
 from support import ROOT
 
 # The calls that tests/shim.c counts
-KINDS = ("ALLOCATION", "WRITE", "READ")
+KINDS = ("ALLOCATION", "WRITE", "READ", "STREAM_WRITE", "STREAM_READ")
 # The status of a run that the shim ends
 ENDED = 99
 WORKERS = os.cpu_count() or 1
@@ -27,20 +28,49 @@ def build_shim(folder):
     return shim
 
 
-class Fault:
+class Shim:
+    """A run with the shim, which is given these words."""
+
+    def __init__(self, shim, folder, words):
+        handle, self.counts = tempfile.mkstemp(dir=folder, prefix="counts-")
+        with open(handle, "wb") as counts:
+            counts.write(bytes(8 * len(KINDS)))
+        # The options of the run
+        self.options = {"env": os.environ | words | {"FAULT_COUNTS": self.counts, "LD_PRELOAD": str(shim)}}
+
+    def count_of(self, kind):
+        """How many calls of a kind there were."""
+        return struct.unpack(f"{len(KINDS)}Q", pathlib.Path(self.counts).read_bytes())[KINDS.index(kind)]
+
+
+class Script(typing.NamedTuple):
+    """How bytes pass a stream: at most `step` by a call. Each event is after how many bytes it comes, at how many
+    calls, and the error number with which these fail; or 0, and they pass no byte."""
+
+    step: int
+    events: tuple = ()
+
+    def __str__(self):
+        return " ".join([str(self.step), *(":".join(map(str, event)) for event in self.events)])
+
+
+def scripted(shim, folder, socket=0, **scripts):
+    """A run of which the N-th socket that is read or written follows scripts, of its `reads` and its `writes`; if N
+    is 0, standard input and output do."""
+    words = {f"STREAM_{way.upper()}": str(script) for way, script in scripts.items()}
+    return Shim(shim, folder, words | {"STREAM": str(socket)})
+
+
+class Fault(Shim):
     """The call of a kind that fails in a run, by its place from 1, and how, in the words of tests/shim.c."""
 
     def __init__(self, shim, folder, kind, place, how=""):
-        self.counts = folder / "counts"
-        self.counts.write_bytes(bytes(8 * len(KINDS)))
+        super().__init__(shim, folder, {f"FAULT_{kind}": str(place), "FAULT_HOW": how})
         self.kind, self.place, self.how = kind, place, how
-        words = {f"FAULT_{kind}": str(place), "FAULT_HOW": how, "FAULT_COUNTS": str(self.counts), "LD_PRELOAD": str(shim)}
-        # The options of the run
-        self.options = {"env": os.environ | words}
 
     def count(self):
         """How many calls of the kind there were."""
-        return struct.unpack(f"{len(KINDS)}Q", self.counts.read_bytes())[KINDS.index(self.kind)]
+        return self.count_of(self.kind)
 
     @property
     def has_come(self):

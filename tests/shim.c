@@ -1,12 +1,20 @@
-/* Lets one call of a program fail. tests/faults.py builds it and preloads it before the C
-   library. It counts the allocations, and the calls that read, write or sync a file on disk.
+/* Lets calls of a program fail, and passes the bytes of its streams by a script. tests/faults.py builds it and
+   preloads it before the C library. It counts the allocations, the calls that read, write or sync a file on
+   disk, and those that read or write a stream: standard input and output, if they are no files, and sockets.
 
-   FAULT_COUNTS      a file of three 64-bit numbers: the allocations, writes and reads so far
-   FAULT_ALLOCATION, FAULT_WRITE, FAULT_READ
+   FAULT_COUNTS      a file of five 64-bit numbers: the allocations, the writes and reads of the disk, and
+                     those of streams so far
+   FAULT_ALLOCATION, FAULT_WRITE, FAULT_READ, FAULT_STREAM_WRITE, FAULT_STREAM_READ
                      which of these fails, from 1. A sync and a change of length count as writes
    FAULT_HOW         how: an error number; one with a + behind it, and the later ones fail too; or the
                      process ends there: `torn` after half of what it was to write, `cut` as by a cut of
-                     the power, which takes back each write that no sync of its file followed */
+                     the power, which takes back each write that no sync of its file followed
+
+   STREAM_WRITES, STREAM_READS
+                     a script, as `STEP PLACE:TIMES:ERROR ..`: each call passes at most STEP bytes; once PLACE
+                     bytes have passed, TIMES calls fail with this error number, or pass no byte if it is 0
+   STREAM            whose bytes pass so: those of the N-th socket that is read or written, from 1. Without it,
+                     those of standard input and output */
 #define _GNU_SOURCE
 #include <errno.h>
 #include <fcntl.h>
@@ -21,7 +29,7 @@
 /* the status of a process that is ended here */
 #define ENDED 99
 
-enum { ALLOCATION, WRITE, READ, KINDS };
+enum { ALLOCATION, WRITE, READ, STREAM_WRITE, STREAM_READ, KINDS };
 
 extern void *__libc_malloc(size_t), *__libc_calloc(size_t, size_t);
 extern void *__libc_realloc(void *, size_t), *__libc_memalign(size_t, size_t);
@@ -30,15 +38,19 @@ extern void *__libc_realloc(void *, size_t), *__libc_memalign(size_t, size_t);
 static volatile unsigned long long *counts;
 static unsigned long long chosen[KINDS];
 static const char *how = "";
+static void read_scripts(void);
 
 __attribute__((constructor)) static void begin(void)
 {
-    static const char *const names[KINDS] = { "FAULT_ALLOCATION", "FAULT_WRITE", "FAULT_READ" };
+    static const char *const names[KINDS] = {
+        "FAULT_ALLOCATION", "FAULT_WRITE", "FAULT_READ", "FAULT_STREAM_WRITE", "FAULT_STREAM_READ"
+    };
     for (int kind = 0; kind < KINDS; kind++)
         if (getenv(names[kind]))
             chosen[kind] = strtoull(getenv(names[kind]), 0, 10);
     if (getenv("FAULT_HOW"))
         how = getenv("FAULT_HOW");
+    read_scripts();
     int file = open(getenv("FAULT_COUNTS"), O_RDWR | O_CLOEXEC);
     void *shared = mmap(0, sizeof chosen, PROT_READ | PROT_WRITE, MAP_SHARED, file, 0);
     if (shared == MAP_FAILED)
@@ -130,6 +142,113 @@ static int is_stopped(int kind, int file)
     return (S_ISREG(found.st_mode) || S_ISDIR(found.st_mode)) && is_chosen(kind);
 }
 
+/* what happens to a stream: after how many bytes, at how many calls, and by which error, if it isn't 0 */
+struct event {
+    unsigned long place, times;
+    int error;
+};
+/* of writes, and of reads */
+static struct script {
+    size_t step;
+    int length;
+    struct event events[8];
+} scripts[2];
+static int scripted;
+
+/* an open stream: its number, how many bytes have passed, which event comes next, and how often it has come */
+static struct stream {
+    int number;
+    struct {
+        unsigned long passed, met;
+        int next;
+    } ways[2];
+} streams[1024];
+static int sockets;
+
+static void read_scripts(void)
+{
+    static const char *const names[2] = { "STREAM_WRITES", "STREAM_READS" };
+    if (getenv("STREAM"))
+        scripted = atoi(getenv("STREAM"));
+    for (int way = 0; way < 2; way++) {
+        char *rest = getenv(names[way]);
+        if (!rest)
+            continue;
+        struct script *script = &scripts[way];
+        script->step = strtoul(rest, &rest, 10);
+        while (*rest && script->length < 8) {
+            struct event *event = &script->events[script->length++];
+            event->place = strtoul(rest, &rest, 10);
+            event->times = strtoul(rest + 1, &rest, 10);
+            event->error = strtol(rest + 1, &rest, 10);
+        }
+    }
+}
+
+static int is_stream(int file)
+{
+    struct stat found;
+    return file >= 0 && file < 1024 && file != STDERR_FILENO && syscall(SYS_fstat, file, &found) == 0
+        && (S_ISSOCK(found.st_mode) || (file < STDERR_FILENO && !S_ISREG(found.st_mode) && !S_ISDIR(found.st_mode)));
+}
+
+/* how many of these bytes a call on a stream may pass. None, if it fails, or does nothing */
+static ssize_t most(int kind, int file, size_t size)
+{
+    if (is_chosen(kind))
+        return fail(atoi(how));
+    struct stream *stream = &streams[file];
+    struct script *script = &scripts[kind - STREAM_WRITE];
+    if (file > STDERR_FILENO && !stream->number)
+        stream->number = ++sockets;
+    if (!script->step || scripted != stream->number)
+        return size;
+    if (size > script->step)
+        size = script->step;
+    typeof(stream->ways[0]) *way = &stream->ways[kind - STREAM_WRITE];
+    struct event *event = &script->events[way->next];
+    if (way->next == script->length)
+        return size;
+    if (way->passed < event->place)
+        return size < event->place - way->passed ? size : event->place - way->passed;
+    if (++way->met >= event->times) {
+        way->met = 0;
+        way->next++;
+    }
+    errno = event->error;
+    return event->error ? -1 : 0;
+}
+
+static ssize_t passed(int kind, int file, ssize_t size)
+{
+    if (size > 0)
+        streams[file].ways[kind - STREAM_WRITE].passed += size;
+    return size;
+}
+
+/* the call itself with some of its bytes, or what comes in its place */
+#define PASS(KIND, FILE, SIZE, ...)                     \
+    do {                                                \
+        ssize_t most_bytes = most(KIND, FILE, SIZE);    \
+        SIZE = most_bytes;                              \
+        return most_bytes > 0 ? passed(KIND, FILE, syscall(__VA_ARGS__)) : most_bytes; \
+    } while (0)
+
+ssize_t send(int file, const void *bytes, size_t size, int flags)
+{
+    PASS(STREAM_WRITE, file, size, SYS_sendto, file, bytes, size, flags, 0, 0);
+}
+ssize_t recv(int file, void *bytes, size_t size, int flags)
+{
+    PASS(STREAM_READ, file, size, SYS_recvfrom, file, bytes, size, flags, 0, 0);
+}
+int close(int file)
+{
+    if (file >= 0 && file < 1024)
+        streams[file] = (struct stream){ 0 };
+    return syscall(SYS_close, file);
+}
+
 /* the call itself, or its fault, before which `torn` does the half of it */
 #define CALL(KIND, FILE, BEFORE, HALF, ...)             \
     do {                                                \
@@ -145,6 +264,8 @@ static int is_stopped(int kind, int file)
 
 ssize_t write(int file, const void *bytes, size_t size)
 {
+    if (is_stream(file))
+        PASS(STREAM_WRITE, file, size, SYS_write, file, bytes, size);
     CALL(WRITE, file, keep(file, lseek(file, 0, SEEK_CUR), size), syscall(SYS_write, file, bytes, size / 2),
          SYS_write, file, bytes, size);
 }
@@ -159,7 +280,12 @@ int ftruncate(int file, off_t size)
 }
 int fsync(int file) { CALL(WRITE, file, forget(file), NOTHING, SYS_fsync, file); }
 int fdatasync(int file) { CALL(WRITE, file, forget(file), NOTHING, SYS_fdatasync, file); }
-ssize_t read(int file, void *bytes, size_t size) { CALL(READ, file, NOTHING, NOTHING, SYS_read, file, bytes, size); }
+ssize_t read(int file, void *bytes, size_t size)
+{
+    if (is_stream(file))
+        PASS(STREAM_READ, file, size, SYS_read, file, bytes, size);
+    CALL(READ, file, NOTHING, NOTHING, SYS_read, file, bytes, size);
+}
 ssize_t pread(int file, void *bytes, size_t size, off_t at)
 {
     CALL(READ, file, NOTHING, NOTHING, SYS_pread64, file, bytes, size, at);

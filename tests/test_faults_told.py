@@ -155,7 +155,7 @@ class FullDiskTest(Case):
         subprocess.run(["cc", "-shared", "-fPIC", "-O1", "-o", shim, SHIM, "-ldl"], check=True)
         for number in (1, 12, 30):
             for option, name, fault in (("--store", "rows.db", "store fault Y1"), ("--journal", "journal.db", "journal fault J1")):
-                self.write("counts", "\0" * 24)
+                self.write("counts", "\0" * 40)
                 given = dict(os.environ, LD_PRELOAD=str(shim), FAULT_COUNTS=str(self.folder / "counts"),
                              FAULT_WRITE=str(number), FAULT_HOW="28+")
                 words = [PROGRAM, "loop", *SOURCES, option, f"{number}-{name}"]
@@ -228,7 +228,7 @@ class ArgumentsTest(Case):
         shim = self.folder / "shim.so"
         subprocess.run(["cc", "-shared", "-fPIC", "-O1", "-o", shim, SHIM, "-ldl"], check=True)
         for number in range(1, 15):
-            self.write("counts", "\0" * 24)
+            self.write("counts", "\0" * 40)
             given = dict(os.environ, LD_PRELOAD=str(shim), FAULT_COUNTS=str(self.folder / "counts"),
                          FAULT_ALLOCATION=str(number), FAULT_HOW="12+")
             ended = subprocess.run([PROGRAM, "map", "users.csv"], cwd=self.folder, env=given, capture_output=True, text=True, timeout=60)
