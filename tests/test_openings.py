@@ -1,4 +1,5 @@
 """Files that no command opens as its store or journal: each reports why, and leaves the file as it was."""
+import contextlib
 import os
 import shutil
 import subprocess
@@ -10,15 +11,24 @@ from support import (
     store_commands, user_entry, user_resource,
 )
 
-# Another program that holds a file locked until its standard input ends. It isn't the test itself, since a
-# process that closes a file loses all its locks on it
+# Another program that executes statements over a file, and holds it until its standard input ends. It isn't the test
+# itself, since a process that closes a file loses all its locks on it
 HOLD = """
 import sqlite3, sys
-database = sqlite3.connect(sys.argv[1])
-database.execute("BEGIN EXCLUSIVE")
-print("locked", flush=True)
+database = sqlite3.connect(sys.argv[1], isolation_level=None)
+for statement in sys.argv[2:]:
+    database.execute(statement).fetchall()
+print("held", flush=True)
 sys.stdin.read()
 """
+# The transactions that it may be in. SQLite has to take back one that changed the file before it ended
+HOLDS = {
+    "reads": ["BEGIN", "SELECT count(*) FROM sqlite_schema"],
+    "is about to write": ["BEGIN IMMEDIATE"],
+    "has it alone": ["BEGIN EXCLUSIVE"],
+    "has written": ["BEGIN", "CREATE TABLE left (content BLOB)"],
+}
+CHANGES = ["PRAGMA cache_size = 1", *HOLDS["has written"], *["INSERT INTO left VALUES (zeroblob(100000))"] * 2]
 
 
 class Openings:
@@ -57,14 +67,45 @@ class Openings:
             options = {"program": program, "user": 65534}
         self.assert_refused(path, self.commands(path), self.failed, **options)
 
-    def test_a_file_that_another_program_has_locked(self):
-        path = self.make()
-        command = [sys.executable, "-c", HOLD, path]
+    @contextlib.contextmanager
+    def held(self, path, *statements):
+        """Another program has executed these statements over a file, and holds it."""
+        command = [sys.executable, "-c", HOLD, path, *statements]
         with subprocess.Popen(command, stdin=subprocess.PIPE, stdout=subprocess.PIPE) as holder:
-            self.assertEqual(holder.stdout.readline(), b"locked\n")
-            self.assert_refused(path, self.commands(path), self.failed)
+            self.assertEqual(holder.stdout.readline(), b"held\n")
+            yield holder
             holder.communicate()
+
+    def assert_opened(self, path):
+        """The next run opens the file with its rows."""
         self.assert_prints(scimlink(*self.commands(path)[0]), self.shown)
+
+    def test_a_file_that_another_program_has_in_a_transaction(self):
+        path = self.make()
+        for mode in "delete", "wal":
+            for name, statements in HOLDS.items():
+                with self.subTest(name, mode=mode):
+                    with self.held(path, f"PRAGMA journal_mode = {mode}", *statements):
+                        self.assert_refused(path, self.commands(path), self.failed)
+                        for command in self.commands(path):
+                            run = scimlink(*command)
+                            self.assertEqual(run.errors, f"{self.failed}\n {path}: the database is in use\n")
+                    self.assert_opened(path)
+
+    def test_a_file_that_another_program_left_in_a_transaction(self):
+        path = self.make()
+        original = path.read_bytes()
+        with self.held(path, *CHANGES) as holder:
+            holder.kill()
+        before = path.read_bytes()
+        self.assertNotEqual(before, original)
+        for command in self.commands(path):
+            with self.subTest(command=command):
+                self.assert_fault(scimlink(*command), self.failed)
+                self.assertEqual(path.read_bytes(), before)
+        # SQLite takes back what was written
+        self.assertEqual(sql(path, "SELECT count(*) FROM sqlite_schema WHERE name = 'left'"), [(0,)])
+        self.assert_opened(path)
 
     def test_the_file_of_the_other_side(self):
         path = self.make_other()
