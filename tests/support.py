@@ -52,6 +52,13 @@ GROUPS_HEADER = "name,revision,members"
 CREATE_BOB = (EXAMPLES / "create-user.http").read_bytes()
 BOB = CREATE_BOB.split(b"\r\n\r\n", 1)[1].decode()
 BOB_CREATED = (ROOT / "crates/scimlink/stdout").read_bytes()
+# The answer of a provider whose store failed, or that is out of memory
+GIVEN_UP = (
+    b"HTTP/1.1 500 Internal Server Error\r\nConnection: close\r\nContent-Length: 129\r\n"
+    b"Content-Type: application/scim+json\r\n\r\n"
+    b'{"detail":"the provider could not complete the request",'
+    b'"schemas":["urn:ietf:params:scim:api:messages:2.0:Error"],"status":"500"}'
+)
 
 
 def text(*lines):

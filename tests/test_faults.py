@@ -11,16 +11,10 @@ import unittest
 
 from faults import ENDED, Fault, build_shim, tell_all
 from support import (
-    BOB_CREATED, CREATE_BOB, EXAMPLES, ROOT, Provider, Running, Site,
+    BOB_CREATED, CREATE_BOB, EXAMPLES, GIVEN_UP, ROOT, Provider, Running, Site,
     OLDER_FORMS, group_entry, make_journal, resource_id, scimlink, sql, user_entry, without_causes,
 )
 
-UNDONE = (
-    b"HTTP/1.1 500 Internal Server Error\r\nConnection: close\r\nContent-Length: 129\r\n"
-    b"Content-Type: application/scim+json\r\n\r\n"
-    b'{"detail":"the provider could not complete the request",'
-    b'"schemas":["urn:ietf:params:scim:api:messages:2.0:Error"],"status":"500"}'
-)
 BOB_SHOWN = "user bob held=1 version=1 active=true"
 FORGOTTEN = "user bob wanted=1 confirmed=0 id=-"
 SCHEDULE = ROOT / "tests/schedules/restarts.schedule"
@@ -105,7 +99,7 @@ def answer(_, fault):
 
 def check_answer(run, fault):
     check_ending(run, fault)
-    outputs = {0: [BOB_CREATED, UNDONE], ENDED: [BOB_CREATED, UNDONE, b""]}.get(run.status, [b""])
+    outputs = {0: [BOB_CREATED, GIVEN_UP], ENDED: [BOB_CREATED, GIVEN_UP, b""]}.get(run.status, [b""])
     if run.output not in (outputs if fault.has_come else [BOB_CREATED]):
         raise AssertionError(f"status {run.status}, printed {run.output!r}")
 
@@ -428,7 +422,9 @@ class FaultsTest(unittest.TestCase):
             self.refuse("WRITE", job.push, job.serve, job.loop, ways=WRITE_FAULTS)
 
     def test_reads(self):
-        self.refuse("READ", answer_stored, self.leaver.reset, self.leaver.push, self.leaver.serve, self.leaver.loop, ways=["5"])
+        leaver = self.leaver
+        stories = leaver.show_store, leaver.show_journal, leaver.reset, leaver.push, leaver.serve, leaver.loop
+        self.refuse("READ", answer_stored, *stories, ways=["5"])
 
 
 if __name__ == "__main__":

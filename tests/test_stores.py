@@ -2,12 +2,11 @@
 
 What is refused of any file, as a text or a locked one, is in test_openings.py.
 """
-import json
 import re
 
 from faults import Fault, build_shim
 from support import (
-    BOB, BOB_CREATED, CREATE_BOB, RESOURCE, STORE_FORMAT, USER, ProgramTest, Provider,
+    BOB, BOB_CREATED, CREATE_BOB, GIVEN_UP, RESOURCE, STORE_FORMAT, USER, ProgramTest, Provider,
     compact, group_text, limited_files, make_store, resource_id, scimlink, sql, store_commands, user_resource,
     user_text,
 )
@@ -223,15 +222,10 @@ class FullDiskTest(StoreTest):
         for place in range(1000):
             answer = self.provider.exchange(create(f"{place:03}"))
             if not answer.startswith(b"HTTP/1.1 201 Created\r\n"):
-                self.assert_undone(answer)
+                self.assertEqual(answer, GIVEN_UP)
                 self.assertGreater(place, 0, "the first change failed")
                 return [f"{before:03}" for before in range(place)]
         self.fail("the store never failed")
-
-    def assert_undone(self, answer):
-        self.assert_status(answer, "500 Internal Server Error")
-        detail = json.loads(answer.partition(b"\r\n\r\n")[2])["detail"]
-        self.assertEqual(detail, "the provider could not complete the request")
 
     def test_a_store_that_failed_is_opened_again(self):
         created = self.fill()
