@@ -1,9 +1,11 @@
 """`serve`: clients that leave, stay, or send too much or too little, and whom they hold up."""
+import os
+import resource
 import socket
 import struct
 import time
 
-from support import BOB_CREATED, CREATE_BOB, ProgramTest, read_all, resource_id
+from support import BOB_CREATED, CREATE_BOB, PATIENCE, ProgramTest, Provider, read_all, resource_id, wait_until
 
 FIND_BOB = f"GET /v2/Users/{resource_id(1)} HTTP/1.1\r\nHost: h\r\n\r\n".encode()
 # Seconds that the provider reads on after its answer, if nobody else waits
@@ -49,6 +51,15 @@ class ConnectionTest(ProgramTest):
             answer = provider.ask("GET", "/v2/Users")
             self.assertEqual((answer.status, answer.content["totalResults"]), (200, 0))
 
+    def test_connections_that_cannot_be_accepted(self):
+        with Provider(3) as provider:
+            self.assertEqual(provider.exchange(CREATE_BOB), BOB_CREATED)
+            # no more may be open than the standard streams and the listener
+            wait_until(lambda: len(os.listdir(f"/proc/{provider.pid}/fd")) == 4, "the end of the connection")
+            resource.prlimit(provider.pid, resource.RLIMIT_NOFILE, (4, 4))
+            with provider.connect():
+                self.assert_prints(provider.ends(), status=3, errors=["connection fault"] * 2)
+
     def test_a_client_that_closes_its_half(self):
         with self.serving(1) as provider, provider.connect() as stream:
             stream.sendall(CREATE_BOB)
@@ -71,11 +82,13 @@ class ConnectionTest(ProgramTest):
 
     def test_a_client_that_stays_after_its_answer(self):
         with self.serving(2) as provider, provider.connect() as stream:
+            began = time.monotonic()
             stream.sendall(FIND_BOB)
             self.assert_not_found(read_all(stream))
-            began = time.monotonic()
             self.assert_not_found(provider.exchange(FIND_BOB))
-            self.assertLess(time.monotonic() - began, DRAIN + 5)
+            # it ends once the client has stayed for so long
+            self.assertEqual(provider.process.wait(PATIENCE), 0)
+            self.assertTrue(DRAIN <= time.monotonic() - began < DRAIN + 5)
 
     def test_who_waits_is_served_before_the_drain(self):
         # the quickest of some tries, as a machine may be slow now and then

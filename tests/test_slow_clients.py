@@ -52,6 +52,23 @@ class SlowClientTest(ProgramTest):
             stream.sendall(CREATE_BOB[-1:])
             self.assertEqual(read_all(stream), BOB_CREATED)
 
+    def test_requests_are_served_as_they_are_whole(self):
+        with self.serving(5, connection_faults=2) as provider, contextlib.ExitStack() as stack:
+            silent, parts, whole, refused, left = [stack.enter_context(provider.connect()) for _ in range(5)]
+            parts.sendall(b"GET /a HT")
+            whole.sendall(b"GET /b HTTP/1.1\r\nHost: h\r\n\r\n")
+            self.assertTrue(read_all(whole).startswith(b"HTTP/1.1 404"))
+            # it is refused as soon as it comes, while the parts of another are still on their way
+            refused.sendall(b"\0\r\n")
+            self.assertTrue(read_all(refused).startswith(b"HTTP/1.1 400"))
+            parts.sendall(b"TP/1.1\r\nHost: h\r\n")
+            left.sendall(b"GET /c")
+            left.shutdown(socket.SHUT_WR)
+            self.assertEqual(read_all(left), b"")
+            parts.sendall(b"\r\n")
+            self.assertTrue(read_all(parts).startswith(b"HTTP/1.1 404"))
+            silent.close()
+
     def test_the_longest_request(self):
         head = b"POST /v2/Users HTTP/1.1\r\nHost: h\r\nContent-Length: 32768\r\nA: "
         head += b"a" * (16_384 - len(head) - 4) + b"\r\n\r\n"

@@ -8,7 +8,8 @@ import itertools
 import time
 
 from peers import LATE, NO_HITS, TAKEN, Peer, answer, say_nothing, user
-from support import CREATE_BOB, TIME_LIMIT, ProgramTest, Site, read_all
+from support import CREATE_BOB, TIME_LIMIT, ProgramTest, Provider, Site, read_all
+from test_slow_clients import LIST, narrow_connection
 
 
 def trickle(stream, content):
@@ -25,7 +26,8 @@ def trickle_an_answer(stream):
 
 class TimeLimitTest(ProgramTest):
     def test_each_connection_and_exchange_ends_after_its_time(self):
-        waits = [self.a_silent_client, self.a_trickling_client, self.a_silent_provider, self.a_trickling_provider]
+        clients = [self.a_silent_client, self.a_trickling_client, self.a_client_that_takes_nothing]
+        waits = [*clients, self.a_silent_provider, self.a_trickling_provider]
         with concurrent.futures.ThreadPoolExecutor(len(waits)) as pool:
             runs = {wait.__name__: pool.submit(wait) for wait in waits}
         for name, run in runs.items():
@@ -41,6 +43,19 @@ class TimeLimitTest(ProgramTest):
 
     def a_trickling_client(self):
         return self.connect_and(lambda stream: trickle(stream, CREATE_BOB))
+
+    def a_client_that_takes_nothing(self):
+        with Provider(200 + 1) as provider:
+            for number in range(200):
+                provider.exchange(CREATE_BOB.replace(b'"bob"', b'"%03d"' % number))
+            before = time.monotonic()
+            with narrow_connection(provider.port) as stream:
+                after = time.monotonic()
+                stream.sendall(LIST)
+                # it ends once it has given up on the answer
+                self.assert_prints(provider.ends(), status=3, errors=["connection fault"])
+                end = time.monotonic()
+        return end - before, end - after
 
     def connect_and(self, wait):
         """A client that waits so for the end of its connection, and another that is served after it."""
