@@ -12,12 +12,6 @@ mod connector;
 #[cfg(test)]
 mod exchanges;
 #[cfg(test)]
-mod index;
-#[cfg(test)]
-mod lines;
-#[cfg(test)]
-mod pages;
-#[cfg(test)]
 mod readings;
 #[cfg(test)]
 mod registries;
@@ -25,10 +19,6 @@ mod registries;
 mod responses;
 #[cfg(test)]
 mod scripts;
-#[cfg(test)]
-mod store_faults;
-#[cfg(test)]
-mod stores;
 #[cfg(test)]
 mod streams;
 #[cfg(test)]

@@ -15,10 +15,6 @@ pub const CREATE_BOB: &[u8] =
 pub const BOB_CREATED: &[u8] =
     b"HTTP/1.1 201 Created\r\nConnection: close\r\nContent-Length: 388\r\nContent-Location: http://localhost:8080/v2/Users/5c1a0000-0000-8000-8000-000000000001\r\nContent-Type: application/scim+json\r\nETag: \"1\"\r\nLocation: http://localhost:8080/v2/Users/5c1a0000-0000-8000-8000-000000000001\r\n\r\n{\"active\":true,\"id\":\"5c1a0000-0000-8000-8000-000000000001\",\"meta\":{\"location\":\"http://localhost:8080/v2/Users/5c1a0000-0000-8000-8000-000000000001\",\"resourceType\":\"User\",\"version\":\"\\\"1\\\"\"},\"schemas\":[\"urn:ietf:params:scim:schemas:core:2.0:User\",\"urn:example:params:scim:schemas:extension:source:1.0\"],\"urn:example:params:scim:schemas:extension:source:1.0\":{\"revision\":1},\"userName\":\"bob\"}";
 
-/// The fixed response, which needs no memory.
-pub const GIVEN_UP: &[u8] =
-    b"HTTP/1.1 500 Internal Server Error\r\nConnection: close\r\nContent-Length: 129\r\nContent-Type: application/scim+json\r\n\r\n{\"detail\":\"the provider could not complete the request\",\"schemas\":[\"urn:ietf:params:scim:api:messages:2.0:Error\"],\"status\":\"500\"}";
-
 /// Asserts that two values are the same. A call of this function costs a proof a twentieth of an
 /// `assert_eq!`.
 pub fn assert_same<T: PartialEq + Debug + Drop>(rt: &impl Abort, value: T, wanted: T) {
@@ -128,17 +124,4 @@ pub fn tells<R: Registry>(
     let written = answer_to(rt, alloc, provider, request, status);
     let text = String::from_utf8(written).ok().expect(rt, "a text");
     assert_that(rt, text.as_str().contains(part));
-}
-
-/// A request by its method and target, further field lines, and body.
-pub fn request(rt: &impl Abort, alloc: Global, line: &str, fields: &str, body: &str) -> Vec<u8> {
-    let head = " HTTP/1.1\r\nHost: localhost:8080\r\nContent-Type: application/scim+json\r\n";
-    let length = printed(rt, alloc, body.len());
-    let mut text = joined(rt, alloc, &[line, head, fields]);
-    push_all(
-        rt,
-        &mut text,
-        &["Content-Length: ", length.as_str(), "\r\n\r\n", body],
-    );
-    text.into_bytes()
 }
