@@ -332,6 +332,11 @@ class Job:
 # ---- tests
 
 
+def open_journal(site):
+    """A push that opens the journal, and ends as it finds no users."""
+    return ["push", "--users", "nowhere", "--journal", site.journal, "--to", "127.0.0.1:1"]
+
+
 class FaultsTest(unittest.TestCase):
     @classmethod
     def setUpClass(cls):
@@ -392,7 +397,7 @@ class FaultsTest(unittest.TestCase):
             self.refuse("ALLOCATION", story, opening=None, step=STEP)
 
     def test_memory_of_reset(self):
-        self.refuse("ALLOCATION", self.leaver.reset)
+        self.refuse_memory_after(open_journal, self.leaver.reset)
 
     def test_journals_of_older_formats(self):
         for story in carry_over_1, carry_over_2:
@@ -402,9 +407,7 @@ class FaultsTest(unittest.TestCase):
             self.refuse("READ", story, ways=["5"])
 
     def test_memory_of_push(self):
-        self.refuse_memory_after(
-            lambda site: ["push", "--users", "nowhere", "--journal", site.journal, "--to", "127.0.0.1:1"], self.leaver.push
-        )
+        self.refuse_memory_after(open_journal, self.leaver.push)
 
     def test_memory_of_serve(self):
         self.refuse_memory_after(

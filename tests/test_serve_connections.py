@@ -57,8 +57,9 @@ class ConnectionTest(ProgramTest):
             # no more may be open than the standard streams and the listener
             wait_until(lambda: len(os.listdir(f"/proc/{provider.pid}/fd")) == 4, "the end of the connection")
             resource.prlimit(provider.pid, resource.RLIMIT_NOFILE, (4, 4))
-            with provider.connect():
-                self.assert_prints(provider.ends(), status=3, errors=["connection fault"] * 2)
+            # the connection that is waited for has its place; it leaves, and the next one has none
+            provider.connect().close()
+            self.assert_prints(provider.ends(), status=3, errors=["connection fault"] * 2)
 
     def test_a_client_that_closes_its_half(self):
         with self.serving(1) as provider, provider.connect() as stream:

@@ -5,8 +5,10 @@ use std::io::{BufWriter, Printer};
 use std::rt::Runtime;
 
 /// Standard output, which is written in blocks. It keeps the system's error if a write failed.
+pub type StandardOutput<'a, R> = NotedWriter<BufWriter<Printer<'a, R>>>;
+
 pub fn standard_output<R: Runtime + AllocGlobal>(
     rt: &R,
-) -> Result<NotedWriter<BufWriter<Printer<'_, R>>>, CommandFault> {
+) -> Result<StandardOutput<'_, R>, CommandFault> {
     Ok(NotedWriter::new(BufWriter::new(rt.alloc(), io::writer(rt))?))
 }

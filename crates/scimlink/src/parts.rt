@@ -1,6 +1,7 @@
 //! The parts that a run uses, by their names in the arguments.
-use crate::command::SourceFiles;
+use crate::arguments::SourceFiles;
 use commands::{Cause, CommandFault, Part, Reason, Status, told};
+use journal_file::EntryStorage;
 use provider_file::RowStorage;
 use std::rt::Runtime;
 
@@ -11,11 +12,13 @@ pub struct Parts<'a, K, J> {
     groups: &'a str,
     file: &'a str,
     address: &'a str,
-    store: Option<&'a K>,
-    journal: Option<&'a J>,
+    /// The file that keeps the provider's rows; without it, they are in memory.
+    pub store: Option<&'a K>,
+    /// The file that keeps the connector's entries; without it, they are in memory.
+    pub journal: Option<&'a J>,
 }
 
-impl<'a, K: RowStorage, J: journal_file::EntryStorage> Parts<'a, K, J> {
+impl<'a, K: RowStorage, J: EntryStorage> Parts<'a, K, J> {
     /// The files that keep rows and entries. No other part has a name yet.
     pub fn over(store: Option<&'a K>, journal: Option<&'a J>) -> Self {
         Parts {
@@ -31,14 +34,6 @@ impl<'a, K: RowStorage, J: journal_file::EntryStorage> Parts<'a, K, J> {
     /// With a file that is read.
     pub fn reading(mut self, file: &'a str) -> Self {
         self.file = file;
-        self
-    }
-
-    /// With the journal's file, which must be there.
-    pub fn reading_journal(mut self) -> Self {
-        if let Some(journal) = self.journal {
-            self.file = journal.name();
-        }
         self
     }
 

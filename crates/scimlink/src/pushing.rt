@@ -1,19 +1,37 @@
 //! `push`: the connector against the provider at an address.
-use crate::command::SourceFiles;
+use crate::arguments::SourceFiles;
 use crate::output::standard_output;
+use crate::parts::Parts;
+use clap::ArgMatches;
+use commands::words::{base, to};
 use commands::{CommandFault, Status, carried_status};
 use connector_core::Connector;
 use journal_core::Journal;
 use journal_file::{EntryStorage, StoredEntries};
+use provider_file::RowStorage;
 use provisioning::{RunFault, Sources, read_sources};
 use scim_client::ScimService;
 use scim_key::Base;
 use std::net::Net;
 use std::rt::Runtime;
 
-/// Opens the journal, carries the records of files to the provider at an address, and closes the journal.
-/// What was confirmed stays in the journal, however the run ends.
-pub fn push<R: Runtime + Net + AllocGlobal, K: EntryStorage>(
+/// Carries the records of files to the provider at an address.
+pub fn push<R: Runtime + Net + AllocGlobal, K: RowStorage, J: EntryStorage>(
+    rt: &R,
+    words: &ArgMatches<'_>,
+    parts: Parts<'_, K, J>,
+) -> Result<Status, CommandFault> {
+    let journal = parts.journal.ok_or(CommandFault::File)?;
+    let files = SourceFiles::of(rt.alloc(), words)?;
+    let to = to(rt.alloc(), words)?;
+    let base = base(rt.alloc(), words)?;
+    let ended = push_over(rt, journal, &files, to.as_str(), base);
+    Ok(parts.carrying(&files, to.as_str()).ended(rt, ended))
+}
+
+/// Opens the journal, carries the records, and closes the journal. What was confirmed stays in the journal,
+/// however the run ends.
+fn push_over<R: Runtime + Net + AllocGlobal, K: EntryStorage>(
     rt: &R,
     storage: &K,
     files: &SourceFiles,

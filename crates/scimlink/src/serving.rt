@@ -1,6 +1,10 @@
 //! `serve`: connections to a socket, answered by one provider, as their requests are whole.
+use crate::parts::Parts;
+use clap::ArgMatches;
+use commands::words::{address, base, requests};
 use commands::{CommandFault, Status, listen_fault, outcome_status};
 use connection::{Sockets, serve_from_memory};
+use journal_file::EntryStorage;
 use provider_file::{RowStorage, StoredRows, serve_stored};
 use provisioning::CONNECTION_SECONDS;
 use scim_key::Base;
@@ -9,9 +13,22 @@ use std::net::{Net, OpenListener, SocketAddr, TcpListener};
 use std::rt::Runtime;
 use std::time::Duration;
 
-/// Serves `requests` connections to an address, from the rows of a file, which it opens first, or from a
-/// provider in memory that starts empty.
-pub fn serve<R: Runtime + Net + AllocGlobal, K: RowStorage>(
+/// Serves some connections to an address.
+pub fn serve<R: Runtime + Net + AllocGlobal, K: RowStorage, J: EntryStorage>(
+    rt: &R,
+    words: &ArgMatches<'_>,
+    parts: Parts<'_, K, J>,
+) -> Result<Status, CommandFault> {
+    let address = address(rt.alloc(), words)?;
+    let requests = requests(words)?;
+    let base = base(rt.alloc(), words)?;
+    let ended = serve_over(rt, address.as_str(), requests, &base, parts.store);
+    Ok(parts.listening(address.as_str()).ended(rt, ended))
+}
+
+/// Serves `requests` connections from the rows of a file, which it opens first, or from a provider in memory
+/// that starts empty.
+fn serve_over<R: Runtime + Net + AllocGlobal, K: RowStorage>(
     rt: &R,
     address: &str,
     requests: u32,

@@ -1,25 +1,26 @@
 //! `show`: prints what a file keeps, one line each.
 use crate::output::standard_output;
+use crate::parts::Parts;
 use commands::{CommandFault, Status};
-use journal_file::show_entries;
-use provider_file::show_rows;
+use journal_file::{EntryStorage, show_entries};
+use provider_file::{RowStorage, show_rows};
 use std::rt::Runtime;
 
 /// Prints what one of the files keeps: the rows of a provider, in order of creation, or the entries of a
 /// connector, users by key, then groups by key.
-pub fn show<R: Runtime + AllocGlobal, K: provider_file::RowStorage, J: journal_file::EntryStorage>(
+pub fn show<R: Runtime + AllocGlobal, K: RowStorage, J: EntryStorage>(
     rt: &R,
-    store: Option<&K>,
-    journal: Option<&J>,
-) -> Result<Status, CommandFault> {
-    match (store, journal) {
+    parts: Parts<'_, K, J>,
+) -> Status {
+    let ended = match (parts.store, parts.journal) {
         (Some(store), None) => show_store(rt, store),
         (None, Some(journal)) => show_journal(rt, journal),
         (Some(_), Some(_)) | (None, None) => Err(CommandFault::Show),
-    }
+    };
+    parts.ended(rt, ended)
 }
 
-fn show_store<R: Runtime + AllocGlobal, K: provider_file::RowStorage>(
+fn show_store<R: Runtime + AllocGlobal, K: RowStorage>(
     rt: &R,
     store: &K,
 ) -> Result<Status, CommandFault> {
@@ -30,7 +31,7 @@ fn show_store<R: Runtime + AllocGlobal, K: provider_file::RowStorage>(
     }
 }
 
-fn show_journal<R: Runtime + AllocGlobal, J: journal_file::EntryStorage>(
+fn show_journal<R: Runtime + AllocGlobal, J: EntryStorage>(
     rt: &R,
     journal: &J,
 ) -> Result<Status, CommandFault> {
