@@ -275,6 +275,15 @@ class PushStreamTest(StreamTest):
             with self.subTest(script=str(script)):
                 self.assertEqual(self.creates(line, writes=script), CREATE_BOB[:sent])
 
+    def test_a_write_that_fails_once_at_each_place(self):
+        def sent(place):
+            return self.creates("unconfirmed H12", writes=Script(1, [(place, 1, EPIPE)]))
+
+        with concurrent.futures.ThreadPoolExecutor(os.cpu_count()) as pool:
+            for place, part in enumerate(pool.map(sent, range(371))):
+                with self.subTest(place=place):
+                    self.assertEqual(part, CREATE_BOB[:place])
+
 
 class MapStreamTest(StreamTest):
     def test_images_that_are_taken_by_a_script(self):

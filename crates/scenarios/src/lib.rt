@@ -10,15 +10,11 @@ mod connections;
 #[cfg(test)]
 mod connector;
 #[cfg(test)]
-mod exchanges;
-#[cfg(test)]
 mod readings;
 #[cfg(test)]
 mod registries;
 #[cfg(test)]
 mod responses;
-#[cfg(test)]
-mod scripts;
 #[cfg(test)]
 mod streams;
 #[cfg(test)]

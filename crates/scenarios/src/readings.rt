@@ -4,6 +4,8 @@ use scim_filter::Filter;
 use scim_key::{Kind, ResourceId};
 use scim_message::{Request, body_of, read_body};
 use scim_version::{Condition, EntityTag};
+use std::alloc::Global;
+use std::process::Abort;
 
 /// Texts of tags, and whether each is strongly and weakly equal to the tag of version 1 (RFC 7232 section 2.3.2).
 static TAGS: &[(&str, bool, bool)] = &[
@@ -12,27 +14,35 @@ static TAGS: &[(&str, bool, bool)] = &[
     ("\"01\"", false, false),
 ];
 
-/// Conditions where there is no resource, and comparisons of two tags.
+fn tag(rt: &impl Abort, alloc: Global, text: &str) -> EntityTag {
+    EntityTag::read(alloc, text.as_bytes()).expect(rt, "a tag")
+}
+
 #[test]
-fn conditions_and_tags(rt: HostRuntime) {
-    let alloc = rt.alloc();
-    for text in ["\"7\", ,\"1\"", "*,"] {
-        let condition = Condition::read_list(alloc, text.as_bytes()).expect(&rt, "a condition");
-        assert_that(&rt, !condition.holds_match(None));
-        assert_that(&rt, condition.holds_none_match(None));
-    }
-    assert_that(
-        &rt,
-        Condition::Always.holds_match(None) && Condition::Always.holds_none_match(Some(1)),
-    );
-    let made = EntityTag::of_counter(alloc, 1).expect(&rt, "memory");
+fn tags_are_compared(rt: HostRuntime) {
+    let made = EntityTag::of_counter(rt.alloc(), 1).expect(&rt, "memory");
     for (text, strongly, weakly) in TAGS {
-        let read = EntityTag::read(alloc, text.as_bytes()).expect(&rt, "a tag");
-        assert_same(&rt, read.strong_eq(&made), *strongly);
-        assert_same(&rt, read.weak_eq(&made), *weakly);
+        let read = tag(&rt, rt.alloc(), text);
+        let found = (read.strong_eq(&made), read.weak_eq(&made));
+        assert_same(&rt, found, (*strongly, *weakly));
     }
-    let weak = EntityTag::read(alloc, b"W/\"1\"").expect(&rt, "a tag");
+    let weak = tag(&rt, rt.alloc(), "W/\"1\"");
     assert_that(&rt, !weak.strong_eq(&weak));
+}
+
+/// No resource is in a list of tags, whatever is in it.
+fn lists_nothing(rt: &impl Abort, alloc: Global, text: &str) {
+    let condition = Condition::read_list(alloc, text.as_bytes()).expect(rt, "a condition");
+    assert_that(rt, !condition.holds_match(None));
+    assert_that(rt, condition.holds_none_match(None));
+}
+
+#[test]
+fn conditions_without_a_resource(rt: HostRuntime) {
+    lists_nothing(&rt, rt.alloc(), "\"7\", ,\"1\"");
+    lists_nothing(&rt, rt.alloc(), "*,");
+    assert_that(&rt, Condition::Always.holds_match(None));
+    assert_that(&rt, Condition::Always.holds_none_match(Some(1)));
 }
 
 /// Texts of filters, and how they are written.
@@ -130,19 +140,25 @@ static FILTERS: &[(&str, &str)] = &[
     ),
 ];
 
+fn filter(rt: &impl Abort, alloc: Global, text: &str) -> Filter {
+    Filter::read(alloc, text).expect(rt, "a filter")
+}
+
+fn is_written(rt: &impl Abort, alloc: Global, filter: &Filter, wanted: &str) {
+    let written = filter.to_text(alloc).expect(rt, "memory");
+    assert_same(rt, written.as_str(), wanted);
+}
+
 /// A filter is written with no more than it needs, and so is the copy of the filter that is read from what is
 /// written.
 #[test]
 fn filters_are_written_and_copied(rt: HostRuntime) {
-    let alloc = rt.alloc();
     for (text, wanted) in FILTERS {
-        let filter = Filter::read(alloc, text).expect(&rt, "a filter");
-        let written = filter.to_text(alloc).expect(&rt, "memory");
-        assert_same(&rt, (*text, written.as_str()), (*text, *wanted));
-        let again = Filter::read(alloc, written.as_str()).expect(&rt, "a filter");
+        let first = filter(&rt, rt.alloc(), text);
+        is_written(&rt, rt.alloc(), &first, wanted);
+        let again = filter(&rt, rt.alloc(), wanted);
         let copy = again.clone().expect(&rt, "memory");
-        let copied = copy.to_text(alloc).expect(&rt, "memory");
-        assert_same(&rt, (*text, copied.as_str()), (*text, *wanted));
+        is_written(&rt, rt.alloc(), &copy, wanted);
     }
 }
 

@@ -253,24 +253,22 @@ fn help_of<'a>(help: Help, events_help: &'a str) -> &'a str {
     }
 }
 
-/// The argument, with the value that the option takes.
+/// The argument, with the value that the option takes after its name.
 fn taking<'a>(arg: Arg<'a>, option: OptionText) -> Arg<'a> {
     match option.value {
         Value::Place => arg,
-        Value::Text(name) => arg.long(option.name).value_name(name),
-        Value::Base => arg
-            .long(option.name)
-            .value_name("URL")
-            .default_value(DEFAULT_BASE),
-        Value::Count => arg
-            .long(option.name)
-            .value_name("N")
-            .value_parser(value_parser!(u32)),
-        Value::Seed => arg
-            .long(option.name)
-            .value_name("S")
-            .value_parser(value_parser!(u64)),
-        Value::Nothing => arg.long(option.name).action(ArgAction::SetTrue),
+        value => with_value(arg.long(option.name), value),
+    }
+}
+
+fn with_value<'a>(arg: Arg<'a>, value: Value) -> Arg<'a> {
+    match value {
+        Value::Place => arg,
+        Value::Text(name) => arg.value_name(name),
+        Value::Base => arg.value_name("URL").default_value(DEFAULT_BASE),
+        Value::Count => arg.value_name("N").value_parser(value_parser!(u32)),
+        Value::Seed => arg.value_name("S").value_parser(value_parser!(u64)),
+        Value::Nothing => arg.action(ArgAction::SetTrue),
     }
 }
 
