@@ -6,16 +6,13 @@ import subprocess
 
 from exchanges import BOB_PATH, GROUPS, USERS
 from support import (
-    BOB, BOB_CREATED, CREATE_BOB, GROUP, PATIENCE, SCIM_TYPE, SOURCE,
+    BOB, BOB_CREATED, CREATE_BOB, GIVEN_UP, GROUP, PATIENCE, SCIM_TYPE, SOURCE,
     ProgramTest, full_disk, resource_id, scimlink,
 )
 
 OTHER_VERSION = "the resource has another version"
 # the body of the one answer to all that the provider couldn't complete
-UNDONE = (
-    b'{"detail":"the provider could not complete the request",'
-    b'"schemas":["urn:ietf:params:scim:api:messages:2.0:Error"],"status":"500"}'
-)
+UNDONE = GIVEN_UP.split(b"\r\n\r\n", 1)[1]
 
 # By code: the status and the detail of a refusal, and a request for it to a provider that holds bob
 READABLE, ALLOWED = "the body is not a readable resource", "a value is missing or not allowed"
