@@ -99,7 +99,7 @@ PARTS = [BOB_CREATED[:length] for length in range(len(BOB_CREATED))]
 
 
 class PartsTest(PeerTest):
-    """Parts of the answer to the creation of a user, each of whom is called by their length."""
+    """Parts of the answer to the creation of a user, whose name has the length of the part."""
 
     def assert_same_lines(self, lines, wanted):
         """Many lines are these. (The difference of so many that are alike takes unittest minutes.)"""
