@@ -1,6 +1,6 @@
 /* Lets calls of a program fail, and passes the bytes of its streams by a script. tests/faults.py builds it and
    preloads it before the C library. It counts the allocations, the calls that read, write or sync a file on
-   disk, and those that read or write a stream: standard input and output, if they are no files, and sockets.
+   disk, and the calls on a stream: standard input and output, if they are no files, and sockets.
 
    FAULT_COUNTS      a file of five 64-bit numbers: the allocations, the writes and reads of the disk, and
                      those of streams so far
