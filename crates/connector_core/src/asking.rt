@@ -26,7 +26,7 @@ use std::alloc::{AllocError, Global};
 use thiserror::Error;
 
 /// What the connector asks for next for a record.
-#[derive(Debug, Drop)]
+#[derive(Drop)]
 pub enum Ask {
     /// Nothing: the wanted revision is confirmed.
     Nothing,

@@ -19,7 +19,7 @@ use std::mem::replace;
 
 /// What is known about each record, under its name. Users and groups are separate, so that a member is
 /// found by its key alone and each type is counted.
-#[derive(Debug, Drop)]
+#[derive(Drop)]
 pub(crate) struct Book {
     users: BTreeMap<Key, Known>,
     groups: BTreeMap<Key, Known>,

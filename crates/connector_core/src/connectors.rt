@@ -18,7 +18,7 @@ use std::marker::Model;
 /// The connector: what the source wants of each record, and what is known about the record at the provider.
 ///
 /// The journal keeps all of this except what was seen.
-#[derive(Debug, Drop)]
+#[derive(Drop)]
 pub struct Connector<J: Journal> {
     pub(crate) alloc: Global,
     pub(crate) journal: J,

@@ -19,7 +19,7 @@ use std::alloc::Global;
 use std::marker::Model;
 
 /// What is new about a record.
-#[derive(Debug, Drop)]
+#[derive(Drop)]
 pub(crate) enum News {
     /// A new id or a higher revision, which the journal keeps too.
     Lasting {
@@ -37,7 +37,7 @@ pub(crate) enum News {
 }
 
 /// A resource that was seen, with its revision and its entity tag.
-#[derive(Debug, Drop)]
+#[derive(Drop)]
 pub(crate) struct Sight {
     id: ResourceId,
     revision: Revision,

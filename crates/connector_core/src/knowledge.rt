@@ -4,7 +4,7 @@ use scim_version::EntityTag;
 use source_csv::Row;
 
 /// What was seen last of a record at the provider, since the connector was opened.
-#[derive(Debug, Drop)]
+#[derive(Drop)]
 pub enum Seen {
     /// Nothing.
     Unknown,
@@ -15,7 +15,6 @@ pub enum Seen {
 }
 
 /// What the connector knows about a record.
-#[derive(Debug)]
 pub struct Known {
     /// The last row that the source gave for it.
     pub wanted: Row,

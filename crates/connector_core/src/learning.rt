@@ -20,7 +20,7 @@ use std::alloc::{AllocError, Global};
 use std::{error, fmt};
 
 /// What is learnt about a record.
-#[derive(Clone, Copy, Debug, PartialEq, Eq)]
+#[derive(Clone, Copy, PartialEq, Eq)]
 pub enum Learnt {
     /// This revision is now confirmed; it is higher than the one before.
     Confirmed(Revision),

@@ -20,14 +20,14 @@ use source_csv::Row;
 use std::alloc::{AllocError, Global};
 
 /// How to take a new row back: the row that was wanted before; none if the new row was the first.
-#[derive(Debug, Drop)]
+#[derive(Drop)]
 pub(crate) struct Note {
     name: RecordName,
     last: Option<Row>,
 }
 
 /// The result of offering rows: the verdicts, the new rows, and how to take them back.
-#[derive(Debug, Drop)]
+#[derive(Drop)]
 pub(crate) struct Offered {
     said: Vec<Result<Verdict, ChangeFault>>,
     fresh: Vec<Row>,

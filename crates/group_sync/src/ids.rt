@@ -17,7 +17,7 @@ pub trait Ids {
 }
 
 /// Ids, one for each member of a group, in the order of the members' keys.
-#[derive(Debug, Drop)]
+#[derive(Drop)]
 pub struct ResourceIds {
     pub(crate) items: Vec<ResourceId>,
 }
@@ -39,7 +39,7 @@ impl ResourceIds {
 }
 
 /// Whether a group can be sent: with all of its members, or not yet.
-#[derive(Debug, Drop)]
+#[derive(Drop)]
 pub enum Ready {
     /// Each member has an id: these, in the order of the members' keys.
     Ids(ResourceIds),

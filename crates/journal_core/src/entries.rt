@@ -10,7 +10,6 @@ pub const USER_LIMIT: usize = 100_000;
 pub const GROUP_LIMIT: usize = 10_000;
 
 /// What a journal keeps about a record.
-#[derive(Debug)]
 pub struct Entry {
     /// The last row that the source gave for this record.
     pub row: Row,

@@ -18,7 +18,7 @@ use std::collections::BTreeMap;
 use std::marker::Model;
 
 /// A journal with its entries in memory.
-#[derive(Debug, Drop)]
+#[derive(Drop)]
 pub struct MemoryJournal {
     alloc: Global,
     entries: BTreeMap<RecordName, Entry>,

@@ -14,7 +14,7 @@ use std::alloc::{AllocError, Global};
 use std::io;
 
 /// A row of a file, and the connector's verdict on it.
-#[derive(Debug, Drop)]
+#[derive(Drop)]
 pub struct Judged {
     /// The file that the row is in.
     pub kind: Kind,

@@ -20,7 +20,7 @@ use std::alloc::Global;
 use std::io::ErrorKind;
 
 /// The result for all records.
-#[derive(Clone, Copy, Debug, PartialEq, Eq)]
+#[derive(Clone, Copy, PartialEq, Eq)]
 pub struct Tally {
     /// How many exchanges there were, up to the greatest `u32`.
     pub exchanges: u32,

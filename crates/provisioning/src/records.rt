@@ -16,7 +16,7 @@ use std::fmt;
 use world_sim::MOST_EXCHANGES;
 
 /// The state of a record after its exchanges.
-#[derive(Debug, Drop)]
+#[derive(Drop)]
 pub enum Standing {
     /// The wanted revision, this one, is confirmed.
     Confirmed(Revision),
@@ -45,7 +45,7 @@ impl fmt::Display for Standing {
 }
 
 /// The result for a record.
-#[derive(Debug, Drop)]
+#[derive(Drop)]
 pub struct Pushed {
     pub exchanges: u32,
     pub standing: Standing,

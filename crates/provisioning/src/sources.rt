@@ -14,7 +14,7 @@ use std::io::Eprint;
 use std::{fs, io};
 
 /// What a file says about the records of a type.
-#[derive(Debug, Drop)]
+#[derive(Drop)]
 pub struct Source {
     pub kind: Kind,
     /// Its records; none if its header isn't that of such a file (S1).
@@ -22,14 +22,14 @@ pub struct Source {
 }
 
 /// The files of a run.
-#[derive(Debug, Drop)]
+#[derive(Drop)]
 pub struct Sources {
     pub users: Source,
     pub groups: Option<Source>,
 }
 
 /// A file that can't be read, and the system's error.
-#[derive(Clone, Copy, Debug)]
+#[derive(Clone, Copy)]
 pub struct UnreadFile {
     pub kind: Kind,
     pub error: io::Error,

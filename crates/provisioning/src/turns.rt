@@ -14,7 +14,7 @@ use scim_key::RecordName;
 use std::alloc::Global;
 
 /// One turn of a record.
-#[derive(Debug, Drop)]
+#[derive(Drop)]
 pub(crate) enum Turn {
     /// Nothing is sent; the record has this state.
     Resting(Standing),

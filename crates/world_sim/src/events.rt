@@ -3,7 +3,7 @@ use scim_key::RecordName;
 use source_csv::Row;
 
 /// What may happen in a world.
-#[derive(Debug, Drop)]
+#[derive(Drop)]
 pub enum Event {
     /// The source offers a row.
     Change(Row),

@@ -11,7 +11,7 @@ use std::fmt;
 use thiserror::Error;
 
 /// What an event reports.
-#[derive(Debug, Drop)]
+#[derive(Drop)]
 pub enum Report {
     /// What the connector says about a row.
     Judged(Result<Verdict, ChangeFault>),

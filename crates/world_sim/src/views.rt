@@ -20,7 +20,7 @@ use scim_resource::Stored;
 use std::fmt;
 
 /// What is wanted, confirmed and held for a record.
-#[derive(Debug, Drop)]
+#[derive(Drop)]
 pub struct View {
     pub name: RecordName,
     /// The revision of the last row, or none if the source gave no row.
