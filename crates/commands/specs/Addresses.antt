@@ -5,7 +5,6 @@ use Rattle.std.specs.Str.Parse.{IsNumeral, without_leading_plus}
 use Rattle.std.specs.Str.Pattern.{RFindsChar, SplitsAroundMatch}
 use Rattle.commands.specs.Words.{number_in}
 use Rattle.commands.specs.declared.status.CommandFault.{CommandFault}
-use Rattle.commands.specs.declared.status.CommandFault.TheVariants.{Memory}
 
 -- digits that spell a port that is at least this one
 abbrev pub IsPort : (least : ℕ) → List ℕ → Type 0
@@ -35,7 +34,7 @@ abbrev pub IsLacking : (least : ℕ) → Option (List ℕ) → Type 0
 IsLacking least None = Unit {0}
 IsLacking least (Some text) = IsNoAddress least text
 
--- the address in the arguments; or this fault if there is none, or out of memory
-abbrev pub GivesAddress : {T : Type 0} → (text_of : T → List ℕ) → (least : ℕ) → (wrong : CommandFault) → Option (List ℕ) → Result T CommandFault → Type 0
-GivesAddress text_of least wrong given (Ok address) = (given ≡ Some (text_of address)) × IsAddress least (text_of address)
-GivesAddress text_of least wrong given (Err fault) = ((fault ≡ wrong) × IsLacking least given) ⊎ (fault ≡ Memory)
+-- the address in the arguments; or this fault if there is none
+abbrev pub GivesAddress : (least : ℕ) → (wrong : CommandFault) → Option (List ℕ) → Result (Bor (List ℕ)) CommandFault → Type 0
+GivesAddress least wrong given (Ok address) = (given ≡ Some address.now) × IsAddress least address.now
+GivesAddress least wrong given (Err fault) = (fault ≡ wrong) × IsLacking least given

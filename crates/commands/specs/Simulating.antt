@@ -1,6 +1,6 @@
 -- The events that the arguments of `simulate` ask for.
-use Rattle.std.specs.Prelude.{ℕ, Option, None, Some, Result, Ok, Err, String, if◌then◌else◌, ◌&&◌, nat_le}
-use Rattle.std.specs.declared.alloc.Global.{Global}
+use Rattle.std.specs.Prelude.{ℕ, List, Option, None, Some, Result, Ok, Err, if◌then◌else◌, ◌&&◌, nat_le}
+use denote.Ref.{Bor}
 use Rattle.commands.specs.declared.simulating.Events.{Events}
 use Rattle.commands.specs.declared.simulating.Events.TheVariants.{Scheduled, Random}
 use Rattle.commands.specs.declared.simulating.EventsFault.TheVariants.{Source, Count}
@@ -12,7 +12,7 @@ abbrev pub random_events : (seed count : ℕ) → Result Events CommandFault
 random_events seed count = if nat_le 1 count && nat_le count 100_000 then Ok (Random seed count) else Err (fault.Events Count)
 
 -- The events of a schedule, or random ones of a seed: 1,000 if the arguments give no number
-abbrev pub wanted_events : (file : Option (String Global)) → (seed count : Option ℕ) → Result Events CommandFault
+abbrev pub wanted_events : (file : Option (Bor (List ℕ))) → (seed count : Option ℕ) → Result Events CommandFault
 wanted_events (Some file) None None = Ok (Scheduled file)
 wanted_events None (Some seed) None = Ok (Random seed 1_000)
 wanted_events None (Some seed) (Some count) = random_events seed count

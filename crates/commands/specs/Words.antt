@@ -1,5 +1,6 @@
 -- The values of arguments: the value of a required one, or the fault that it is missing.
 use Rattle.std.specs.Prelude.{List, ℕ, Option, None, Some, Result, Ok, Err}
+use denote.Ref.{Bor}
 use Rattle.std.specs.Str.Parse.{digits_value, without_leading_plus}
 use Rattle.scim_key.specs.Bases.{base_fault}
 use Rattle.scim_key.specs.declared.names.NameFault.{NameFault}
@@ -11,6 +12,11 @@ use Rattle.commands.specs.declared.status.CommandFault.TheVariants as fault
 abbrev pub wanted : (lacking : CommandFault) → Option (List ℕ) → Result (List ℕ) CommandFault
 wanted lacking None = Err lacking
 wanted lacking (Some value) = Ok value
+
+-- the text that was given, or the fault
+abbrev pub given_text : Result (Bor (List ℕ)) CommandFault → Result (List ℕ) CommandFault
+given_text (Ok text) = Ok text.now
+given_text (Err fault) = Err fault
 
 -- a text as a base, by its first fault
 abbrev pub as_base : Option NameFault → (text : List ℕ) → Result (List ℕ) CommandFault

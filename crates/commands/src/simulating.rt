@@ -1,16 +1,13 @@
 //! The events that the arguments of `simulate` ask for.
-ghost use Rattle.std.specs.Prelude.{◌≡◌, IfSome, Ok, Some, codes, string_bytes, true};
+ghost use Rattle.std.specs.Prelude.{◌≡◌, IfSome, Some, codes, true};
 ghost use Rattle.std.specs.Option.{option_map};
 ghost use Rattle.clap.specs.Matches.{first_value, found_of, one_text};
-ghost use Rattle.scim_key.specs.Outcome.{GivesBy};
+ghost use Rattle.commands.specs.Addresses.{text_in};
 ghost use Rattle.commands.specs.Simulating.{wanted_events};
 ghost use Rattle.commands.specs.Words.{number_in};
-ghost use Rattle.commands.specs.declared.status.CommandFault.TheVariants.{Memory};
 
 use crate::status::CommandFault;
-use crate::words::file_if;
 use clap::ArgMatches;
-use std::alloc::Global;
 use thiserror::Error;
 
 /// The most random events of a run.
@@ -20,10 +17,10 @@ pub const MOST_EVENTS: u32 = 100_000;
 pub const DEFAULT_EVENTS: u32 = 1_000;
 
 /// Where the events of a simulation come from.
-#[derive(Debug, Drop)]
-pub enum Events {
+#[derive(Clone, Copy)]
+pub enum Events<'a> {
     /// The schedule in this file.
-    Scheduled(String),
+    Scheduled(&'a str),
     /// `count` random events of this seed.
     Random { seed: u64, count: u32 },
 }
@@ -39,11 +36,11 @@ pub enum EventsFault {
 
 /// The events of a schedule, or random ones, but not both.
 pub fn wanted_events(
-    file: Option<String>,
+    file: Option<&str>,
     seed: Option<u64>,
     count: Option<u32>,
-) -> Result<Events, CommandFault>
-    ensures { result ≡ wanted_events file seed count }
+) -> Result<Events<'_>, CommandFault>
+    ensures { result ≡ wanted_events file.entry seed count }
 {
     match (file, seed, count) {
         (Some(file), None, None) => Ok(Events::Scheduled(file)),
@@ -61,11 +58,10 @@ pub fn wanted_events(
 }
 
 /// The file of a schedule in the arguments, if there is one.
-pub fn schedule(alloc: Global, matches: &ArgMatches<'_>) -> Result<Option<String>, CommandFault>
-    ensures { GivesBy (option_map string_bytes) Memory result
-        (Ok (first_value (found_of matches.now) (codes "FILE"))) }
+pub fn schedule<'a>(matches: &ArgMatches<'a>) -> Option<&'a str>
+    ensures { text_in result ≡ first_value (found_of matches.now) (codes "FILE") }
 {
-    file_if(alloc, matches.get_str("FILE"))
+    matches.get_str("FILE")
 }
 
 /// The seed in the arguments, if there is one.

@@ -22,7 +22,7 @@ use thiserror::Error;
 use world_sim::{ScheduleFault, WorldFault};
 
 /// The exit status of the program.
-#[derive(Clone, Copy, Debug, PartialEq, Eq)]
+#[derive(Clone, Copy)]
 pub enum Status {
     /// Everything is done.
     Done,
@@ -49,7 +49,7 @@ impl Status {
 }
 
 /// The parts that a run uses.
-#[derive(Clone, Copy, Debug, PartialEq, Eq)]
+#[derive(Clone, Copy)]
 pub enum Part {
     /// The files of users and of groups.
     Users,
@@ -387,7 +387,7 @@ pub enum Reason {
 }
 
 /// What a run used when a fault ended it, by its name in the arguments, and why it failed.
-#[derive(Clone, Copy, Debug)]
+#[derive(Clone, Copy)]
 pub struct Cause<'a> {
     pub name: &'a str,
     pub reason: Reason,

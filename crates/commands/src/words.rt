@@ -1,11 +1,11 @@
 //! The values of the arguments.
-ghost use Rattle.std.specs.Prelude.{◌≡◌, ◌<◌, ◌≤◌, IfOk, Ok, Some, codes, string_bytes};
+ghost use Rattle.std.specs.Prelude.{◌≡◌, ◌<◌, ◌≤◌, IfOk, Some, codes};
 ghost use Rattle.std.specs.Option.{option_map};
 ghost use Rattle.clap.specs.Matches.{first_value, found_of, one_text};
-ghost use Rattle.scim_key.specs.Outcome.{Gives, GivesBy};
+ghost use Rattle.scim_key.specs.Outcome.{Gives};
 ghost use Rattle.commands.specs.Addresses.{GivesAddress, text_in};
 ghost use Rattle.commands.specs.Statuses.{base_fault, words_status};
-ghost use Rattle.commands.specs.Words.{number_in, wanted, wanted_base};
+ghost use Rattle.commands.specs.Words.{given_text, number_in, wanted, wanted_base};
 ghost use Rattle.commands.specs.declared.status.CommandFault.TheVariants.{File, Listen, Memory, To};
 
 use crate::addresses::is_address;
@@ -39,95 +39,65 @@ pub fn base_fault(fault: NameFault) -> CommandFault
     }
 }
 
-/// A file that is named in the arguments.
-fn file_in(alloc: Global, given: Option<&str>) -> Result<String, CommandFault>
-    ensures { GivesBy string_bytes Memory result (wanted File (text_in given.entry)) }
-{
-    match given {
-        Some(text) => Ok(String::from_str(alloc, text)?),
-        None => Err(CommandFault::File),
-    }
-}
-
-/// A file that the arguments may name.
-pub(crate) fn file_if(alloc: Global, given: Option<&str>) -> Result<Option<String>, CommandFault>
-    ensures { GivesBy (option_map string_bytes) Memory result (Ok (text_in given.entry)) }
-{
-    match given {
-        Some(text) => Ok(Some(String::from_str(alloc, text)?)),
-        None => Ok(None),
-    }
-}
-
 /// The file in the arguments.
-pub fn file(alloc: Global, matches: &ArgMatches<'_>) -> Result<String, CommandFault>
-    ensures { GivesBy string_bytes Memory result
-        (wanted File (first_value (found_of matches.now) (codes "FILE"))) }
+pub fn file<'a>(matches: &ArgMatches<'a>) -> Result<&'a str, CommandFault>
+    ensures { given_text result
+        ≡ wanted File (first_value (found_of matches.now) (codes "FILE")) }
 {
-    file_in(alloc, matches.get_str("FILE"))
+    matches.get_str("FILE").ok_or(CommandFault::File)
 }
 
 /// The file of users in the arguments.
-pub fn users(alloc: Global, matches: &ArgMatches<'_>) -> Result<String, CommandFault>
-    ensures { GivesBy string_bytes Memory result
-        (wanted File (first_value (found_of matches.now) (codes "users"))) }
+pub fn users<'a>(matches: &ArgMatches<'a>) -> Result<&'a str, CommandFault>
+    ensures { given_text result
+        ≡ wanted File (first_value (found_of matches.now) (codes "users")) }
 {
-    file_in(alloc, matches.get_str("users"))
+    matches.get_str("users").ok_or(CommandFault::File)
 }
 
 /// The file of groups in the arguments, if there is one.
-pub fn groups(alloc: Global, matches: &ArgMatches<'_>) -> Result<Option<String>, CommandFault>
-    ensures { GivesBy (option_map string_bytes) Memory result
-        (Ok (first_value (found_of matches.now) (codes "groups"))) }
+pub fn groups<'a>(matches: &ArgMatches<'a>) -> Option<&'a str>
+    ensures { text_in result ≡ first_value (found_of matches.now) (codes "groups") }
 {
-    file_if(alloc, matches.get_str("groups"))
-}
-
-/// The address to listen on, from the arguments. Port 0 takes a free port.
-pub fn address(alloc: Global, matches: &ArgMatches<'_>) -> Result<String, CommandFault>
-    ensures { GivesAddress string_bytes 0 Listen
-        (first_value (found_of matches.now) (codes "listen")) result }
-{
-    address_in(alloc, matches.get_str("listen"), 0, CommandFault::Listen)
-}
-
-/// An address with a port that is at least this one, or what is wrong with the arguments.
-fn address_in(
-    alloc: Global,
-    given: Option<&str>,
-    least: u16,
-    wrong: CommandFault,
-) -> Result<String, CommandFault>
-    ensures { GivesAddress string_bytes least wrong (text_in given.entry) result }
-{
-    match given {
-        Some(text) if is_address(least, text) => Ok(String::from_str(alloc, text)?),
-        _ => Err(wrong),
-    }
+    matches.get_str("groups")
 }
 
 /// The file of rows in the arguments, if there is one.
-pub fn store(alloc: Global, matches: &ArgMatches<'_>) -> Result<Option<String>, CommandFault>
-    ensures { GivesBy (option_map string_bytes) Memory result
-        (Ok (first_value (found_of matches.now) (codes "store"))) }
+pub fn store<'a>(matches: &ArgMatches<'a>) -> Option<&'a str>
+    ensures { text_in result ≡ first_value (found_of matches.now) (codes "store") }
 {
-    file_if(alloc, matches.get_str("store"))
+    matches.get_str("store")
 }
 
 /// The file of the journal in the arguments, if there is one.
-pub fn journal(alloc: Global, matches: &ArgMatches<'_>) -> Result<Option<String>, CommandFault>
-    ensures { GivesBy (option_map string_bytes) Memory result
-        (Ok (first_value (found_of matches.now) (codes "journal"))) }
+pub fn journal<'a>(matches: &ArgMatches<'a>) -> Option<&'a str>
+    ensures { text_in result ≡ first_value (found_of matches.now) (codes "journal") }
 {
-    file_if(alloc, matches.get_str("journal"))
+    matches.get_str("journal")
+}
+
+/// The address to listen on, from the arguments. Port 0 takes a free port.
+pub fn address<'a>(matches: &ArgMatches<'a>) -> Result<&'a str, CommandFault>
+    ensures { GivesAddress 0 Listen (first_value (found_of matches.now) (codes "listen")) result }
+{
+    address_in(matches.get_str("listen"), 0, CommandFault::Listen)
 }
 
 /// The provider's address in the arguments.
-pub fn to(alloc: Global, matches: &ArgMatches<'_>) -> Result<String, CommandFault>
-    ensures { GivesAddress string_bytes 1 To
-        (first_value (found_of matches.now) (codes "to")) result }
+pub fn to<'a>(matches: &ArgMatches<'a>) -> Result<&'a str, CommandFault>
+    ensures { GivesAddress 1 To (first_value (found_of matches.now) (codes "to")) result }
 {
-    address_in(alloc, matches.get_str("to"), 1, CommandFault::To)
+    address_in(matches.get_str("to"), 1, CommandFault::To)
+}
+
+/// An address with a port that is at least this one, or what is wrong with the arguments.
+fn address_in(given: Option<&str>, least: u16, wrong: CommandFault) -> Result<&str, CommandFault>
+    ensures { GivesAddress least wrong (text_in given.entry) result }
+{
+    match given {
+        Some(text) if is_address(least, text) => Ok(text),
+        _ => Err(wrong),
+    }
 }
 
 /// The number of connections in the arguments.

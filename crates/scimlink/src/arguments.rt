@@ -1,9 +1,8 @@
-//! The arguments, and what two commands take from them.
+//! The arguments, and what is printed in place of a run.
+use clap::Error;
 use clap::error::ErrorKind;
-use clap::{ArgMatches, Error};
-use commands::words::{groups, users, words_status};
+use commands::words::words_status;
 use commands::{CommandFault, Status, words_fault};
-use std::alloc::Global;
 use std::env;
 use std::rt::Runtime;
 
@@ -21,21 +20,4 @@ pub fn tell(rt: &impl Runtime, error: Error) -> Result<Status, CommandFault> {
     }
     let is_printed = error.print(rt).is_ok();
     Ok(words_status(kind, is_printed))
-}
-
-/// The files of a source.
-#[derive(Drop)]
-pub struct SourceFiles {
-    pub users: String,
-    pub groups: Option<String>,
-}
-
-impl SourceFiles {
-    /// The files that the arguments of a command name.
-    pub fn of(alloc: Global, words: &ArgMatches<'_>) -> Result<Self, CommandFault> {
-        Ok(SourceFiles {
-            users: users(alloc, words)?,
-            groups: groups(alloc, words)?,
-        })
-    }
 }

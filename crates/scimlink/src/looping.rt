@@ -1,62 +1,44 @@
 //! `loop`: the connector against a provider in the same program, over TCP.
-use crate::arguments::SourceFiles;
 use crate::output::{StandardOutput, standard_output};
-use crate::parts::Parts;
 use crate::pushing::open_connector;
+use crate::sources::Job;
 use clap::ArgMatches;
-use commands::words::base;
 use commands::{CommandFault, Status, run_status};
 use connector_core::Connector;
 use journal_core::{Journal, MemoryJournal};
 use journal_file::{EntryStorage, StoredEntries};
 use provider_core::Provider;
 use provider_file::{InMemory, RowStorage, StoredRows};
-use provisioning::{OWN_ADDRESS, RunFault, Sources, read_sources, run_loop};
-use scim_client::ScimService;
-use scim_key::Base;
+use provisioning::{RunFault, Sources, run_loop};
 use std::net::Net;
 use std::rt::Runtime;
 
-/// Opens the provider's rows, then the connector's journal, carries the records of the files to the
-/// provider, and closes both.
+/// Carries the records of files from a journal to a store, each in a file or in memory.
 pub fn run<R: Runtime + Net + AllocGlobal, K: RowStorage, J: EntryStorage>(
     rt: &R,
     words: &ArgMatches<'_>,
-    parts: Parts<'_, K, J>,
-) -> Result<Status, CommandFault> {
-    let files = SourceFiles::of(rt.alloc(), words)?;
-    let base = base(rt.alloc(), words)?;
-    let ended = run_between(rt, &files, base, parts.store, parts.journal);
-    Ok(parts.carrying(&files, OWN_ADDRESS).ended(rt, ended))
-}
-
-/// A run from a journal to a store, each in a file or in memory.
-fn run_between<R: Runtime + Net + AllocGlobal, K: RowStorage, J: EntryStorage>(
-    rt: &R,
-    files: &SourceFiles,
-    base: Base,
     store: Option<&K>,
     journal: Option<&J>,
 ) -> Result<Status, CommandFault> {
+    let job = Job::of(rt.alloc(), words)?;
     match store {
-        Some(store) => run_stored(rt, store, journal, files, base),
+        Some(store) => run_stored(rt, store, journal, &job),
         None => {
             let memory = InMemory { alloc: rt.alloc() };
-            run_stored(rt, &memory, journal, files, base)
+            run_stored(rt, &memory, journal, &job)
         }
     }
 }
 
-/// A run over rows that it opens first.
+/// A run over rows that it opens first, and closes.
 fn run_stored<R: Runtime + Net + AllocGlobal, K: RowStorage, J: EntryStorage>(
     rt: &R,
     storage: &K,
     journal: Option<&J>,
-    files: &SourceFiles,
-    base: Base,
+    job: &Job<'_>,
 ) -> Result<Status, CommandFault> {
     let provider = Provider::new(storage.open()?);
-    let (provider, ended) = run_from(rt, provider, journal, files, base);
+    let (provider, ended) = run_from(rt, provider, journal, job);
     provider.close().close();
     ended
 }
@@ -66,29 +48,27 @@ fn run_from<R: Runtime + Net + AllocGlobal, S: StoredRows, J: EntryStorage>(
     rt: &R,
     provider: Provider<S>,
     journal: Option<&J>,
-    files: &SourceFiles,
-    base: Base,
+    job: &Job<'_>,
 ) -> (Provider<S>, Result<Status, CommandFault>) {
     match journal {
-        Some(journal) => run_journaled(rt, provider, journal, files, base),
+        Some(journal) => run_journaled(rt, provider, journal, job),
         None => match Connector::open(rt.alloc(), MemoryJournal::new(rt.alloc())) {
-            Ok(mut connector) => run_over(rt, provider, &mut connector, files, base),
+            Ok(mut connector) => run_over(rt, provider, &mut connector, job),
             Err((fault, _journal)) => (provider, Err(CommandFault::from(RunFault::from(fault)))),
         },
     }
 }
 
-/// A run from a journal that it opens first.
-fn run_journaled<R: Runtime + Net + AllocGlobal, S: StoredRows, K: EntryStorage>(
+/// A run from a journal that it opens first, and closes.
+fn run_journaled<R: Runtime + Net + AllocGlobal, S: StoredRows, J: EntryStorage>(
     rt: &R,
     provider: Provider<S>,
-    storage: &K,
-    files: &SourceFiles,
-    base: Base,
+    storage: &J,
+    job: &Job<'_>,
 ) -> (Provider<S>, Result<Status, CommandFault>) {
     match open_connector(rt, storage) {
         Ok(mut connector) => {
-            let (provider, ended) = run_over(rt, provider, &mut connector, files, base);
+            let (provider, ended) = run_over(rt, provider, &mut connector, job);
             connector.close().close();
             (provider, ended)
         }
@@ -101,12 +81,10 @@ fn run_over<R: Runtime + Net + AllocGlobal, S: StoredRows, J: Journal>(
     rt: &R,
     provider: Provider<S>,
     connector: &mut Connector<J>,
-    files: &SourceFiles,
-    base: Base,
+    job: &Job<'_>,
 ) -> (Provider<S>, Result<Status, CommandFault>) {
-    let service = ScimService::new(base);
-    match read(rt, files) {
-        Ok((sources, out)) => run_of(rt, provider, connector, &service, &sources, out),
+    match read(rt, job) {
+        Ok((sources, out)) => run_of(rt, provider, connector, job, &sources, out),
         Err(fault) => (provider, Err(fault)),
     }
 }
@@ -114,9 +92,9 @@ fn run_over<R: Runtime + Net + AllocGlobal, S: StoredRows, J: Journal>(
 /// The records of the files, and where to print how each stands.
 fn read<'a, R: Runtime + AllocGlobal>(
     rt: &'a R,
-    files: &SourceFiles,
+    job: &Job<'_>,
 ) -> Result<(Sources, StandardOutput<'a, R>), CommandFault> {
-    let sources = read_sources(rt, files.users.as_str(), files.groups.as_deref())?;
+    let sources = job.read(rt)?;
     Ok((sources, standard_output(rt)?))
 }
 
@@ -125,14 +103,14 @@ fn run_of<R: Runtime + Net + AllocGlobal, S: StoredRows, J: Journal>(
     rt: &R,
     provider: Provider<S>,
     connector: &mut Connector<J>,
-    service: &ScimService,
+    job: &Job<'_>,
     sources: &Sources,
     mut out: StandardOutput<'_, R>,
 ) -> (Provider<S>, Result<Status, CommandFault>) {
     let (provider, ended) = run_loop(
         rt,
         rt.alloc(),
-        service,
+        &job.service,
         connector,
         provider,
         sources,

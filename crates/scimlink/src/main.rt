@@ -3,25 +3,26 @@
 
 mod answering;
 mod arguments;
+mod causes;
 mod looping;
 mod map_users;
 mod options;
 mod output;
-mod parts;
 mod pushing;
 mod resetting;
 mod serving;
 mod showing;
 mod simulating;
+mod sources;
 
 use arguments::{arguments, tell};
+use causes::cause;
 use clap::ArgMatches;
 use commands::words::{journal, store};
 use commands::{CommandFault, Status, told};
 use database_file::DatabaseFile;
 use journal_file::{EntryStorage, JournalFile};
 use options::{events_help, program};
-use parts::Parts;
 use provider_file::{RowStorage, StoreFile};
 use std::net::Net;
 use std::process::ExitCode;
@@ -54,18 +55,30 @@ fn done(rt: &HostRuntime) -> Result<Status, CommandFault> {
 /// everything below takes any storage.
 fn over_files(rt: &HostRuntime, matches: &ArgMatches<'_>) -> Result<Status, CommandFault> {
     let (command, words) = matches.subcommand().ok_or(CommandFault::Subcommand)?;
-    let store = store(rt.alloc(), words)?;
-    let journal = journal(rt.alloc(), words)?;
-    let store = store.as_deref().map(|path| StoreFile {
+    let store = store(words).map(|path| StoreFile {
         file: DatabaseFile { rt, path },
     });
-    let journal = journal.as_deref().map(|path| JournalFile {
+    let journal = journal(words).map(|path| JournalFile {
         file: DatabaseFile { rt, path },
     });
-    carry_out(rt, command, words, store.as_ref(), journal.as_ref())
+    Ok(ended(rt, command, words, store.as_ref(), journal.as_ref()))
 }
 
-/// Carries out a command. A fault of its arguments is not told yet, and one of its run is.
+/// Carries out a command. It reports a fault on standard error with its cause.
+fn ended<R: Runtime + Net + AllocGlobal, K: RowStorage, J: EntryStorage>(
+    rt: &R,
+    command: &str,
+    words: &ArgMatches<'_>,
+    store: Option<&K>,
+    journal: Option<&J>,
+) -> Status {
+    match carry_out(rt, command, words, store, journal) {
+        Ok(status) => status,
+        Err(fault) => told(rt, fault, cause(fault, words, store, journal)),
+    }
+}
+
+/// Carries out a command.
 fn carry_out<R: Runtime + Net + AllocGlobal, K: RowStorage, J: EntryStorage>(
     rt: &R,
     command: &str,
@@ -73,16 +86,15 @@ fn carry_out<R: Runtime + Net + AllocGlobal, K: RowStorage, J: EntryStorage>(
     store: Option<&K>,
     journal: Option<&J>,
 ) -> Result<Status, CommandFault> {
-    let parts = Parts::over(store, journal);
     match command {
-        "answer" => answering::answer(rt, words, parts),
-        "loop" => looping::run(rt, words, parts),
-        "map" => map_users::map(rt, words, parts),
-        "serve" => serving::serve(rt, words, parts),
-        "push" => pushing::push(rt, words, parts),
-        "reset" => resetting::reset(rt, parts),
-        "show" => Ok(showing::show(rt, parts)),
-        "simulate" => simulating::simulate(rt, words, parts),
+        "answer" => answering::answer(rt, words, store),
+        "loop" => looping::run(rt, words, store, journal),
+        "map" => map_users::map(rt, words),
+        "serve" => serving::serve(rt, words, store),
+        "push" => pushing::push(rt, words, journal),
+        "reset" => resetting::reset(rt, journal),
+        "show" => showing::show(rt, store, journal),
+        "simulate" => simulating::simulate(rt, words),
         _ => Err(CommandFault::Subcommand),
     }
 }

@@ -7,6 +7,7 @@ use std::rt::Runtime;
 /// Standard output, which is written in blocks. It keeps the system's error if a write failed.
 pub type StandardOutput<'a, R> = NotedWriter<BufWriter<Printer<'a, R>>>;
 
+/// Standard output. Nothing is in its block yet.
 pub fn standard_output<R: Runtime + AllocGlobal>(
     rt: &R,
 ) -> Result<StandardOutput<'_, R>, CommandFault> {

@@ -1,54 +1,47 @@
 //! `push`: the connector against the provider at an address.
-use crate::arguments::SourceFiles;
 use crate::output::standard_output;
-use crate::parts::Parts;
+use crate::sources::Job;
 use clap::ArgMatches;
-use commands::words::{base, to};
+use commands::words::to;
 use commands::{CommandFault, Status, carried_status};
 use connector_core::Connector;
 use journal_core::Journal;
 use journal_file::{EntryStorage, StoredEntries};
-use provider_file::RowStorage;
-use provisioning::{RunFault, Sources, read_sources};
-use scim_client::ScimService;
-use scim_key::Base;
+use provisioning::{RunFault, Sources};
 use std::net::Net;
 use std::rt::Runtime;
 
-/// Carries the records of files to the provider at an address.
-pub fn push<R: Runtime + Net + AllocGlobal, K: RowStorage, J: EntryStorage>(
+/// Opens the journal, carries the records of files to the provider at an address, and closes the journal. What
+/// was confirmed stays in the journal, however the run ends.
+pub fn push<R: Runtime + Net + AllocGlobal, J: EntryStorage>(
     rt: &R,
     words: &ArgMatches<'_>,
-    parts: Parts<'_, K, J>,
+    journal: Option<&J>,
 ) -> Result<Status, CommandFault> {
-    let journal = parts.journal.ok_or(CommandFault::File)?;
-    let files = SourceFiles::of(rt.alloc(), words)?;
-    let to = to(rt.alloc(), words)?;
-    let base = base(rt.alloc(), words)?;
-    let ended = push_over(rt, journal, &files, to.as_str(), base);
-    Ok(parts.carrying(&files, to.as_str()).ended(rt, ended))
+    let storage = journal.ok_or(CommandFault::File)?;
+    let to = to(words)?;
+    let job = Job::of(rt.alloc(), words)?;
+    push_over(rt, storage, &job, to)
 }
 
-/// Opens the journal, carries the records, and closes the journal. What was confirmed stays in the journal,
-/// however the run ends.
-fn push_over<R: Runtime + Net + AllocGlobal, K: EntryStorage>(
+/// Carries the records from a journal that it opens first, and closes.
+fn push_over<R: Runtime + Net + AllocGlobal, J: EntryStorage>(
     rt: &R,
-    storage: &K,
-    files: &SourceFiles,
+    storage: &J,
+    job: &Job<'_>,
     to: &str,
-    base: Base,
 ) -> Result<Status, CommandFault> {
     let mut connector = open_connector(rt, storage)?;
-    let ended = push_from(rt, &mut connector, files, to, base);
+    let ended = push_from(rt, &mut connector, job, to);
     connector.close().close();
     ended
 }
 
 /// The connector over a journal. If the connector refuses the journal, it is closed.
-pub fn open_connector<R: Runtime + AllocGlobal, K: EntryStorage>(
+pub fn open_connector<R: Runtime + AllocGlobal, J: EntryStorage>(
     rt: &R,
-    storage: &K,
-) -> Result<Connector<K::Entries>, CommandFault> {
+    storage: &J,
+) -> Result<Connector<J::Entries>, CommandFault> {
     match Connector::open(rt.alloc(), storage.open()?) {
         Ok(connector) => Ok(connector),
         Err((fault, entries)) => {
@@ -62,25 +55,31 @@ pub fn open_connector<R: Runtime + AllocGlobal, K: EntryStorage>(
 fn push_from<R: Runtime + Net + AllocGlobal, J: Journal>(
     rt: &R,
     connector: &mut Connector<J>,
-    files: &SourceFiles,
+    job: &Job<'_>,
     to: &str,
-    base: Base,
 ) -> Result<Status, CommandFault> {
-    let service = ScimService::new(base);
-    let sources = read_sources(rt, files.users.as_str(), files.groups.as_deref())?;
-    push_of(rt, connector, &service, &sources, to)
+    let sources = job.read(rt)?;
+    push_of(rt, connector, job, &sources, to)
 }
 
 /// Carries the records of files.
 fn push_of<R: Runtime + Net + AllocGlobal, J: Journal>(
     rt: &R,
     connector: &mut Connector<J>,
-    service: &ScimService,
+    job: &Job<'_>,
     sources: &Sources,
     to: &str,
 ) -> Result<Status, CommandFault> {
     let mut out = standard_output(rt)?;
-    match provisioning::push(rt, rt.alloc(), service, connector, sources, to, &mut out) {
+    match provisioning::push(
+        rt,
+        rt.alloc(),
+        &job.service,
+        connector,
+        sources,
+        to,
+        &mut out,
+    ) {
         Ok(outcome) => Ok(carried_status(outcome)),
         Err(fault) => Err(out.explained(CommandFault::from(fault))),
     }

@@ -1,28 +1,17 @@
 //! `reset`: has a journal forget what the provider has shown.
 use crate::output::standard_output;
-use crate::parts::Parts;
 use commands::{CommandFault, Part, Status, unread_fault};
 use journal_file::{EntryStorage, reset_entries};
-use provider_file::RowStorage;
 use std::fs;
 use std::rt::Runtime;
 
 /// Forgets the confirmed revision and the id of each record of a journal, and prints how many records this
 /// changed. If there is no such file, it makes none.
-pub fn reset<R: Runtime + AllocGlobal, K: RowStorage, J: EntryStorage>(
+pub fn reset<R: Runtime + AllocGlobal, J: EntryStorage>(
     rt: &R,
-    parts: Parts<'_, K, J>,
+    journal: Option<&J>,
 ) -> Result<Status, CommandFault> {
-    let journal = parts.journal.ok_or(CommandFault::File)?;
-    let ended = reset_file(rt, journal);
-    Ok(parts.reading(journal.name()).ended(rt, ended))
-}
-
-/// The same for a journal whose file may be missing.
-fn reset_file<R: Runtime + AllocGlobal, J: EntryStorage>(
-    rt: &R,
-    journal: &J,
-) -> Result<Status, CommandFault> {
+    let journal = journal.ok_or(CommandFault::File)?;
     match fs::metadata(rt, journal.name()) {
         Ok(_metadata) => reset_there(rt, journal),
         Err(error) => Err(unread_fault(Part::File, error)),

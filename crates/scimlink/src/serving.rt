@@ -1,10 +1,8 @@
 //! `serve`: connections to a socket, answered by one provider, as their requests are whole.
-use crate::parts::Parts;
 use clap::ArgMatches;
 use commands::words::{address, base, requests};
 use commands::{CommandFault, Status, listen_fault, outcome_status};
 use connection::{Sockets, serve_from_memory};
-use journal_file::EntryStorage;
 use provider_file::{RowStorage, StoredRows, serve_stored};
 use provisioning::CONNECTION_SECONDS;
 use scim_key::Base;
@@ -13,36 +11,32 @@ use std::net::{Net, OpenListener, SocketAddr, TcpListener};
 use std::rt::Runtime;
 use std::time::Duration;
 
-/// Serves some connections to an address.
-pub fn serve<R: Runtime + Net + AllocGlobal, K: RowStorage, J: EntryStorage>(
+/// Serves some connections to an address from the rows of a file, which it opens first, or from a provider in
+/// memory that starts empty.
+pub fn serve<R: Runtime + Net + AllocGlobal, K: RowStorage>(
     rt: &R,
     words: &ArgMatches<'_>,
-    parts: Parts<'_, K, J>,
+    store: Option<&K>,
 ) -> Result<Status, CommandFault> {
-    let address = address(rt.alloc(), words)?;
+    let address = address(words)?;
     let requests = requests(words)?;
     let base = base(rt.alloc(), words)?;
-    let ended = serve_over(rt, address.as_str(), requests, &base, parts.store);
-    Ok(parts.listening(address.as_str()).ended(rt, ended))
+    match store {
+        Some(storage) => serve_from_file(rt, address, requests, &base, storage),
+        None => serve_empty(rt, address, requests, &base),
+    }
 }
 
-/// Serves `requests` connections from the rows of a file, which it opens first, or from a provider in memory
-/// that starts empty.
-fn serve_over<R: Runtime + Net + AllocGlobal, K: RowStorage>(
+/// Listens, and serves `requests` connections from a provider in memory that starts empty.
+fn serve_empty<R: Runtime + Net + AllocGlobal>(
     rt: &R,
     address: &str,
     requests: u32,
     base: &Base,
-    store: Option<&K>,
 ) -> Result<Status, CommandFault> {
-    match store {
-        Some(storage) => serve_from_file(rt, address, requests, base, storage),
-        None => {
-            let mut sockets = sockets(rt, address)?;
-            let outcome = serve_from_memory(rt, rt.alloc(), &mut sockets, requests, base);
-            Ok(outcome_status(outcome.and(sockets.finish(rt))))
-        }
-    }
+    let mut sockets = sockets(rt, address)?;
+    let outcome = serve_from_memory(rt, rt.alloc(), &mut sockets, requests, base);
+    Ok(outcome_status(outcome.and(sockets.finish(rt))))
 }
 
 /// Opens the rows, listens, and serves `requests` connections.

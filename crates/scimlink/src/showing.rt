@@ -1,6 +1,5 @@
 //! `show`: prints what a file keeps, one line each.
 use crate::output::standard_output;
-use crate::parts::Parts;
 use commands::{CommandFault, Status};
 use journal_file::{EntryStorage, show_entries};
 use provider_file::{RowStorage, show_rows};
@@ -10,14 +9,14 @@ use std::rt::Runtime;
 /// connector, users by key, then groups by key.
 pub fn show<R: Runtime + AllocGlobal, K: RowStorage, J: EntryStorage>(
     rt: &R,
-    parts: Parts<'_, K, J>,
-) -> Status {
-    let ended = match (parts.store, parts.journal) {
+    store: Option<&K>,
+    journal: Option<&J>,
+) -> Result<Status, CommandFault> {
+    match (store, journal) {
         (Some(store), None) => show_store(rt, store),
         (None, Some(journal)) => show_journal(rt, journal),
         (Some(_), Some(_)) | (None, None) => Err(CommandFault::Show),
-    };
-    parts.ended(rt, ended)
+    }
 }
 
 fn show_store<R: Runtime + AllocGlobal, K: RowStorage>(

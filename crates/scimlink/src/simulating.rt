@@ -1,14 +1,11 @@
 //! `simulate`: runs events over connector and provider in memory.
 use crate::options::DEFAULT_BASE;
-use crate::parts::Parts;
 use clap::ArgMatches;
 use commands::simulating::{Events, count, schedule, seed, settles, wanted_events};
 use commands::words::base_fault;
 use commands::{CommandFault, Part, Status, simulated_status, unread_fault};
 use journal_core::MemoryJournal;
-use journal_file::EntryStorage;
 use provider_core::MemoryRegistry;
-use provider_file::RowStorage;
 use scim_key::{Base, RecordName};
 use std::alloc::Global;
 use std::io::{BufWriter, Write};
@@ -19,47 +16,33 @@ use world_sim::{Event, Report, View, World, random_schedule, read_schedule, sett
 /// Connector and provider in memory.
 type MemoryWorld = World<MemoryRegistry, MemoryJournal>;
 
-/// Runs the events of a file, or random ones.
-pub fn simulate<R: Runtime + AllocGlobal, K: RowStorage, J: EntryStorage>(
+/// Runs the events of a file, or random ones, and prints a report for each, then settles every record if asked
+/// to, and prints, for each record, what is wanted, confirmed and held.
+pub fn simulate<R: Runtime + AllocGlobal>(
     rt: &R,
     words: &ArgMatches<'_>,
-    parts: Parts<'_, K, J>,
 ) -> Result<Status, CommandFault> {
-    let events = wanted_events(schedule(rt.alloc(), words)?, seed(words), count(words))?;
+    let events = wanted_events(schedule(words), seed(words), count(words))?;
     let base = Base::read(rt.alloc(), DEFAULT_BASE).map_err(base_fault)?;
-    let ended = simulate_events(rt, &events, settles(words), base);
-    Ok(parts.reading(file_of(&events)).ended(rt, ended))
-}
-
-/// The file that events are read from, if they are.
-fn file_of(events: &Events) -> &str {
-    match events {
-        Events::Scheduled(file) => file.as_str(),
-        Events::Random { seed: _, count: _ } => "",
-    }
-}
-
-/// Runs these events and prints a report for each, then settles every record if asked to, and prints,
-/// for each record, what is wanted, confirmed and held.
-fn simulate_events<R: Runtime + AllocGlobal>(
-    rt: &R,
-    events: &Events,
-    settles: bool,
-    base: Base,
-) -> Result<Status, CommandFault> {
     let events = events_of(rt, events)?;
     let mut out = BufWriter::new(rt.alloc(), io::writer(rt))?;
-    run(rt.alloc(), base, events.as_slice(), settles, &mut out)
+    run(
+        rt.alloc(),
+        base,
+        events.as_slice(),
+        settles(words),
+        &mut out,
+    )
 }
 
 /// The events of a schedule's file, or random ones.
 fn events_of<R: Runtime + AllocGlobal>(
     rt: &R,
-    events: &Events,
+    events: Events<'_>,
 ) -> Result<Vec<Event>, CommandFault> {
     match events {
-        Events::Scheduled(file) => events_in(rt, file.as_str()),
-        Events::Random { seed, count } => Ok(random_schedule(rt.alloc(), *seed, *count)?),
+        Events::Scheduled(file) => events_in(rt, file),
+        Events::Random { seed, count } => Ok(random_schedule(rt.alloc(), seed, count)?),
     }
 }
 
