@@ -32,7 +32,7 @@ pub(crate) struct Ending<'a, S: Drop, C> {
 }
 
 /// What a look at an ending found.
-#[derive(Clone, Copy, PartialEq, Eq)]
+#[derive(Clone, Copy)]
 pub(crate) enum Step {
     /// Nothing moved.
     Waits,

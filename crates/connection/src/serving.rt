@@ -15,7 +15,7 @@ use thiserror::Error;
 
 /// A connection that couldn't be opened, on which no request came, or whose answer couldn't be written
 /// whole.
-#[derive(Clone, Copy, Debug, PartialEq, Eq, Error)]
+#[derive(Clone, Copy, Debug, Error)]
 #[error("connection fault")]
 pub struct ConnectionFault;
 

@@ -4,7 +4,7 @@ ghost use Rattle.std.specs.Prelude.{◌≡◌, IfOk};
 use crate::deadline::Deadline;
 use crate::timed::TimedStream;
 use std::alloc::Global;
-use std::cell::RefCell;
+use std::cell::{BorrowMutError, RefCell, RefMut};
 use std::io;
 use std::io::{ErrorKind, Read, Write};
 use std::net::{OpenStream, Shutdown};
@@ -18,7 +18,7 @@ pub struct SharedStream<S: Drop> {
     stream: Rc<RefCell<S>>,
 }
 
-fn busy<E: Drop>(_: E) -> io::Error {
+fn busy(_: BorrowMutError) -> io::Error {
     io::Error::from(ErrorKind::ResourceBusy)
 }
 
@@ -32,37 +32,40 @@ impl<S: Drop> SharedStream<S> {
         let stream = Rc::new(alloc, RefCell::new(stream)).map_err(out_of_memory)?;
         Ok(SharedStream { stream })
     }
+
+    /// The stream, for one call.
+    fn lock(&self) -> io::Result<RefMut<'_, S>> {
+        self.stream.try_borrow_mut().map_err(busy)
+    }
 }
 
 impl<S: Read + Drop> Read for SharedStream<S> {
     fn read(&mut self, buffer: &mut [u8]) -> io::Result<usize> {
-        self.stream.try_borrow_mut().map_err(busy)?.read(buffer)
+        self.lock()?.read(buffer)
     }
 }
 
 impl<S: Write + Drop> Write for SharedStream<S> {
     fn write(&mut self, bytes: &[u8]) -> io::Result<usize> {
-        self.stream.try_borrow_mut().map_err(busy)?.write(bytes)
+        self.lock()?.write(bytes)
     }
 
     fn flush(&mut self) -> io::Result<()> {
-        self.stream.try_borrow_mut().map_err(busy)?.flush()
+        self.lock()?.flush()
     }
 }
 
 impl<S: OpenStream + Drop> OpenStream for SharedStream<S> {
     fn shutdown(&self, how: Shutdown) -> io::Result<()> {
-        self.stream.try_borrow().map_err(busy)?.shutdown(how)
+        self.lock()?.shutdown(how)
     }
 
     fn set_read_timeout(&self, limit: Option<Duration>) -> io::Result<()> {
-        let stream = self.stream.try_borrow().map_err(busy)?;
-        stream.set_read_timeout(limit)
+        self.lock()?.set_read_timeout(limit)
     }
 
     fn set_write_timeout(&self, limit: Option<Duration>) -> io::Result<()> {
-        let stream = self.stream.try_borrow().map_err(busy)?;
-        stream.set_write_timeout(limit)
+        self.lock()?.set_write_timeout(limit)
     }
 
     fn try_clone(&self) -> io::Result<Self> {

@@ -1,9 +1,9 @@
 //! A stream with a deadline.
-ghost use Rattle.std.specs.Prelude.{◌≡◌, ◌≤◌, None, IfOk, IfSome, OnOk};
+ghost use Rattle.std.specs.Prelude.{◌≡◌, ◌≤◌, None, IfSome, OnOk};
 ghost use Rattle.std.specs.Duration.{as_nanos};
 ghost use Rattle.std.specs.Io.{ReadsAtMost, WritesAtMost};
 ghost use Rattle.std.specs.Io.KnownBytes.{ReadConsumes, WriteAppends};
-ghost use Rattle.connection.specs.Deadlines.{HadTime, IsLeft};
+ghost use Rattle.connection.specs.Deadlines.{HadTime};
 
 use crate::deadline::Deadline;
 use std::io;
@@ -42,13 +42,6 @@ impl<'a, S: Drop, C> TimedStream<'a, S, C> {
 }
 
 impl<'a, S: OpenStream + Drop, C: Clock> TimedStream<'a, S, C> {
-    /// The remaining time of the stream. It fails if there is none.
-    fn left(&self) -> io::Result<Duration>
-        ensures { IfOk result (IsLeft self.now.deadline) }
-    {
-        self.deadline.left(self.clock)
-    }
-
     /// Lets no read wait longer than this. A limit that isn't longer stays, so one setting serves many
     /// reads.
     fn limit_reads(&mut self, left: Duration) -> io::Result<()>
@@ -90,7 +83,7 @@ impl<'a, S: Read + OpenStream + Drop, C: Clock> Read for TimedStream<'a, S, C> {
         ensures deadline { self.new.deadline ≡ self.old.deadline }
         ensures time { OnOk result (HadTime self.old.deadline) }
     {
-        let left = self.left()?;
+        let left = self.deadline.left(self.clock)?;
         self.limit_reads(left)?;
         self.stream.read(buffer).map_err(interruption)
     }
@@ -106,7 +99,7 @@ impl<'a, S: Write + OpenStream + Drop, C: Clock> Write for TimedStream<'a, S, C>
         ensures deadline { self.new.deadline ≡ self.old.deadline }
         ensures time { OnOk result (HadTime self.old.deadline) }
     {
-        let limit = self.left()?;
+        let limit = self.deadline.left(self.clock)?;
         self.stream.set_write_timeout(Some(limit))?;
         self.stream.write(bytes)
     }

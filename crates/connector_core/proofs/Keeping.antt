@@ -168,7 +168,7 @@ undone-cond true known o here same none = sym (same refl ∙ none)
 undone-cond false known o here same none = refl
 
 -- what was put of a new record, and taken out again, leaves the book as it was
-pub undone : (book : BookMap) (name : RecordName) (known : Known) → get book name ≡ None → remove (insert book name known) name ≡ book
+undone : (book : BookMap) (name : RecordName) (known : Known) → get book name ≡ None → remove (insert book name known) name ≡ book
 undone book name known none = same_map names_total names_same _ _ (λ q.
     get-remove names_total (insert book name known) name q ∙ ap (cond (is_eq (name_cmp q name)) None) (get-insert names_total book name known q)
     ∙ undone-cond (is_eq (name_cmp q name)) known (get book q) (get book name) (λ same. ap (get book) (name_from_test q name (sym (tied q name) ∙ same))) none)
@@ -183,10 +183,10 @@ pub next-book : (book : BookMap) (name : RecordName) (row : Row) → name ≡ ro
     → changed (wanting_now row) book name ≡ insert book (row_name row) (wanting (get book (row_name row)) row)
 next-book book name row is there = next-at book name row (get book name) there ∙ ap (λ n. insert book n (wanting (get book n) row)) is
 
-pub first-book : (book new : BookMap) (name copied : RecordName) (row copy : Row) (known : Known) → name ≡ row_name row → get book name ≡ None → copied ≡ name → copy ≡ row → known ≡ wanting None copy
+pub first-book : (book new : BookMap) (name copied : RecordName) (row : Row) (known : Known) → name ≡ row_name row → get book name ≡ None → copied ≡ name → known ≡ wanting None row
     → new ≡ insert book copied known → new ≡ insert book (row_name row) (wanting (get book (row_name row)) row)
-first-book book new name copied row copy known is none same-name same-row first put =
-    put ∙ ap (λ k. insert book copied k) (first ∙ ap (wanting None) same-row) ∙ ap (λ n. insert book n (wanting None row)) same-name
+first-book book new name copied row known is none same first put =
+    put ∙ ap (λ k. insert book copied k) first ∙ ap (λ n. insert book n (wanting None row)) same
     ∙ ap (λ o. insert book name (wanting o row)) (sym none) ∙ ap (λ n. insert book n (wanting (get book n) row)) is
 
 pub first-undone : (book new out : BookMap) (name copied : RecordName) (known : Known) → get book name ≡ None → copied ≡ name → new ≡ insert book copied known → out ≡ remove new name → out ≡ book

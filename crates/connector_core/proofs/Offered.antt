@@ -2,7 +2,7 @@
 use Rattle.std.proofs.Common.{◌≡◌, ◌∙◌, ◌++◌, ◌==◌, Bool, true, false, cond, List, [], ◌∷◌, Option, Some, None, IsSome, Result, Ok, Err, length, refl, ap, sym, subst, append_assoc, append-nil, arith}
 use Rattle.std.proofs.lemmas.Bool.Decides.{nat_tests}
 use Rattle.std.proofs.lemmas.List.{nil_from_length}
-use Rattle.std.specs.FinMap.{get, insert, remove, get-insert, get-remove, same_map}
+use Rattle.std.specs.FinMap.{get, insert, get-insert, same_map}
 use Rattle.std.specs.Option.{option_map}
 use Rattle.std.specs.Ordering.{is_eq}
 use Rattle.scim_key.proofs.RecordLaws.{same as same_names}
@@ -21,9 +21,9 @@ use Rattle.connector_core.specs.Offering.{AreOffered, all_back, row_back, taken_
 use Rattle.connector_core.specs.State.{IsKept}
 use Rattle.connector_core.specs.declared.changing.ChangeFault.{ChangeFault}
 use Rattle.connector_core.specs.declared.knowledge.Known.{Known}
-use Rattle.connector_core.specs.declared.offering.Note.{Note}
+use Rattle.connector_core.specs.declared.taking.Note.{Note}
 use Rattle.connector_core.specs.declared.offering.Offered.{Offered}
-use Rattle.connector_core.proofs.Keeping.{kept-row, undone}
+use Rattle.connector_core.proofs.Keeping.{kept-row}
 use Rattle.connector_core.proofs.Located.{located-row}
 use Rattle.connector_core.proofs.Verdicts.{can-put, new-row, not-below}
 
@@ -37,23 +37,6 @@ back-more (n ∷ notes) note book = ap (λ b. taken_back b n) (back-more notes n
 -- a note that takes a change back is put after the others
 pub back-noted : (notes more : List Note) (note : Note) (book later : BookMap) → more ≡ notes ++ note ∷ [] → taken_back later note ≡ book → all_back more later ≡ all_back notes book
 back-noted notes more note book later put back = ap (λ ns. all_back ns later) put ∙ back-more notes note later ∙ ap (all_back notes) back
-
-absent-cond : (b : Bool) (o here : Option Known) → (b ≡ true → o ≡ here) → here ≡ None → cond b None o ≡ o
-absent-cond true o here same none = sym (same refl ∙ none)
-absent-cond false o here same none = refl
-
--- to take out a record that isn't there changes nothing
-pub absent-out : (book : BookMap) (name : RecordName) → get book name ≡ None → remove book name ≡ book
-absent-out book name none = same_map names_total names_same _ _ (λ q.
-    get-remove names_total book name q
-    ∙ absent-cond (is_eq (name_cmp q name)) (get book q) (get book name) (λ same. ap (get book) (name_from_test q name (sym (tied q name) ∙ same))) none)
-
--- a first row is taken back, if the note has a copy of the name
-pub first-back : (book later : BookMap) (name copied : RecordName) (known : Known) → get book name ≡ None → copied ≡ name → later ≡ insert book name known → remove later copied ≡ book
-first-back book later name copied known none same put = ap (remove later) same ∙ ap (λ b. remove b name) put ∙ undone book name known none
-
-pub first-refused : (book later : BookMap) (name copied : RecordName) → get book name ≡ None → copied ≡ name → later ≡ book → remove later copied ≡ book
-first-refused book later name copied none same kept = ap (remove later) same ∙ ap (λ b. remove b name) kept ∙ absent-out book name none
 
 again-cond : (b : Bool) (put known : Known) (o here : Option Known) → (b ≡ true → o ≡ here) → here ≡ Some known → cond b (Some known) (cond b (Some put) o) ≡ o
 again-cond true put known o here same there = sym (same refl ∙ there)

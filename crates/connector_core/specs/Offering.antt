@@ -6,7 +6,7 @@ use Rattle.source_csv.specs.declared.rows.Row.{Row}
 use Rattle.connector_core.specs.Book.{wanting_now}
 use Rattle.connector_core.specs.Changing.{new_rows, taking_all, verdicts}
 use Rattle.connector_core.specs.Maps.{BookMap, changed}
-use Rattle.connector_core.specs.declared.offering.Note.{Note}
+use Rattle.connector_core.specs.declared.taking.Note.{Note}
 use Rattle.connector_core.specs.declared.offering.Offered.{Offered}
 
 -- the book with the row that was wanted before, or without the record if there was none

@@ -37,7 +37,7 @@ pub enum Ask {
 }
 
 /// Why the connector can't say what it asks for.
-#[derive(Clone, Copy, Debug, PartialEq, Eq, Error)]
+#[derive(Clone, Copy, Debug, Error)]
 pub enum AskFault {
     /// The source gave no row of this record.
     #[error("C7")]

@@ -1,5 +1,5 @@
 //! Accepts rows that the source offers.
-ghost use Rattle.std.specs.Prelude.{◌≡◌, ◌≢◌, ℕ, IfErr, IfOk, IsSome, None, Ok, Err, OnErr, OnOk, is_none};
+ghost use Rattle.std.specs.Prelude.{◌≡◌, ◌≢◌, ℕ, IfErr, IfOk, Ok, Err, OnErr, OnOk, is_none};
 ghost use Rattle.std.specs.FinMap.{get, insert, keys};
 ghost use Rattle.std.specs.List.{position_from};
 ghost use Rattle.std.specs.Option.{option_copied};
@@ -16,12 +16,12 @@ ghost use Rattle.connector_core.specs.State.{IsKept, Leaves, LeavesBook};
 
 use crate::books::Book;
 use crate::connectors::Connector;
-use crate::knowledge::{Known, Seen};
+use crate::taking::{take_back, take_row};
 use journal_core::{GROUP_LIMIT, Journal, JournalFault, USER_LIMIT};
-use scim_key::{Key, Kind, RecordName, Revision};
+use scim_key::{Key, Kind, RecordName};
 use source_book::{BookFault, Verdict, accept};
 use source_csv::{GroupRow, Row};
-use std::alloc::{AllocError, AllocFailed, Global};
+use std::alloc::{AllocError, Global};
 use std::{error, fmt};
 
 /// Why a row isn't accepted. Nothing was changed.
@@ -67,16 +67,6 @@ impl From<AllocError> for ChangeFault {
     }
 }
 
-impl<T: Drop> From<AllocFailed<T>> for ChangeFault {
-    ghost use Rattle.connector_core.specs.declared.changing.ChangeFault.TheVariants.{Memory};
-
-    ghost from_gives = { λ _ fault. fault ≡ Memory };
-
-    fn from(_: AllocFailed<T>) -> ChangeFault {
-        ChangeFault::Memory
-    }
-}
-
 impl From<JournalFault> for ChangeFault {
     ghost use Rattle.connector_core.specs.Changing.{change_fault};
 
@@ -110,9 +100,8 @@ fn missing_member(book: &Book, row: &Row) -> Option<usize>
 }
 
 /// The last row of a record, if there is one.
-pub(crate) fn last_row<'a>(book: &'a Book, name: &RecordName) -> Option<&'a Row>
-    ensures value { option_copied result ≡ wanted_row (book_of book.now) name.now }
-    ensures first { is_none result ≡ is_none (get book.now name.now) }
+fn last_row<'a>(book: &'a Book, name: &RecordName) -> Option<&'a Row>
+    ensures { option_copied result ≡ wanted_row (book_of book.now) name.now }
 {
     match book.get(name) {
         Some(known) => Some(&known.wanted),
@@ -177,35 +166,22 @@ fn limit(
     }
 }
 
-/// The verdict of the book on a row of a record of this type. `last` is the last row of the record.
+/// The verdict of the book on a row of the record with this name.
 pub(crate) fn judge(
     alloc: Global,
     book: &Book,
-    kind: Kind,
-    last: Option<&Row>,
+    name: &RecordName,
     row: &Row,
 ) -> Result<Verdict, ChangeFault>
-    requires kind { kind ≡ (row_name row.now).kind }
-    requires last { option_copied last ≡ wanted_row (book_of book.now) (row_name row.now) }
+    requires { name.now ≡ row_name row.now }
     ensures gives { Gives ChangeFault.Memory result
         (judging (book_of book.now) (keys book.now) row.now) }
     ensures counted { IfErr result (λ fault. (n : ℕ) → CountsChange n n fault) }
 {
-    let no_room = last.is_none() && is_full(book, kind);
+    let last = last_row(book, name);
+    let no_room = last.is_none() && is_full(book, name.kind);
     let verdict = accept(last, row, missing_member(book, row));
     limit(alloc, no_room, row, verdict)
-}
-
-/// What is known about a record after its first row.
-pub(crate) fn first_known(row: Row) -> Known
-    ensures { result ≡ wanting None row }
-{
-    Known {
-        wanted: row,
-        confirmed: Revision::none(),
-        id: None,
-        seen: Seen::Unknown,
-    }
 }
 
 impl<J: Journal> Connector<J> {
@@ -237,89 +213,36 @@ impl<J: Journal> Connector<J> {
             (judging (book_of self.old.book) (keys self.old.book) row))) result }
     {
         let name = row.record_name(self.alloc)?;
-        let last = last_row(&self.book, &name);
-        let is_first = last.is_none();
-        match judge(self.alloc, &self.book, name.kind, last, &row) {
-            Ok(Verdict::New) => self.accept_row(is_first, name, row),
+        match judge(self.alloc, &self.book, &name, &row) {
+            Ok(Verdict::New) => self.accept_row(name, &row),
             Ok(Verdict::Known) => Ok(Verdict::Known),
             Ok(Verdict::Older) => Ok(Verdict::Older),
             Err(fault) => Err(fault),
         }
     }
 
-    /// Accepts a new row.
-    fn accept_row(
-        &mut self,
-        is_first: bool,
-        name: RecordName,
-        row: Row,
-    ) -> Result<Verdict, ChangeFault>
-        requires named { name ≡ row_name row }
-        requires first { is_first ≡ is_none (get self.old.book name) }
-        requires new { judging (book_of self.old.book) (keys self.old.book) row ≡ Ok verdicts.New }
+    /// Accepts a new row. It is put into the book first, since a tree can't reserve room.
+    fn accept_row(&mut self, name: RecordName, row: &Row) -> Result<Verdict, ChangeFault>
+        requires named { name ≡ row_name row.now }
+        requires new { judging (book_of self.old.book) (keys self.old.book) row.now
+            ≡ Ok verdicts.New }
         ensures new { IfOk result (λ verdict. verdict ≡ verdicts.New) }
         ensures fault { IfErr result IsNoVerdict }
         ensures ok { OnOk result (self.new.book
-            ≡ insert self.old.book (row_name row)
-            (wanting (get self.old.book (row_name row)) row)) }
+            ≡ insert self.old.book (row_name row.now)
+            (wanting (get self.old.book (row_name row.now)) row.now)) }
         ensures err { OnErr result (self.new.book ≡ self.old.book) }
         ensures kept { J.is_faithful self.new.journal
             → IsKept (J.entries self.new.journal) self.new.book }
         ensures journal { Writes J.Journal CountsChange self.old.journal self.new.journal
-            (with_row (J.entries self.old.journal) row) result }
+            (with_row (J.entries self.old.journal) row.now) result }
         ensures open { J.is_honest self.new.journal → OnOk result (J.is_faithful self.new.journal) }
     {
-        if is_first {
-            self.accept_first(name, row)
-        } else {
-            self.accept_next(&name, row)
-        }
-    }
-
-    /// Accepts a new row of an existing record.
-    fn accept_next(&mut self, name: &RecordName, row: Row) -> Result<Verdict, ChangeFault>
-        requires named { name.now ≡ row_name row }
-        requires new { judging (book_of self.old.book) (keys self.old.book) row ≡ Ok verdicts.New }
-        requires there { IsSome (get self.old.book name.now) }
-        ensures new { IfOk result (λ verdict. verdict ≡ verdicts.New) }
-        ensures fault { IfErr result IsNoVerdict }
-        ensures ok { OnOk result (self.new.book
-            ≡ insert self.old.book (row_name row)
-            (wanting (get self.old.book (row_name row)) row)) }
-        ensures err { OnErr result (self.new.book ≡ self.old.book) }
-        ensures kept { J.is_faithful self.new.journal
-            → IsKept (J.entries self.new.journal) self.new.book }
-        ensures journal { Writes J.Journal CountsChange self.old.journal self.new.journal
-            (with_row (J.entries self.old.journal) row) result }
-        ensures open { J.is_honest self.new.journal → OnOk result (J.is_faithful self.new.journal) }
-    {
-        self.journal.put_row(&row)?;
-        self.book.want(name, row);
-        Ok(Verdict::New)
-    }
-
-    /// Accepts the first row of a record.
-    fn accept_first(&mut self, name: RecordName, row: Row) -> Result<Verdict, ChangeFault>
-        requires named { name ≡ row_name row }
-        requires new { judging (book_of self.old.book) (keys self.old.book) row ≡ Ok verdicts.New }
-        requires free { get self.old.book name ≡ None }
-        ensures new { IfOk result (λ verdict. verdict ≡ verdicts.New) }
-        ensures fault { IfErr result IsNoVerdict }
-        ensures ok { OnOk result (self.new.book
-            ≡ insert self.old.book (row_name row)
-            (wanting (get self.old.book (row_name row)) row)) }
-        ensures err { OnErr result (self.new.book ≡ self.old.book) }
-        ensures kept { J.is_faithful self.new.journal
-            → IsKept (J.entries self.new.journal) self.new.book }
-        ensures journal { Writes J.Journal CountsChange self.old.journal self.new.journal
-            (with_row (J.entries self.old.journal) row) result }
-        ensures open { J.is_honest self.new.journal → OnOk result (J.is_faithful self.new.journal) }
-    {
-        self.book.put(name.clone()?, first_known(row.clone()?))?;
-        match self.journal.put_row(&row) {
+        let note = take_row(&mut self.book, name, row.clone()?)?;
+        match self.journal.put_row(row) {
             Ok(()) => Ok(Verdict::New),
             Err(fault) => {
-                self.book.take_out(&name);
+                take_back(&mut self.book, note);
                 Err(ChangeFault::from(fault))
             }
         }

@@ -20,7 +20,7 @@ use std::alloc::{AllocError, Global};
 use std::{error, fmt};
 
 /// What is learnt about a record.
-#[derive(Clone, Copy, PartialEq, Eq)]
+#[derive(Clone, Copy)]
 pub enum Learnt {
     /// This revision is now confirmed; it is higher than the one before.
     Confirmed(Revision),
@@ -35,7 +35,7 @@ pub enum Learnt {
 }
 
 /// Why nothing is learnt. Nothing was changed.
-#[derive(Clone, Copy, Debug, PartialEq, Eq)]
+#[derive(Clone, Copy, Debug)]
 pub enum LearnFault {
     /// The request or the answer isn't one that the connector can use.
     Unfit,

@@ -13,6 +13,7 @@ mod laws;
 mod learning;
 mod offering;
 mod opening;
+mod taking;
 
 pub use asking::{Ask, AskFault};
 pub use changing::ChangeFault;

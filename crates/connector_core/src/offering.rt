@@ -1,30 +1,24 @@
 //! Accepts rows that the source offers together.
-ghost use Rattle.std.specs.Prelude.{◌≡◌, ◌++◌, ◌∷◌, [], IfErr, IfOk, IsSome, None, OnErr, OnOk, is_none};
+ghost use Rattle.std.specs.Prelude.{◌≡◌, ◌++◌, ◌∷◌, [], IfErr, IfOk, Ok, OnErr, OnOk};
 ghost use Rattle.std.specs.FinMap.{get, insert, keys};
-ghost use Rattle.std.specs.Option.{option_copied};
 ghost use Rattle.source_csv.specs.Records.{row_name};
+ghost use Rattle.source_book.specs.declared.accepting.Verdict.TheVariants.{New};
 ghost use Rattle.journal_core.specs.Calls.{Writes};
-ghost use Rattle.connector_core.specs.Book.{wanted_row, wanting};
+ghost use Rattle.connector_core.specs.Book.{wanting};
 ghost use Rattle.connector_core.specs.Changing.{CountsChange, IsNoVerdict, entries_all, if_new, judged, new_rows, taking, taking_all, verdicts};
 ghost use Rattle.connector_core.specs.Maps.{book_of};
 ghost use Rattle.connector_core.specs.Offering.{AreOffered, all_back, taken_back};
 ghost use Rattle.connector_core.specs.State.{IsKept, Leaves, LeavesBook};
 
 use crate::books::Book;
-use crate::changing::{ChangeFault, first_known, judge, last_row};
+use crate::changing::{ChangeFault, judge};
 use crate::connectors::Connector;
+use crate::taking::{Note, take_back, take_row};
 use journal_core::Journal;
-use scim_key::{Kind, RecordName};
+use scim_key::RecordName;
 use source_book::Verdict;
 use source_csv::Row;
 use std::alloc::{AllocError, Global};
-
-/// How to take a new row back: the row that was wanted before; none if the new row was the first.
-#[derive(Drop)]
-pub(crate) struct Note {
-    name: RecordName,
-    last: Option<Row>,
-}
 
 /// The result of offering rows: the verdicts, the new rows, and how to take them back.
 #[derive(Drop)]
@@ -32,21 +26,6 @@ pub(crate) struct Offered {
     said: Vec<Result<Verdict, ChangeFault>>,
     fresh: Vec<Row>,
     notes: Vec<Note>,
-}
-
-/// Takes a row back.
-fn take_back(book: &mut Book, note: Note)
-    ensures { book.new ≡ taken_back book.old note }
-{
-    let Note { name, last } = note;
-    match last {
-        Some(row) => {
-            if book.get(&name).is_some() {
-                book.want(&name, row);
-            }
-        }
-        None => book.take_out(&name),
-    }
 }
 
 /// Takes rows back, the last one first.
@@ -58,82 +37,30 @@ fn take_all_back(book: &mut Book, mut notes: Vec<Note>)
     }
 }
 
-/// Takes the first row of a record into the book.
-fn take_first(
-    book: &mut Book,
-    name: RecordName,
-    row: Row,
-    notes: &mut Vec<Note>,
-) -> Result<(), AllocError>
-    requires named { name ≡ row_name row }
-    requires free { get book.old name ≡ None }
-    ensures ok { OnOk result (book.new
-        ≡ insert book.old (row_name row) (wanting (get book.old (row_name row)) row)) }
-    ensures back { all_back notes.new.items book.new ≡ all_back notes.old.items book.old }
+/// Keeps how to take a row back. If memory is out, it takes the row back.
+fn keep(book: &mut Book, notes: &mut Vec<Note>, note: Note) -> Result<(), AllocError>
+    ensures ok { OnOk result (book.new ≡ book.old) }
+    ensures back { all_back notes.new.items book.new
+        ≡ all_back notes.old.items (taken_back book.old note) }
 {
-    notes.push(Note {
-        name: name.clone()?,
-        last: None,
-    })?;
-    book.put(name, first_known(row))?;
-    Ok(())
-}
-
-/// Takes a new row of an existing record into the book.
-fn take_next(
-    book: &mut Book,
-    name: RecordName,
-    row: Row,
-    notes: &mut Vec<Note>,
-) -> Result<(), AllocError>
-    requires named { name ≡ row_name row }
-    requires there { IsSome (get book.old name) }
-    ensures ok { OnOk result (book.new
-        ≡ insert book.old (row_name row) (wanting (get book.old (row_name row)) row)) }
-    ensures back { all_back notes.new.items book.new ≡ all_back notes.old.items book.old }
-{
-    let last = book.want(&name, row);
-    if let Err(failed) = notes.push(Note { name, last }) {
+    if let Err(failed) = notes.push(note) {
         take_back(book, failed.value);
         return Err(AllocError);
     }
     Ok(())
 }
 
-/// Takes a new row into the book, and notes how to take it back.
-fn take_row(
-    book: &mut Book,
-    is_first: bool,
-    name: RecordName,
-    row: Row,
-    notes: &mut Vec<Note>,
-) -> Result<(), AllocError>
-    requires named { name ≡ row_name row }
-    requires first { is_first ≡ is_none (get book.old name) }
-    ensures ok { OnOk result (book.new
-        ≡ insert book.old (row_name row) (wanting (get book.old (row_name row)) row)) }
-    ensures back { all_back notes.new.items book.new ≡ all_back notes.old.items book.old }
-{
-    if is_first {
-        take_first(book, name, row, notes)
-    } else {
-        take_next(book, name, row, notes)
-    }
-}
-
-/// The verdict of the book on a row of a record of this type. `last` is the last row of the record.
+/// The verdict of the book on a row of the record with this name.
 fn verdict_on(
     alloc: Global,
     book: &Book,
-    kind: Kind,
-    last: Option<&Row>,
+    name: &RecordName,
     row: &Row,
 ) -> Result<Result<Verdict, ChangeFault>, AllocError>
-    requires kind { kind ≡ (row_name row.now).kind }
-    requires last { option_copied last ≡ wanted_row (book_of book.now) (row_name row.now) }
+    requires { name.now ≡ row_name row.now }
     ensures { IfOk result (λ verdict. verdict ≡ judged book.now row.now) }
 {
-    match judge(alloc, book, kind, last, row) {
+    match judge(alloc, book, name, row) {
         Ok(verdict) => Ok(Ok(verdict)),
         Err(ChangeFault::Memory) => Err(AllocError),
         Err(fault) => Ok(Err(fault)),
@@ -165,19 +92,39 @@ impl Offered {
             ≡ all_back self.old.notes.items book.old }
     {
         let name = row.record_name(alloc)?;
-        let last = last_row(book, &name);
-        let is_first = last.is_none();
-        match verdict_on(alloc, book, name.kind, last, &row)? {
-            Ok(Verdict::New) => {
-                take_row(book, is_first, name, row.clone()?, &mut self.notes)?;
-                self.fresh.push(row)?;
-                self.said.push(Ok(Verdict::New))?;
-            }
-            Ok(Verdict::Known) => self.said.push(Ok(Verdict::Known))?,
-            Ok(Verdict::Older) => self.said.push(Ok(Verdict::Older))?,
-            Err(fault) => self.said.push(Err(fault))?,
+        match verdict_on(alloc, book, &name, &row)? {
+            Ok(Verdict::New) => self.take_new(book, name, row),
+            Ok(Verdict::Known) => self.say(Ok(Verdict::Known)),
+            Ok(Verdict::Older) => self.say(Ok(Verdict::Older)),
+            Err(fault) => self.say(Err(fault)),
         }
+    }
+
+    /// Appends the verdict on a row.
+    fn say(&mut self, verdict: Result<Verdict, ChangeFault>) -> Result<(), AllocError>
+        ensures said { OnOk result (self.new.said.items ≡ self.old.said.items ++ verdict ∷ []) }
+        ensures fresh { self.new.fresh.items ≡ self.old.fresh.items }
+        ensures notes { self.new.notes.items ≡ self.old.notes.items }
+    {
+        self.said.push(verdict)?;
         Ok(())
+    }
+
+    /// Takes a new row.
+    fn take_new(&mut self, book: &mut Book, name: RecordName, row: Row) -> Result<(), AllocError>
+        requires named { name ≡ row_name row }
+        ensures said { OnOk result
+            (self.new.said.items ≡ self.old.said.items ++ Ok New ∷ []) }
+        ensures fresh { OnOk result (self.new.fresh.items ≡ self.old.fresh.items ++ row ∷ []) }
+        ensures taken { OnOk result (book.new
+            ≡ insert book.old (row_name row) (wanting (get book.old (row_name row)) row)) }
+        ensures back { all_back self.new.notes.items book.new
+            ≡ all_back self.old.notes.items book.old }
+    {
+        let note = take_row(book, name, row.clone()?)?;
+        keep(book, &mut self.notes, note)?;
+        self.fresh.push(row)?;
+        self.say(Ok(Verdict::New))
     }
 
     /// Takes rows, one after another.
