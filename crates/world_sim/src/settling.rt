@@ -13,7 +13,7 @@ use std::fmt;
 pub const MOST_EXCHANGES: u32 = 3;
 
 /// How many exchanges a run to convergence took.
-#[derive(Clone, Copy, Debug, PartialEq, Eq)]
+#[derive(Clone, Copy, Debug)]
 pub struct Count {
     pub exchanges: u32,
 }
