@@ -1,6 +1,6 @@
 -- What bytes are read as, and that no first part of a message is read.
 use Rattle.std.proofs.Common.{◌≡◌, ℕ, ◌<◌, inl, inr, List, [], ◌++◌, length, take, drop, Result, Ok, Err, refl, ap, sym, ◌∙◌, subst, arith, length-drop}
-use Rattle.std.specs.Prelude.{IfOk}
+use Rattle.std.specs.Prelude.{Bool, false, is_ok, IfOk}
 use Rattle.std.proofs.lemmas.List.{take-append-drop}
 use Rattle.scim_message.specs.declared.messages.Answer.{Answer}
 use Rattle.scim_message.specs.declared.messages.Request.{Request}
@@ -60,6 +60,11 @@ answered_only (Err WrongShape) answer is = elim is [
 ]
 answered_only (Err OutOfMemory) answer is = inr refl
 
+-- what isn't read
+unread : {X F : Type 0} (read : Result X ReadingFault) (found : Result Bool F) → ((x : X) → read ≡ Ok x → ⊥) → IfOk found (λ is. is ≡ is_ok read) → IfOk found (λ is. is ≡ false)
+unread (Ok x) found none is = absurd (none x refl)
+unread (Err fault) found none is = is
+
 -- what a first part of a whole message is read as
 pub cut_read : (bytes : List ℕ) (n : ℕ) (front : List ℕ) (message : Message) → n < length bytes → front ≡ take n bytes → (P : Type 0)
     → ((more : List ℕ) → 0 < length more → IsReadAs (front ++ more) message → P) → IsReadAs bytes message → P
@@ -87,14 +92,23 @@ module _ (bytes : List ℕ) where
 
   module _ (more : List ℕ) (some : 0 < length more) where
     -- no first part of a request is one, and none of an answer an answer
-    pub no_request_cut : (one two : Request) → SpellsRequest bytes one → SpellsRequest (bytes ++ more) two → ⊥
+    no_request_cut : (one two : Request) → SpellsRequest bytes one → SpellsRequest (bytes ++ more) two → ⊥
     no_request_cut one two part whole =
         let apart = messages_apart request_form request_laws bytes more part.message whole.message part.is whole.is in
         let none : length more ≡ 0 = ap length apart.1 in
         omega (arith, some, none)
 
-    pub no_answer_cut : (request : Request) (one two : Answer) → AnswersSo bytes request one → AnswersSo (bytes ++ more) request two → ⊥
+    no_answer_cut : (request : Request) (one two : Answer) → AnswersSo bytes request one → AnswersSo (bytes ++ more) request two → ⊥
     no_answer_cut request one two part whole =
         let apart = messages_apart response_form response_laws bytes more part.message whole.message part.is_message.0 whole.is_message.0 in
         let none : length more ≡ 0 = ap length apart.1 in
         omega (arith, some, none)
+
+    -- and so none is read
+    pub request_unread : {F : Type 0} (read : Result Request ReadingFault) (found : Result Bool F) (request : Request) → IfOk read (SpellsRequest bytes) → IfOk found (λ is. is ≡ is_ok read)
+        → SpellsRequest (bytes ++ more) request → IfOk found (λ is. is ≡ false)
+    request_unread read found request ok is whole = unread read found (λ part same. no_request_cut part request (subst (λ r. IfOk r (SpellsRequest bytes)) same ok) whole) is
+
+    pub answer_unread : {F : Type 0} (read : Result Answer ReadingFault) (found : Result Bool F) (request : Request) (answer : Answer) → IfOk read (AnswersSo bytes request) → IfOk found (λ is. is ≡ is_ok read)
+        → AnswersSo (bytes ++ more) request answer → IfOk found (λ is. is ≡ false)
+    answer_unread read found request answer ok is whole = unread read found (λ part same. no_answer_cut request part answer (subst (λ r. IfOk r (AnswersSo bytes request)) same ok) whole) is

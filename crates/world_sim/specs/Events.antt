@@ -1,7 +1,11 @@
 -- The model's event for an event of code, and the model's report for a report of code.
-use Rattle.std.specs.Prelude.{List, map}
+use Rattle.std.specs.Prelude.{List, map, Result, Ok, Err}
 use Rattle.provider_core.specs.declared.provider.ProviderFault.{ProviderFault}
 use Rattle.provider_core.specs.declared.provider.ProviderFault.TheVariants as provider
+use Rattle.connector_core.specs.declared.changing.ChangeFault.{ChangeFault}
+use Rattle.connector_core.specs.declared.changing.ChangeFault.TheVariants as changing
+use Rattle.connector_core.specs.declared.learning.LearnFault.{LearnFault}
+use Rattle.connector_core.specs.declared.learning.LearnFault.TheVariants as learning
 use Rattle.connector_core.specs.declared.opening.ConnectorOpenFault.{ConnectorOpenFault}
 use Rattle.connector_core.specs.declared.opening.ConnectorOpenFault.TheVariants as opening
 use Rattle.journal_core.specs.declared.journals.JournalFault.{JournalFault}
@@ -39,6 +43,23 @@ report_of (reports.Taught learnt) = model.Taught learnt
 report_of reports.NoMessage = model.No_message
 report_of reports.CutShort = model.Cut_short
 report_of reports.Restarted = model.Restarted
+
+-- the report of an answer from which nothing is learnt, or the world's fault
+abbrev pub unlearnt : LearnFault → Result ReportOf WorldFault
+unlearnt learning.Unfit = Ok (reports.Taught (Err learning.Unfit))
+unlearnt learning.Unversioned = Ok (reports.Taught (Err learning.Unversioned))
+unlearnt (learning.Refused status) = Ok (reports.Taught (Err (learning.Refused status)))
+unlearnt learning.NoSuchRecord = Ok (reports.Taught (Err learning.NoSuchRecord))
+unlearnt learning.Store = Err worlds.Store
+unlearnt learning.Memory = Err worlds.Memory
+
+-- the report of a row that isn't accepted, or the world's fault
+abbrev pub unaccepted : ChangeFault → Result ReportOf WorldFault
+unaccepted changing.Differs = Ok (reports.Judged (Err changing.Differs))
+unaccepted (changing.NoSuchMember member) = Ok (reports.Judged (Err (changing.NoSuchMember member)))
+unaccepted changing.TooMany = Ok (reports.Judged (Err changing.TooMany))
+unaccepted changing.Store = Err worlds.Store
+unaccepted changing.Memory = Err worlds.Memory
 
 -- the world's fault for a fault of its provider
 abbrev pub world_fault : ProviderFault → WorldFault

@@ -1,6 +1,5 @@
 //! The messages of a world.
 ghost use Rattle.std.specs.Prelude.{◌≡◌, IfOk, OnOk};
-ghost use Rattle.std.specs.List.{slice_get};
 ghost use Rattle.std.specs.Option.{option_copied, option_map};
 ghost use Rattle.world_model.specs.World.{Asked, message_at};
 ghost use Rattle.world_sim.specs.Fitting.{IsFormed};
@@ -41,16 +40,6 @@ pub(crate) fn asked(
     })
 }
 
-/// The message at this place, counted from 0.
-fn sent_from(sent: &[Sent], place: usize) -> Option<&Sent>
-    ensures { option_copied result ≡ slice_get sent.now place }
-{
-    match sent.get(place) {
-        Some(message) => Some(message),
-        None => None,
-    }
-}
-
 /// The message with this number, counted from 1.
 pub(crate) fn sent_at(sent: &[Sent], number: usize) -> Option<&Sent>
     ensures said { option_map (λ s. says s.said) (option_copied result)
@@ -61,5 +50,5 @@ pub(crate) fn sent_at(sent: &[Sent], number: usize) -> Option<&Sent>
     if number == 0 {
         return None;
     }
-    sent_from(sent, number - 1)
+    sent.get(number - 1)
 }

@@ -60,12 +60,13 @@ fn record_text(alloc: Global, place: usize, revision: u32) -> Result<String, All
     requires { place < 4 }
 {
     let name = NAMES[place];
-    match kind_of(place) {
-        Kind::User if revision % 3 == 0 => format!(in alloc; "{name},{revision},,,,,left"),
-        Kind::User => format!(in alloc; "{name},{revision},,,,,active"),
-        Kind::Group if revision % 2 == 0 => format!(in alloc; "{name},{revision},a b"),
-        Kind::Group => format!(in alloc; "{name},{revision},a"),
-    }
+    let fields = match kind_of(place) {
+        Kind::User if revision % 3 == 0 => ",,,,left",
+        Kind::User => ",,,,active",
+        Kind::Group if revision % 2 == 0 => "a b",
+        Kind::Group => "a",
+    };
+    format!(in alloc; "{name},{revision},{fields}")
 }
 
 /// The connector sends its next request for a record.
@@ -73,7 +74,7 @@ fn send(alloc: Global, place: usize) -> Result<Event, AllocError>
     requires { place < 4 }
 {
     let name = record_named(alloc, kind_of(place), NAMES[place])?;
-    Ok(Event::Send(name.ok_or(AllocError)?))
+    name.map(Event::Send).ok_or(AllocError)
 }
 
 /// The number of a message.

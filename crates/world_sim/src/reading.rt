@@ -1,5 +1,5 @@
 //! Reads messages from their bytes.
-ghost use Rattle.std.specs.Prelude.{◌≡◌, ◌<◌, ◌++◌, ℕ, List, length, false, IfOk};
+ghost use Rattle.std.specs.Prelude.{◌≡◌, ◌<◌, ◌++◌, ℕ, List, length, false, is_ok, IfOk};
 ghost use Rattle.scim_message.specs.declared.messages.Answer.{Answer};
 ghost use Rattle.scim_message.specs.declared.messages.Request.{Request};
 ghost use Rattle.scim_client.specs.Answers.{AnswersSo};
@@ -16,7 +16,7 @@ use scim_message::{Answer, Request};
 use std::alloc::{AllocError, Global};
 
 /// Why bytes couldn't be read as a message.
-#[derive(Clone, Copy, Debug, PartialEq, Eq)]
+#[derive(Clone, Copy, Debug)]
 pub(crate) enum ReadingFault {
     /// They aren't exactly one message that asks for something, or that answers the request.
     Unread,
@@ -77,26 +77,12 @@ fn reading_fault(fault: AnswerFault) -> ReadingFault
     }
 }
 
-/// Whether these bytes are read as a request. They aren't if they are only the first bytes of one.
-fn is_request(alloc: Global, bytes: &[u8]) -> Result<bool, AllocError>
-    ensures { (more : List ℕ) (request : Request) → 0 < length more
-        → SpellsRequest (bytes.now ++ more) request → IfOk result (λ read. read ≡ false) }
+/// Whether a message was read.
+fn is_read<T: Drop>(read: Result<T, ReadingFault>) -> Result<bool, AllocError>
+    ensures { IfOk result (λ found. found ≡ is_ok read) }
 {
-    match read_asked(alloc, bytes) {
-        Ok(_request) => Ok(true),
-        Err(ReadingFault::Unread) => Ok(false),
-        Err(ReadingFault::Memory) => Err(AllocError),
-    }
-}
-
-/// Whether these bytes are read as an answer to a request. They aren't if they are only the first bytes of
-/// one.
-fn is_answer(alloc: Global, request: &Request, bytes: &[u8]) -> Result<bool, AllocError>
-    ensures { (more : List ℕ) (answer : Answer) → 0 < length more
-        → AnswersSo (bytes.now ++ more) request.now answer → IfOk result (λ read. read ≡ false) }
-{
-    match read_answered(alloc, request, bytes) {
-        Ok(_answer) => Ok(true),
+    match read {
+        Ok(_) => Ok(true),
         Err(ReadingFault::Unread) => Ok(false),
         Err(ReadingFault::Memory) => Err(AllocError),
     }
@@ -109,7 +95,7 @@ pub(crate) fn read_cut(alloc: Global, said: &Said, front: &[u8]) -> Result<bool,
         → IfOk result (λ read. read ≡ false) }
 {
     match said {
-        Said::Asked(_) => is_request(alloc, front),
-        Said::Answered(request, _) => is_answer(alloc, request, front),
+        Said::Asked(_) => is_read(read_asked(alloc, front)),
+        Said::Answered(request, _) => is_read(read_answered(alloc, request, front)),
     }
 }

@@ -47,32 +47,32 @@ impl fmt::Display for Report {
     /// The report in a word or two, with its numbers: `new`, `find 3`, `answer 4 201`, `confirmed 2`.
     fn fmt<W: fmt::Write>(&self, f: &mut fmt::Formatter<W>) -> fmt::Result {
         match self {
-            Report::Judged(Ok(Verdict::New)) => write!(f, "new"),
-            Report::Judged(Ok(Verdict::Known)) => write!(f, "known"),
-            Report::Judged(Ok(Verdict::Older)) => write!(f, "older"),
+            Report::Judged(Ok(Verdict::New)) => f.write_str("new"),
+            Report::Judged(Ok(Verdict::Known)) => f.write_str("known"),
+            Report::Judged(Ok(Verdict::Older)) => f.write_str("older"),
             Report::Judged(Err(fault)) => write!(f, "{fault}"),
-            Report::UnknownRecord => write!(f, "C7"),
-            Report::Idle => write!(f, "nothing"),
+            Report::UnknownRecord => f.write_str("C7"),
+            Report::Idle => f.write_str("nothing"),
             Report::Waiting(member) => write!(f, "waits {}", member.as_str()),
             Report::Finding(number) => write!(f, "find {number}"),
             Report::Creating(number) => write!(f, "create {number}"),
             Report::Replacing(number) => write!(f, "replace {number}"),
             Report::Answering { number, status } => write!(f, "answer {number} {status}"),
             Report::Taught(Ok(Learnt::Confirmed(revision))) => write!(f, "confirmed {revision}"),
-            Report::Taught(Ok(Learnt::Seen)) => write!(f, "seen"),
-            Report::Taught(Ok(Learnt::Absent)) => write!(f, "absent"),
-            Report::Taught(Ok(Learnt::Forgotten)) => write!(f, "forgotten"),
-            Report::Taught(Ok(Learnt::Nothing)) => write!(f, "nothing"),
+            Report::Taught(Ok(Learnt::Seen)) => f.write_str("seen"),
+            Report::Taught(Ok(Learnt::Absent)) => f.write_str("absent"),
+            Report::Taught(Ok(Learnt::Forgotten)) => f.write_str("forgotten"),
+            Report::Taught(Ok(Learnt::Nothing)) => f.write_str("nothing"),
             Report::Taught(Err(fault)) => write!(f, "{fault}"),
-            Report::NoMessage => write!(f, "none"),
-            Report::CutShort => write!(f, "cut"),
-            Report::Restarted => write!(f, "restarted"),
+            Report::NoMessage => f.write_str("none"),
+            Report::CutShort => f.write_str("cut"),
+            Report::Restarted => f.write_str("restarted"),
         }
     }
 }
 
 /// Why an event didn't happen.
-#[derive(Clone, Copy, Debug, PartialEq, Eq, Error)]
+#[derive(Clone, Copy, Debug, Error)]
 pub enum WorldFault {
     #[error("Z1")]
     Memory,

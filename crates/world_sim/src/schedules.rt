@@ -1,7 +1,5 @@
 //! Schedules: texts that say, line by line, what happens in a world.
-ghost use Rattle.std.specs.Prelude.{◌≡◌, ◌&&◌, IfOk, List, ℕ, map, string_bytes};
-ghost use Rattle.std.specs.Char.{is_ascii_digit};
-ghost use Rattle.std.specs.List.{join_with_byte, list_all};
+ghost use Rattle.std.specs.Prelude.{◌≡◌, IfOk, List, ℕ, map, string_bytes};
 ghost use Rattle.std.specs.Str.Lines.{lines};
 ghost use Rattle.scim_key.specs.Outcome.{Gives, GivesBy};
 ghost use Rattle.scim_filter.specs.Names.{is_lawful, record_named};
@@ -24,7 +22,7 @@ use thiserror::Error;
 pub const NUMBER_DIGITS: usize = 18;
 
 /// Why a schedule gives no events.
-#[derive(Clone, Copy, Debug, PartialEq, Eq, Error)]
+#[derive(Clone, Copy, Debug, Error)]
 pub enum ScheduleFault {
     /// The line with this number, counted from 1, is the first that isn't an event.
     #[error("line {0}: L1")]
@@ -49,26 +47,11 @@ impl<T: Drop> From<AllocFailed<T>> for ScheduleFault {
     }
 }
 
-/// The names of columns, with commas between them.
-fn header(alloc: Global, columns: &[&str]) -> Result<String, AllocError>
-    ensures { IfOk result (λ header. string_bytes header ≡ join_with_byte 44 (named columns.now)) }
-{
-    let Some((first, rest)) = columns.split_first() else {
-        return Ok(String::new(alloc));
-    };
-    let mut header = String::from_str(alloc, first)?;
-    for column in rest {
-        header.push(',')?;
-        header.push_str(column)?;
-    }
-    Ok(header)
-}
-
 /// The file with this header and only this record.
 fn file_of(alloc: Global, columns: &[&str], text: &str) -> Result<String, AllocError>
     ensures { IfOk result (λ file. string_bytes file ≡ file_of (named columns.now) text.now) }
 {
-    let mut file = header(alloc, columns)?;
+    let mut file = columns.join(alloc, ",")?;
     file.push('\n')?;
     file.push_str(text)?;
     Ok(file)
@@ -193,18 +176,13 @@ fn record_in(alloc: Global, text: &str) -> Result<Option<RecordName>, AllocError
     }
 }
 
-/// Whether every byte is a digit.
-fn are_digits(bytes: &[u8]) -> bool
-    ensures { result ≡ list_all is_ascii_digit bytes.now }
-{
-    bytes.iter().all(|byte| byte.is_ascii_digit())
-}
-
 /// Whether a text is 1 to `NUMBER_DIGITS` digits.
 fn is_number(text: &str) -> bool
     ensures { result ≡ spec.is_number text.now }
 {
-    !text.is_empty() && text.len() <= NUMBER_DIGITS && are_digits(text.as_bytes())
+    !text.is_empty()
+        && text.len() <= NUMBER_DIGITS
+        && text.as_bytes().iter().all(|byte| byte.is_ascii_digit())
 }
 
 /// The number that a text writes.

@@ -13,7 +13,7 @@ use std::fmt;
 pub const MOST_EXCHANGES: u32 = 3;
 
 /// How many exchanges a run to convergence took.
-#[derive(Clone, Copy, PartialEq, Eq)]
+#[derive(Clone, Copy)]
 pub struct Count {
     pub exchanges: u32,
 }

@@ -1,14 +1,12 @@
-//! What a world shows of its messages and records.
-ghost use Rattle.std.specs.Prelude.{◌≡◌, IfErr, IfOk, OnOk, None, Some, true};
+//! What a world shows of its records.
+ghost use Rattle.std.specs.Prelude.{◌≡◌, IfErr, IfOk, OnOk, true};
 ghost use Rattle.std.specs.Option.{option_copied};
 ghost use Rattle.provider_core.specs.Calls.{Reads};
 ghost use Rattle.provider_core.specs.Rows.{row_named};
-ghost use Rattle.world_sim.specs.Messages.{text_at, texts_of};
 ghost use Rattle.world_sim.specs.Running.{is_open, names_in};
 ghost use Rattle.world_sim.specs.Sides.{CountsWorldFault};
 ghost use Rattle.world_sim.specs.Views.{IsBlind, IsNoName, Looks, Shows, viewed};
 
-use crate::messages::sent_at;
 use crate::reports::WorldFault;
 use crate::sides::Side;
 use crate::worlds::World;
@@ -81,44 +79,30 @@ impl fmt::Display for View {
     }
 }
 
-/// The view of a record, given the provider's row of it.
-fn held_in(name: RecordName, wanted: Revision, confirmed: Revision, row: &Stored) -> View
-    ensures { result ≡ viewed name wanted confirmed (Some row.now) }
-{
-    View {
-        name,
-        wanted,
-        confirmed,
-        held: row.content().revision().unwrap_or(Revision::none()),
-        version: row.version(),
-        active: row.content().active(),
-        members: row.content().members().len(),
-    }
-}
-
-/// The view of a record that the provider doesn't hold.
-fn held_nowhere(name: RecordName, wanted: Revision, confirmed: Revision) -> View
-    ensures { result ≡ viewed name wanted confirmed None }
-{
-    View {
-        name,
-        wanted,
-        confirmed,
-        held: Revision::none(),
-        version: 0,
-        active: None,
-        members: 0,
-    }
-}
-
 impl View {
     /// The view of a record with these revisions, and with the provider's row of it, if there is one.
     pub fn of(name: RecordName, wanted: Revision, confirmed: Revision, row: Option<&Stored>) -> View
         ensures { result ≡ viewed name wanted confirmed (option_copied row.entry) }
     {
         match row {
-            Some(row) => held_in(name, wanted, confirmed, row),
-            None => held_nowhere(name, wanted, confirmed),
+            Some(row) => View {
+                name,
+                wanted,
+                confirmed,
+                held: row.content().revision().unwrap_or(Revision::none()),
+                version: row.version(),
+                active: row.content().active(),
+                members: row.content().members().len(),
+            },
+            None => View {
+                name,
+                wanted,
+                confirmed,
+                held: Revision::none(),
+                version: 0,
+                active: None,
+                members: 0,
+            },
         }
     }
 }
@@ -142,16 +126,6 @@ fn row_of<R: Registry>(
 }
 
 impl<R: Registry + Drop, J: Journal + Drop> World<R, J> {
-    /// The bytes of the message with this number, counted from 1. It allocates nothing.
-    pub fn message(&self, number: usize) -> Option<&[u8]>
-        ensures { option_copied result ≡ text_at (texts_of self.now.sent.items) number }
-    {
-        match sent_at(&self.sent, number) {
-            Some(message) => Some(message.bytes.as_slice()),
-            None => None,
-        }
-    }
-
     /// The names of the connector's records: users by key, then groups by key.
     pub fn names(&self) -> Result<Vec<RecordName>, WorldFault>
         ensures names { IfOk result (λ names. names.items ≡ names_in J.Journal self.now.connector) }
@@ -178,9 +152,8 @@ impl<R: Registry + Drop, J: Journal + Drop> World<R, J> {
         }
         let wanted = connector.wanted(name);
         let confirmed = connector.confirmed(name);
-        match replace_with(&mut self.provider, name, row_of)? {
-            Some(row) => Ok(held_in(name.clone()?, wanted, confirmed, &row)),
-            None => Ok(held_nowhere(name.clone()?, wanted, confirmed)),
-        }
+        let copy = name.clone()?;
+        let row = replace_with(&mut self.provider, name, row_of)?;
+        Ok(View::of(copy, wanted, confirmed, row.as_ref()))
     }
 }

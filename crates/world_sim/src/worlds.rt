@@ -15,7 +15,7 @@ ghost use Rattle.scim_http.specs.Replies.{answer_text};
 ghost use Rattle.source_csv.specs.Records.{IsRow};
 ghost use Rattle.world_model.specs.Reports.{Judged, Taught, learnt_of, sending_report};
 ghost use Rattle.world_model.specs.World.{Answered, Asked, Changes, Cuts, Delivers, Restarts_connector, Restarts_provider, Sends};
-ghost use Rattle.world_sim.specs.Events.{event_of, report_of};
+ghost use Rattle.world_sim.specs.Events.{event_of, report_of, unaccepted, unlearnt};
 ghost use Rattle.world_sim.specs.Fitting.{IsFormed};
 ghost use Rattle.world_sim.specs.GoingOn.{FailsOn, GoesOn, unknown_entries};
 ghost use Rattle.world_sim.specs.Running.{Apart, Arrives, Fails, FailsToArrive, Happens, IsOpenedBy, IsShutOff, Keeps, Posts, Starts, Stays, journal_after, journal_in, opens_after, opens_of};
@@ -62,6 +62,35 @@ fn sending(number: usize, request: &Request) -> Report
     }
 }
 
+/// The report of an answer from which nothing is learnt. A fault of the journal's store is the world's, and
+/// so is out of memory.
+fn unlearnt(fault: LearnFault) -> Result<Report, WorldFault>
+    ensures { result ≡ unlearnt fault }
+{
+    match fault {
+        LearnFault::Store => Err(WorldFault::Store),
+        LearnFault::Memory => Err(WorldFault::Memory),
+        LearnFault::Unfit
+        | LearnFault::Unversioned
+        | LearnFault::NoSuchRecord
+        | LearnFault::Refused { .. } => Ok(Report::Taught(Err(fault))),
+    }
+}
+
+/// The report of a row that isn't accepted. A fault of the journal's store is the world's, and so is out of
+/// memory.
+fn unaccepted(fault: ChangeFault) -> Result<Report, WorldFault>
+    ensures { result ≡ unaccepted fault }
+{
+    match fault {
+        ChangeFault::Store => Err(WorldFault::Store),
+        ChangeFault::Memory => Err(WorldFault::Memory),
+        ChangeFault::Differs | ChangeFault::NoSuchMember(_) | ChangeFault::TooMany => {
+            Ok(Report::Judged(Err(fault)))
+        }
+    }
+}
+
 /// What the connector learns from the answer to a request.
 fn learn<J: Journal>(
     connector: &mut Connector<J>,
@@ -90,14 +119,7 @@ fn learn<J: Journal>(
 {
     match connector.learn(request, answer) {
         Ok(learnt) => Ok(Report::Taught(Ok(learnt))),
-        Err(LearnFault::Store) => Err(WorldFault::Store),
-        Err(LearnFault::Memory) => Err(WorldFault::Memory),
-        Err(LearnFault::Unfit) => Ok(Report::Taught(Err(LearnFault::Unfit))),
-        Err(LearnFault::Unversioned) => Ok(Report::Taught(Err(LearnFault::Unversioned))),
-        Err(LearnFault::NoSuchRecord) => Ok(Report::Taught(Err(LearnFault::NoSuchRecord))),
-        Err(LearnFault::Refused { status }) => Ok(Report::Taught(Err(LearnFault::Refused {
-            status,
-        }))),
+        Err(fault) => unlearnt(fault),
     }
 }
 
@@ -126,13 +148,7 @@ fn judge<J: Journal>(connector: &mut Connector<J>, row: Row) -> Result<Report, W
 {
     match connector.change(row) {
         Ok(verdict) => Ok(Report::Judged(Ok(verdict))),
-        Err(ChangeFault::Store) => Err(WorldFault::Store),
-        Err(ChangeFault::Memory) => Err(WorldFault::Memory),
-        Err(ChangeFault::Differs) => Ok(Report::Judged(Err(ChangeFault::Differs))),
-        Err(ChangeFault::NoSuchMember(member)) => {
-            Ok(Report::Judged(Err(ChangeFault::NoSuchMember(member))))
-        }
-        Err(ChangeFault::TooMany) => Ok(Report::Judged(Err(ChangeFault::TooMany))),
+        Err(fault) => unaccepted(fault),
     }
 }
 
@@ -263,13 +279,12 @@ impl<R: Registry + Drop, J: Journal + Drop> World<R, J> {
         ensures shut { IsShutOff self.old (Changes row.now) → result ≡ Err Store }
         ensures opens { opens_of self.new ≡ opens_of self.old }
     {
-        match &mut self.connector {
-            Side::Open(connector) => {
-                keeps_limits(row);
-                judge(connector, row.clone()?)
-            }
-            Side::Shut(_) => Err(WorldFault::Store),
-        }
+        let Side::Open(connector) = &mut self.connector else {
+            return Err(WorldFault::Store);
+        };
+        keeps_limits(row);
+        let copy = row.clone()?;
+        judge(connector, copy)
     }
 
     /// The connector sends its next request for a record.
@@ -356,6 +371,7 @@ impl<R: Registry + Drop, J: Journal + Drop> World<R, J> {
         ensures apart { self.new.connector ≡ self.old.connector }
         ensures opens { opens_of self.new ≡ opens_of self.old }
     {
+        self.sent.reserve(1)?;
         let (pending, bytes) = prepared(
             self.alloc,
             &mut self.provider,
@@ -363,7 +379,6 @@ impl<R: Registry + Drop, J: Journal + Drop> World<R, J> {
             &request,
         )?;
         let status = pending.answer().status();
-        self.sent.reserve(1)?;
         let answer = self.provider.commit(pending)?;
         let said = Said::Answered(request, answer);
         self.sent.push(Sent { said, bytes })?;

@@ -1,34 +1,29 @@
-use Rattle.std.proofs.Common.{subst, sym}
-use Rattle.connector_core.specs.Noting.{IsRejection}
-use Rattle.world_sim.proofs.Calls.{rejected_leaves, rejected_open, still_leaves}
+use Rattle.std.proofs.Common.{ap}
+use Rattle.connector_core.specs.Maps.{book_of}
+use Rattle.world_sim.proofs.Calls.{counts_fault, is_rejected, learns_nothing, reports_fault, still_leaves, told_leaves, told_open}
+use Rattle.world_sim.proofs.Keeping.{all_err}
 use Rattle.world_sim.proofs.worlds.learn.Goals as goal
 
-pub returns-in-Err-Unfit-clause-open : goal.returns-in-Err-Unfit-clause-open
-returns-in-Err-Unfit-clause-open g c = λ honest faithful. rejected_open g.J.Journal c.args.connector.now c.learn.new.self (c.in-Err-Unfit.ensures.rejected (subst IsRejection (sym c.in-Err-Unfit.field-0-is) tt)) faithful
+pub returns-in-Err-clause-report : goal.returns-in-Err-clause-report
+returns-in-Err-clause-report g c = reports_fault c.in-Err.fault c.unlearnt.result c.unlearnt.ensures _ c.in-Err.ensures.learnt
 
-pub returns-in-Err-Unfit-clause-leaves : goal.returns-in-Err-Unfit-clause-leaves
-returns-in-Err-Unfit-clause-leaves g c = λ honest was. rejected_leaves g.J.Journal c.args.connector.now c.learn.new.self _ _ _ (c.in-Err-Unfit.ensures.rejected (subst IsRejection (sym c.in-Err-Unfit.field-0-is) tt)) c.in-Err-Unfit.ensures.err was
+pub returns-in-Err-clause-book : goal.returns-in-Err-clause-book
+returns-in-Err-clause-book g c = learns_nothing _ c.in-Err.fault c.in-Err.ensures.learnt (book_of c.args.connector.now.book) (book_of c.learn.new.self.book) (ap book_of c.in-Err.ensures.err)
+    c.unlearnt.result (is_rejected c.in-Err.fault c.unlearnt.result c.unlearnt.ensures)
 
-pub returns-in-Err-Unversioned-clause-open : goal.returns-in-Err-Unversioned-clause-open
-returns-in-Err-Unversioned-clause-open g c = λ honest faithful. rejected_open g.J.Journal c.args.connector.now c.learn.new.self (c.in-Err-Unversioned.ensures.rejected (subst IsRejection (sym c.in-Err-Unversioned.field-0-is) tt)) faithful
+pub returns-in-Err-clause-same : goal.returns-in-Err-clause-same
+returns-in-Err-clause-same g c = all_err c.unlearnt.result c.in-Err.ensures.err
 
-pub returns-in-Err-Unversioned-clause-leaves : goal.returns-in-Err-Unversioned-clause-leaves
-returns-in-Err-Unversioned-clause-leaves g c = λ honest was. rejected_leaves g.J.Journal c.args.connector.now c.learn.new.self _ _ _ (c.in-Err-Unversioned.ensures.rejected (subst IsRejection (sym c.in-Err-Unversioned.field-0-is) tt)) c.in-Err-Unversioned.ensures.err was
+pub returns-in-Err-clause-still : goal.returns-in-Err-clause-still
+returns-in-Err-clause-still g c = λ faithful was. all_err c.unlearnt.result (still_leaves g.J.Journal c.learn.new.self (g.met.J.Journal.settled c.learn.new.self.journal) c.learn.ensures.kept faithful)
 
-pub returns-in-Err-NoSuchRecord-clause-open : goal.returns-in-Err-NoSuchRecord-clause-open
-returns-in-Err-NoSuchRecord-clause-open g c = λ honest faithful. rejected_open g.J.Journal c.args.connector.now c.learn.new.self (c.in-Err-NoSuchRecord.ensures.rejected (subst IsRejection (sym c.in-Err-NoSuchRecord.field-0-is) tt)) faithful
+pub returns-in-Err-clause-open : goal.returns-in-Err-clause-open
+returns-in-Err-clause-open g c = λ honest faithful. told_open g.J.Journal c.args.connector.now c.learn.new.self _ c.in-Err.ensures.rejected c.unlearnt.result
+    (is_rejected c.in-Err.fault c.unlearnt.result c.unlearnt.ensures) faithful
 
-pub returns-in-Err-NoSuchRecord-clause-leaves : goal.returns-in-Err-NoSuchRecord-clause-leaves
-returns-in-Err-NoSuchRecord-clause-leaves g c = λ honest was. rejected_leaves g.J.Journal c.args.connector.now c.learn.new.self _ _ _ (c.in-Err-NoSuchRecord.ensures.rejected (subst IsRejection (sym c.in-Err-NoSuchRecord.field-0-is) tt)) c.in-Err-NoSuchRecord.ensures.err was
+pub returns-in-Err-clause-leaves : goal.returns-in-Err-clause-leaves
+returns-in-Err-clause-leaves g c = λ honest was. told_leaves g.J.Journal c.args.connector.now c.learn.new.self _ c.in-Err.ensures.rejected c.unlearnt.result
+    (is_rejected c.in-Err.fault c.unlearnt.result c.unlearnt.ensures) c.in-Err.ensures.err _ _ was (c.in-Err.ensures.leaves honest was).failed
 
-pub returns-in-Err-Refused-clause-open : goal.returns-in-Err-Refused-clause-open
-returns-in-Err-Refused-clause-open g c = λ honest faithful. rejected_open g.J.Journal c.args.connector.now c.learn.new.self (c.in-Err-Refused.ensures.rejected (subst IsRejection (sym c.in-Err-Refused.field-0-is) tt)) faithful
-
-pub returns-in-Err-Refused-clause-leaves : goal.returns-in-Err-Refused-clause-leaves
-returns-in-Err-Refused-clause-leaves g c = λ honest was. rejected_leaves g.J.Journal c.args.connector.now c.learn.new.self _ _ _ (c.in-Err-Refused.ensures.rejected (subst IsRejection (sym c.in-Err-Refused.field-0-is) tt)) c.in-Err-Refused.ensures.err was
-
-pub returns-in-Err-Store-clause-still : goal.returns-in-Err-Store-clause-still
-returns-in-Err-Store-clause-still g c = λ faithful was. still_leaves g.J.Journal c.learn.new.self (g.met.J.Journal.settled c.learn.new.self.journal) c.learn.ensures.kept faithful
-
-pub returns-in-Err-Memory-clause-still : goal.returns-in-Err-Memory-clause-still
-returns-in-Err-Memory-clause-still g c = λ faithful was. still_leaves g.J.Journal c.learn.new.self (g.met.J.Journal.settled c.learn.new.self.journal) c.learn.ensures.kept faithful
+pub returns-in-Err-clause-counted : goal.returns-in-Err-clause-counted
+returns-in-Err-clause-counted g c = counts_fault c.in-Err.fault c.unlearnt.result c.unlearnt.ensures _ _ c.in-Err.ensures.journal.counted

@@ -35,10 +35,16 @@ returns-clause-done g c =
 
 pub returns-in_err-reserve-clause-fails : goal.returns-in_err-reserve-clause-fails
 returns-in_err-reserve-clause-fails g c =
-    let reads = c.in_ok-pending.ensures.reads in
     let sent : c.reserve.new.self.items ≡ c.args.self.now.sent.items = search rules in
-    let p = err_from_is_err_and c.from_residual-in_err-reserve.result c.from_residual-in_err-reserve.ensures.1 in
-    rw (p.1, p.2) (fails_to_read g.R.Registry (unknown_entries g.J.Journal) c.args.self.now _ c.args.request Memory refl refl sent reads.honest reads.was reads.same reads.stop reads.counted)
+    let p = err_from_is_err_and c.from_residual.result c.from_residual.ensures.1 in
+    rw (p.1, p.2) (fails_to_read g.R.Registry (unknown_entries g.J.Journal) c.args.self.now _ c.args.request Memory refl refl sent (λ honest. honest) (λ faithful. faithful) (λ faithful. refl) (λ honest found holds. holds) refl)
+
+pub returns-in_err-pending-clause-fails : goal.returns-in_err-pending-clause-fails
+returns-in_err-pending-clause-fails g c =
+    let reads = c.in_err-pending.ensures.reads in
+    let sent : c.reserve.new.self.items ≡ c.args.self.now.sent.items = search rules in
+    let p = err_from_is_err_and c.from_residual-in_err-pending.result c.from_residual-in_err-pending.ensures.1 in
+    rw (p.1, p.2) (fails_to_read g.R.Registry (unknown_entries g.J.Journal) c.args.self.now _ c.args.request c.in_err-pending.field-0.0 refl refl sent reads.honest reads.was reads.same reads.stop reads.counted)
 
 pub returns-in_err-answer-clause-fails : goal.returns-in_err-answer-clause-fails
 returns-in_err-answer-clause-fails g c =
