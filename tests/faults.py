@@ -1,9 +1,11 @@
 """Runs of the program of which one call fails, how many such calls there are, and streams that follow a script."""
 import concurrent.futures
+import hashlib
 import itertools
 import multiprocessing
 import os
 import pathlib
+import pickle
 import shutil
 import struct
 import subprocess
@@ -62,11 +64,14 @@ def scripted(shim, folder, socket=0, **scripts):
 
 
 class Fault(Shim):
-    """The call of a kind that fails in a run, by its place from 1, and how, in the words of tests/shim.c."""
+    """The call of a kind that fails in a run, by its place from 1, and how, in the words of tests/shim.c. `left` is a
+    folder for the states that faults of this kind leave in the same story."""
 
-    def __init__(self, shim, folder, kind, place, how=""):
+    def __init__(self, shim, folder, kind, place, how="", left=None):
         super().__init__(shim, folder, {f"FAULT_{kind}": str(place), "FAULT_HOW": how})
-        self.kind, self.place, self.how = kind, place, how
+        self.kind, self.place, self.how, self.left = kind, place, how, left
+        # The options of another run beside it, which has no fault
+        self.others = Shim(shim, folder, {}).options
 
     def count(self):
         """How many calls of the kind there were."""
@@ -75,6 +80,15 @@ class Fault(Shim):
     @property
     def has_come(self):
         return self.count() >= self.place
+
+    def left_before(self, *state):
+        """Whether another fault left this very state, so that what follows from it is asserted there. Another process
+        may have told the story with that one."""
+        try:
+            (self.left / hashlib.sha256(pickle.dumps(state)).hexdigest()).touch(exist_ok=False)
+        except FileExistsError:
+            return True
+        return False
 
     @property
     def ends_run(self):
@@ -85,11 +99,11 @@ class Fault(Shim):
         return f"{self.kind.lower()} {self.place} {self.how}".rstrip()
 
 
-def tell(story, shim, kind, place, how):
+def tell(story, shim, kind, place, how, left):
     """Tells a story with this fault, in a new folder: whether the fault came, and what was wrong then."""
     with tempfile.TemporaryDirectory(dir=shim.parent) as name:
         folder = pathlib.Path(name)
-        fault = Fault(shim, folder, kind, place, how)
+        fault = Fault(shim, folder, kind, place, how, left)
         try:
             story(folder, fault)
         except Exception as error:
@@ -97,20 +111,30 @@ def tell(story, shim, kind, place, how):
         return fault.has_come, None
 
 
-def tell_all(story, shim, kind, how="", opening=0, step=1):
-    """Tells a story with each call of a kind failing in turn, until one that no fault disturbs: how many
-    failed, and what was wrong. Of the first calls, which open files, it takes one in so many; if `opening` is
-    None, all calls do that."""
+def places(opening, step):
+    """The places of the calls that fail. Of the first calls, which open files, these are one in so many; if `opening`
+    is None, all calls do that."""
     if opening is None:
-        places = itertools.count(step, step)
-    else:
-        places = itertools.chain(range(step, opening, step), itertools.count(opening + 1))
+        return itertools.count(step, step)
+    return itertools.chain(range(step, opening, step), itertools.count(opening + 1))
+
+
+def tell_share(story, shim, kind, how, left, opening, step, worker):
+    """Tells a story for a worker's share of the places, until one that no fault disturbs: how many failed, and what
+    was wrong."""
     failed, wrong = 0, []
+    for place in itertools.islice(places(opening, step), worker, None, WORKERS):
+        has_come, what = tell(story, shim, kind, place, how, left)
+        failed += has_come
+        wrong += [what] if what else []
+        if not has_come or len(wrong) > 100:
+            return failed, wrong
+
+
+def tell_all(story, shim, kind, how, left, opening=0, step=1):
+    """Tells a story with each call of a kind failing in turn, until there are no more: how many failed, and what was
+    wrong. For `opening` and `step` see `places`."""
     with concurrent.futures.ProcessPoolExecutor(WORKERS, multiprocessing.get_context("fork")) as pool:
-        while True:
-            some = [(story, shim, kind, place, how) for place in itertools.islice(places, 8 * WORKERS)]
-            told = list(pool.map(tell, *zip(*some)))
-            failed += sum(came for came, _ in told)
-            wrong += [what for _, what in told if what]
-            if not all(came for came, _ in told) or len(wrong) > 100:
-                return failed, wrong
+        shares = [pool.submit(tell_share, story, shim, kind, how, left, opening, step, worker) for worker in range(WORKERS)]
+        told = [share.result() for share in shares]
+    return sum(failed for failed, _ in told), [what for _, wrong in told for what in wrong]

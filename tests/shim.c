@@ -121,6 +121,13 @@ static long fail(int error)
     return -1;
 }
 
+/* random bytes: the same ones in each run, so that what a run leaves is the same too */
+int getentropy(void *bytes, size_t size)
+{
+    memset(bytes, 7, size);
+    return 0;
+}
+
 static int is_refused(void) { return is_chosen(ALLOCATION) && fail(ENOMEM); }
 void *malloc(size_t size) { return is_refused() ? 0 : __libc_malloc(size); }
 void *calloc(size_t number, size_t size) { return is_refused() ? 0 : __libc_calloc(number, size); }

@@ -1,6 +1,7 @@
 """Allocations refused in turn, and each write, sync and read of a disk: what was answered or confirmed stands."""
 import contextlib
 import dataclasses
+import functools
 import os
 import pathlib
 import shutil
@@ -77,7 +78,7 @@ def read_shown(lines):
 def kept(site):
     """The bytes of the files of both ends."""
     files = [file for base in (site.store, site.journal) for file in (base, base.with_name(f"{base.name}-wal"))]
-    return [file.read_bytes() if file.exists() else None for file in files]
+    return tuple(file.read_bytes() if file.exists() else None for file in files)
 
 
 def use_up(provider, address):
@@ -109,6 +110,8 @@ def answer_stored(folder, fault):
     command = ["answer", "--store", folder / "store"]
     run = scimlink(*command, stdin=CREATE_BOB, **fault.options)
     check_answer(run, fault)
+    if fault.left_before(run.output, kept(Site(folder))):
+        return
     again = scimlink(*command, stdin=CREATE_BOB)
     check((again.status, again.errors), (0, ""), "the next answer")
     if run.output == BOB_CREATED:
@@ -132,17 +135,36 @@ def settle(folder, fault):
     check_lines(scimlink("simulate", schedule, "--settle", **fault.options), fault, lines)
 
 
+@functools.cache
+def mapped():
+    """What an undisturbed `map` prints."""
+    return scimlink("map", RECORDS).lines
+
+
 def map_users(_, fault):
-    lines = scimlink("map", RECORDS).lines
-    check_lines(scimlink("map", RECORDS, **fault.options), fault, lines, 1, ["users record 3: S5"])
+    check_lines(scimlink("map", RECORDS, **fault.options), fault, mapped(), 1, ["users record 3: S5"])
+
+
+# The entries of a journal of an older format
+USERS = [
+    user_entry("ann", login="Ann", mail="ann@example.com"),
+    user_entry("bob", active=0, revision=3, confirmed=2, id=resource_id(1)),
+]
+CREW = [group_entry("crew", "ann bob", confirmed=1, id=resource_id(2))]
+
+
+@functools.cache
+def older_journal(form):
+    """The bytes of a journal of an older format."""
+    with tempfile.TemporaryDirectory() as name:
+        return make_journal(pathlib.Path(name) / "journal", USERS, CREW, form).read_bytes()
 
 
 def carry_over(form, folder, fault):
     """A journal of an older format is shown with a fault, and then without one, which shows all that was in it."""
-    confirmed = {"revision": 3, "confirmed": 2, "id": resource_id(1)}
-    users = [user_entry("ann", login="Ann", mail="ann@example.com"), user_entry("bob", active=0, **confirmed)]
-    groups = [group_entry("crew", "ann bob", confirmed=1, id=resource_id(2))]
-    journal = make_journal(folder / "journal", users, groups, form)
+    site = Site(folder)
+    journal = site.journal
+    journal.write_bytes(older_journal(form))
     lines = [
         "user ann wanted=1 confirmed=0 id=-",
         f"user bob wanted=3 confirmed=2 id={resource_id(1)}",
@@ -151,9 +173,11 @@ def carry_over(form, folder, fault):
     run = scimlink("show", "--journal", journal, **fault.options)
     check_ending(run, fault)
     check(run.lines, lines[: len(run.lines)], "lines")
+    if fault.left_before(kept(site)):
+        return
     check(show("--journal", journal), lines, "entries in the end")
-    check(sql(journal, "SELECT * FROM user_entry_3 ORDER BY name_key"), users, "users in the end")
-    check(sql(journal, "SELECT * FROM group_entry_3"), groups, "groups in the end")
+    check(sql(journal, "SELECT * FROM user_entry_3 ORDER BY name_key"), USERS, "users in the end")
+    check(sql(journal, "SELECT * FROM group_entry_3"), CREW, "groups in the end")
     for table in ("user_entry", "group_entry", "user_entry_2"):
         check(sql(journal, f"SELECT * FROM {table}"), [], f"rows of {table} in the end")
 
@@ -169,11 +193,16 @@ def carry_over_2(folder, fault):
 # ---- stories of both ends
 
 
+def read(*files):
+    """The bytes of files, by their names."""
+    return {file.name: file.read_bytes() for file in files}
+
+
 @dataclasses.dataclass
 class Job:
     """Files of a source, and of both ends where there are some, and what both ends keep in the end."""
 
-    folder: pathlib.Path
+    files: dict
     # The revision at which both ends keep a record at first
     before: dict
     # What `show` prints of the store in the end: records in the order of the source
@@ -181,7 +210,8 @@ class Job:
 
     def start(self, folder):
         """The files, in a new folder."""
-        shutil.copytree(self.folder, folder, dirs_exist_ok=True)
+        for name, content in self.files.items():
+            (folder / name).write_bytes(content)
         return Site(folder)
 
     @property
@@ -243,14 +273,15 @@ class Job:
     def push(self, folder, fault):
         """A push with a fault, then one without."""
         site = self.start(folder)
-        with Provider(1_000_000, "--store", site.store) as provider:
+        with Provider(1_000_000, "--store", site.store, **fault.others) as provider:
             before = kept(site)
             run = site.push(provider.address, **fault.options)
             check_ending(run, fault)
             check(run.lines, self.confirmed[: len(run.lines)], "lines")
             if run.status == 0:
                 check(len(run.lines), len(self.rows), "lines of a push that ends well")
-            if kept(site) == before:
+            after = kept(site)
+            if after == before or fault.left_before(run.output, after):
                 return
             self.check_entries(site, 0, run.lines)
             self.push_again(site, provider)
@@ -263,11 +294,12 @@ class Job:
         before = kept(site)
         with Running("serve", *options, **fault.options) as provider:
             address = provider.read_line().removeprefix("listening ").strip()
-            run = site.push(address) if address else None
+            run = site.push(address, **fault.others) if address else None
             if run:
                 use_up(provider, address)
             check_ending(provider.ends(), fault, "connection fault")
-        if kept(site) == before:
+        after = kept(site)
+        if after == before or fault.left_before(run and (run.status, run.output), after):
             return
         rows = self.check_rows(site, run.lines if run else ())
         if run and run.status == 0 and rows == self.rows:
@@ -288,7 +320,8 @@ class Job:
         check(records, self.records[: len(records)], "records")
         if run.status == 0:
             check(len(records), len(self.rows), "records of a loop that ends well")
-        if kept(site) == before:
+        after = kept(site)
+        if after == before or fault.left_before(run.output, after):
             return
         if fault.kind == "WRITE":
             self.check_kept(site, len(reports), self.confirmed[: len(records)])
@@ -312,6 +345,8 @@ class Job:
         run = site.reset(**fault.options)
         check_ending(run, fault)
         check(run.lines, ["reset 1 records"][: len(run.lines)], "lines")
+        if fault.left_before(run.output, kept(site)):
+            return
         shown = show("--journal", site.journal)
         if shown not in ([entry], [FORGOTTEN]) or (run.output and shown == [entry]):
             raise AssertionError(f"status {run.status}, {shown!r}")
@@ -325,7 +360,8 @@ class Job:
         file = site.store if option == "--store" else site.journal
         before = kept(site)
         check_lines(scimlink("show", option, file, **fault.options), fault, lines)
-        if kept(site) != before:
+        after = kept(site)
+        if after != before and not fault.left_before(after):
             check(show(option, file), lines, "the next show")
 
 
@@ -346,31 +382,30 @@ class FaultsTest(unittest.TestCase):
         cls.addClassCleanup(folder.cleanup)
         cls.folder = pathlib.Path(folder.name)
         cls.shim = build_shim(cls.folder)
+        site = Site(cls.folder)
         group = "group crew held=1 version=1 members=2"
-        cls.joiners = cls.job("joiners", {}, ["user ann held=1 version=1 active=true", BOB_SHOWN, group])
-        site = Site(cls.joiners.folder)
         site.write_users("ann,1,1001,Ann,Lee,ann@example.com,active", "bob,1,,,,,active")
         site.write_groups("crew,1,ann bob")
-        left = "user bob held=2 version=2 active=false"
-        cls.leaver = cls.job("leaver", {("user", "bob"): 1}, [left, "user cid held=1 version=1 active=true", group])
-        site = Site(cls.leaver.folder)
+        sources = site.users, site.groups
+        cls.joiners = Job(read(*sources), {}, ["user ann held=1 version=1 active=true", BOB_SHOWN, group])
+        site.groups.unlink()
         site.write_users("bob,1,,,,,active")
         check(site.loop("--store", site.store, "--journal", site.journal).status, 0, "the loop before")
         site.write_users("bob,2,,,,,left", "cid,1,1003,Cid,Poe,cid@example.com,active")
         site.write_groups("crew,1,bob cid")
-
-    @classmethod
-    def job(cls, name, *parts):
-        folder = cls.folder / name
-        folder.mkdir()
-        return Job(folder, *parts)
+        left = "user bob held=2 version=2 active=false"
+        cls.leaver = Job(
+            read(*sources, *cls.folder.glob("store*"), *cls.folder.glob("journal*")), {("user", "bob"): 1},
+            [left, "user cid held=1 version=1 active=true", group],
+        )
 
     def refuse(self, kind, *stories, ways=("",), **more):
         """Tells each story with each call of this kind refused in turn, in each of these ways."""
         for story in stories:
+            left = pathlib.Path(tempfile.mkdtemp(dir=self.folder))
             for how in ways:
                 with self.subTest(story=story.__name__, how=how):
-                    count, wrong = tell_all(story, self.shim, kind, how, **more)
+                    count, wrong = tell_all(story, self.shim, kind, how, left, **more)
                     print(f"{story.__name__}: refused {count} {kind.lower()}s {how}".rstrip(), *wrong[:5], sep="\n", flush=True)
                     self.assertEqual(wrong[:5], [], f"{len(wrong)} of {count}")
                     self.assertGreater(count, 0)
