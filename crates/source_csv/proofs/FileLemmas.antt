@@ -1,22 +1,16 @@
 -- The records of a file: its header, and the rest one by one.
-use Rattle.std.proofs.Common.{◌≡◌, ℕ, suc, ◌+◌, List, [], ◌∷◌, ◌++◌, Bool, true, false, Some, None, Result, Ok, Bor, length, map, refl, ap, sym, subst, inl, inr, append_assoc, length-append, ◌∙◌, ◌&&◌, arith}
+use Rattle.std.proofs.Common.{◌≡◌, ℕ, suc, ◌+◌, List, [], ◌∷◌, ◌++◌, Bool, true, false, Some, None, Bor, length, map, refl, ap, sym, subst, inl, inr, append_assoc, length-append, ◌∙◌, ◌&&◌, arith}
 use Rattle.std.proofs.lemmas.Bool.{and_parts, cases_Bool, false_from_ne_true}
 use Rattle.std.specs.List.{enumerate_from, find, list_all}
 use Rattle.std.specs.Option.{option_map}
 use Rattle.std.specs.Str.{bytes_eq}
 use Rattle.csv.specs.Machine.{Read, next_record}
-use Rattle.csv.specs.Reading.{AreRecords, FlexibleStep, Reached, RowStep, default_config}
-use Rattle.csv.specs.Records.{Row, field_at, fields_of}
-use Rattle.csv.specs.declared.iter.ByteRecordsIntoIter.{ByteRecordsIntoIter}
-use Rattle.csv.proofs.ReadFacts.{rows-end, rows-more}
+use Rattle.csv.specs.Reading.{AreRecords, Reached, default_config}
+use Rattle.csv.specs.Records.{field_at}
 use Rattle.csv.specs.declared.parser.State.{State}
-use Rattle.source_csv.specs.declared.rows.Row.{Row as SourceRow}
-use Rattle.source_csv.specs.declared.faults.RowFault.{RowFault}
 use Rattle.source_csv.specs.Fields.{Record, field, named}
 use Rattle.source_csv.proofs.FieldLemmas.{length_named}
-use Rattle.scim_key.specs.declared.records.Kind.{Kind}
-use Rattle.source_csv.specs.Reader.{IsAt}
-use Rattle.source_csv.specs.Files.{at_place, columns_of, read_row, rows_from, rows_of, same_record}
+use Rattle.source_csv.specs.Files.{same_record}
 
 same_length : (one two : Record) → same_record one two ≡ true → length one ≡ length two
 same_length [] [] e = refl
@@ -63,45 +57,6 @@ pub no_record : (s : State) (xs : List ℕ) (records : List Record)
 unfolding Reached
 no_record s xs [] are e = refl
 no_record s xs (r ∷ rest) (t, ys, reached, end) e = absurd (cc (reached.1, e))
-
--- a step of the iterator that gives a record, and one that gives none
-pub steps_on : (s : State) (xs : List ℕ) (a b : ByteRecordsIntoIter (Bor (List ℕ))) (fields : Row)
-    → IsAt s xs a → RowStep (λ (bytes : Bor (List ℕ)). Some bytes.now) a.rdr b.rdr b.left (Some (Ok fields))
-    → FlexibleStep a.rdr b.rdr (Some (Ok fields))
-    → (p : Read) × (next_record default_config s [] [] xs ≡ Some p) × (fields_of fields ≡ p.0) × IsAt p.1 p.2 b
-unfolding Reached
-steps_on s xs a b fields at step flexible =
-    let more = rows-more (λ (bytes : Bor (List ℕ)). Some bytes.now) a.rdr b.rdr (fields_of fields) default_config s xs xs [] at.config at.source (sym at.stands, refl) step.0 in (
-      more.2.0,
-      more.2.1,
-      more.2.2,
-      record {
-        trim = step.0.3 ∙ at.trim;
-        ready = inl step.1;
-        left = step.2;
-        config = step.0.2 ∙ at.config;
-        source = more.1 ∙ ap Some (sym more.2.3.1);
-        stands = sym more.2.3.0;
-        flexible = flexible ∙ at.flexible;
-      },
-    )
-
-pub steps_out : (s : State) (xs : List ℕ) (a b : ByteRecordsIntoIter (Bor (List ℕ)))
-    → IsAt s xs a → RowStep (λ (bytes : Bor (List ℕ)). Some bytes.now) a.rdr b.rdr b.left None
-    → next_record default_config s [] [] xs ≡ None
-steps_out s xs a b at step = rw at.stands at (rows-end (λ (bytes : Bor (List ℕ)). Some bytes.now) a.rdr b.rdr [] default_config xs at.config at.source step)
-
--- one more row after those that were read
-pub push_row : (of : Kind) (columns : Record) (items : List (Result SourceRow RowFault)) (row : Result SourceRow RowFault) (fields : Record) (left more : List Record)
-    → row ≡ at_place (length items + 1) (read_row of columns fields) → left ≡ fields ∷ more
-    → items ++ rows_from of columns (length items + 1) left ≡ (items ++ row ∷ []) ++ rows_from of columns (length (items ++ row ∷ []) + 1) more
-push_row of columns items row fields left more at first = rw (first, at, append_assoc, length-append)
-
--- no row yet, after the header
-pub no_rows : (of : Kind) (columns : Record) (items : List (Result SourceRow RowFault)) (records rest : List Record) (header : Record)
-    → items ≡ [] → records ≡ header ∷ rest → columns_of of header ≡ Some columns
-    → rows_of of records ≡ Ok (items ++ rows_from of columns (length items + 1) rest)
-no_rows of columns items records rest header none first lawful = rw (none, first, lawful) refl
 
 -- the header of a record among headers, by their names
 pub find-named : (test : Record → Bool) (headers : List (Bor (List (Bor (List ℕ))))) → find test (map (λ c. named c.now) headers) ≡ option_map (λ c. named c.now) (find (λ c. test (named c.now)) headers)

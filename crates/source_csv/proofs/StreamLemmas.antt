@@ -1,5 +1,5 @@
 -- One more record of a file that is read one record at a time.
-use Rattle.std.proofs.Common.{◌≡◌, ℕ, List, [], ◌∷◌, Bool, true, false, Option, Some, refl, ap, sym, inl, inr, ◌∙◌}
+use Rattle.std.proofs.Common.{◌≡◌, ℕ, ◌+◌, List, [], ◌∷◌, ◌++◌, Bool, true, false, Option, Some, Result, Ok, Err, refl, ap, sym, inl, inr, append_assoc, ◌∙◌}
 use Rattle.std.proofs.lemmas.Bool.{cases_Bool}
 use Rattle.std.specs.Option.{option_map}
 use Rattle.csv.specs.Reading.{ExplainsRead, Reached, ReadRecord, default_config, has_failed, is_flexible, reader_state, source_of, stops_reader, strip_bom, took_first}
@@ -10,8 +10,16 @@ use Rattle.csv.specs.declared.error.ErrorKind.TheVariants as kind
 use Rattle.csv.specs.declared.reader.Reader.{Reader}
 use Rattle.csv.proofs.ReadFacts.{rows-end, rows-more}
 use Rattle.source_csv.specs.Fields.{Record}
-use Rattle.source_csv.specs.Files.{AreRecordsOf}
-use Rattle.source_csv.specs.Streams.{IsPlain, Leaves, Takes}
+use Rattle.scim_key.specs.Outcome.{Gives}
+use Rattle.scim_key.specs.declared.records.Kind.{Kind}
+use Rattle.source_csv.specs.Files.{AreRecordsOf, at_place, read_row, rows_of}
+use Rattle.source_csv.specs.Opening.{IsReadFault, Opens, source_fault}
+use Rattle.source_csv.specs.Streams.{Adds, HasLeft, IsPlain, Leaves, Standing, Takes, last_row, place_after, rows_next}
+use Rattle.source_csv.specs.declared.faults.RowFault.{RowFault}
+use Rattle.source_csv.specs.declared.faults.SourceFault.TheVariants.{Header, Memory}
+use Rattle.source_csv.specs.declared.rows.Row.{Row}
+use Rattle.source_csv.specs.declared.streams.ReadFault.{ReadFault}
+use Rattle.source_csv.specs.declared.streams.ReadFault.TheVariants.{Source, Input}
 use Rattle.source_csv.proofs.FileLemmas.{first_record, no_record}
 
 -- a read takes the first of the records that are left, or there are none
@@ -68,3 +76,43 @@ takes_one found fields remaining state records e taken = rw e at taken
 pub takes_none : (found : Bool) (fields : Record) (remaining : Option (List ℕ)) (state : State) (records : List Record)
     → found ≡ false → Takes found fields remaining state records → records ≡ []
 takes_none found fields remaining state records e taken = rw e at taken
+
+-- ---- a file in memory
+
+-- the row of the first record, and the rows after it
+rows_of_first : (old mid new : Standing) (fields : Record) (rest records : List Record) (row : Result Row RowFault)
+    → mid.kind ≡ old.kind → new.kind ≡ mid.kind → mid.columns ≡ old.columns → new.columns ≡ mid.columns → mid.place ≡ old.place + 1 → new.place ≡ mid.place
+    → row ≡ at_place mid.place (read_row mid.kind mid.columns fields) → records ≡ fields ∷ rest → rows_next old records ≡ row ∷ rows_next new rest
+rows_of_first old mid new fields rest records row a b c d e f is first = rw (is, first, b, a, d, c, f, e) refl
+
+left_too : (a b : Standing) (records : List Record) → b.remaining ≡ a.remaining → b.state ≡ a.state → HasLeft a records → HasLeft b records
+left_too a b records same state left = rw (same, state) left
+
+pub adds_one : (old mid new : Standing) (found : Bool) (row : Result Row RowFault) (before after : List (Result Row RowFault)) (records : List Record)
+    → found ≡ true → mid.kind ≡ old.kind → mid.columns ≡ old.columns → mid.place ≡ place_after found old.place → new ≡ record mid { fields = new.fields } → row ≡ last_row mid
+    → after ≡ before ++ row ∷ [] → Takes found mid.fields mid.remaining mid.state records → Adds true old new before after records
+adds_one old mid new found row before after records one kind columns step same is items taken =
+    let (rest, first, left) = takes_one found mid.fields mid.remaining mid.state records one taken in
+    let place : mid.place ≡ old.place + 1 = rw one at step in
+    let rows = rows_of_first old mid new mid.fields rest records row kind (ap (λ (s : Standing). s.kind) same) columns (ap (λ (s : Standing). s.columns) same) place (ap (λ (s : Standing). s.place) same) is first in (
+      rest,
+      left_too mid new rest (ap (λ (s : Standing). s.remaining) same) (ap (λ (s : Standing). s.state) same) left,
+      rw (items, append_assoc) (ap (λ (l : List (Result Row RowFault)). before ++ l) rows),
+    )
+
+-- a read fault in memory is that memory ran out
+pub memory_alone : (fault : ReadFault) → IsReadFault fault → source_fault fault ≡ Memory
+memory_alone (Source Header) is = absurd is
+memory_alone (Source Memory) is = refl
+memory_alone (Input why) is = refl
+
+-- a file that isn't opened
+pub not_opened : (of : Kind) (records : List Record) (fault : ReadFault) → Opens of records (Err fault) → Gives Memory (Err (source_fault fault)) (rows_of of records)
+not_opened of records (Source Header) is = inr is
+not_opened of records (Source Memory) is = inl refl
+not_opened of records (Input why) is = inl refl
+
+-- no row yet, after the header
+pub none_yet : (of : Kind) (file : Standing) (items : List (Result Row RowFault)) (records : List Record) → file.kind ≡ of → file.place ≡ 0 → items ≡ [] → Opens of records (Ok file)
+    → (left : List Record) × HasLeft file left × (rows_of of records ≡ Ok (items ++ rows_next file left))
+none_yet of file items records same place none (header, rest, first, columns, left) = (rest, left, rw (first, columns, none, same, place) refl)

@@ -9,7 +9,7 @@ use Rattle.scim_key.specs.Outcome.{◌>>=◌}
 use Rattle.scim_key.specs.declared.records.Kind.{Kind}
 use Rattle.scim_key.specs.declared.records.Kind.TheVariants as kind
 use Rattle.source_csv.specs.Fields.{Record, read_group, read_user}
-use Rattle.source_csv.specs.declared.files.TheConstants.{GROUP_HEADERS, USER_HEADERS}
+use Rattle.source_csv.specs.declared.headers.TheConstants.{GROUP_HEADERS, USER_HEADERS}
 use Rattle.source_csv.specs.declared.faults.RowCode.{RowCode}
 use Rattle.source_csv.specs.declared.faults.RowFault.{RowFault}
 use Rattle.source_csv.specs.declared.faults.SourceFault.{SourceFault}

@@ -6,6 +6,7 @@ use Rattle.scim_key.specs.declared.records.Kind.{Kind}
 use Rattle.source_csv.specs.Fields.{Record}
 use Rattle.source_csv.specs.Files.{columns_of, rows_of}
 use Rattle.source_csv.specs.Streams.{HasLeft, Standing}
+use Rattle.source_csv.specs.declared.faults.SourceFault.{SourceFault}
 use Rattle.source_csv.specs.declared.faults.SourceFault.TheVariants.{Header, Memory}
 use Rattle.source_csv.specs.declared.streams.ReadFault.{ReadFault}
 use Rattle.source_csv.specs.declared.streams.ReadFault.TheVariants.{Source, Input}
@@ -14,6 +15,11 @@ use Rattle.source_csv.specs.declared.streams.ReadFault.TheVariants.{Source, Inpu
 abbrev pub read_fault : ErrorKind → ReadFault
 read_fault (error.Io why) = Input why
 read_fault _ = Source Memory
+
+-- the same, of a file in memory, of which no read fails
+abbrev pub source_fault : ReadFault → SourceFault
+source_fault (Source fault) = fault
+source_fault (Input why) = Memory
 
 -- a fault that says nothing of the header
 abbrev pub IsReadFault : ReadFault → Type 0

@@ -1,5 +1,5 @@
 -- A file of the source, read one record at a time.
-use Rattle.std.specs.Prelude.{◌≡◌, ℕ, ◌+◌, Bool, true, false, List, [], ◌∷◌, Option, Some, Result}
+use Rattle.std.specs.Prelude.{◌≡◌, ℕ, ◌+◌, Bool, true, false, List, [], ◌∷◌, ◌++◌, Option, Some, Result}
 use Rattle.csv.specs.Reading.{AreRecords, Ready, default_config, is_flexible, reader_config, reader_trim}
 use Rattle.csv.specs.declared.parser.State.{State}
 use Rattle.csv.specs.declared.reader.Reader.{Reader}
@@ -52,3 +52,8 @@ last_row rows = at_place rows.place (read_row rows.kind rows.columns rows.fields
 -- what these records say, if they come next
 abbrev pub rows_next : Standing → List Record → List (Result Row RowFault)
 rows_next rows records = rows_from rows.kind rows.columns (rows.place + 1) records
+
+-- A step over these records: it added the row of the first of them, and the others are left. Or there were none.
+abbrev pub Adds : (found : Bool) → (old new : Standing) → (before after : List (Result Row RowFault)) → List Record → Type 0
+Adds true old new before after records = (rest : List Record) × HasLeft new rest × (before ++ rows_next old records ≡ after ++ rows_next new rest)
+Adds false old new before after records = (records ≡ []) × (after ≡ before)

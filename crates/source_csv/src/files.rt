@@ -1,53 +1,17 @@
-//! Files of the source.
-ghost use Rattle.std.specs.Prelude.{◌≡◌, IfErr, IfOk, IsErr, List, MatchResult, Ok, map, true};
-ghost use Rattle.std.specs.List.{enumerate_from, find, list_all};
-ghost use Rattle.std.specs.Option.{option_map};
-ghost use Rattle.std.specs.Result.{ForErr};
-ghost use Rattle.std.specs.Str.{bytes_eq};
-ghost use Rattle.csv.specs.Reading.{error_kind, stops_reader, strip_bom};
-ghost use Rattle.csv.specs.Records.{fields_of};
-ghost use Rattle.csv.specs.declared.parser.State.TheVariants.{StartRecord};
+//! Files of the source that are in memory.
+ghost use Rattle.std.specs.Prelude.{◌≡◌, IfErr, IfOk, List};
 ghost use Rattle.scim_key.specs.Outcome.{Gives};
 ghost use Rattle.scim_key.specs.declared.records.Kind.TheVariants as kind;
-ghost use Rattle.source_csv.specs.Fields.{Reads, Record, field, named};
-ghost use Rattle.source_csv.specs.Reader.{IsAt};
-ghost use Rattle.source_csv.specs.Files.{AreRecordsOf, FilesHaveRecords, at_place, columns_of, read_row, rows_of, same_record};
+ghost use Rattle.source_csv.specs.Fields.{Record};
+ghost use Rattle.source_csv.specs.Files.{AreRecordsOf, FilesHaveRecords, rows_of};
+ghost use Rattle.source_csv.specs.Streams.{Adds, HasLeft};
 
-use crate::columns::Columns;
-use crate::faults::{Refusal, RowFault, SourceFault};
-use crate::groups::read_group;
+use crate::faults::{RowFault, SourceFault};
 use crate::rows::Row;
-use crate::users::read_user;
-use csv::{ByteRecord, ByteRecordsIntoIter, ReaderBuilder};
+use crate::streams::RowReader;
 use scim_key::Kind;
 use std::alloc::Global;
 use std::marker::Model;
-
-/// The columns of a file of users, as its header names them.
-pub const USER_COLUMNS: [&str; 7] = [
-    "login", "revision", "number", "given", "family", "mail", "status",
-];
-
-/// The columns of a file of users with their departments.
-pub const DEPARTMENT_COLUMNS: [&str; 8] = [
-    "login",
-    "revision",
-    "number",
-    "given",
-    "family",
-    "mail",
-    "status",
-    "department",
-];
-
-/// The headers that a file of users may have.
-pub const USER_HEADERS: [&[&str]; 2] = [&USER_COLUMNS, &DEPARTMENT_COLUMNS];
-
-/// The columns of a file of groups.
-pub const GROUP_COLUMNS: [&str; 3] = ["name", "revision", "members"];
-
-/// The headers that a file of groups may have.
-pub const GROUP_HEADERS: [&[&str]; 1] = [&GROUP_COLUMNS];
 
 /// The records of a file, in order: each is a row or is rejected.
 #[derive(Debug, Drop)]
@@ -82,133 +46,35 @@ impl SourceRows {
     }
 }
 
-/// Whether a record has this field at a place.
-fn has_field(raw: &ByteRecord, place: usize, name: &str) -> bool
-    ensures { result ≡ bytes_eq (field (fields_of raw.now) place) name.now }
+/// Reads the next record and adds its row or its fault, and returns whether there was one.
+fn add_next(
+    file: &mut RowReader<&[u8]>,
+    rows: &mut Vec<Result<Row, RowFault>>,
+) -> Result<bool, SourceFault>
+    ensures adds { (records : List Record) → HasLeft file.old records
+        → IfOk result (λ found. Adds found file.old file.new rows.old.items rows.new.items records) }
+    ensures err { IfErr result (λ fault. fault ≡ SourceFault.Memory) }
 {
-    raw.get(place).unwrap_or(b"") == name.as_bytes()
-}
-
-/// Whether the fields of a record are these, from the first on.
-fn has_fields(raw: &ByteRecord, names: &[&str]) -> bool
-    ensures { result
-        ≡ list_all (λ p. bytes_eq (field (fields_of raw.now) p.0) p.1.now)
-        (enumerate_from 0 names.now) }
-{
-    names
-        .iter()
-        .enumerate()
-        .all(|(place, name)| has_field(raw, place, name))
-}
-
-/// Whether a record has exactly these columns.
-fn has_columns(raw: &ByteRecord, columns: &[&str]) -> bool
-    ensures { result ≡ same_record (fields_of raw.now) (named columns.now) }
-{
-    raw.len() == columns.len() && has_fields(raw, columns)
-}
-
-/// The columns of the header among these that the record is. `None` if it is none of them.
-fn header_among(
-    headers: &[&'static [&'static str]],
-    raw: &ByteRecord,
-) -> Option<&'static [&'static str]>
-    ensures { option_map (λ columns. named columns.now) result
-        ≡ find (same_record (fields_of raw.now)) (map (λ columns. named columns.now) headers.now) }
-{
-    headers
-        .iter()
-        .find(|columns| has_columns(raw, columns))
-        .copied()
-}
-
-/// The columns of a file of this kind with this header. `None` if no file of this kind has it.
-pub(crate) fn columns_of(kind: Kind, header: &ByteRecord) -> Option<Columns>
-    ensures { result ≡ columns_of kind (fields_of header.now) }
-{
-    let names = match kind {
-        Kind::User => header_among(&USER_HEADERS, header),
-        Kind::Group => header_among(&GROUP_HEADERS, header),
-    };
-    Some(Columns::of(names?))
-}
-
-/// Reads a record of a file of this kind with these columns.
-#[tactic(auto, unfolding(crate::specs::Files::read_row))]
-fn read_row(
-    alloc: Global,
-    kind: Kind,
-    columns: &Columns,
-    raw: &mut ByteRecord,
-) -> Result<Row, Refusal>
-    ensures { Reads result (read_row kind columns.now (fields_of raw.old)) }
-{
-    match kind {
-        Kind::User => Ok(Row::User(read_user(alloc, columns, raw)?)),
-        Kind::Group => Ok(Row::Group(read_group(alloc, raw)?)),
+    if !file.read_next()? {
+        return Ok(false);
     }
+    rows.push(file.row()?)?;
+    Ok(true)
 }
 
-/// The row or the fault of the record at a place.
-pub(crate) fn row_at(
-    alloc: Global,
-    kind: Kind,
-    columns: &Columns,
-    place: usize,
-    raw: &mut ByteRecord,
-) -> Result<Result<Row, RowFault>, SourceFault>
-    ensures { MatchResult result (λ row. row
-        ≡ at_place place (read_row kind columns.now (fields_of raw.old))) (λ fault. fault
-        ≡ SourceFault.Memory) }
-{
-    match read_row(alloc, kind, columns, raw) {
-        Ok(row) => Ok(Ok(row)),
-        Err(Refusal::Refused(code)) => Ok(Err(RowFault { place, code })),
-        Err(Refusal::Memory) => Err(SourceFault::Memory),
-    }
-}
-
-/// The records of a file, including its header.
-fn records_of(alloc: Global, bytes: &[u8]) -> ByteRecordsIntoIter<&[u8]>
-    ensures { IsAt StartRecord (strip_bom bytes.now) result }
-{
-    ReaderBuilder::new()
-        .has_headers(false)
-        .flexible(true)
-        .from_reader(alloc, bytes)
-        .into_byte_records()
-}
-
-/// The record that the reader gave. If it gave none, memory ran out: no other error is possible for bytes
-/// in memory and records with any number of fields.
-fn record_of(given: Result<ByteRecord, csv::Error>) -> Result<ByteRecord, SourceFault>
-    requires { ForErr given (λ error. stops_reader (error_kind error) ≡ true) }
-    ensures ok { IfOk result (λ raw. given ≡ Ok raw) }
-    ensures err { IfErr result (λ fault. (fault ≡ SourceFault.Memory) × IsErr given) }
-{
-    Ok(given?)
-}
-
-/// Reads a file of this kind.
+/// Reads a file of this kind. More records than `u64` counts are out of memory.
 fn read_rows(alloc: Global, kind: Kind, bytes: &[u8]) -> Result<SourceRows, SourceFault>
     ensures { (records : List Record) → AreRecordsOf bytes.now records
         → Gives SourceFault.Memory result (rows_of kind records) }
 {
-    let mut records = records_of(alloc, bytes);
-    let header = match records.next() {
-        Some(header) => record_of(header)?,
-        None => return Err(SourceFault::Header),
-    };
-    let columns = match columns_of(kind, &header) {
-        Some(columns) => columns,
-        None => return Err(SourceFault::Header),
-    };
+    let mut file = RowReader::open(alloc, kind, bytes)?;
     let mut rows = Vec::new(alloc);
-    for fields in records {
-        let mut raw = record_of(fields)?;
-        rows.push(row_at(alloc, kind, &columns, rows.len() + 1, &mut raw)?)?;
+    for _ in 0..u64::MAX {
+        if !add_next(&mut file, &mut rows)? {
+            return Ok(SourceRows { rows });
+        }
     }
-    Ok(SourceRows { rows })
+    Err(SourceFault::Memory)
 }
 
 /// Reads a file of users. Its records are counted from 1 after the header.

@@ -6,17 +6,16 @@ mod faults;
 mod fields;
 mod files;
 mod groups;
+mod headers;
 mod rows;
 mod streams;
 mod texts;
 mod users;
 
 pub use faults::{RowCode, RowFault, SourceFault};
-pub use files::{
-    DEPARTMENT_COLUMNS, GROUP_COLUMNS, GROUP_HEADERS, SourceRows, USER_COLUMNS, USER_HEADERS,
-    files_have_records, read_groups, read_users,
-};
+pub use files::{SourceRows, files_have_records, read_groups, read_users};
 pub use groups::{GroupRow, MEMBER_LIMIT};
+pub use headers::{DEPARTMENT_COLUMNS, GROUP_COLUMNS, GROUP_HEADERS, USER_COLUMNS, USER_HEADERS};
 pub use rows::{Row, keys_are_of_names};
 pub use streams::{ReadFault, RowReader};
 pub use texts::{FieldValue, TEXT_FIELD_COUNT, TEXT_FIELDS, TextField, VALUE_LIMIT};

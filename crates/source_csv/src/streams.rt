@@ -4,15 +4,17 @@ ghost use Rattle.csv.specs.Reading.{error_kind, has_failed, reader_state, source
 ghost use Rattle.csv.specs.Records.{fields_of};
 ghost use Rattle.csv.specs.declared.parser.State.TheVariants.{StartRecord};
 ghost use Rattle.std.specs.Option.{option_map};
-ghost use Rattle.source_csv.specs.Fields.{Record};
-ghost use Rattle.source_csv.specs.Files.{AreRecordsOf};
-ghost use Rattle.source_csv.specs.Opening.{IsReadFault, Opens, read_fault};
+ghost use Rattle.source_csv.specs.Fields.{Reads, Record};
+ghost use Rattle.source_csv.specs.Files.{AreRecordsOf, read_row};
+ghost use Rattle.source_csv.specs.Opening.{IsReadFault, Opens, read_fault, source_fault};
 ghost use Rattle.source_csv.specs.Streams.{HasLeft, IsPlain, Leaves, Takes, last_row, place_after};
 
 use crate::columns::Columns;
-use crate::faults::{RowFault, SourceFault};
-use crate::files::{columns_of, row_at};
+use crate::faults::{Refusal, RowFault, SourceFault};
+use crate::groups::read_group;
+use crate::headers::columns_of;
 use crate::rows::Row;
+use crate::users::read_user;
 use csv::{ByteRecord, ErrorKind, Reader, ReaderBuilder};
 use scim_key::Kind;
 use std::alloc::Global;
@@ -29,6 +31,18 @@ pub enum ReadFault {
     /// A read failed; the error is the system's.
     #[error("{0}")]
     Input(io::Error),
+}
+
+impl From<ReadFault> for SourceFault {
+    ghost from_gives = { λ fault made. made ≡ source_fault fault };
+
+    /// No read of bytes in memory fails.
+    fn from(fault: ReadFault) -> SourceFault {
+        match fault {
+            ReadFault::Source(fault) => fault,
+            ReadFault::Input(_) => SourceFault::Memory,
+        }
+    }
 }
 
 /// A file of the source, read one record at a time. It holds one record, and reads ahead by 8 KiB.
@@ -103,6 +117,22 @@ fn read_into<R: Read>(reader: &mut Reader<R>, raw: &mut ByteRecord) -> Result<bo
     }
 }
 
+/// Reads a record of a file of this kind with these columns.
+#[tactic(auto, unfolding(crate::specs::Files::read_row))]
+fn read_row(
+    alloc: Global,
+    kind: Kind,
+    columns: &Columns,
+    raw: &mut ByteRecord,
+) -> Result<Row, Refusal>
+    ensures { Reads result (read_row kind columns.now (fields_of raw.old)) }
+{
+    match kind {
+        Kind::User => Ok(Row::User(read_user(alloc, columns, raw)?)),
+        Kind::Group => Ok(Row::Group(read_group(alloc, raw)?)),
+    }
+}
+
 impl<R: Read + Drop> RowReader<R> {
     /// Reads the header of a file of this kind.
     pub fn open(alloc: Global, kind: Kind, source: R) -> Result<RowReader<R>, ReadFault>
@@ -170,12 +200,11 @@ impl<R: Read + Drop> RowReader<R> {
             ≡ SourceFault.Memory) }
         ensures rest { self.new ≡ record self.old { fields = self.new.fields } }
     {
-        row_at(
-            self.alloc,
-            self.kind,
-            &self.columns,
-            self.place,
-            &mut self.raw,
-        )
+        let place = self.place;
+        match read_row(self.alloc, self.kind, &self.columns, &mut self.raw) {
+            Ok(row) => Ok(Ok(row)),
+            Err(Refusal::Refused(code)) => Ok(Err(RowFault { place, code })),
+            Err(Refusal::Memory) => Err(SourceFault::Memory),
+        }
     }
 }
