@@ -19,48 +19,30 @@ use Rattle.scim_resource.specs.declared.emails.Email.{Email}
 use Rattle.scim_resource.specs.declared.user_texts.UserText.{UserText}
 use Rattle.scim_resource.specs.Writing.{Extension, urn_if, urns_of, urn_tokens, schemas_data, group_parts, group_data, group_front, group_back, group_members_data, member_data, user_parts, user_data, user_front, user_back, text_parts, object_if, email_parts, email_data, primary_data, emails_data, meta_parts, meta_data, shown_location}
 
-pub user_closed : {E : Type 0} (r : Result (Unit {0}) E) (u : UserRecord) (a b c d e : Written) → Adds (begin_object ∷ []) a b → WritesParts (user_front u) b c → WritesParts (user_back u) c d
-    → token.Writes r d e end_object → OnOk r (Writes (user_data None None u) a e)
+pub user_closed : {E : Type 0} (r : Result (Unit {0}) E) (id meta : Option Data) (u : UserRecord) (a b c d e f g : Written) → Adds (begin_object ∷ []) a b → WritesParts (user_front u) b c
+    → WritesPart (codes "id") id c d → WritesPart (codes "meta") meta d e → WritesParts (user_back u) e f → token.Writes r f g end_object
+    → OnOk r (Writes (user_data id meta u) a g)
 unfolding user_data user_front user_back
-user_closed r u a b c d e first front back last =
-    let f = user_front u in
-    let g = user_back u in
-    object_closed r (user_parts None None u) (parts_tokens f ++ parts_tokens g) a b d e (parts_tokens-append f g) first (then (parts_tokens f) (parts_tokens g) b c d front back) last
-
-pub shown_user_closed : {E : Type 0} (r : Result (Unit {0}) E) (id meta : Data) (u : UserRecord) (a b c d e f g : Written) → Adds (begin_object ∷ []) a b → WritesParts (user_front u) b c
-    → WritesPart (codes "id") (Some id) c d → WritesPart (codes "meta") (Some meta) d e → WritesParts (user_back u) e f → token.Writes r f g end_object
-    → OnOk r (Writes (user_data (Some id) (Some meta) u) a g)
-unfolding user_data user_front user_back
-shown_user_closed r id meta u a b c d e f g first front named shown back last =
+user_closed r id meta u a b c d e f g first front named shown back last =
     let p = parts_tokens (user_front u) in
-    let i = part_tokens (codes "id") (Some id) in
-    let m = part_tokens (codes "meta") (Some meta) in
+    let i = part_tokens (codes "id") id in
+    let m = part_tokens (codes "meta") meta in
     let q = parts_tokens (user_back u) in
-    object_closed r (user_parts (Some id) (Some meta) u) (p ++ (i ++ (m ++ q))) a b f g (parts_tokens-append (user_front u) ((codes "id", Some id) ∷ (codes "meta", Some meta) ∷ user_back u)) first
+    object_closed r (user_parts id meta u) (p ++ (i ++ (m ++ q))) a b f g (parts_tokens-append (user_front u) ((codes "id", id) ∷ (codes "meta", meta) ∷ user_back u)) first
     (then p (i ++ (m ++ q)) b c f front (then i (m ++ q) c d f named (then m q d e f shown back))) last
 
-pub group_closed : {E : Type 0} (r : Result (Unit {0}) E) (o : GroupRecord) (a b c d e f : Written) → Adds (begin_object ∷ []) a b → WritesParts (group_front o) b c
-    → WritesPart (codes "members") (group_members_data o.members) c d → WritesParts (group_back o) d e → token.Writes r e f end_object → OnOk r (Writes (group_data None None o) a f)
+pub group_closed : {E : Type 0} (r : Result (Unit {0}) E) (id meta : Option Data) (o : GroupRecord) (a b c d e f g h : Written) → Adds (begin_object ∷ []) a b → WritesParts (group_front o) b c
+    → WritesPart (codes "id") id c d → WritesPart (codes "members") (group_members_data o.members) d e → WritesPart (codes "meta") meta e f → WritesParts (group_back o) f g
+    → token.Writes r g h end_object → OnOk r (Writes (group_data id meta o) a h)
 unfolding group_data group_front group_back
-group_closed r o a b c d e f first front members back last =
+group_closed r id meta o a b c d e f g h first front named members shown back last =
     let p = parts_tokens (group_front o) in
+    let i = part_tokens (codes "id") id in
     let v = part_tokens (codes "members") (group_members_data o.members) in
+    let m = part_tokens (codes "meta") meta in
     let q = parts_tokens (group_back o) in
-    object_closed r (group_parts None None o) (p ++ (v ++ q)) a b e f (parts_tokens-append (group_front o) ((codes "members", group_members_data o.members) ∷ group_back o)) first
-    (then p (v ++ q) b c e front (then v q c d e members back)) last
-
-pub shown_group_closed : {E : Type 0} (r : Result (Unit {0}) E) (id meta : Data) (o : GroupRecord) (a b c d e f g h : Written) → Adds (begin_object ∷ []) a b → WritesParts (group_front o) b c
-    → WritesPart (codes "id") (Some id) c d → WritesPart (codes "members") (group_members_data o.members) d e → WritesPart (codes "meta") (Some meta) e f → WritesParts (group_back o) f g
-    → token.Writes r g h end_object → OnOk r (Writes (group_data (Some id) (Some meta) o) a h)
-unfolding group_data group_front group_back
-shown_group_closed r id meta o a b c d e f g h first front named members shown back last =
-    let p = parts_tokens (group_front o) in
-    let i = part_tokens (codes "id") (Some id) in
-    let v = part_tokens (codes "members") (group_members_data o.members) in
-    let m = part_tokens (codes "meta") (Some meta) in
-    let q = parts_tokens (group_back o) in
-    object_closed r (group_parts (Some id) (Some meta) o) (p ++ (i ++ (v ++ (m ++ q)))) a b g h
-    (parts_tokens-append (group_front o) ((codes "id", Some id) ∷ (codes "members", group_members_data o.members) ∷ (codes "meta", Some meta) ∷ group_back o)) first
+    object_closed r (group_parts id meta o) (p ++ (i ++ (v ++ (m ++ q)))) a b g h
+    (parts_tokens-append (group_front o) ((codes "id", id) ∷ (codes "members", group_members_data o.members) ∷ (codes "meta", meta) ∷ group_back o)) first
     (then p (i ++ (v ++ (m ++ q))) b c g front (then i (v ++ (m ++ q)) c d g named (then v (m ++ q) d e g members (then m q e f g shown back)))) last
 
 three : (a b c : List Token) → a ++ (b ++ (c ++ [])) ≡ a ++ (b ++ c)

@@ -208,6 +208,14 @@ members_of ds = members_after [] ds >>= few_members
 abbrev pub group_members_in : Option Data → Result (List (List ℕ)) ContentFault
 group_members_in value = checked (items_in value) >>= members_of
 
+-- a user with this name and these texts
+abbrev pub user_with : List ℕ → UserTexts → Members → Result UserRecord ContentFault
+user_with user_name texts ms =
+    emails_in (attribute (codes "emails") ms) >>= (λ emails.
+    checked (flag_or true (attribute (codes "active") ms)) >>= (λ active.
+    revision_in (attribute source_extension ms) >>= (λ revision.
+    Ok (record { user_name = user_name; texts = texts; emails = emails; active = active; revision = revision }))))
+
 unfoldable pub user_fields : Members → Result UserRecord ContentFault
 user_fields ms =
     if_listed (lists_schema core_user (attribute (codes "schemas") ms))
@@ -228,6 +236,12 @@ group_fields ms =
     Ok (record { display_name = display_name; external_id = external_id; members = values; revision = revision }))))))
 
 -- ---- resources
+
+-- an object with texts, or an email, repeats a name
+abbrev pub parts_repeat : Members → Bool
+parts_repeat ms =
+    value_repeats (attribute enterprise_extension ms) || value_repeats (attribute (codes "name") ms)
+    || list_repeats (attribute (codes "emails") ms)
 
 -- one of the objects that reading looks into repeats a name
 unfoldable pub user_repeats : Members → Bool

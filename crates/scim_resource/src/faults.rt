@@ -9,7 +9,7 @@ use std::alloc::{AllocError, AllocFailed};
 use thiserror::Error;
 
 /// Why a value can't be read as a resource. `InvalidSyntax` comes before `InvalidValue`.
-#[derive(Clone, Copy, Debug, PartialEq, Eq, Error)]
+#[derive(Clone, Copy, Debug, Error)]
 pub enum ContentFault {
     /// The value isn't an object, or an object that reading looks into repeats a name.
     #[error("P1")]

@@ -1,5 +1,5 @@
 //! Writes a group as JSON, directly as text.
-ghost use Rattle.std.specs.Prelude.{None, Some, OnOk, codes, map};
+ghost use Rattle.std.specs.Prelude.{IfSome, OnOk, codes, map, option_map};
 ghost use Rattle.serde_json.specs.Data.{array, string};
 ghost use Rattle.serde_json.specs.View.{items_of};
 ghost use Rattle.scim_json.specs.Writing.{Writes, WritesPart, WritesParts};
@@ -11,43 +11,32 @@ use crate::groups::Group;
 use crate::rows::Shown;
 use crate::schemas::{core_group, source_extension};
 use crate::texts::Text;
-use crate::writing::{write_schemas, write_source, write_text_of};
+use crate::writing::{write_id, write_meta_if, write_schemas, write_source};
 use json::Writer;
-use scim_json::write_text;
+use scim_json::{write_text, write_text_if};
 use scim_key::Base;
 use std::alloc::{AllocError, Global};
 
-pub(crate) fn write_group(out: &mut Writer, group: &Group) -> Result<(), AllocError>
-    ensures written { OnOk result (Writes (spec.group_data None None group.now) out.old out.new) }
-    ensures lawful { OnOk result (IsGroup group.now) }
-{
-    out.begin_object()?;
-    write_group_front(out, group)?;
-    write_members(out, group.members())?;
-    write_group_back(out, group)?;
-    out.end_object()
-}
-
-/// Writes the group's attributes, with the id and `meta` of the shown resource.
-pub(crate) fn write_shown_group(
+/// Writes the group's attributes, with the id and `meta` of the resource if it is shown.
+pub(crate) fn write_group(
     alloc: Global,
-    base: &Base,
     out: &mut Writer,
-    shown: &Shown,
     group: &Group,
+    shown: Option<(&Base, &Shown)>,
 ) -> Result<(), AllocError>
     ensures written { OnOk result
         (Writes
-        (spec.group_data (Some (string shown.now.id))
-        (Some (spec.meta_data base.now shown.now)) group.now) out.old out.new) }
+        (spec.group_data (option_map (λ s. string s.1.now.id) shown.entry)
+        (option_map (λ s. spec.meta_data s.0.now s.1.now) shown.entry) group.now)
+        out.old out.new) }
     ensures lawful { OnOk result (IsGroup group.now) }
-    ensures shown { OnOk result (IsShown shown.now) }
+    ensures shown { OnOk result (IfSome shown.entry (λ s. IsShown s.1.now)) }
 {
     out.begin_object()?;
     write_group_front(out, group)?;
-    shown.write_id(out)?;
+    write_id(out, shown)?;
     write_members(out, group.members())?;
-    shown.write_meta(alloc, base, out)?;
+    write_meta_if(alloc, out, shown)?;
     write_group_back(out, group)?;
     out.end_object()
 }
@@ -57,7 +46,7 @@ fn write_group_front(out: &mut Writer, group: &Group) -> Result<(), AllocError>
     ensures { OnOk result (WritesParts (spec.group_front group.now) out.old out.new) }
 {
     write_text(out, "displayName", group.display_name().as_str())?;
-    write_text_of(out, "externalId", group.external_id())
+    write_text_if(out, "externalId", group.external_id())
 }
 
 #[tactic(auto, unfolding(crate::specs::Writing::group_back))]

@@ -1,7 +1,6 @@
 //! Groups (RFC 7643 section 4.2).
 ghost use Rattle.std.specs.Prelude.{◌≡◌, [], None, true};
 ghost use Rattle.std.specs.Option.{SomeIff, option_copied};
-ghost use Rattle.std.specs.Str.{bytes_eq};
 ghost use Rattle.scim_key.specs.Names.{IsGroupName};
 ghost use Rattle.scim_resource.specs.Groups.{AreTexts, GroupRecord, IsGroup, IsMemberList, are_distinct, are_few_members, is_among};
 ghost use Rattle.scim_resource.specs.Texts.{IsTextIf};
@@ -88,13 +87,7 @@ fn are_distinct(values: &[Text]) -> bool
 pub(crate) fn is_among(value: &Text, others: &[Text]) -> bool
     ensures { result ≡ is_among value.now others.now }
 {
-    others.iter().any(|other| is_same(other, value))
-}
-
-fn is_same(one: &Text, other: &Text) -> bool
-    ensures { result ≡ bytes_eq one.now other.now }
-{
-    one.as_str() == other.as_str()
+    others.iter().any(|other| other.as_str() == value.as_str())
 }
 
 /// What a group contains.

@@ -1,5 +1,5 @@
 //! Reading a resource from JSON (RFC 7643 section 2).
-ghost use Rattle.std.specs.Prelude.{◌≡◌, IfOk, IfSome, Some, map, option_map};
+ghost use Rattle.std.specs.Prelude.{◌≡◌, IfOk, IfSome, Some, option_map};
 ghost use Rattle.std.specs.Result.{result_map_both};
 ghost use Rattle.scim_key.specs.Names.{IsUserName};
 ghost use Rattle.scim_key.specs.Outcome.{Gives, GivesBy};
@@ -72,7 +72,17 @@ fn user_repeats(alloc: Global, object: &UserObject) -> Result<bool, AllocError>
     Ok(
         repeats(alloc, object.members)?
             || value_repeats(alloc, object.source)?
-            || value_repeats(alloc, object.enterprise)?
+            || parts_repeat(alloc, object)?,
+    )
+}
+
+/// Whether an object with texts, or an email, repeats a name.
+fn parts_repeat(alloc: Global, object: &UserObject) -> Result<bool, AllocError>
+    requires { IsUserObject object.now }
+    ensures { IfOk result (λ b. b ≡ spec.parts_repeat (members_of object.now)) }
+{
+    Ok(
+        value_repeats(alloc, object.enterprise)?
             || value_repeats(alloc, object.name)?
             || list_repeats(alloc, object.emails)?,
     )
@@ -88,6 +98,22 @@ fn user_fields(alloc: Global, object: &UserObject) -> Result<User, ContentFault>
     }
     let user_name = user_name_in(alloc, object.user_name)?;
     let texts = texts_in(alloc, object)?;
+    user_with(alloc, object, user_name, texts)
+}
+
+/// The user with this name, these texts, and what else its object has.
+fn user_with(
+    alloc: Global,
+    object: &UserObject,
+    user_name: UserName,
+    texts: [OptionalText; TEXT_COUNT],
+) -> Result<User, ContentFault>
+    requires object { IsUserObject object.now }
+    requires named { IsUserName user_name }
+    requires lawful { AreUserTexts texts }
+    ensures { Gives ContentFault.Memory result
+        (spec.user_with user_name texts (members_of object.now)) }
+{
     let emails = emails_in(alloc, object.emails)?;
     let active = flag_or(object.active, true)?;
     let revision = revision_in(object.source)?;
@@ -96,17 +122,6 @@ fn user_fields(alloc: Global, object: &UserObject) -> Result<User, ContentFault>
             .with_texts(texts)
             .with_emails(emails),
     )
-}
-
-/// An attribute of an object that may be absent.
-fn part_of<'v>(members: Option<&'v Map<String, Value>>, name: &str) -> Option<&'v Value>
-    ensures { option_map (λ v. view v.now) result
-        ≡ spec.part_of name.now (option_map (λ m. members_view m.now.entries) members.entry) }
-{
-    match members {
-        Some(members) => attribute(members, name),
-        None => None,
-    }
 }
 
 /// The members of the object that has a text, if the user has the object.
@@ -132,27 +147,23 @@ fn value_of<'v>(object: &UserObject<'v>, which: UserText) -> Result<Option<&'v V
         ≡ spec.value_of (members_of object.now) which }
 {
     let (holder, name) = which.member();
-    Ok(part_of(object_at(object, holder)?, name))
-}
-
-/// The values of a user's texts, in the order of `USER_TEXTS`.
-fn values_of<'v>(object: &UserObject<'v>) -> [Result<Option<&'v Value>, ValueFault>; TEXT_COUNT]
-    requires { IsUserObject object.now }
-    ensures { map (result_map_both (option_map (λ v. view v.now)) (λ e. e)) result
-        ≡ map (spec.value_of (members_of object.now)) USER_TEXTS }
-{
-    USER_TEXTS.map(|which| value_of(object, which))
+    match object_at(object, holder)? {
+        Some(members) => Ok(attribute(members, name)),
+        None => Ok(None),
+    }
 }
 
 fn text_of(
     alloc: Global,
-    value: Result<Option<&Value>, ValueFault>,
+    object: &UserObject,
+    which: UserText,
 ) -> Result<OptionalText, ContentFault>
+    requires { IsUserObject object.now }
     ensures given { Gives ContentFault.Memory result
-        (spec.text_of (result_map_both (option_map (λ v. view v.now)) (λ e. e) value.entry)) }
+        (spec.text_of (spec.value_of (members_of object.now) which)) }
     ensures lawful { IfOk result IsTextIf }
 {
-    text_in(alloc, value?)
+    text_in(alloc, value_of(object, which)?)
 }
 
 /// The texts of a user, in the order of `USER_TEXTS`.
@@ -161,7 +172,7 @@ fn texts_in(alloc: Global, object: &UserObject) -> Result<[OptionalText; TEXT_CO
     ensures given { Gives ContentFault.Memory result (spec.user_texts_in (members_of object.now)) }
     ensures lawful { IfOk result AreUserTexts }
 {
-    values_of(object).try_map(|value| text_of(alloc, value))
+    USER_TEXTS.try_map(|which| text_of(alloc, object, which))
 }
 
 /// A text of 1 to 256 bytes.

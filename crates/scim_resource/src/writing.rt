@@ -1,6 +1,5 @@
 //! Writes a resource as JSON, directly as text.
-ghost use Rattle.std.specs.Prelude.{◌≡◌, None, Some, IfOk, OnOk, codes, map, option_map, string_bytes};
-ghost use Rattle.std.specs.Option.{option_copied};
+ghost use Rattle.std.specs.Prelude.{◌≡◌, Some, IfOk, IfSome, OnOk, codes, map, option_map, string_bytes};
 ghost use Rattle.std.specs.Str.{IsUtf8};
 ghost use Rattle.serde_json.specs.Data.{array, object, string};
 ghost use Rattle.serde_json.specs.View.{items_of};
@@ -15,14 +14,14 @@ ghost use Rattle.scim_resource.specs.Writing as spec;
 
 use crate::contents::Content;
 use crate::emails::Email;
-use crate::group_writing::{write_group, write_shown_group};
+use crate::group_writing::write_group;
 use crate::locations::{location, type_name};
 use crate::rows::Shown;
 use crate::schemas::{core_user, enterprise_extension, source_extension};
 use crate::user_texts::{ENTERPRISE_TEXTS, NAME_TEXTS, TOP_TEXTS, UserText};
 use crate::users::User;
 use json::Writer;
-use scim_json::{TEXT_ROOM, write_text, write_whole};
+use scim_json::{TEXT_ROOM, write_text, write_text_if, write_whole};
 use scim_key::{Base, Revision};
 use std::alloc::{AllocError, Global};
 use std::str;
@@ -37,17 +36,28 @@ impl Content {
         ensures lawful { OnOk result (IsContent self.now) }
     {
         let mut out = Writer::new(Vec::with_capacity(alloc, TEXT_ROOM)?);
-        self.write(&mut out)?;
+        self.write(alloc, &mut out, None)?;
         Ok(out.into_inner())
     }
 
-    fn write(&self, out: &mut Writer) -> Result<(), AllocError>
-        ensures written { OnOk result (Writes (spec.content_data self.now) out.old out.new) }
+    /// Writes the content, with the id and `meta` of the resource if a service at this base shows it.
+    fn write(
+        &self,
+        alloc: Global,
+        out: &mut Writer,
+        shown: Option<(&Base, &Shown)>,
+    ) -> Result<(), AllocError>
+        ensures written { OnOk result
+            (Writes
+            (spec.resource_data (option_map (λ s. string s.1.now.id) shown.entry)
+            (option_map (λ s. spec.meta_data s.0.now s.1.now) shown.entry) self.now)
+            out.old out.new) }
         ensures lawful { OnOk result (IsContent self.now) }
+        ensures shown { OnOk result (IfSome shown.entry (λ s. IsShown s.1.now)) }
     {
         match self {
-            Content::User(user) => write_user(out, user),
-            Content::Group(group) => write_group(out, group),
+            Content::User(user) => write_user(alloc, out, user, shown),
+            Content::Group(group) => write_group(alloc, out, group, shown),
         }
     }
 }
@@ -66,20 +76,10 @@ impl Shown {
         ensures lawful { OnOk result (IsContent self.now.content) }
         ensures shown { OnOk result (IsShown self.now) }
     {
-        match self.content() {
-            Content::User(user) => write_shown_user(alloc, base, out, self, user),
-            Content::Group(group) => write_shown_group(alloc, base, out, self, group),
-        }
+        self.content().write(alloc, out, Some((base, self)))
     }
 
-    pub(crate) fn write_id(&self, out: &mut Writer) -> Result<(), AllocError>
-        ensures { OnOk result
-            (WritesPart (codes "id") (Some (string self.now.id)) out.old out.new) }
-    {
-        write_text(out, "id", self.id().as_str())
-    }
-
-    pub(crate) fn write_meta(
+    fn write_meta(
         &self,
         alloc: Global,
         base: &Base,
@@ -111,35 +111,57 @@ impl Shown {
     }
 }
 
-fn write_user(out: &mut Writer, user: &User) -> Result<(), AllocError>
-    ensures written { OnOk result (Writes (spec.user_data None None user.now) out.old out.new) }
-    ensures lawful { OnOk result (IsUser user.now) }
+/// Writes the id, if the resource is shown.
+pub(crate) fn write_id(
+    out: &mut Writer,
+    shown: Option<(&Base, &Shown)>,
+) -> Result<(), AllocError>
+    ensures { OnOk result
+        (WritesPart (codes "id")
+        (option_map (λ s. string s.1.now.id) shown.entry) out.old out.new) }
 {
-    out.begin_object()?;
-    write_user_front(out, user)?;
-    write_user_back(out, user)?;
-    out.end_object()
+    match shown {
+        None => Ok(()),
+        Some((_, shown)) => write_text(out, "id", shown.id().as_str()),
+    }
 }
 
-/// Writes the user's attributes, with the id and `meta` of the shown resource.
-fn write_shown_user(
+/// Writes `meta`, if the resource is shown.
+pub(crate) fn write_meta_if(
     alloc: Global,
-    base: &Base,
     out: &mut Writer,
-    shown: &Shown,
+    shown: Option<(&Base, &Shown)>,
+) -> Result<(), AllocError>
+    ensures written { OnOk result
+        (WritesPart (codes "meta")
+        (option_map (λ s. spec.meta_data s.0.now s.1.now) shown.entry) out.old out.new) }
+    ensures lawful { OnOk result (IfSome shown.entry (λ s. IsShown s.1.now)) }
+{
+    match shown {
+        None => Ok(()),
+        Some((base, shown)) => shown.write_meta(alloc, base, out),
+    }
+}
+
+/// Writes the user's attributes, with the id and `meta` of the resource if it is shown.
+fn write_user(
+    alloc: Global,
+    out: &mut Writer,
     user: &User,
+    shown: Option<(&Base, &Shown)>,
 ) -> Result<(), AllocError>
     ensures written { OnOk result
         (Writes
-        (spec.user_data (Some (string shown.now.id))
-        (Some (spec.meta_data base.now shown.now)) user.now) out.old out.new) }
+        (spec.user_data (option_map (λ s. string s.1.now.id) shown.entry)
+        (option_map (λ s. spec.meta_data s.0.now s.1.now) shown.entry) user.now)
+        out.old out.new) }
     ensures lawful { OnOk result (IsUser user.now) }
-    ensures shown { OnOk result (IsShown shown.now) }
+    ensures shown { OnOk result (IfSome shown.entry (λ s. IsShown s.1.now)) }
 {
     out.begin_object()?;
     write_user_front(out, user)?;
-    shown.write_id(out)?;
-    shown.write_meta(alloc, base, out)?;
+    write_id(out, shown)?;
+    write_meta_if(alloc, out, shown)?;
     write_user_back(out, user)?;
     out.end_object()
 }
@@ -175,28 +197,13 @@ fn extensions_of(user: &User) -> [(&'static str, bool); 2]
     [enterprise, source]
 }
 
-/// Writes a text of an attribute, if there is one.
-pub(crate) fn write_text_of(
-    out: &mut Writer,
-    name: &str,
-    text: Option<&str>,
-) -> Result<(), AllocError>
-    ensures { OnOk result
-        (WritesPart name.now (option_map string (option_copied text.entry)) out.old out.new) }
-{
-    match text {
-        None => Ok(()),
-        Some(text) => write_text(out, name, text),
-    }
-}
-
 /// Writes these texts of a user, as far as it has them.
 fn write_texts(out: &mut Writer, user: &User, texts: &[UserText]) -> Result<(), AllocError>
     ensures { OnOk result
         (WritesParts (spec.text_parts user.now.texts texts.now) out.old out.new) }
 {
     for which in texts {
-        write_text_of(out, which.member().1, user.text(*which))?;
+        write_text_if(out, which.member().1, user.text(*which))?;
     }
     Ok(())
 }
@@ -263,7 +270,7 @@ fn write_email(out: &mut Writer, email: &Email) -> Result<(), AllocError>
 {
     out.begin_object()?;
     write_primary(out, email.primary)?;
-    write_text_of(out, "type", email.type_text.as_option())?;
+    write_text_if(out, "type", email.type_text.as_option())?;
     write_text(out, "value", email.value.as_str())?;
     out.end_object()
 }

@@ -9,7 +9,7 @@ use Rattle.scim_resource.proofs.writing.write_email.Goals as goal
 pub returns : goal.returns
 returns c =
     let e = c.args.email.now in
-    let kind : WritesPart (codes "type") (option_map string e.type_text) c.write_primary.new.out c.write_text_of.new.out = search rules in
-    let value : WritesPart (codes "value") (Some (string e.value)) c.write_text_of.new.out c.write_text.new.out = search rules in
-    email_closed c.end_object.result e c.args.out.now c.begin_object.new.self c.write_primary.new.out c.write_text_of.new.out c.write_text.new.out c.end_object.new.self
+    let kind : WritesPart (codes "type") (option_map string e.type_text) c.write_primary.new.out c.write_text_if.new.out = search rules in
+    let value : WritesPart (codes "value") (Some (string e.value)) c.write_text_if.new.out c.write_text.new.out = search rules in
+    email_closed c.end_object.result e c.args.out.now c.begin_object.new.self c.write_primary.new.out c.write_text_if.new.out c.write_text.new.out c.end_object.new.self
     (one c.in_ok-begin_object.field-0 begin_object c.args.out.now c.begin_object.new.self c.in_ok-begin_object.ensures) c.in_ok-write_primary.ensures kind value c.end_object.ensures
