@@ -67,6 +67,7 @@ pub refused_or_memory : {F : Type 0} {P Q : Type 0} (e memory : F) → (P → Q)
 refused_or_memory e memory f (inl is) = inl is
 refused_or_memory e memory f (inr p) = inr (f p)
 
-pub texts_of_user : (ms : Members) (answer : Result UserTexts ContentFault) → texts_in (map (value_of ms) USER_TEXTS) ≡ answer → user_texts_in ms ≡ answer
+pub texts_of_user : (ms : Members) (ds : List (Result (Option Data) ValueFault)) (answer : Result UserTexts ContentFault) → ds ≡ map (value_of ms) USER_TEXTS → texts_in ds ≡ answer
+    → user_texts_in ms ≡ answer
 unfolding user_texts_in
-texts_of_user ms answer h = h
+texts_of_user ms ds answer is h = ap texts_in (sym is) ∙ h

@@ -3,6 +3,7 @@ pub mod Contents
 pub mod Emails
 pub mod Faults
 pub mod FirstPlaces
+pub mod GroupObjects
 pub mod Groups
 pub mod Locations
 pub mod Looked

@@ -2,19 +2,21 @@
 ghost use Rattle.std.specs.Prelude.{◌≡◌, [], true, IfOk, IfSome, OnOk, option_map};
 ghost use Rattle.scim_key.specs.Names.{IsGroupName};
 ghost use Rattle.scim_key.specs.Outcome.{Gives, GivesBy};
-ghost use Rattle.serde_json.specs.View.{view, items_view, members_view};
+ghost use Rattle.serde_json.specs.View.{view, items_view};
+ghost use Rattle.scim_resource.specs.GroupObjects.{IsGroupObject, members_of};
 ghost use Rattle.scim_resource.specs.Groups.{AreTexts, IsMemberList, are_distinct};
 ghost use Rattle.scim_resource.specs.Texts.{IsTextIf};
 ghost use Rattle.scim_resource.specs.Reading as spec;
 
 use crate::faults::ContentFault;
+use crate::group_objects::GroupObject;
 use crate::groups::{Group, MEMBER_LIMIT, Members, is_among};
 use crate::reading::{lists_schema, revision_in, text_in};
-use crate::schemas::{core_group, source_extension};
+use crate::schemas::core_group;
 use crate::texts::Text;
 use scim_json::{attribute, items_in, list_repeats, repeats, value_repeats};
 use scim_key::GroupName;
-use serde_json::{Map, Value};
+use serde_json::Value;
 use std::alloc::{AllocError, Global};
 
 pub(crate) fn read_group(alloc: Global, value: &Value) -> Result<Group, ContentFault>
@@ -23,36 +25,38 @@ pub(crate) fn read_group(alloc: Global, value: &Value) -> Result<Group, ContentF
     let Value::Object(members) = value else {
         return Err(ContentFault::InvalidSyntax);
     };
-    if group_repeats(alloc, members)? {
+    let object = GroupObject::of(members);
+    if group_repeats(alloc, &object)? {
         return Err(ContentFault::InvalidSyntax);
     }
-    group_fields(alloc, members)
+    group_fields(alloc, &object)
 }
 
 /// Whether one of the objects that reading looks into repeats a name.
 #[tactic(auto, unfolding(crate::specs::Reading::group_repeats))]
-fn group_repeats(alloc: Global, members: &Map<String, Value>) -> Result<bool, AllocError>
-    ensures { IfOk result (λ b. b ≡ spec.group_repeats (members_view members.now.entries)) }
+fn group_repeats(alloc: Global, object: &GroupObject) -> Result<bool, AllocError>
+    requires { IsGroupObject object.now }
+    ensures { IfOk result (λ b. b ≡ spec.group_repeats (members_of object.now)) }
 {
     Ok(
-        repeats(alloc, members)?
-            || value_repeats(alloc, attribute(members, source_extension()))?
-            || list_repeats(alloc, attribute(members, "members"))?,
+        repeats(alloc, object.members)?
+            || value_repeats(alloc, object.source)?
+            || list_repeats(alloc, object.group_members)?,
     )
 }
 
 #[tactic(auto, unfolding(crate::specs::Reading::group_fields))]
-fn group_fields(alloc: Global, members: &Map<String, Value>) -> Result<Group, ContentFault>
-    ensures { Gives ContentFault.Memory result
-        (spec.group_fields (members_view members.now.entries)) }
+fn group_fields(alloc: Global, object: &GroupObject) -> Result<Group, ContentFault>
+    requires { IsGroupObject object.now }
+    ensures { Gives ContentFault.Memory result (spec.group_fields (members_of object.now)) }
 {
-    if !lists_schema(attribute(members, "schemas"), core_group()) {
+    if !lists_schema(object.schemas, core_group()) {
         return Err(ContentFault::InvalidValue);
     }
-    let display_name = display_name_in(alloc, attribute(members, "displayName"))?;
-    let external_id = text_in(alloc, attribute(members, "externalId"))?;
-    let values = group_members_in(alloc, attribute(members, "members"))?;
-    let revision = revision_in(attribute(members, source_extension()))?;
+    let display_name = display_name_in(alloc, object.display_name)?;
+    let external_id = text_in(alloc, object.external_id)?;
+    let values = group_members_in(alloc, object.group_members)?;
+    let revision = revision_in(object.source)?;
     Ok(Group::new(alloc, display_name, values, revision).with_external_id(external_id))
 }
 

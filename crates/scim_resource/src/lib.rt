@@ -4,6 +4,7 @@
 mod contents;
 mod emails;
 mod faults;
+mod group_objects;
 mod group_reading;
 mod group_writing;
 mod groups;

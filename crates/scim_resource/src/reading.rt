@@ -1,5 +1,5 @@
 //! Reading a resource from JSON (RFC 7643 section 2).
-ghost use Rattle.std.specs.Prelude.{◌≡◌, IfOk, IfSome, Some, option_map};
+ghost use Rattle.std.specs.Prelude.{◌≡◌, IfOk, IfSome, Some, map, option_map};
 ghost use Rattle.std.specs.Result.{result_map_both};
 ghost use Rattle.scim_key.specs.Names.{IsUserName};
 ghost use Rattle.scim_key.specs.Outcome.{Gives, GivesBy};
@@ -153,17 +153,24 @@ fn value_of<'v>(object: &UserObject<'v>, which: UserText) -> Result<Option<&'v V
     }
 }
 
+/// The values of a user's texts, in the order of `USER_TEXTS`.
+fn values_of<'v>(object: &UserObject<'v>) -> [Result<Option<&'v Value>, ValueFault>; TEXT_COUNT]
+    requires { IsUserObject object.now }
+    ensures { map (result_map_both (option_map (λ v. view v.now)) (λ e. e)) result
+        ≡ map (spec.value_of (members_of object.now)) USER_TEXTS }
+{
+    USER_TEXTS.map(|which| value_of(object, which))
+}
+
 fn text_of(
     alloc: Global,
-    object: &UserObject,
-    which: UserText,
+    value: Result<Option<&Value>, ValueFault>,
 ) -> Result<OptionalText, ContentFault>
-    requires { IsUserObject object.now }
     ensures given { Gives ContentFault.Memory result
-        (spec.text_of (spec.value_of (members_of object.now) which)) }
+        (spec.text_of (result_map_both (option_map (λ v. view v.now)) (λ e. e) value.entry)) }
     ensures lawful { IfOk result IsTextIf }
 {
-    text_in(alloc, value_of(object, which)?)
+    text_in(alloc, value?)
 }
 
 /// The texts of a user, in the order of `USER_TEXTS`.
@@ -172,7 +179,7 @@ fn texts_in(alloc: Global, object: &UserObject) -> Result<[OptionalText; TEXT_CO
     ensures given { Gives ContentFault.Memory result (spec.user_texts_in (members_of object.now)) }
     ensures lawful { IfOk result AreUserTexts }
 {
-    USER_TEXTS.try_map(|which| text_of(alloc, object, which))
+    values_of(object).try_map(|value| text_of(alloc, value))
 }
 
 /// A text of 1 to 256 bytes.

@@ -79,12 +79,7 @@ impl Shown {
         self.content().write(alloc, out, Some((base, self)))
     }
 
-    fn write_meta(
-        &self,
-        alloc: Global,
-        base: &Base,
-        out: &mut Writer,
-    ) -> Result<(), AllocError>
+    fn write_meta(&self, alloc: Global, base: &Base, out: &mut Writer) -> Result<(), AllocError>
         ensures written { OnOk result
             (WritesPart (codes "meta") (Some (spec.meta_data base.now self.now)) out.old out.new) }
         ensures lawful { OnOk result (IsShown self.now) }
@@ -112,10 +107,7 @@ impl Shown {
 }
 
 /// Writes the id, if the resource is shown.
-pub(crate) fn write_id(
-    out: &mut Writer,
-    shown: Option<(&Base, &Shown)>,
-) -> Result<(), AllocError>
+pub(crate) fn write_id(out: &mut Writer, shown: Option<(&Base, &Shown)>) -> Result<(), AllocError>
     ensures { OnOk result
         (WritesPart (codes "id")
         (option_map (λ s. string s.1.now.id) shown.entry) out.old out.new) }
