@@ -6,8 +6,7 @@ ghost use Rattle.commands.specs.Statuses.{status_of_rows};
 
 use crate::status::{CommandFault, Status};
 use mapping::{WriteFault, write_record};
-use source_csv::{Row, RowFault, RowReader};
-use source_lines::{Multiline, multiline_at};
+use source_csv::{Multiline, Row, RowFault, RowReader, multiline_at};
 use std::alloc::Global;
 use std::io::{Eprint, Read, Write};
 

@@ -6,8 +6,9 @@ ghost use Rattle.source_csv.specs.Files.{AreRecordsOf, rows_of};
 ghost use Rattle.provisioning.specs.Sources.{are_whole, is_whole, label, read_as, records_of};
 
 use scim_key::Kind;
-use source_csv::{Row, RowFault, SourceFault, SourceRows, read_groups, read_users};
-use source_lines::multiline_records;
+use source_csv::{
+    Row, RowFault, SourceFault, SourceRows, multiline_records, read_groups, read_users,
+};
 use std::alloc::{AllocError, Global};
 use std::fs::Files;
 use std::io::Eprint;

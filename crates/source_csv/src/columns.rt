@@ -6,7 +6,7 @@ ghost use Rattle.csv.specs.Records.{fields_of};
 ghost use Rattle.source_csv.specs.Fields.{column, field, named, place_in, text_columns};
 
 use crate::texts::{TEXT_FIELD_COUNT, TEXT_FIELDS};
-use csv::StringRecord;
+use csv::{ByteRecord, StringRecord};
 use std::marker::Model;
 
 /// The columns of a file in the order of its header, and where those of a user are, so that no record of the file
@@ -53,6 +53,13 @@ pub(crate) fn field(texts: &StringRecord, place: usize) -> &str
     ensures { result.now ≡ field (fields_of texts.now) place }
 {
     texts.get(place).unwrap_or("")
+}
+
+/// The bytes of the field at a place; none if there is no such field.
+pub(crate) fn bytes_at(raw: &ByteRecord, place: usize) -> &[u8]
+    ensures { result.now ≡ field (fields_of raw.now) place }
+{
+    raw.get(place).unwrap_or(b"")
 }
 
 impl Columns {

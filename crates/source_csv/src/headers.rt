@@ -7,7 +7,7 @@ ghost use Rattle.csv.specs.Records.{fields_of};
 ghost use Rattle.source_csv.specs.Fields.{field, named};
 ghost use Rattle.source_csv.specs.Files.{columns_of, same_record};
 
-use crate::columns::Columns;
+use crate::columns::{Columns, bytes_at};
 use csv::ByteRecord;
 use scim_key::Kind;
 
@@ -37,13 +37,6 @@ pub const GROUP_COLUMNS: [&str; 3] = ["name", "revision", "members"];
 /// The headers that a file of groups may have.
 pub const GROUP_HEADERS: [&[&str]; 1] = [&GROUP_COLUMNS];
 
-/// Whether a record has this field at a place.
-fn has_field(raw: &ByteRecord, place: usize, name: &str) -> bool
-    ensures { result ≡ bytes_eq (field (fields_of raw.now) place) name.now }
-{
-    raw.get(place).unwrap_or(b"") == name.as_bytes()
-}
-
 /// Whether the fields of a record are these, from the first on.
 fn has_fields(raw: &ByteRecord, names: &[&str]) -> bool
     ensures { result
@@ -53,7 +46,7 @@ fn has_fields(raw: &ByteRecord, names: &[&str]) -> bool
     names
         .iter()
         .enumerate()
-        .all(|(place, name)| has_field(raw, place, name))
+        .all(|(place, name)| bytes_at(raw, place) == name.as_bytes())
 }
 
 /// Whether a record has exactly these columns.

@@ -89,7 +89,7 @@ fn fault_of(error: csv::Error) -> ReadFault
 }
 
 /// A reader of all records, the header among them.
-fn reader_over<R: Read>(alloc: Global, source: R) -> Reader<R>
+pub(crate) fn reader_over<R: Read>(alloc: Global, source: R) -> Reader<R>
     ensures plain { IsPlain result }
     ensures state { reader_state result ≡ StartRecord }
     ensures source { source_of R.remaining result ≡ option_map strip_bom (R.remaining source) }
@@ -101,7 +101,10 @@ fn reader_over<R: Read>(alloc: Global, source: R) -> Reader<R>
 }
 
 /// Reads the next record into `raw`, and returns whether there was one.
-fn read_into<R: Read>(reader: &mut Reader<R>, raw: &mut ByteRecord) -> Result<bool, ReadFault>
+pub(crate) fn read_into<R: Read>(
+    reader: &mut Reader<R>,
+    raw: &mut ByteRecord,
+) -> Result<bool, ReadFault>
     requires { has_failed reader.old ≡ false → IsPlain reader.old }
     ensures plain { has_failed reader.new ≡ false → IsPlain reader.new }
     ensures records { (records : List Record)

@@ -1,6 +1,6 @@
 use Rattle.std.proofs.Common.{◌≡◌, ◌+◌, ◌≤◌, drop}
-use Rattle.source_lines.specs.Lines.{field_lines, line_ends}
-use Rattle.source_lines.proofs.lengths.field_lines.Given as goal
+use Rattle.source_csv.specs.Lines.{field_lines, line_ends}
+use Rattle.source_csv.proofs.line_counts.field_lines.Given as goal
 
 -- the lines so far, with the line ends of the remaining bytes
 abbrev pub invariant-loop-byte : goal.invariant-loop-byte

@@ -1,7 +1,7 @@
 use Rattle.std.proofs.Common.{◌≡◌, drop, max}
 use Rattle.csv.specs.Records.{fields_of}
-use Rattle.source_lines.specs.Lines.{record_lines}
-use Rattle.source_lines.proofs.lengths.record_lines.Given as goal
+use Rattle.source_csv.specs.Lines.{record_lines}
+use Rattle.source_csv.proofs.line_counts.record_lines.Given as goal
 
 -- the most lines so far, or those of the remaining fields
 abbrev pub invariant-loop-place : goal.invariant-loop-place

@@ -1,6 +1,6 @@
 use Rattle.std.proofs.Common.{◌≡◌, ◌+◌, ◌++◌, drop}
-use Rattle.source_lines.specs.Lines.{multiline_from}
-use Rattle.source_lines.proofs.files.multiline_in.Given as goal
+use Rattle.source_csv.specs.Lines.{multiline_from}
+use Rattle.source_csv.proofs.missing_quotes.multiline_in.Given as goal
 
 -- the records so far, before the remaining ones
 abbrev pub invariant-loop-index : goal.invariant-loop-index

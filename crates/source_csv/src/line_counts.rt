@@ -1,10 +1,10 @@
-//! How many lines a field has.
+//! How many lines the fields of a record have.
 ghost use Rattle.std.specs.Prelude.{◌≡◌, max, nat_lt};
 ghost use Rattle.std.specs.List.{list_all};
 ghost use Rattle.csv.specs.Records.{fields_of};
-ghost use Rattle.source_csv.specs.Fields.{field};
-ghost use Rattle.source_lines.specs.Lines.{ends_line, field_lines, record_lines};
+ghost use Rattle.source_csv.specs.Lines.{ends_line, field_lines, record_lines};
 
+use crate::columns::bytes_at;
 use csv::ByteRecord;
 
 /// Whether a byte ends a line, given whether it follows a carriage return.
@@ -38,12 +38,6 @@ fn field_lines(field: &[u8]) -> usize
     lines
 }
 
-fn field(raw: &ByteRecord, place: usize) -> &[u8]
-    ensures { result.now ≡ field (fields_of raw.now) place }
-{
-    raw.get(place).unwrap_or(b"")
-}
-
 fn greater(one: usize, other: usize) -> usize
     ensures { result ≡ max one other }
 {
@@ -56,7 +50,7 @@ pub(crate) fn record_lines(raw: &ByteRecord) -> usize
 {
     let mut most = 0;
     for place in 0..raw.len() {
-        most = greater(most, field_lines(field(raw, place)));
+        most = greater(most, field_lines(bytes_at(raw, place)));
     }
     most
 }

@@ -1,18 +1,18 @@
-//! The records of a file with a field over several lines.
-ghost use Rattle.std.specs.Prelude.{◌≡◌, ◌++◌, codes, List, Some, IfOk, IsErr, map};
-ghost use Rattle.std.specs.Fmt.{decimal};
-ghost use Rattle.csv.specs.Reading.{strip_bom};
+//! The records of a file with a field over several lines, for example because a quote is missing.
+ghost use Rattle.std.specs.Prelude.{◌≡◌, false, IfOk, List, map};
+ghost use Rattle.csv.specs.Reading.{has_failed, reader_state, source_of};
 ghost use Rattle.csv.specs.Records.{fields_of};
-ghost use Rattle.csv.specs.declared.parser.State.TheVariants.{StartRecord};
 ghost use Rattle.source_csv.specs.Fields.{Record};
 ghost use Rattle.source_csv.specs.Files.{AreRecordsOf};
-ghost use Rattle.source_csv.specs.Reader.{IsAt};
-ghost use Rattle.source_lines.specs.Lines.{lines_after_header, multiline_at, multiline_from, multiline_of};
+ghost use Rattle.source_csv.specs.Lines.{Counts, multiline_at, multiline_from, multiline_of, record_lines};
+ghost use Rattle.source_csv.specs.Streams.{IsPlain, Leaves};
 
-use crate::lengths::record_lines;
-use csv::{ByteRecord, ByteRecordsIntoIter, ReaderBuilder};
+use crate::line_counts::record_lines;
+use crate::streams::{read_into, reader_over};
+use csv::{ByteRecord, Reader};
 use std::alloc::{AllocError, Global};
 use std::fmt;
+use std::io::Read;
 
 /// A record with a field over several lines. Its text asks whether a quote is missing.
 #[derive(Clone, Copy, Debug, PartialEq, Eq)]
@@ -24,7 +24,7 @@ pub struct Multiline {
 }
 
 impl fmt::Display for Multiline {
-    ghost use Rattle.source_lines.specs.Lines.{multiline_text};
+    ghost use Rattle.source_csv.specs.Lines.{multiline_text};
 
     ghost output = { multiline_text };
 
@@ -49,40 +49,43 @@ pub fn multiline_at(place: usize, raw: &ByteRecord) -> Option<Multiline>
     }
 }
 
-/// The records of a file, including its header.
-fn records_of(alloc: Global, bytes: &[u8]) -> ByteRecordsIntoIter<&[u8]>
-    ensures { IsAt StartRecord (strip_bom bytes.now) result }
+/// Reads the next record into `raw`, and returns how many lines its longest field has. `None` if no record is
+/// left.
+fn next_lines<R: Read>(
+    reader: &mut Reader<R>,
+    raw: &mut ByteRecord,
+) -> Result<Option<usize>, AllocError>
+    requires { has_failed reader.old ≡ false → IsPlain reader.old }
+    ensures plain { has_failed reader.new ≡ false → IsPlain reader.new }
+    ensures counts { (records : List Record)
+        → Leaves (source_of R.remaining reader.old) (reader_state reader.old) records
+        → IfOk result
+        (λ lines. Counts lines (source_of R.remaining reader.new) (reader_state reader.new)
+        records) }
 {
-    ReaderBuilder::new()
-        .has_headers(false)
-        .flexible(true)
-        .from_reader(alloc, bytes)
-        .into_byte_records()
+    match read_into(reader, raw) {
+        Ok(true) => Ok(Some(record_lines(raw))),
+        Ok(false) => Ok(None),
+        Err(_) => Err(AllocError),
+    }
 }
 
-/// The record that the reader gave, or out of memory.
-fn record_of(given: Result<ByteRecord, csv::Error>) -> Result<ByteRecord, AllocError>
-    ensures { IfOk result (λ raw. given ≡ Ok raw) }
-{
-    given.map_err(|_| AllocError)
-}
-
-/// For each record after the header, how many lines its longest field has.
+/// For each record, including the header, how many lines its longest field has. More records than `u64` counts
+/// are out of memory.
 fn lines_of(alloc: Global, bytes: &[u8]) -> Result<Vec<usize>, AllocError>
     ensures { (records : List Record) → AreRecordsOf bytes.now records
-        → IfOk result (λ lines. lines.items ≡ lines_after_header records) }
+        → IfOk result (λ lines. lines.items ≡ map record_lines records) }
 {
-    let mut records = records_of(alloc, bytes);
+    let mut reader = reader_over(alloc, bytes);
+    let mut raw = ByteRecord::new(alloc);
     let mut lines = Vec::new(alloc);
-    match records.next() {
-        Some(header) => record_of(header)?,
-        None => return Ok(lines),
-    };
-    for fields in records {
-        let raw = record_of(fields)?;
-        lines.push(record_lines(&raw))?;
+    for _ in 0..u64::MAX {
+        match next_lines(&mut reader, &mut raw)? {
+            Some(count) => lines.push(count)?,
+            None => return Ok(lines),
+        }
     }
-    Ok(lines)
+    Err(AllocError)
 }
 
 /// The records whose longest fields have more than one of these lines; the one at place 1 comes first.
@@ -108,5 +111,8 @@ pub fn multiline_records(alloc: Global, bytes: &[u8]) -> Result<Vec<Multiline>, 
         → IfOk result (λ found. found.items ≡ multiline_of records) }
 {
     let lines = lines_of(alloc, bytes)?;
-    multiline_in(alloc, lines.as_slice())
+    match lines.split_first() {
+        Some((_, after_header)) => multiline_in(alloc, after_header),
+        None => Ok(Vec::new(alloc)),
+    }
 }
