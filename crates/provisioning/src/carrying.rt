@@ -15,7 +15,7 @@ use scim_client::ScimService;
 use std::alloc::Global;
 
 /// The result of a run that no fault ended.
-#[derive(Clone, Copy, PartialEq, Eq)]
+#[derive(Clone, Copy)]
 pub struct Outcome {
     /// Every record of the files is a row, and the connector took each, new or not.
     pub is_taken: bool,

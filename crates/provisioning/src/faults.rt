@@ -1,6 +1,8 @@
 //! Why a record isn't confirmed, and what ends a run.
 ghost use Rattle.std.specs.Prelude.{◌≡◌};
+ghost use Rattle.std.specs.IoError.{error_kind};
 ghost use Rattle.provisioning.specs.Faults.{failed, open_fault, run_fault, unanswered, unheard_fault, unlearnt};
+ghost use Rattle.provisioning.specs.Runs.{IsUntold};
 ghost use Rattle.provisioning.specs.declared.faults.RunFault.TheVariants.{Untold};
 
 use connector_core::{ConnectorOpenFault, LearnFault};
@@ -8,11 +10,11 @@ use provider_core::RegistryFault;
 use scim_client::{AnswerFault, ExchangeFault};
 use std::alloc::AllocError;
 use std::io::ErrorKind;
-use std::{error, fmt, io};
+use std::{fmt, io};
 use thiserror::Error;
 
 /// Why nothing was learnt from an exchange. The run goes on. Its text is its code.
-#[derive(Clone, Copy, Debug, PartialEq, Eq)]
+#[derive(Clone, Copy, Debug)]
 pub enum RecordFault {
     /// No answer came (H10, H11, H12, H14, K1 to K3).
     Unanswered(ExchangeFault),
@@ -42,8 +44,6 @@ impl fmt::Display for RecordFault {
         }
     }
 }
-
-impl error::Error for RecordFault {}
 
 /// What ends a run early. Its text is printed on standard error.
 #[derive(Clone, Copy, Debug, Error)]
@@ -124,16 +124,13 @@ pub(crate) fn unlearnt(fault: LearnFault) -> Result<Option<RecordFault>, RunFaul
     }
 }
 
-/// What ends a run while the rows of its files are offered. Its text is printed on standard error.
-#[derive(Clone, Copy, Debug, PartialEq, Eq, Error)]
+/// What ends a run while the rows of its files are offered. It is printed as the `RunFault` of its name.
+#[derive(Clone, Copy, Debug)]
 pub enum OfferFault {
     /// The journal's store failed.
-    #[error("journal fault J1")]
     Journal,
     /// The report of a row can't be written.
-    #[error("file fault")]
     Untold,
-    #[error("memory fault")]
     Memory,
 }
 
@@ -203,15 +200,11 @@ pub(crate) fn run_fault(fault: OfferFault) -> RunFault
 }
 
 /// The fault of a run if a line can't be written.
-pub(crate) fn unwritten(error: io::Error) -> RunFault {
-    unwritten_fault(error.kind())
-}
-
-/// The fault that ends a run if a line can't be written for this reason.
-fn unwritten_fault(kind: ErrorKind) -> RunFault
-    ensures { result ≡ failed kind Untold }
+pub(crate) fn unwritten(error: io::Error) -> RunFault
+    ensures fault { result ≡ failed (error_kind error) Untold }
+    ensures untold { IsUntold result }
 {
-    match kind {
+    match error.kind() {
         ErrorKind::OutOfMemory => RunFault::Memory,
         _ => RunFault::Untold,
     }

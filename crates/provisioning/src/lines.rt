@@ -27,13 +27,8 @@ pub struct Lines<'a, W: Drop, E> {
 
 impl<'a, W: Write + Drop, E: Eprint> Hear for Lines<'a, W, E> {
     fn hear(&mut self, judged: Judged) -> io::Result<()> {
-        let Judged {
-            kind,
-            place,
-            verdict,
-        } = judged;
-        if let Err(fault) = verdict {
-            let label = label(kind);
+        if let Err(fault) = &judged.verdict {
+            let (label, place) = (label(judged.kind), judged.place);
             let _ = eprintln!(self.stderr; "{label} record {place}: {fault}");
         }
         Ok(())
@@ -56,14 +51,8 @@ impl<'a, W: Write + Drop, E: Eprint> Tell for Lines<'a, W, E> {
 /// prints nothing for records.
 #[derive(Drop)]
 pub(crate) struct Reports<W: Drop> {
-    out: W,
-    rows: usize,
-}
-
-impl<W: Drop> Reports<W> {
-    pub(crate) fn new(out: W) -> Reports<W> {
-        Reports { out, rows: 0 }
-    }
+    pub out: W,
+    pub rows: usize,
 }
 
 impl<W: Write + Drop> Hear for Reports<W> {
@@ -74,9 +63,9 @@ impl<W: Write + Drop> Hear for Reports<W> {
         ensures counted { self.new.rows ≡ min (self.old.rows + 1) (2 ^ 64 - 1) }
     {
         let Judged { verdict, .. } = judged;
-        let report = Report::Judged(verdict);
         self.rows = self.rows.saturating_add(1);
-        writeln!(self.out, "{} {report}", self.rows)?;
+        let written = writeln!(self.out, "{} {}", self.rows, Report::Judged(verdict));
+        written?;
         self.out.flush()
     }
 }

@@ -5,8 +5,8 @@ ghost use Rattle.provisioning.specs.Carrying.{CarriesHere, CarriesSilently, IsOu
 use crate::carrying::{Outcome, carry};
 use crate::faults::{LoopFault, RunFault, open_fault, unwritten};
 use crate::lines::Reports;
-use crate::over_tcp::{CONNECTION_SECONDS, remote};
 use crate::own::{OwnProvider, OwnReader, OwnStreams};
+use crate::sockets::{CONNECTION_SECONDS, Remote};
 use crate::sources::Sources;
 use crate::views::print_views;
 use connection::{Listen, Sockets, TimedHandle};
@@ -41,33 +41,28 @@ pub fn run_loop<'a, N: Net + Clock, R: StoredRows + 'a, J: Journal, W: Write>(
         ⟦<TimedHandle<'a, N::Stream, N> as Write>⟧.contents J.Journal service.now sources.now
         connector.old connector.new result.1 }
 {
-    let (provider, carried) = carry_here(rt, alloc, service, connector, provider, sources, out);
-    finish(carried, connector, provider, out)
-}
-
-/// Prints the result of a run, and gives the provider back.
-fn finish<R: StoredRows, J: Journal, W: Write>(
-    carried: Result<Outcome, RunFault>,
-    connector: &Connector<J>,
-    provider: Provider<R>,
-    out: &mut W,
-) -> (Provider<R>, Result<Outcome, LoopFault>)
-    ensures { IsOutcome carried result.1 }
-{
     let mut provider = provider;
-    let told = match carried {
-        Ok(outcome) => print_end(outcome, connector, &mut provider, out),
-        Err(fault) => Err(ended(fault, &provider)),
-    };
+    let carried = carry_here(rt, alloc, service, connector, &mut provider, sources, out);
+    let told = finish(carried, connector, &mut provider, out);
     (provider, told)
 }
 
-/// The fault that ended a run: the one of the provider's store, if it failed.
-fn ended<R: StoredRows>(fault: RunFault, provider: &Provider<R>) -> LoopFault {
+/// Prints the result of a run, and the state of its records. If the provider's store failed, that is the
+/// fault of the run.
+fn finish<R: StoredRows, J: Journal, W: Write>(
+    carried: Result<Outcome, RunFault>,
+    connector: &Connector<J>,
+    provider: &mut Provider<R>,
+    out: &mut W,
+) -> Result<Outcome, LoopFault>
+    ensures { IsOutcome carried result }
+{
     if provider.registry().has_failed() {
-        LoopFault::Store
-    } else {
-        LoopFault::Ended(fault)
+        return Err(LoopFault::Store);
+    }
+    match carried {
+        Ok(outcome) => print_end(outcome, connector, provider, out),
+        Err(fault) => Err(LoopFault::Ended(fault)),
     }
 }
 
@@ -80,9 +75,6 @@ fn print_end<R: StoredRows, J: Journal, W: Write>(
 ) -> Result<Outcome, LoopFault>
     ensures { IsOutcome (Ok outcome) result }
 {
-    if provider.registry().has_failed() {
-        return Err(LoopFault::Store);
-    }
     if outcome.tally.is_settled {
         let exchanges = outcome.tally.exchanges;
         writeln!(out, "{}", Count { exchanges }).map_err(unwritten)?;
@@ -92,20 +84,20 @@ fn print_end<R: StoredRows, J: Journal, W: Write>(
     Ok(outcome)
 }
 
-/// Runs the connector against a provider over TCP, and gives the provider back.
+/// Runs the connector against a provider over TCP.
 fn carry_here<'a, N: Net + Clock, R: StoredRows + 'a, J: Journal, W: Write>(
     rt: &'a N,
     alloc: Global,
     service: &ScimService,
     connector: &mut Connector<J>,
-    provider: Provider<R>,
+    provider: &mut Provider<R>,
     sources: &Sources,
     out: &mut W,
-) -> (Provider<R>, Result<Outcome, RunFault>)
+) -> Result<Outcome, RunFault>
     ensures { CarriesHere
         ⟦<OwnReader<'a, 'a, 'a, N, Sockets<'a, N::Listener, N>, R> as Read>⟧.remaining
         ⟦<TimedHandle<'a, N::Stream, N> as Write>⟧.contents J.Journal service.now sources.now
-        connector.old connector.new result.1 }
+        connector.old connector.new result }
 {
     match listen(rt, alloc) {
         Ok((listener, address)) => {
@@ -125,9 +117,11 @@ fn carry_here<'a, N: Net + Clock, R: StoredRows + 'a, J: Journal, W: Write>(
                 &own,
                 out,
             );
-            (own.into_inner().provider, carried)
+            // The drop of a cell that holds a `&mut` isn't proved by itself; that of its value is.
+            let _ = own.into_inner();
+            carried
         }
-        Err(fault) => (provider, Err(fault)),
+        Err(fault) => Err(fault),
     }
 }
 
@@ -147,10 +141,14 @@ fn carry_to<'r, 'p, 'b, N: Net + Clock, L: Listen + Drop, R: StoredRows, J: Jour
         connector.old connector.new result }
 {
     let mut streams = OwnStreams {
-        remote: remote(alloc, rt, address),
+        remote: Remote {
+            alloc,
+            runtime: rt,
+            address,
+        },
         own,
     };
-    let mut reports = Reports::new(&mut *out);
+    let mut reports = Reports { out, rows: 0 };
     carry(
         alloc,
         service,
@@ -167,9 +165,13 @@ fn listen<'a, N: Net + Clock>(
     alloc: Global,
 ) -> Result<(Sockets<'a, N::Listener, N>, String), RunFault> {
     let listener = TcpListener::bind(rt, OWN_ADDRESS).map_err(open_fault)?;
-    let taken = listener.local_addr().map_err(open_fault)?;
-    let address = format!(in alloc; "{taken}")?;
+    let address = address_of(alloc, &listener)?;
     let limit = Duration::from_secs(CONNECTION_SECONDS);
-    let sockets = Sockets::new(alloc, listener, rt, limit);
-    Ok((sockets, address))
+    Ok((Sockets::new(alloc, listener, rt, limit), address))
+}
+
+/// The address of a listener, HOST:PORT.
+fn address_of<L: OpenListener>(alloc: Global, listener: &L) -> Result<String, RunFault> {
+    let address = listener.local_addr().map_err(open_fault)?;
+    Ok(format!(in alloc; "{address}")?)
 }

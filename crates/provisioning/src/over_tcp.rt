@@ -13,20 +13,7 @@ use scim_client::ScimService;
 use std::alloc::Global;
 use std::io::{Eprint, Read, Write};
 use std::net::Net;
-use std::time::{Clock, Duration};
-
-/// How many seconds a connection may take in all, for connector and provider.
-pub const CONNECTION_SECONDS: u64 = 30;
-
-/// The provider at an address. Each exchange has its own time limit.
-pub(crate) fn remote<'a, N>(alloc: Global, runtime: &'a N, address: &'a str) -> Remote<'a, N> {
-    Remote {
-        alloc,
-        runtime,
-        address,
-        limit: Duration::from_secs(CONNECTION_SECONDS),
-    }
-}
+use std::time::Clock;
 
 /// Runs the connector against the provider at an address, HOST:PORT. It prints a line for each record as
 /// soon as the record is done, and reports rows that the connector refuses on standard error.
@@ -43,7 +30,11 @@ pub fn push<'a, N: Net + Clock + Eprint, J: Journal, W: Write>(
         ⟦<TimedHandle<'a, N::Stream, N> as Write>⟧.contents J.Journal service.now sources.now
         connector.old connector.new result }
 {
-    let mut remote = remote(alloc, rt, address);
+    let mut remote = Remote {
+        alloc,
+        runtime: rt,
+        address,
+    };
     let mut lines = Lines { out, stderr: rt };
     carry(alloc, service, connector, sources, &mut remote, &mut lines)
 }

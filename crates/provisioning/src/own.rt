@@ -18,7 +18,7 @@ pub struct OwnProvider<'b, L: Listen + Drop, R: StoredRows> {
     pub(crate) alloc: Global,
     pub(crate) base: &'b Base,
     pub(crate) listener: L,
-    pub(crate) provider: Provider<R>,
+    pub(crate) provider: &'b mut Provider<R>,
 }
 
 /// Streams to a provider in the same program, which answers when a stream is read from.
@@ -36,22 +36,26 @@ pub struct OwnReader<'r, 'p, 'b, N: Net + Clock, L: Listen + Drop, R: StoredRows
     is_served: bool,
 }
 
-fn busy() -> io::Error {
-    io::Error::from(ErrorKind::ResourceBusy)
+/// Whether the provider can be asked: its store hasn't failed, and it isn't serving.
+fn can_serve<L: Listen + Drop, R: StoredRows>(own: &RefCell<OwnProvider<'_, L, R>>) -> bool {
+    match own.try_borrow() {
+        Ok(own) => !own.provider.registry().has_failed(),
+        Err(_) => false,
+    }
 }
 
 impl<'r, 'p, 'b, N: Net + Clock, L: Listen + Drop, R: StoredRows> OwnReader<'r, 'p, 'b, N, L, R> {
     /// Ends the request, and lets the provider serve it.
-    fn be_served(&mut self) -> io::Result<()> {
+    fn be_served(&mut self) {
         if self.is_served {
-            return Ok(());
+            return;
         }
         self.is_served = true;
         self.stream.shut_down();
-        let mut guard = self.own.try_borrow_mut().map_err(|_| busy())?;
-        let own = &mut *guard;
-        let _ = serve_next(own.alloc, &mut own.listener, own.base, &mut own.provider);
-        Ok(())
+        if let Ok(mut guard) = self.own.try_borrow_mut() {
+            let own = &mut *guard;
+            let _ = serve_next(own.alloc, &mut own.listener, own.base, own.provider);
+        }
     }
 }
 
@@ -60,17 +64,17 @@ impl<'r, 'p, 'b, N: Net + Clock, L: Listen + Drop, R: StoredRows> Read
     /// Lets the provider serve the connection, and reads its answer. If nothing came, the provider served
     /// another connection that was first: it serves the next one before the next read.
     fn read(&mut self, buffer: &mut [u8]) -> io::Result<usize> {
-        self.be_served()?;
+        self.be_served();
         let came = self.stream.read(buffer);
-        if matches!(&came, Err(error) if error.kind() == ErrorKind::Interrupted) {
-            self.is_served = false;
+        if let Err(error) = came {
+            self.is_served = !matches!(error.kind(), ErrorKind::Interrupted);
         }
         came
     }
 
     /// Written out, because the default isn't proved by itself.
     fn read_exact(&mut self, buffer: &mut [u8]) -> io::Result<()> {
-        self.be_served()?;
+        self.be_served();
         self.stream.read_exact(buffer)
     }
 }
@@ -83,9 +87,7 @@ impl<'r, 'p, 'b, N: Net + Clock, L: Listen + Drop, R: StoredRows> Dial
 
     /// Opens a stream. A provider whose store has failed isn't asked any more.
     fn dial(&mut self) -> io::Result<(Self::Reader, Self::Writer)> {
-        let mut guard = self.own.try_borrow_mut().map_err(|_| busy())?;
-        let own = &mut *guard;
-        if own.provider.registry().has_failed() {
+        if !can_serve(self.own) {
             return Err(io::Error::from(ErrorKind::NotConnected));
         }
         let (stream, writer) = self.remote.dial()?;
@@ -100,6 +102,6 @@ impl<'r, 'p, 'b, N: Net + Clock, L: Listen + Drop, R: StoredRows> Dial
     /// Ends a stream. A connection that was never read from is served too, so that it doesn't wait in front
     /// of the next. If another connection was served in its place, it waits, and is served before the next.
     fn end(&self, mut reader: Self::Reader, _: Self::Writer) {
-        let _ = reader.be_served();
+        reader.be_served();
     }
 }

@@ -8,7 +8,7 @@ ghost use Rattle.provisioning.specs.Openings.{Opens};
 ghost use Rattle.provisioning.specs.Runs.{IsUntold, PushesAll, PushesEach, Tells, is_confirmed, tally_with};
 
 use crate::dialing::Dial;
-use crate::faults::RunFault;
+use crate::faults::{RunFault, unwritten};
 use crate::records::{Pushed, Standing, push_record};
 use crate::telling::Tell;
 use connector_core::Connector;
@@ -17,10 +17,9 @@ use journal_core::Journal;
 use scim_client::ScimService;
 use scim_key::RecordName;
 use std::alloc::Global;
-use std::io::ErrorKind;
 
 /// The result for all records.
-#[derive(Clone, Copy, PartialEq, Eq)]
+#[derive(Clone, Copy)]
 pub struct Tally {
     /// How many exchanges there were, up to the greatest `u32`.
     pub exchanges: u32,
@@ -111,17 +110,8 @@ fn tell<T: Tell>(teller: &mut T, name: &RecordName, pushed: &Pushed) -> Result<(
         (Tells (T.told teller.old) (T.told teller.new) ((name.now, pushed.now) ∷ [])) }
     ensures fault { IfErr result IsUntold }
 {
-    teller
-        .tell(name, pushed)
-        .map_err(|error| untold_fault(error.kind()))
-}
-
-/// The fault that ends a run if a record can't be reported.
-fn untold_fault(kind: ErrorKind) -> RunFault
-    ensures { IsUntold result }
-{
-    match kind {
-        ErrorKind::OutOfMemory => RunFault::Memory,
-        _ => RunFault::Untold,
+    match teller.tell(name, pushed) {
+        Ok(()) => Ok(()),
+        Err(error) => Err(unwritten(error)),
     }
 }

@@ -7,16 +7,19 @@ use std::io::ErrorKind;
 use std::net::{Net, TcpStream, ToSocketAddrs};
 use std::time::{Clock, Duration};
 
+/// How many seconds a connection may take in all, for connector and provider.
+pub const CONNECTION_SECONDS: u64 = 30;
+
 /// The most seconds that the connector waits for one address of a host.
 const ADDRESS_SECONDS: u64 = 10;
 
-/// A provider at an address, HOST:PORT. Each stream has this time in all, counted from before it is opened.
+/// A provider at an address, HOST:PORT. Each stream has `CONNECTION_SECONDS`, counted from before it is
+/// opened.
 #[derive(Drop)]
 pub struct Remote<'a, R> {
     pub alloc: Global,
     pub runtime: &'a R,
     pub address: &'a str,
-    pub limit: Duration,
 }
 
 /// Opens a stream to the first address of the host that answers in time.
@@ -44,7 +47,8 @@ impl<'a, R: Net + Clock> Dial for Remote<'a, R> {
     type Writer = TimedHandle<'a, R::Stream, R>;
 
     fn dial(&mut self) -> io::Result<(Self::Reader, Self::Writer)> {
-        let deadline = Deadline::after(self.runtime, self.limit)?;
+        let limit = Duration::from_secs(CONNECTION_SECONDS);
+        let deadline = Deadline::after(self.runtime, limit)?;
         let stream = connect(self.runtime, self.address, deadline)?;
         timed_handles(self.alloc, stream, self.runtime, deadline)
     }

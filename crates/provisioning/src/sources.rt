@@ -117,7 +117,10 @@ fn source_in<R: Files + Eprint + AllocGlobal>(
     kind: Kind,
     file: &str,
 ) -> Result<Source, UnreadFile> {
-    told_source(rt, kind, file).map_err(|error| UnreadFile { kind, error })
+    match told_source(rt, kind, file) {
+        Ok(source) => Ok(source),
+        Err(error) => Err(UnreadFile { kind, error }),
+    }
 }
 
 fn told_source<R: Files + Eprint + AllocGlobal>(
