@@ -64,10 +64,17 @@ impl<W: Write + Drop> Hear for Reports<W> {
     {
         let Judged { verdict, .. } = judged;
         self.rows = self.rows.saturating_add(1);
-        let written = writeln!(self.out, "{} {}", self.rows, Report::Judged(verdict));
-        written?;
-        self.out.flush()
+        print_row(&mut self.out, self.rows, &Report::Judged(verdict))
     }
+}
+
+/// Prints the line of the row with this number.
+fn print_row<W: Write>(out: &mut W, number: usize, report: &Report) -> io::Result<()>
+    ensures { OnOk result (Appends (W.contents out.old) (W.contents out.new)
+        (row_line number (report_text report.now))) }
+{
+    writeln!(out, "{number} {report}")?;
+    out.flush()
 }
 
 impl<W: Write + Drop> Tell for Reports<W> {
