@@ -95,7 +95,7 @@ pub(crate) fn closed<D: Disk + Drop>(
 {
     match conn.close_files() {
         Ok(files) => Ok(files),
-        Err((error, store)) => Err((error, store.tally())),
+        Err((error, store)) => Err((error, store.close().tally())),
     }
 }
 
@@ -116,6 +116,10 @@ fn connected<D: Disk + Drop>(
     };
     match Connection::open_files(rt.alloc(), files, options) {
         Ok(conn) => Ok(conn),
-        Err((error, _left)) => Err(error),
+        Err((error, left)) => {
+            // A drop of files is quick to prove, and one of what holds them isn't.
+            drop(left.into_files());
+            Err(error)
+        }
     }
 }
