@@ -3,7 +3,7 @@ ghost use Rattle.std.specs.Prelude.{IfOk, IsTrue};
 
 use crate::reason::{DatabaseReason, code_of, failure_of};
 use sqlite::{Connection, Error, ErrorCode, File, FileStore, Files, Options, Unknown};
-use sqlite_disk::Disk;
+use sqlite_disk::{Disk, Tally};
 use std::fs::OpenOptions;
 use std::hash::{BuildHasher, RandomState};
 use std::io::ErrorKind;
@@ -80,9 +80,22 @@ pub fn renewed<D: Disk + Drop>(
     rt: &HostRuntime,
     conn: Connection<FileStore<D>>,
 ) -> Result<Connection<FileStore<D>>, Error> {
-    match conn.close_files() {
+    match closed(conn) {
         Ok(files) => connected(rt, files),
-        Err((error, _store)) => Err(error),
+        Err((error, _tally)) => Err(error),
+    }
+}
+
+/// Closes a connection. If this fails, its files are closed, and the tally says what their failed calls met.
+pub(crate) fn closed<D: Disk + Drop>(
+    conn: Connection<FileStore<D>>,
+) -> Result<Files<D>, (Error, Tally)>
+    ensures log { IfOk result (λ files. IsTrue (D.Disk.is_usable files.log)) }
+    ensures db { IfOk result (λ files. IsTrue (D.Disk.is_usable files.db)) }
+{
+    match conn.close_files() {
+        Ok(files) => Ok(files),
+        Err((error, store)) => Err((error, store.close().tally())),
     }
 }
 
@@ -103,6 +116,10 @@ fn connected<D: Disk + Drop>(
     };
     match Connection::open_files(rt.alloc(), files, options) {
         Ok(conn) => Ok(conn),
-        Err((error, _left)) => Err(error),
+        Err((error, left)) => {
+            // A drop of files is quick to prove, and one of what holds them isn't.
+            drop(left.into_files());
+            Err(error)
+        }
     }
 }

@@ -1,4 +1,5 @@
 //! Why a database file can't be used.
+use crate::file::closed;
 use sqlite::{Alter, Connection, Error, ErrorCode, FileStore};
 use sqlite_disk::{Disk, Tally};
 use sqlite_std_file::OpenError;
@@ -32,9 +33,9 @@ pub fn failure_in<S: Alter + Drop>(
 
 /// How the disk has failed since the file was opened.
 pub fn failure_since<D: Disk + Drop>(conn: Connection<FileStore<D>>) -> DatabaseReason {
-    match conn.close_files() {
+    match closed(conn) {
         Ok(files) => failure_by(files.tally()),
-        Err((_error, store)) => failure_by(store.tally()),
+        Err((_error, tally)) => failure_by(tally),
     }
 }
 

@@ -16,7 +16,7 @@ use std::io::{ErrorKind, Write};
 use thiserror::Error;
 
 /// Why the lines of a journal weren't written whole.
-#[derive(Clone, Copy, Debug, PartialEq, Eq, Error)]
+#[derive(Clone, Copy, Debug, Error)]
 pub enum ShowJournalFault {
     /// The journal couldn't be opened, it failed, or memory ran out.
     #[error("journal {0}")]

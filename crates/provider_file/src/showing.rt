@@ -20,7 +20,7 @@ use thiserror::Error;
 const ROWS_AT_ONCE: u32 = 100;
 
 /// Why the lines of a store weren't written whole.
-#[derive(Clone, Copy, Debug, PartialEq, Eq, Error)]
+#[derive(Clone, Copy, Debug, Error)]
 pub enum ShowStoreFault {
     /// The store couldn't be opened, it failed, or memory ran out.
     #[error("store {0}")]
