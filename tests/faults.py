@@ -16,6 +16,7 @@ from support import ROOT
 
 # The calls that tests/shim.c counts
 KINDS = ("ALLOCATION", "WRITE", "READ", "STREAM_WRITE", "STREAM_READ")
+ENVIRONMENT = dict(os.environ)
 # The status of a run that the shim ends
 ENDED = 99
 WORKERS = os.cpu_count() or 1
@@ -38,7 +39,7 @@ class Shim:
         with open(handle, "wb") as counts:
             counts.write(bytes(8 * len(KINDS)))
         # The options of the run
-        self.options = {"env": os.environ | words | {"FAULT_COUNTS": self.counts, "LD_PRELOAD": str(shim)}}
+        self.options = {"env": ENVIRONMENT | words | {"FAULT_COUNTS": self.counts, "LD_PRELOAD": str(shim)}}
 
     def count_of(self, kind):
         """How many calls of a kind there were."""

@@ -1,6 +1,7 @@
 /* Lets calls of a program fail, and passes the bytes of its streams by a script. tests/faults.py builds it and
    preloads it before the C library. It counts the allocations, the calls that read, write or sync a file on
-   disk, and the calls on a stream: standard input and output, if they are no files, and sockets.
+   disk, and the calls on a stream: standard input and output, if they are no files, and sockets. Random bytes are
+   the same ones in each run, so that a fault at the same place leaves the same files.
 
    FAULT_COUNTS      a file of five 64-bit numbers: the allocations, the writes and reads of the disk, and
                      those of streams so far
@@ -121,7 +122,7 @@ static long fail(int error)
     return -1;
 }
 
-/* random bytes: the same ones in each run, so that what a run leaves is the same too */
+/* random bytes */
 int getentropy(void *bytes, size_t size)
 {
     memset(bytes, 7, size);

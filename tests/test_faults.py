@@ -4,7 +4,6 @@ import dataclasses
 import functools
 import os
 import pathlib
-import shutil
 import socket
 import tempfile
 import time
@@ -76,9 +75,10 @@ def read_shown(lines):
 
 
 def kept(site):
-    """The bytes of the files of both ends."""
+    """What the files of both ends are: their sizes, and their bytes but for the zeros at their ends, which are many."""
     files = [file for base in (site.store, site.journal) for file in (base, base.with_name(f"{base.name}-wal"))]
-    return tuple(file.read_bytes() if file.exists() else None for file in files)
+    contents = [file.read_bytes() if file.exists() else None for file in files]
+    return tuple(content and (len(content), content.rstrip(b"\0")) for content in contents)
 
 
 def use_up(provider, address):
