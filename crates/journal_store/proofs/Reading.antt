@@ -19,6 +19,9 @@ use Rattle.journal_store.specs.Kept.{Kept, IsFaithful, IsSound, IsWhole, MayHold
 abbrev pub answered : Result (Unit {0}) JournalFault
 answered = Ok tt
 
+abbrev pub failing : JournalFault → Result (Unit {0}) JournalFault
+failing fault = Err fault
+
 module _ {S : Type 0} (g : Ghosts S) where
   abbrev at : Kept S → State
   at k = state g k.conn

@@ -7,8 +7,8 @@ use Rattle.journal_store.specs.Kept.{Kept, IsFaithful, kept_entries}
 use Rattle.journal_store.proofs.Reading.{writes, writes_open, writes_sound}
 use Rattle.journal_store.proofs.journal.SqlJournalJournal.put_learnt.Goals as goal
 
-pub invariant_of-self : goal.invariant_of-self
-invariant_of-self g c =
+pub invariant_of-self-2 : goal.invariant_of-self-2
+invariant_of-self-2 g c =
     let old : Kept g.row.S.Denot = record { conn = c.self.inside.conn; is_usable = c.self.inside.is_usable; faults = c.self.inside.faults; writes = c.self.inside.writes } in
     let new : Kept g.row.S.Denot = record { conn = c.learn-made.new.conn; is_usable = c.self.inside.is_usable; faults = c.concluded.new.faults; writes = c.concluded.new.writes } in
     let was_usable : IsTrue c.self.inside.is_usable = search (rules, tests) in

@@ -9,16 +9,16 @@ use Rattle.journal_store.specs.Kept.{Kept, IsFaithful, kept_entries}
 use Rattle.journal_store.proofs.Reading.{writes, writes_open, writes_sound}
 use Rattle.journal_store.proofs.journal.SqlJournalJournal.put_rows.Goals as goal
 
-pub put_all-requires-clause-lawful : goal.put_all-requires-clause-lawful
-put_all-requires-clause-lawful g c clean still =
+pub put_all-made-requires-clause-lawful : goal.put_all-made-requires-clause-lawful
+put_all-made-requires-clause-lawful g c clean still =
     let old : Kept g.row.S.Denot = record { conn = c.self.inside.conn; is_usable = c.self.inside.is_usable; faults = c.self.inside.faults; writes = c.self.inside.writes } in
     let was_usable : IsTrue c.self.inside.is_usable = search (rules, tests) in
     let whole = c.self.invariant clean still was_usable in
     let can = subst (λ (k : Kept g.row.S.Denot). IsFaithful g.S.Store k → CanPutRows (kept_entries g.S.Store k) c.args.rows.now) (sym c.self.view_is) c.requires.lawful in
     subst (λ (d : Database). CanPutRows (entries_in d.trees) c.args.rows.now) whole.laid.committed (can (record { clean = clean; is_open = still; usable = was_usable; whole = whole }))
 
-pub invariant_of-self : goal.invariant_of-self
-invariant_of-self g c =
+pub invariant_of-self-2 : goal.invariant_of-self-2
+invariant_of-self-2 g c =
     let old : Kept g.row.S.Denot = record { conn = c.self.inside.conn; is_usable = c.self.inside.is_usable; faults = c.self.inside.faults; writes = c.self.inside.writes } in
     let new : Kept g.row.S.Denot = record { conn = c.put_all-made.new.conn; is_usable = c.self.inside.is_usable; faults = c.concluded.new.faults; writes = c.concluded.new.writes } in
     let was_usable : IsTrue c.self.inside.is_usable = search (rules, tests) in
