@@ -85,13 +85,10 @@ name_kept : (row : source.Row) (held : Option Entry) → row_name (entry_with ro
 name_kept row held = ap row_name (row_kept row held)
 
 -- a row that is looked up, and then put
-module _ (old mid : State) (row copy : source.Row) (name : RecordName) (held : Option Entry) (entry : Entry) (is_there : Bool) (name_is : name ≡ row_name row) (copy_is : copy ≡ row)
-    (entry_is : entry ≡ entry_with copy held) (there_is : is_there ≡ is_some held) (finds : Finds old.now.trees name held) (same : IsUnchanged old mid) where
-  its_entry : entry ≡ entry_with row held
-  its_entry = entry_is ∙ ap (λ (r : source.Row). entry_with r held) copy_is
-
+module _ (old mid : State) (row : source.Row) (name : RecordName) (held : Option Entry) (entry : Entry) (is_there : Bool) (name_is : name ≡ row_name row) (entry_is : entry ≡ entry_with row held)
+    (there_is : is_there ≡ is_some held) (finds : Finds old.now.trees name held) (same : IsUnchanged old mid) where
   its_name : row_name entry.row ≡ name
-  its_name = ap (λ (e : Entry). row_name e.row) its_entry ∙ name_kept row held ∙ sym name_is
+  its_name = ap (λ (e : Entry). row_name e.row) entry_is ∙ name_kept row held ∙ sym name_is
 
   there_by : (o : Option Entry) → Finds old.now.trees name o → HasNumbers old.now.trees → is_some o ≡ true → IsThere old.now.trees name
   there_by None found numbers is = absurd (cc)
@@ -105,7 +102,7 @@ module _ (old mid : State) (row copy : source.Row) (name : RecordName) (held : O
   pub puts_row : (new : State) → Makes is_there entry (settled mid) (settled new) → PutsRow row old.now.trees new.now.trees
   puts_row new made =
       let here : PutsIn is_there entry old.now.trees new.now.trees = subst (λ (d : Database). PutsIn is_there entry d.trees new.now.trees) same.0.now_is made.puts in
-      (held, subst (λ n. Finds old.now.trees n held) name_is finds, subst (λ (e : Entry). PutsIn (is_some held) e old.now.trees new.now.trees) its_entry (subst (λ b. PutsIn b entry old.now.trees new.now.trees) there_is here))
+      (held, subst (λ n. Finds old.now.trees n held) name_is finds, subst (λ (e : Entry). PutsIn (is_some held) e old.now.trees new.now.trees) entry_is (subst (λ b. PutsIn b entry old.now.trees new.now.trees) there_is here))
 
 -- what a row makes of the entries
 module _ (row : source.Row) (old new : Trees) (numbers : HasNumbers old) (can : CanPutRow (entries_in old) row) (puts : PutsRow row old new) where

@@ -57,16 +57,3 @@ module _ {S : Type 0} (g : Ghosts S) where
   -- a call that fails, after another that read
   pub fails_so : {T : Type 0} (U : Type 0) {old new : Kept S} {x : T} (fault : JournalFault) → Reads g old new (Ok x) → CountsFault old.faults new.faults fault → Reads g old new (fault_as U fault)
   fails_so U fault r counts = record { was = r.was; same = r.same; honest = r.honest; opened = λ _. tt; stop = r.stop; counted = counts; unwritten = r.unwritten }
-
-  -- a call that would have made the entries these, and failed before
-  pub fails_first : {T : Type 0} {old new : Kept S} {fault : JournalFault} (later : EntryMap) → Reads g old new (fault_as T fault) → Writes g old new later (fault_as (Unit {0}) fault)
-  fails_first later r = record {
-    was = r.was;
-    done = λ _. tt;
-    same = r.same;
-    honest = r.honest;
-    stop = λ honest found holds. inl (r.stop honest found holds);
-    counted = r.counted;
-    written = omega (arith, r.unwritten);
-    unwritten = r.unwritten;
-  }

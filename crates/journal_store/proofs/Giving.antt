@@ -1,21 +1,15 @@
 -- The queries are whole, and aren't refused.
-use Rattle.std.proofs.Common.{◌≡◌, ℕ, true, List, [], ◌∷◌, refl}
-use Rattle.sqlite_value.specs.declared.value.Value.TheVariants.{Text}
+use Rattle.std.proofs.Common.{◌≡◌, true, [], refl}
 use Rattle.sqlite_typing.specs.Types.{accepts_program}
 use Rattle.sqlite_tied.specs.Compute.{everything}
 use Rattle.scim_key.specs.declared.records.Kind.{Kind}
 use Rattle.scim_key.specs.declared.records.Kind.TheVariants.{User, Group}
 use Rattle.sql_tables.specs.Statements.{IsGiven}
 use Rattle.sql_tables.specs.Layouts.{format_tree}
-use Rattle.journal_store.specs.Format.{Form, journal_schema, entry_tree, find_text, all_text, marked_text, numbers_text}
+use Rattle.journal_store.specs.Format.{Form, journal_schema, entry_tree, all_text, marked_text, numbers_text}
 use Rattle.sql_tables.proofs.Marking.{marked_shown}
 use Rattle.sql_tables.proofs.Queries.{given_by, query}
-use Rattle.journal_store.proofs.Texts.{all_is, all_order, find_is, key_is, marked_is, number_order, number_shown, numbers_is, shown_terms}
-
-find_accepted : (kind : Kind) (key : List ℕ) (f : Form) → accepts_program (journal_schema f) [] (query (entry_tree kind) (key_is ∷ []) (shown_terms kind) []) (Text key ∷ []) ≡ true
-unfolding everything
-find_accepted User key f = refl
-find_accepted Group key f = refl
+use Rattle.journal_store.proofs.Texts.{all_is, all_order, marked_is, number_order, number_shown, numbers_is, shown_terms}
 
 all_accepted : (kind : Kind) (f : Form) → accepts_program (journal_schema f) [] (query (entry_tree kind) [] (shown_terms kind) all_order) [] ≡ true
 unfolding everything
@@ -30,9 +24,6 @@ numbers_accepted : (kind : Kind) (f : Form) → accepts_program (journal_schema 
 unfolding everything
 numbers_accepted User f = refl
 numbers_accepted Group f = refl
-
-pub find_given : (kind : Kind) (key : List ℕ) → IsGiven journal_schema (find_text kind) (Text key ∷ [])
-find_given kind key = given_by (Text key ∷ []) (find_is kind) refl (find_accepted kind key)
 
 pub all_given : (kind : Kind) → IsGiven journal_schema (all_text kind) []
 all_given kind = given_by [] (all_is kind) refl (all_accepted kind)

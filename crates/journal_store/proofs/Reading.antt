@@ -1,25 +1,20 @@
 -- What a call that only reads leaves of a journal.
-use Rattle.std.proofs.Common.{◌≡◌, ◌≤◌, ◌+◌, Bool, true, Some, None, false, Result, Ok, Err, IsTrue, OnOk, sym, ap, ◌∙◌, subst, inl, inr, arith, ◌⊎◌}
-use Rattle.std.specs.Prelude.{is_some}
-use Rattle.std.specs.FinMap.{insert}
+use Rattle.std.proofs.Common.{◌≡◌, ◌≤◌, ◌+◌, Result, Ok, Err, IsTrue, OnErr, OnOk, sym, ap, ◌∙◌, subst, inl, inr, arith, ◌⊎◌}
 use Rattle.sqlite_trees.specs.declared.store.Store.{Ghosts}
 use Rattle.sqlite_trees.specs.Tree.{Trees}
 use Rattle.sqlite.specs.Effect.{Database}
 use Rattle.sqlite.specs.Held.{state}
 use Rattle.sqlite.specs.State.{State, HasCleanDisk, Survives}
-use Rattle.scim_key.specs.declared.records.RecordName.{RecordName}
-use Rattle.source_csv.specs.Records.{IsRow, row_name}
 use Rattle.journal_core.specs.Entries.{EntryMap}
 use Rattle.journal_core.specs.Stores.{CountsFault, CountsFaults}
-use Rattle.journal_core.specs.declared.entries.Entry.{Entry}
 use Rattle.journal_core.specs.declared.journals.JournalFault.{JournalFault}
-use Rattle.journal_store.specs.Calls.{Reads, Writes}
-use Rattle.journal_store.specs.Rows.{entries_in, entry_in, row_of}
+use Rattle.journal_store.specs.Calls.{Reads, Writes, call_result}
+use Rattle.journal_store.specs.declared.statements.TableFault.{TableFault}
+use Rattle.journal_store.specs.Rows.{entries_in}
 use Rattle.sql_tables.specs.Statements.{Keeps}
 use Rattle.sql_tables.proofs.Keeping.{kept_now, laid_still}
-use Rattle.journal_store.specs.Connections.{Commits, FindsIf, HasNumbers, IsLaid, IsThere, PutsIn}
+use Rattle.journal_store.specs.Connections.{Commits, HasNumbers, IsLaid}
 use Rattle.journal_store.specs.Kept.{Kept, IsFaithful, IsSound, IsWhole, MayHold, kept_entries}
-use Rattle.journal_store.proofs.Putting.{entry_put, numbers_still, there_of}
 
 abbrev pub answered : Result (Unit {0}) JournalFault
 answered = Ok tt
@@ -90,65 +85,50 @@ module _ {S : Type 0} (g : Ghosts S) where
       | inr left ↦ let before = faithful_before clean left.0 in inr (before, may.2 ∙ (means before may.0 left.1).1)
     ]
 
-    module _ (makes : HasCleanDisk (at new) → Commits Changes (at old) (at new)) where
-      pub wrote_faithful : HasCleanDisk (at new) → IsFaithful g new
-      wrote_faithful clean =
-          let made = makes clean in
-          record {
-            clean = clean;
-            is_open = made.is_open;
-            usable = subst IsTrue (sym usable) was_usable;
-            whole = record { laid = made.laid; numbers = (means (faithful_before clean made.was_open) (at new).now.trees made.puts).0 };
-          }
+    wrote_faithful : (HasCleanDisk (at new) → Commits Changes (at old) (at new)) → HasCleanDisk (at new) → IsFaithful g new
+    wrote_faithful makes clean =
+        let made = makes clean in
+        record {
+          clean = clean;
+          is_open = made.is_open;
+          usable = subst IsTrue (sym usable) was_usable;
+          whole = record { laid = made.laid; numbers = (means (faithful_before clean made.was_open) (at new).now.trees made.puts).0 };
+        }
 
-      pub wrote_sound : IsSound g new
-      wrote_sound clean still use_it = (wrote_faithful clean).whole
+    -- whatever the statements answered
+    pub writes_sound : (made : Result (Unit {0}) TableFault) → (HasCleanDisk (at new) → OnOk made (Commits Changes (at old) (at new))) → (HasCleanDisk (at new) → OnErr made (Keeps (at old) (at new))) → IsSound g new
+    writes_sound (Ok x) makes keeps clean still use_it = (wrote_faithful makes clean).whole
+    writes_sound (Err fault) makes keeps clean still use_it =
+        let kept = keeps clean in
+        whole_still old new usable kept (faithful_before clean (kept.was_open still)).whole still
 
-      pub wrote : new.faults ≡ old.faults → new.writes ≤ old.writes + 1
-          → Writes g old new later answered
-      wrote faults writes = record {
+    pub writes_open : (made : Result (Unit {0}) TableFault) → (HasCleanDisk (at new) → OnOk made (Commits Changes (at old) (at new))) → (result : Result (Unit {0}) JournalFault) → result ≡ call_result made
+        → HasCleanDisk (at new) → OnOk result (IsFaithful g new)
+    writes_open (Ok x) makes result is clean = subst (λ r. OnOk r (IsFaithful g new)) (sym is) (wrote_faithful makes clean)
+    writes_open (Err fault) makes result is clean = subst (λ r. OnOk r (IsFaithful g new)) (sym is) tt
+
+    module _ (result : Result (Unit {0}) JournalFault) (counts : CountsFaults CountsFault old.faults new.faults result) (written : new.writes ≤ old.writes + 1) (unwritten : OnErr result (new.writes ≡ old.writes)) where
+      pub writes : (made : Result (Unit {0}) TableFault) → (HasCleanDisk (at new) → OnOk made (Commits Changes (at old) (at new))) → (HasCleanDisk (at new) → OnErr made (Keeps (at old) (at new))) → result ≡ call_result made
+          → Writes g old new later result
+      writes (Ok x) makes keeps is = record {
         was = λ it. faithful_before it.clean (makes it.clean).was_open;
         done = λ it. let made = makes it.clean in
-            ap (λ (d : Database). entries_in d.trees) made.laid.committed ∙ (means (faithful_before it.clean made.was_open) (at new).now.trees made.puts).1;
-        same = λ _. tt;
+            subst (λ r. OnOk r (kept_entries g new ≡ later)) (sym is) (ap (λ (d : Database). entries_in d.trees) made.laid.committed ∙ (means (faithful_before it.clean made.was_open) (at new).now.trees made.puts).1);
+        same = λ _. subst (λ r. OnErr r (kept_entries g new ≡ kept_entries g old)) (sym is) tt;
         honest = λ clean. omega (arith, clean, survives.clean);
         stop = λ clean found may. stops found clean may;
-        counted = faults;
-        written = writes;
-        unwritten = tt;
+        counted = counts;
+        written = written;
+        unwritten = unwritten;
       }
-
-    module _ (fault : JournalFault) (keeps : HasCleanDisk (at new) → Keeps (at old) (at new)) where
-      pub failed_sound : IsSound g new
-      failed_sound clean still use_it =
-          let kept = keeps clean in
-          whole_still old new usable kept (faithful_before clean (kept.was_open still)).whole still
-
-      pub failed : CountsFault old.faults new.faults fault → new.writes ≡ old.writes
-          → Writes g old new later (failing fault)
-      failed faults writes = record {
+      writes (Err fault) makes keeps is = record {
         was = λ it. faithful_before it.clean ((keeps it.clean).was_open it.is_open);
-        done = λ _. tt;
-        same = λ it. let kept = keeps it.clean in entries_same old new usable kept (faithful_before it.clean (kept.was_open it.is_open)).whole.laid it.is_open;
+        done = λ _. subst (λ r. OnOk r (kept_entries g new ≡ later)) (sym is) tt;
+        same = λ it. let kept = keeps it.clean in
+            subst (λ r. OnErr r (kept_entries g new ≡ kept_entries g old)) (sym is) (entries_same old new usable kept (faithful_before it.clean (kept.was_open it.is_open)).whole.laid it.is_open);
         honest = λ clean. omega (arith, clean, survives.clean);
         stop = λ clean found may. stops found clean may;
-        counted = faults;
-        written = omega (arith, writes);
-        unwritten = writes;
+        counted = counts;
+        written = written;
+        unwritten = unwritten;
       }
-
-  -- an entry that is put
-  pub put_means : (old : Kept S) (is_there : Bool) (entry : Entry) → (IsFaithful g old → FindsIf (at old).now.trees (row_name entry.row) is_there)
-      → (IsFaithful g old → IsRow entry.row → entry_in (row_name entry.row).kind (row_of entry) ≡ Some entry)
-      → IsFaithful g old → (db : Trees) → PutsIn is_there entry (at old).now.trees db → HasNumbers db × (entries_in db ≡ insert (kept_entries g old) (row_name entry.row) entry)
-  put_means old is_there entry finds back it db puts =
-      let found = finds it in
-      let its : PutsIn (is_some found.0) entry (at old).now.trees db = subst (λ b. PutsIn b entry (at old).now.trees db) found.1 puts in (
-        numbers_still found.0 entry (at old).now.trees db it.whole.numbers found.2 its (back it puts.lawful),
-        entry_put found.0 entry (at old).now.trees db it.whole.numbers found.2 its (back it puts.lawful) ∙ ap (λ (d : Database). insert (entries_in d.trees) (row_name entry.row) entry) (sym it.whole.laid.committed),
-      )
-
--- the row of a name that is known to be there
-pub there_if : (db : Trees) (name : RecordName) (is_there : Bool) → HasNumbers db → FindsIf db name is_there → is_there ≡ true → IsThere db name
-there_if db name is_there numbers (None, is, finds) there = absurd (let clash : true ≡ false = sym there ∙ is in cc)
-there_if db name is_there numbers (Some e, is, finds) there = there_of db name e numbers finds

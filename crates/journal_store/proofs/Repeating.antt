@@ -21,7 +21,7 @@ use Rattle.sqlite_value.proofs.OrderLemmas.{value_cmp_total, value_cmp-Int, valu
 use Rattle.sqlite_trees.specs.Tree.{rowid, has_rowid}
 use Rattle.sqlite_trees.proofs.ListLemmas.{filter-map, filter_none, IsPermutation-filter}
 use Rattle.sqlite_rules.specs.Lists.{Has}
-use Rattle.sqlite_rules.proofs.ListLemmas.{has_right}
+use Rattle.sqlite_rules.proofs.ListLemmas.{has_at, has_right}
 use Rattle.scim_key.specs.RecordOrder.{names_total}
 use Rattle.scim_key.specs.Records.{name_cmp}
 use Rattle.scim_key.specs.declared.records.Kind.{Kind}
@@ -30,7 +30,7 @@ use Rattle.scim_key.specs.declared.records.RecordName.{RecordName}
 use Rattle.source_csv.specs.Records.{row_name}
 use Rattle.journal_core.specs.declared.entries.Entry.{Entry}
 use Rattle.sql_tables.proofs.Selecting.{IsOrdered}
-use Rattle.journal_store.specs.Connections.{AreNumbered, FailsToRise, IsUnshownBy, ListsAllBy, last_name}
+use Rattle.journal_store.specs.Connections.{AreNumbered, FailsToRise, IsNotNext, IsUnshownBy, ListsAllBy, Shows, last_name}
 use Rattle.journal_store.specs.Opening.{IsUnnumbered}
 use Rattle.journal_store.proofs.Loading.{Sorted, has_map, names_of, permuted, zip_left}
 use Rattle.journal_store.proofs.Numbering.{last_of}
@@ -222,3 +222,10 @@ module _ (kind : Kind) (Valid : Row → Entry → Type 0) (keyed : (r : Row) (e 
         not_below = (λ i. is_lt (value_cmp (first.0 i) (second.0 i))) ∙ ap is_lt (value_cmp-Text (row_name it.2.row).key (row_name entry.row).key)
             ∙ ap is_lt (sym (compare_names kind (row_name it.2.row) (row_name entry.row) first.1 second.1)) ∙ names;
       }
+
+-- a row that isn't the next one
+pub next_fails : (kind : Kind) (rows : List Row) (at : ℕ) (row : Row) (list : List Entry) (previous : Option RecordName) → at < length rows → row ≡ get_or rows at row → AllZip (Shows kind) (take at rows) list
+    → previous ≡ last_name (names_of list) → IsNotNext kind previous row → IsUnshownBy (Shows kind) rows
+next_fails kind rows at row list previous low is zip last (inl none) = inl (row, has_at rows at row low is, none)
+next_fails kind rows at row list previous low is zip last (inr (entry, shows, above)) =
+    inr (key_fails kind (Shows kind) (λ r e it. (it.key, it.kind_is)) rows at row entry list previous (row_name entry.row) low is zip last shows refl above)

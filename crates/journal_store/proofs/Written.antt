@@ -1,16 +1,14 @@
 -- What the two writes leave, as rows of entries.
-use Rattle.std.proofs.Common.{◌≡◌, ℕ, Bool, true, false, List, [], ◌∷◌, None, Option, Ok, Err, Result, OnOk, IsTrue, refl, sym, ap, ◌∙◌, subst, arith}
+use Rattle.std.proofs.Common.{◌≡◌, ℕ, Bool, true, false, List, [], ◌∷◌, None, Option, Ok, Err, Result, OnOk, IsTrue, refl, sym, ap, ◌∙◌, subst}
 use Rattle.sqlite_value.specs.declared.value.Value.{Value}
 use Rattle.sqlite_value.specs.declared.value.Value.TheVariants.{Text}
 use Rattle.sqlite_value.specs.Order.{Row}
-use Rattle.sqlite_trees.specs.Tree.{Trees}
 use Rattle.sqlite_schema.specs.declared.command.Command.{Command}
 use Rattle.sqlite_schema.specs.declared.command.Command.TheVariants.{Insert, Update}
 use Rattle.sqlite_schema.specs.declared.command.Source.TheVariants.{Values}
 use Rattle.sqlite.specs.Does.{Tally, Does}
 use Rattle.sqlite.specs.Effect.{Database}
-use Rattle.sqlite.specs.State.{State, HasCleanDisk, Survives}
-use Rattle.sqlite.proofs.StateLemmas.{survives_weaker}
+use Rattle.sqlite.specs.State.{State}
 use Rattle.scim_key.specs.Revisions.{RevisionValue}
 use Rattle.scim_key.specs.declared.records.Kind.{Kind}
 use Rattle.source_csv.specs.Records.{IsRow, row_name}
@@ -19,7 +17,7 @@ use Rattle.source_csv.specs.declared.rows.Row as source
 use Rattle.source_csv.specs.declared.rows.Row.TheVariants.{User, Group}
 use Rattle.journal_core.specs.declared.entries.Entry.{Entry}
 use Rattle.journal_store.specs.Format.{journal_schema, entry_place, entry_tree}
-use Rattle.sql_tables.specs.Statements.{IsEdit, IsEditText, MayLeave, Ran, plain_mode}
+use Rattle.sql_tables.specs.Statements.{IsEdit, IsEditText, Ran, plain_mode}
 use Rattle.sql_tables.proofs.Queries.{query}
 use Rattle.journal_store.specs.Rows.{epoch_value, id_value, members_text, revision_value, row_by, row_of}
 use Rattle.journal_store.specs.Connections.{IsLaid, IsThere, Makes, PutsIn, put_text}
@@ -90,22 +88,6 @@ put_made old new is_there entry lawful laid there ran =
       puts = made.1;
     }
 
-pub put_leaves : (old : State) (is_there : Bool) (entry : Entry) (db : Trees) → IsRow entry.row → IsLaid old → (is_there ≡ true → IsThere old.now.trees (row_name entry.row))
-    → MayLeave (put_text is_there (row_name entry.row).kind) (row_of entry) old db → PutsIn is_there entry old.now.trees db
-put_leaves old is_there entry db lawful laid there may =
-    let type = (row_name entry.row).kind in
-    let command = command_is (put_is is_there type) old may.compiled laid may.is in
-    let does = subst (λ k. Does may.limit plain_mode (row_of entry) old.now may.text None k (Ok (may.tally, may.after))) command may.does in
-    subst (PutsIn is_there entry old.now.trees) (sym may.trees) (puts_it may.limit old may.after may.tally may.text laid is_there entry lawful there does).1
-
-pub put_stops : (old new : State) (is_there : Bool) (entry : Entry) → IsRow entry.row → (HasCleanDisk old → IsTrue old.is_open → IsLaid old)
-    → (HasCleanDisk old → IsTrue old.is_open → is_there ≡ true → IsThere old.now.trees (row_name entry.row))
-    → Survives old new (MayLeave (put_text is_there (row_name entry.row).kind) (row_of entry) old) → Survives old new (λ db. IsTrue old.is_open × PutsIn is_there entry old.now.trees db)
-put_stops old new is_there entry lawful laid there it =
-    survives_weaker old new _ _ (λ clean db may.
-    let early : HasCleanDisk old = omega (arith, clean, it.clean) in
-    (may.was_open, put_leaves old is_there entry db lawful (laid early may.was_open) (there early may.was_open) may)) it
-
 -- ---- what is bound is the row
 
 pub group_bound : (g : GroupFields) (confirmed : RevisionValue) (id : Option (List ℕ)) {k l r m c i e d : Value} → k ≡ Text (row_name (Group g)).key → l ≡ Text g.name → r ≡ revision_value g.revision → m ≡ Text (members_text g.members)
@@ -130,9 +112,3 @@ module _ (old new : State) (is_there : Bool) (entry : Entry) (row : source.Row) 
   ran_makes (Ok x) laid there ran =
       put_made old new is_there entry its_lawful (laid ran.was_open) (there ran.was_open) (subst (λ p. Ran p (row_of entry) old new) its_text (subst (λ p. Ran sql p old new) its_row ran))
   ran_makes (Err e) laid there ran = tt
-
-  pub may_puts : (HasCleanDisk old → IsTrue old.is_open → IsLaid old) → (HasCleanDisk old → IsTrue old.is_open → is_there ≡ true → IsThere old.now.trees (row_name entry.row))
-      → Survives old new (MayLeave sql (row_by row entry.confirmed entry.id) old) → Survives old new (λ db. IsTrue old.is_open × PutsIn is_there entry old.now.trees db)
-  may_puts laid there it =
-      put_stops old new is_there entry its_lawful laid there
-      (subst (λ p. Survives old new (MayLeave p (row_of entry) old)) its_text (subst (λ p. Survives old new (MayLeave sql p old)) its_row it))

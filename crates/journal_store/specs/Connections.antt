@@ -1,5 +1,5 @@
 -- What the statements require of a connection, and what they leave of it.
-use Rattle.std.specs.Prelude.{◌≡◌, ◌⊎◌, ◌+◌, ℕ, ℤ, Bool, true, false, List, [], ◌∷◌, ◌++◌, Option, Some, None, Ok, IsTrue, IsPermutation, filter, is_some, map}
+use Rattle.std.specs.Prelude.{◌≡◌, ◌⊎◌, ◌+◌, ℕ, ℤ, Bool, true, false, List, [], ◌∷◌, ◌++◌, Option, Some, None, Ok, IsTrue, IsPermutation, MatchOption, filter, map}
 use Rattle.std.specs.List.{AllByRecursion, AllZip}
 use Rattle.std.specs.List.Sorted.{IsSorted, IsStrictlySortedBy}
 use Rattle.scim_key.specs.Records.{name_cmp}
@@ -80,18 +80,10 @@ Finds db name None = filter (has_key name.key) (db (entry_tree name.kind)) ≡ [
 Finds db name (Some entry) =
     (r : Row) × (filter (has_key name.key) (db (entry_tree name.kind)) ≡ r ∷ []) × Shows name.kind (shown_row name.kind r) entry
 
--- there are rows with this name, but they aren't one row that shows a valid entry
-abbrev pub IsDamagedAt : Trees → RecordName → Type 0
-IsDamagedAt db name = (held : Option Entry) → Finds db name held → ⊥
-
 -- what the rows with a name show: at most one row
 abbrev pub IsOnly : Kind → List Row → Option Entry → Type 0
 IsOnly kind rows None = rows ≡ []
 IsOnly kind rows (Some entry) = (r : Row) × (rows ≡ r ∷ []) × Shows kind r entry
-
--- the same, if it is known whether there is such an entry
-abbrev pub FindsIf : Trees → RecordName → Bool → Type 0
-FindsIf db name is_there = (held : Option Entry) × (is_there ≡ is_some held) × Finds db name held
 
 -- the last of some names
 abbrev pub last_name : List RecordName → Option RecordName
@@ -107,6 +99,11 @@ pub record FailsToRise (rows : List Row) : Type 0 where
   pub back : List Row
   pub is : rows ≡ front ++ first ∷ second ∷ back
   pub not_below : is_lt (value_cmp (column first 0) (column second 0)) ≡ false
+
+-- the row shows no valid entry, or one whose name doesn't come after the previous one
+abbrev pub IsNotNext : Kind → Option RecordName → Row → Type 0
+IsNotNext kind previous row =
+    ((entry : Entry) → Shows kind row entry → ⊥) ⊎ ((entry : Entry) × Shows kind row entry × MatchOption previous ⊥ (λ p. is_lt (name_cmp p (row_name entry.row)) ≡ false))
 
 -- given which valid entry a row shows
 module _ (Valid : Row → Entry → Type 0) where

@@ -14,8 +14,8 @@ ghost use Rattle.journal_store.specs.Connections.{Finds, HasNumbers, IsEditText,
 
 use crate::statements::TableFault;
 use crate::tables::{
-    find_statement, group_params, kind_of, members_text, only, put_statement, text_param,
-    user_params, with_row,
+    find_statement, group_params, kind_of, learnt_of, members_text, only, put_statement,
+    text_param, user_params,
 };
 use journal_core::Entry;
 use scim_key::{Kind, RecordName, ResourceId, Revision};
@@ -164,16 +164,18 @@ fn put_entry_in<S: Alter>(
     alloc: Global,
     tables: &mut Transaction<'_, S>,
     is_there: bool,
-    entry: &Entry,
+    row: &SourceRow,
+    confirmed: Revision,
+    id: &Option<ResourceId>,
 ) -> Result<(), TableFault>
     requires under_way { IsUnderWay (state S.Store tables.old.conn.now) }
     requires there { HasCleanDisk (state S.Store tables.old.conn.now)
         → IsTrue (state S.Store tables.old.conn.now).is_open → is_there ≡ true
-        → IsThere (state S.Store tables.old.conn.now).now.trees (row_name entry.now.row) }
+        → IsThere (state S.Store tables.old.conn.now).now.trees (row_name row.now) }
     ensures same_reference { tables.new.conn.ghost_name ≡ tables.old.conn.ghost_name }
     ensures made { HasCleanDisk (state S.Store tables.new.conn.now)
         → OnOk result
-        (Makes is_there entry.now (settled (state S.Store tables.old.conn.now))
+        (Makes is_there (record { row = row.now; confirmed = confirmed; id = id.now }) (settled (state S.Store tables.old.conn.now))
         (settled (state S.Store tables.new.conn.now))) }
     ensures inside { HasCleanDisk (state S.Store tables.new.conn.now)
         → OnOk result (IsTrue (state S.Store tables.new.conn.now).in_transaction) }
@@ -182,19 +184,10 @@ fn put_entry_in<S: Alter>(
     ensures quiet { Survives (state S.Store tables.old.conn.now) (state S.Store tables.new.conn.now)
         (λ _. ⊥) }
 {
-    let sql = put_statement(kind_of(&entry.row), is_there);
-    match &entry.row {
-        SourceRow::User(user) => write_user_in(
-            alloc,
-            tables,
-            sql,
-            user,
-            entry.confirmed,
-            &entry.id,
-        ),
-        SourceRow::Group(group) => {
-            write_group_in(alloc, tables, sql, group, entry.confirmed, &entry.id)
-        }
+    let sql = put_statement(kind_of(row), is_there);
+    match row {
+        SourceRow::User(user) => write_user_in(alloc, tables, sql, user, confirmed, id),
+        SourceRow::Group(group) => write_group_in(alloc, tables, sql, group, confirmed, id),
     }
 }
 
@@ -222,10 +215,10 @@ fn put_in<S: Alter>(
         (λ _. ⊥) }
 {
     let name = row.record_name(alloc)?;
-    let row = row.clone()?;
     let held = find_in(alloc, tables, &name)?;
     let is_there = held.is_some();
-    put_entry_in(alloc, tables, is_there, &with_row(held, row))
+    let (confirmed, id) = learnt_of(held);
+    put_entry_in(alloc, tables, is_there, row, confirmed, &id)
 }
 
 /// Puts the rows, one after another.

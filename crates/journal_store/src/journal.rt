@@ -1,22 +1,19 @@
 //! A journal in SQLite.
-ghost use Rattle.std.specs.Prelude.{◌≡◌, ◌⊎◌, Some, IfErr, IfOk, IsTrue, OnOk};
+ghost use Rattle.std.specs.Prelude.{◌≡◌, ◌≤◌, ◌+◌, ◌⊎◌, IfErr, IfOk, IsTrue, OnErr, OnOk};
 ghost use Rattle.std.specs.Result.{is_ok};
-ghost use Rattle.std.specs.FinMap.{insert};
 ghost use Rattle.sqlite.specs.Held.{state};
 ghost use Rattle.sqlite.specs.State.{HasCleanDisk, Survives};
-ghost use Rattle.source_csv.specs.Records.{IsRow, row_name};
 ghost use Rattle.journal_core.specs.Entries.{CanPutLearnt, CanPutRow, CanPutRows, IsListOf, with_learnt, with_row, with_rows};
 ghost use Rattle.journal_core.specs.Forgetting.{forgotten, learnt_count};
-ghost use Rattle.journal_core.specs.Stores.{CountsFault, HasRisen};
+ghost use Rattle.journal_core.specs.Stores.{CountsFault, CountsFaults, HasRisen};
 ghost use Rattle.journal_core.specs.declared.journals.JournalFault.TheVariants.{Store};
-ghost use Rattle.journal_store.specs.Calls.{Reads, Writes, OpensAgain};
-ghost use Rattle.journal_store.specs.Connections.{Finds, FindsIf, IsDamagedAt, ListsAll, ListsNone};
+ghost use Rattle.journal_store.specs.Calls.{Reads, Writes, OpensAgain, call_result};
+ghost use Rattle.journal_store.specs.Connections.{ListsAll, ListsNone};
 ghost use Rattle.sql_tables.specs.Faults.{HasFailed};
 ghost use Rattle.sql_tables.specs.Statements.{LeavesStore};
 ghost use Rattle.journal_store.specs.Kept.{CallFailsFor, IsFaithful, IsHonest, IsRefused, MayHold, kept_entries};
 ghost use Rattle.journal_store.specs.Opening.{IsCause, LeavesStanding, OpenFailsFor, OpeningFails, Stands, journal_fault, table_fault};
 ghost use Rattle.journal_store.specs.Resets.{AreListed};
-ghost use Rattle.journal_store.specs.Rows.{entry_in, row_of};
 
 use crate::batches::put_all;
 use crate::format::Journal as Tables;
@@ -24,13 +21,14 @@ use crate::learning::learn;
 use crate::opening::{JournalOpenFault, check_tables, open_tables};
 use crate::resets::{learnt_count, reset_all};
 use crate::statements::TableFault;
-use crate::tables::{find_entry, list_entries, put_entry, with_row};
+use crate::tables::list_entries;
 use journal_core::{Entry, Journal, JournalFault, ReopenJournal};
 use scim_key::{Kind, RecordName, ResourceId, Revision};
 use source_csv::Row;
 use sqlite::{Alter, Connection};
 use std::alloc::Global;
 use std::marker::Model;
+use std::slice;
 
 /// A journal with its entries in the tables of a connection.
 pub struct SqlJournal<S: Alter> {
@@ -93,27 +91,28 @@ fn fault_of(fault: TableFault) -> JournalFault
     }
 }
 
-impl<S: Alter> SqlJournal<S> {
-    /// The entry with this name, if there is one.
-    fn look_up(&mut self, name: &RecordName) -> Result<Option<Entry>, JournalFault>
-        ensures found { IsFaithful S.Store self.new
-            → IfOk result (Finds (state S.Store self.new.conn).now.trees name.now) }
-        ensures reads { Reads S.Store self.old self.new result }
-        ensures shut { IsRefused self.old result }
-        ensures failed { IsTrue self.old.is_usable → IsHonest S.Store self.new
-            → IfErr result
-            (CallFailsFor (HasFailed (state S.Store self.old.conn) (state S.Store self.new.conn)
-            ⊎ IsDamagedAt (state S.Store self.old.conn).now.trees name.now)) }
-    {
-        if !self.is_usable {
-            return Err(refusal(&mut self.faults));
+/// The result of a call that writes, for that of its statements. Counts the write, or the fault of the store.
+fn concluded(
+    writes: &mut u64,
+    faults: &mut u64,
+    made: Result<(), TableFault>,
+) -> Result<(), JournalFault>
+    ensures is { result ≡ call_result made }
+    ensures faults { CountsFaults CountsFault faults.old faults.new result }
+    ensures risen { OnOk result (HasRisen writes.old writes.new) }
+    ensures written { writes.new ≤ writes.old + 1 }
+    ensures unwritten { OnErr result (writes.new ≡ writes.old) }
+{
+    match made {
+        Ok(()) => {
+            *writes = writes.saturating_add(1);
+            Ok(())
         }
-        match find_entry(self.alloc, &mut self.conn, name) {
-            Ok(held) => Ok(held),
-            Err(fault) => Err(counted(&mut self.faults, fault_of(fault))),
-        }
+        Err(fault) => Err(counted(faults, fault_of(fault))),
     }
+}
 
+impl<S: Alter> SqlJournal<S> {
     /// The entries of one type, in order of their names.
     fn list(&mut self, kind: Kind) -> Result<Vec<Entry>, JournalFault>
         ensures tables { IsFaithful S.Store self.new
@@ -137,30 +136,6 @@ impl<S: Alter> SqlJournal<S> {
         }
         match list_entries::<S, Tables>(self.alloc, &mut self.conn, kind) {
             Ok(list) => Ok(list),
-            Err(fault) => Err(counted(&mut self.faults, fault_of(fault))),
-        }
-    }
-
-    /// Replaces the entry with the same name, or adds a new one.
-    fn put(&mut self, is_there: bool, entry: &Entry) -> Result<(), JournalFault>
-        requires found { IsFaithful S.Store self.old
-            → FindsIf (state S.Store self.old.conn).now.trees (row_name entry.now.row) is_there }
-        requires spelled { IsFaithful S.Store self.old → IsRow entry.now.row
-            → entry_in (row_name entry.now.row).kind (row_of entry.now) ≡ Some entry.now }
-        ensures puts { Writes S.Store self.old self.new
-            (insert (kept_entries S.Store self.old) (row_name entry.now.row) entry.now) result }
-        ensures open { IsHonest S.Store self.new → OnOk result (IsFaithful S.Store self.new) }
-        ensures counted { OnOk result (HasRisen self.old.writes self.new.writes) }
-        ensures shut { IsRefused self.old result }
-    {
-        if !self.is_usable {
-            return Err(refusal(&mut self.faults));
-        }
-        match put_entry(self.alloc, &mut self.conn, is_there, entry) {
-            Ok(()) => {
-                self.writes = self.writes.saturating_add(1);
-                Ok(())
-            }
             Err(fault) => Err(counted(&mut self.faults, fault_of(fault))),
         }
     }
@@ -206,14 +181,7 @@ impl<S: Alter> Journal for SqlJournal<S> {
         ensures counted { OnOk result (HasRisen self.old.writes self.new.writes) }
         ensures shut { IsRefused self.old result }
     {
-        if !self.is_usable {
-            return Err(refusal(&mut self.faults));
-        }
-        let name = row.record_name(self.alloc)?;
-        let row = row.clone()?;
-        let held = self.look_up(&name)?;
-        let is_there = held.is_some();
-        self.put(is_there, &with_row(held, row))
+        self.put_rows(slice::from_ref(row))
     }
 
     fn put_rows(&mut self, rows: &[Row]) -> Result<(), JournalFault>
@@ -228,13 +196,8 @@ impl<S: Alter> Journal for SqlJournal<S> {
         if !self.is_usable {
             return Err(refusal(&mut self.faults));
         }
-        match put_all(self.alloc, &mut self.conn, rows) {
-            Ok(()) => {
-                self.writes = self.writes.saturating_add(1);
-                Ok(())
-            }
-            Err(fault) => Err(counted(&mut self.faults, fault_of(fault))),
-        }
+        let made = put_all(self.alloc, &mut self.conn, rows);
+        concluded(&mut self.writes, &mut self.faults, made)
     }
 
     fn put_learnt(
@@ -254,13 +217,8 @@ impl<S: Alter> Journal for SqlJournal<S> {
         if !self.is_usable {
             return Err(refusal(&mut self.faults));
         }
-        match learn(&mut self.conn, name, confirmed, id) {
-            Ok(()) => {
-                self.writes = self.writes.saturating_add(1);
-                Ok(())
-            }
-            Err(fault) => Err(counted(&mut self.faults, fault_of(fault))),
-        }
+        let made = learn(&mut self.conn, name, confirmed, id);
+        concluded(&mut self.writes, &mut self.faults, made)
     }
 
     ghost is_so = { λ _ faithful. faithful.clean };
@@ -301,13 +259,8 @@ impl<S: Alter> SqlJournal<S> {
         if !self.is_usable {
             return Err(refusal(&mut self.faults));
         }
-        match reset_all(&mut self.conn) {
-            Ok(()) => {
-                self.writes = self.writes.saturating_add(1);
-                Ok(())
-            }
-            Err(fault) => Err(counted(&mut self.faults, fault_of(fault))),
-        }
+        let made = reset_all(&mut self.conn);
+        concluded(&mut self.writes, &mut self.faults, made)
     }
 
     /// Forgets the confirmed revision and the id of each record, by one write: of all records or of none.

@@ -1,5 +1,5 @@
 //! The statements on the tables of entries.
-ghost use Rattle.std.specs.Prelude.{◌≡◌, pos, map, true, false, MatchOption, Option, IfErr, IfOk, IsTrue, OnOk, OnErr, string_bytes};
+ghost use Rattle.std.specs.Prelude.{◌≡◌, pos, map, true, false, MatchOption, Option, IfErr, IfOk, IsTrue, OnOk, string_bytes};
 ghost use Rattle.sqlite.specs.Held.{state};
 ghost use Rattle.sqlite.specs.State.{HasCleanDisk, Survives};
 ghost use Rattle.sqlite.specs.Values.{bound, bound_value};
@@ -9,11 +9,11 @@ ghost use Rattle.std.specs.Ordering.{is_lt};
 ghost use Rattle.std.specs.declared.cmp.Ordering.TheVariants.{Less};
 ghost use Rattle.scim_key.specs.Records.{name_cmp};
 ghost use Rattle.source_csv.specs.Records.{row_name};
-ghost use Rattle.source_csv.specs.Rows.{IsGroupRow, IsUserRow, text_of};
+ghost use Rattle.source_csv.specs.Rows.{text_of};
 ghost use Rattle.source_csv.specs.declared.rows.Row.TheVariants.{User, Group};
 ghost use Rattle.journal_core.specs.Entries.{entry_with};
-ghost use Rattle.journal_store.specs.Connections.{AreShownBy, Finds, IsDamagedAt, IsEditText, IsLaid, IsOnly, IsThere, IsUnshownBy, ListsAllBy, ListsNoneBy, Makes, PutsIn, Shows, put_text};
-ghost use Rattle.sql_tables.specs.Statements.{Keeps, MayLeave, Ran};
+ghost use Rattle.journal_store.specs.Connections.{AreShownBy, IsNotNext, IsOnly, IsUnshownBy, ListsAllBy, ListsNoneBy, Shows, put_text};
+ghost use Rattle.sql_tables.specs.Statements.{Keeps};
 ghost use Rattle.sql_tables.specs.Faults.{HasFailed};
 ghost use Rattle.sql_tables.specs.Layouts.{IsLaid as IsLaidBy};
 ghost use Rattle.journal_store.specs.Faults.{FailsFor, HasCause, IsOfRow};
@@ -22,13 +22,13 @@ ghost use Rattle.journal_store.specs.declared.format.TheConstants.{TEXT_ORDER};
 ghost use Rattle.journal_store.specs.Rows.{active_number, epoch_value, id_value, members_text, revision_value, row_by};
 
 use crate::columns::read_entry;
-use crate::format::{Journal, TEXT_ORDER};
+use crate::format::TEXT_ORDER;
 use crate::formats::Format;
 use crate::statements::TableFault;
 use journal_core::Entry;
 use scim_key::{Key, Kind, RecordName, ResourceId, Revision};
 use source_csv::{GroupRow, Row as SourceRow, TEXT_FIELD_COUNT, UserRow};
-use sql_tables::{ask, write};
+use sql_tables::ask;
 use sqlite::{Alter, Connection, Row};
 use sqlite_value::value::ValueRef;
 use std::alloc::{AllocError, Global};
@@ -99,9 +99,7 @@ pub(crate) fn members_text(alloc: Global, keys: &[Key]) -> Result<String, AllocE
 
 /// The entry that the rows with a name show.
 pub(crate) fn only(alloc: Global, kind: Kind, rows: &[Row]) -> Result<Option<Entry>, TableFault>
-    ensures only { IfOk result (IsOnly kind rows.now) }
-    ensures none { IfErr result (HasCause ((held : Option _) → IsOnly kind rows.now held → ⊥)) }
-    ensures read { IfErr result IsOfRow }
+    ensures { IfOk result (IsOnly kind rows.now) }
 {
     match rows {
         [] => Ok(None),
@@ -123,53 +121,19 @@ pub(crate) fn find_statement(kind: Kind) -> &'static str
     }
 }
 
-/// The entry with this name.
-pub(crate) fn find_entry<S: Alter>(
-    alloc: Global,
-    conn: &mut Connection<S>,
-    name: &RecordName,
-) -> Result<Option<Entry>, TableFault>
-    requires laid { HasCleanDisk (state S.Store conn.old) → IsTrue (state S.Store conn.old).is_open
-        → IsLaid (state S.Store conn.old) }
-    ensures found { HasCleanDisk (state S.Store conn.new)
-        → IfOk result (Finds (state S.Store conn.old).now.trees name.now) }
-    ensures none { HasCleanDisk (state S.Store conn.new)
-        → IfErr result (HasCause (IsTrue (state S.Store conn.new).is_open
-        × IsDamagedAt (state S.Store conn.old).now.trees name.now)) }
-    ensures failed { HasCleanDisk (state S.Store conn.new)
-        → IfErr result (FailsFor (HasFailed (state S.Store conn.old) (state S.Store conn.new))) }
-    ensures keeps { HasCleanDisk (state S.Store conn.new)
-        → Keeps (state S.Store conn.old) (state S.Store conn.new) }
-    ensures open { HasCleanDisk (state S.Store conn.new)
-        → OnOk result (IsTrue (state S.Store conn.new).is_open) }
-    ensures quiet { Survives (state S.Store conn.old) (state S.Store conn.new) (λ _. ⊥) }
-{
-    match ask::<S, Journal>(
-        conn,
-        find_statement(name.kind),
-        &[text_param(name.key.as_str())],
-    ) {
-        Ok(rows) => only(alloc, name.kind, rows.as_slice()),
-        Err(error) => Err(TableFault::from(error)),
-    }
-}
-
 // ---- one write
 
-/// The entry with this row; a new entry has nothing else.
-pub(crate) fn with_row(held: Option<Entry>, row: SourceRow) -> Entry
-    ensures { result ≡ entry_with row held }
+/// The confirmed revision and the id of an entry; a new one has neither.
+pub(crate) fn learnt_of(held: Option<Entry>) -> (Revision, Option<ResourceId>)
+    ensures { (row : _) → entry_with row held
+        ≡ record { row = row; confirmed = result.0; id = result.1 } }
 {
     match held {
         Some(entry) => {
             let (_row, confirmed, id) = entry.into_parts();
-            Entry { row, confirmed, id }
+            (confirmed, id)
         }
-        None => Entry {
-            row,
-            confirmed: Revision::none(),
-            id: None,
-        },
+        None => (Revision::none(), None),
     }
 }
 
@@ -267,98 +231,6 @@ pub(crate) fn group_params<'a>(
     ]
 }
 
-/// Runs a write with the columns of a user's entry.
-fn write_user<S: Alter>(
-    alloc: Global,
-    conn: &mut Connection<S>,
-    sql: &str,
-    user: &UserRow,
-    confirmed: Revision,
-    id: &Option<ResourceId>,
-) -> Result<(), TableFault>
-    requires edit { IsEditText sql.now }
-    requires laid { HasCleanDisk (state S.Store conn.old) → IsTrue (state S.Store conn.old).is_open
-        → IsLaid (state S.Store conn.old) }
-    ensures lawful { IsUserRow user.now }
-    ensures ran { HasCleanDisk (state S.Store conn.new)
-        → OnOk result
-        (Ran sql.now (row_by (User user.now) confirmed id.now) (state S.Store conn.old)
-        (state S.Store conn.new)) }
-    ensures keeps { HasCleanDisk (state S.Store conn.new)
-        → OnErr result (Keeps (state S.Store conn.old) (state S.Store conn.new)) }
-    ensures stop { Survives (state S.Store conn.old) (state S.Store conn.new)
-        (MayLeave sql.now (row_by (User user.now) confirmed id.now) (state S.Store conn.old)) }
-{
-    let revision = user.revision();
-    let key = user.login().key(alloc)?;
-    let params = user_params(alloc, &key, user, revision, confirmed, id)?;
-    match write::<S, Journal>(conn, sql, params.as_slice()) {
-        Ok(_) => Ok(()),
-        Err(error) => Err(TableFault::from(error)),
-    }
-}
-
-/// Runs a write with the columns of a group's entry.
-fn write_group<S: Alter>(
-    alloc: Global,
-    conn: &mut Connection<S>,
-    sql: &str,
-    group: &GroupRow,
-    confirmed: Revision,
-    id: &Option<ResourceId>,
-) -> Result<(), TableFault>
-    requires edit { IsEditText sql.now }
-    requires laid { HasCleanDisk (state S.Store conn.old) → IsTrue (state S.Store conn.old).is_open
-        → IsLaid (state S.Store conn.old) }
-    ensures lawful { IsGroupRow group.now }
-    ensures ran { HasCleanDisk (state S.Store conn.new)
-        → OnOk result
-        (Ran sql.now (row_by (Group group.now) confirmed id.now) (state S.Store conn.old)
-        (state S.Store conn.new)) }
-    ensures keeps { HasCleanDisk (state S.Store conn.new)
-        → OnErr result (Keeps (state S.Store conn.old) (state S.Store conn.new)) }
-    ensures stop { Survives (state S.Store conn.old) (state S.Store conn.new)
-        (MayLeave sql.now (row_by (Group group.now) confirmed id.now) (state S.Store conn.old)) }
-{
-    let revision = group.revision();
-    let key = group.name().key(alloc)?;
-    let members = members_text(alloc, group.members())?;
-    match write::<S, Journal>(
-        conn,
-        sql,
-        &group_params(&key, members.as_str(), group, revision, confirmed, id),
-    ) {
-        Ok(_) => Ok(()),
-        Err(error) => Err(TableFault::from(error)),
-    }
-}
-
-/// Puts an entry, by one statement: replaces the row with its key if there is one, otherwise adds a row.
-pub(crate) fn put_entry<S: Alter>(
-    alloc: Global,
-    conn: &mut Connection<S>,
-    is_there: bool,
-    entry: &Entry,
-) -> Result<(), TableFault>
-    requires laid { HasCleanDisk (state S.Store conn.old) → IsTrue (state S.Store conn.old).is_open
-        → IsLaid (state S.Store conn.old) }
-    requires there { HasCleanDisk (state S.Store conn.old) → IsTrue (state S.Store conn.old).is_open
-        → is_there ≡ true → IsThere (state S.Store conn.old).now.trees (row_name entry.now.row) }
-    ensures made { HasCleanDisk (state S.Store conn.new)
-        → OnOk result (Makes is_there entry.now (state S.Store conn.old) (state S.Store conn.new)) }
-    ensures keeps { HasCleanDisk (state S.Store conn.new)
-        → OnErr result (Keeps (state S.Store conn.old) (state S.Store conn.new)) }
-    ensures stop { Survives (state S.Store conn.old) (state S.Store conn.new)
-        (λ db. IsTrue (state S.Store conn.old).is_open
-        × PutsIn is_there entry.now (state S.Store conn.old).now.trees db) }
-{
-    let sql = put_statement(kind_of(&entry.row), is_there);
-    match &entry.row {
-        SourceRow::User(user) => write_user(alloc, conn, sql, user, entry.confirmed, &entry.id),
-        SourceRow::Group(group) => write_group(alloc, conn, sql, group, entry.confirmed, &entry.id),
-    }
-}
-
 // ---- all entries
 
 pub(crate) fn marked_statement() -> &'static str
@@ -448,6 +320,29 @@ fn comes_after(previous: &Option<RecordName>, name: &RecordName) -> bool
     }
 }
 
+/// The entry that a row shows, and its name, which must come after the previous one.
+fn next_entry(
+    alloc: Global,
+    kind: Kind,
+    previous: &Option<RecordName>,
+    row: &Row,
+) -> Result<(Entry, RecordName), TableFault>
+    ensures shown { IfOk result (λ next. Shows kind row.now next.0) }
+    ensures named { IfOk result (λ next. next.1 ≡ row_name next.0.row) }
+    ensures after { IfOk result
+        (λ next. MatchOption previous.now (Unit {0}) (λ p. name_cmp p next.1 ≡ Less)) }
+    ensures none { IfErr result (HasCause (IsNotNext kind previous.now row.now)) }
+    ensures read { IfErr result IsOfRow }
+{
+    let entry = read_entry(alloc, kind, row)?;
+    let name = entry.row.record_name(alloc)?;
+    if comes_after(previous, &name) {
+        Ok((entry, name))
+    } else {
+        Err(TableFault::Damaged)
+    }
+}
+
 /// The entries that the rows show, which must be in order of their names. Each row is dropped once it is read, so
 /// that the rows and the entries aren't all in memory.
 fn read_all(alloc: Global, kind: Kind, rows: Vec<Row>) -> Result<Vec<Entry>, TableFault>
@@ -458,11 +353,7 @@ fn read_all(alloc: Global, kind: Kind, rows: Vec<Row>) -> Result<Vec<Entry>, Tab
     let mut list = Vec::new(alloc);
     let mut previous = None;
     for row in rows {
-        let entry = read_entry(alloc, kind, &row)?;
-        let name = entry.row.record_name(alloc)?;
-        if !comes_after(&previous, &name) {
-            return Err(TableFault::Damaged);
-        }
+        let (entry, name) = next_entry(alloc, kind, &previous, &row)?;
         list.push(entry)?;
         previous = Some(name);
     }

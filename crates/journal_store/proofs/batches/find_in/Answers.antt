@@ -25,7 +25,7 @@ returns-in-Ok-clause-found g c clean =
     let laid = c.requires.under_way.laid early (shown_open old new sql params c.in-Ok.rows.items shown) in
     let query : IsQuery journal_schema sql = rw c.find_statement.ensures (find_is c.args.name.now.kind).reads in
     found_by (settled old) c.args.name.now sql params c.in-Ok.rows.items c.as_slice.result.now c.only.result
-    c.find_statement.ensures (λ i. (c.text_param.ensures ∙ ap Text c.as_str.ensures.value) i ∷ []) c.as_slice.ensures.value laid (answers_inside old new sql params c.in-Ok.rows.items query laid shown) c.only.ensures.only
+    c.find_statement.ensures (λ i. (c.text_param.ensures ∙ ap Text c.as_str.ensures.value) i ∷ []) c.as_slice.ensures.value laid (answers_inside old new sql params c.in-Ok.rows.items query laid shown) c.only.ensures
 
 pub returns-in-Ok-clause-same : goal.returns-in-Ok-clause-same
 returns-in-Ok-clause-same g c clean =

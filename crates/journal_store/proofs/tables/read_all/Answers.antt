@@ -1,17 +1,15 @@
-use Rattle.std.proofs.Common.{◌≡◌, false, inl, inr, length, refl, ◌++◌, ◌∷◌, [], ◌∙◌, List, Less, arith, sym, ap, subst, take, IsTrue, rules, tests}
-use Rattle.std.specs.Prelude.{MatchOption}
+use Rattle.std.proofs.Common.{◌≡◌, Less, length, refl, ◌++◌, ◌∷◌, [], ◌∙◌, List, arith, sym, ap, subst, take, rules}
 use Rattle.std.specs.Vec.Iter.{into_iter_items, into_iter_len}
 use Rattle.std.proofs.lemmas.Iterator.Adapters.{YieldsList-from_vec}
 use Rattle.std.proofs.lemmas.Iterator.Consumers.{YieldsList-end, YieldsList-turn}
 use Rattle.std.proofs.lemmas.List.{length_push, take_all, take_more}
+use Rattle.std.specs.Prelude.{MatchOption}
 use Rattle.sqlite_value.specs.Order.{Row}
 use Rattle.scim_key.specs.Records.{name_cmp}
 use Rattle.scim_key.specs.declared.records.RecordName.{RecordName}
-use Rattle.sqlite_rules.proofs.ListLemmas.{has_at}
-use Rattle.journal_core.specs.declared.entries.Entry.{Entry}
-use Rattle.journal_store.specs.Connections.{AreShownBy, IsUnshownBy, Shows}
+use Rattle.journal_store.specs.Connections.{AreShownBy, IsNotNext, IsUnshownBy, Shows}
 use Rattle.journal_store.proofs.Refusing.{cause_of}
-use Rattle.journal_store.proofs.Repeating.{key_fails}
+use Rattle.journal_store.proofs.Repeating.{next_fails}
 use Rattle.journal_store.proofs.Loading.{next_shown, none_shown}
 use Rattle.journal_store.proofs.tables.read_all.Goals as goal
 
@@ -26,28 +24,20 @@ loop-row-preserved c =
     let yields = YieldsList-from_vec {s = c.into_iter-row-iterator.result} rows refl (len ∙ sym (ap length c.into_iter-row-iterator.ensures.into_iter_gives.0)) in
     let turn = YieldsList-turn yields c.loop-row.yielded c.loop-row.row-iterator c.loop-row.yielded_by c.next.result c.next.new.self c.in-Some.row c.in-Some.is c.next.ensures.steps in
     let more = ap (λ n. take n rows) (length_push c.loop-row.yielded c.in-Some.row) ∙ take_more rows (length c.loop-row.yielded) c.in-Some.row turn.0 ∙ ap (λ (r : Row). take (length c.loop-row.yielded) rows ++ r ∷ []) (sym turn.1) in
-    let is : IsTrue c.comes_after.result = search (rules, tests) in
-    let after = subst (λ (n : RecordName). MatchOption c.loop-row.previous (Unit {0}) (λ p. name_cmp p n ≡ Less)) c.in_ok-name.ensures (c.comes_after.ensures.is is) in
-    next_shown (Shows c.args.kind) _ c.loop-row.list.items c.in-Some.row c.in_ok-entry.entry c.loop-row.previous c.in_ok-name.name _ _ more c.in_ok-push.ensures.items c.in_ok-name.ensures so_far.0 so_far.1 c.in_ok-entry.ensures.some after
+    let it = c.in_ok-entry.ensures in
+    let after = subst (λ (n : RecordName). MatchOption c.loop-row.previous (Unit {0}) (λ p. name_cmp p n ≡ Less)) it.named it.after in
+    next_shown (Shows c.args.kind) _ c.loop-row.list.items c.in-Some.row c.in_ok-entry.entry c.loop-row.previous c.in_ok-entry.name _ _ more c.in_ok-push.ensures.items it.named so_far.0 so_far.1 it.shown after
 
 pub returns-in_err-entry-clause-none : goal.returns-in_err-entry-clause-none
 returns-in_err-entry-clause-none c =
     let rows : List Row = c.args.rows.items in
+    let kind = c.args.kind in
     let yields = YieldsList-from_vec {s = c.into_iter-row-iterator.result} rows (search rules) (search rules) in
     let turn = YieldsList-turn yields c.loop-row.yielded c.loop-row.row-iterator c.loop-row.yielded_by c.next.result c.next.new.self c.in-Some.row c.in-Some.is c.next.ensures.steps in
-    cause_of ((entry : Entry) → Shows c.args.kind c.in-Some.row entry → ⊥) (IsUnshownBy (Shows c.args.kind) rows) (λ none. inl (c.in-Some.row, has_at rows (length c.loop-row.yielded) c.in-Some.row turn.0 turn.1, none))
+    let shown = subst (λ rs. AreShownBy (Shows kind) (take (length c.loop-row.yielded) rs) c.loop-row.list.items) c.into_iter-row-iterator.ensures.into_iter_gives.0 c.loop-row.invariant.0 in
+    cause_of (IsNotNext kind c.loop-row.previous c.in-Some.row) (IsUnshownBy (Shows kind) rows)
+    (next_fails kind rows (length c.loop-row.yielded) c.in-Some.row c.loop-row.list.items c.loop-row.previous turn.0 turn.1 shown.each c.loop-row.invariant.1)
     c.from_residual.result c.in_err-entry.field-0.0 c.from_residual.ensures.1 c.in_err-entry.ensures.none
-
-pub returns-then-not-comes_after-clause-none : goal.returns-then-not-comes_after-clause-none
-returns-then-not-comes_after-clause-none c =
-    let so_far = c.loop-row.invariant in
-    let rows : List Row = c.args.rows.items in
-    let yields = YieldsList-from_vec {s = c.into_iter-row-iterator.result} rows (search rules) (search rules) in
-    let turn = YieldsList-turn yields c.loop-row.yielded c.loop-row.row-iterator c.loop-row.yielded_by c.next.result c.next.new.self c.in-Some.row c.in-Some.is c.next.ensures.steps in
-    let none : c.comes_after.result ≡ false = search (rules, tests) in
-    let shown = subst (λ rs. AreShownBy (Shows c.args.kind) (take (length c.loop-row.yielded) rs) c.loop-row.list.items) c.into_iter-row-iterator.ensures.into_iter_gives.0 c.loop-row.invariant.0 in
-    inr (key_fails c.args.kind (Shows c.args.kind) (λ r e it. (it.key, it.kind_is)) rows (length c.loop-row.yielded) c.in-Some.row c.in_ok-entry.entry c.loop-row.list.items c.loop-row.previous c.in_ok-name.name turn.0 turn.1 shown.each so_far.1 c.in_ok-entry.ensures.some c.in_ok-name.ensures
-    (c.comes_after.ensures.not none))
 
 pub returns-clause-some : goal.returns-clause-some
 returns-clause-some c =
