@@ -240,7 +240,10 @@ impl<J: Journal> Connector<J> {
     {
         let note = take_row(&mut self.book, name, row.clone()?)?;
         match self.journal.put_row(row) {
-            Ok(()) => Ok(Verdict::New),
+            Ok(()) => {
+                drop(note);
+                Ok(Verdict::New)
+            }
             Err(fault) => {
                 take_back(&mut self.book, note);
                 Err(ChangeFault::from(fault))

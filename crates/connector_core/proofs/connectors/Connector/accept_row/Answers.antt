@@ -60,8 +60,8 @@ invariant_of-self-in-Err g c =
       subst L (sym out) c.self.invariant.1,
     )
 
-pub returns-clause-kept : goal.returns-clause-kept
-returns-clause-kept g c = (invariant_of-self-in-Err g c).0
+pub returns-in-Err-clause-kept : goal.returns-in-Err-clause-kept
+returns-in-Err-clause-kept g c = (invariant_of-self-in-Err g c).0
 
-pub returns-clause-err : goal.returns-clause-err
-returns-clause-err g c = c.take_back.ensures ∙ c.in_ok-note.ensures.back ∙ ap (λ s. s.book) c.self.view_is
+pub returns-in-Err-clause-err : goal.returns-in-Err-clause-err
+returns-in-Err-clause-err g c = c.take_back.ensures ∙ c.in_ok-note.ensures.back ∙ ap (λ s. s.book) c.self.view_is

@@ -35,8 +35,8 @@ returns-in-Ok-Older-clause-journal g c =
     unchanged g.J.Journal c.args.self.now.journal _ verdicts.Older
     (ap (accepted_entries (g.J.Journal.entries c.args.self.now.journal) c.args.row) (returns-in-Ok-Older-clause-verdict g c))
 
-pub returns-in-Err-clause-verdict : goal.returns-in-Err-clause-verdict
-returns-in-Err-clause-verdict g c =
+pub returns-clause-verdict : goal.returns-clause-verdict
+returns-clause-verdict g c =
     let J : BookMap → Type 0 = λ book. judging (book_of book) (keys book) c.args.row ≡ Err c.in-Err.fault in
     elim c.in-Err.ensures.gives [
       | inl e ↦ inl (subst IsNoVerdict (sym e) tt)
