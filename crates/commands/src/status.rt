@@ -49,7 +49,7 @@ impl Status {
 }
 
 /// The parts that a run uses.
-#[derive(Clone, Copy)]
+#[derive(Clone, Copy, Debug)]
 pub enum Part {
     /// The files of users and of groups.
     Users,
