@@ -1,5 +1,5 @@
 -- Schedules: what a text says, line by line, should happen in a world.
-use Rattle.std.specs.Prelude.{ℕ, ◌+◌, Bool, true, List, [], ◌∷◌, ◌++◌, Option, Some, None, Result, Ok, if◌then◌else◌, ◌==◌, ◌&&◌, codes, length, map, nat_le, option_to_list}
+use Rattle.std.specs.Prelude.{ℕ, ◌+◌, Bool, true, List, [], ◌∷◌, ◌++◌, Option, Some, None, Result, Ok, if◌then◌else◌, ◌==◌, ◌&&◌, codes, length, nat_le, option_to_list}
 use Rattle.std.specs.Char.{is_ascii_digit}
 use Rattle.std.specs.List.{after_first, before_first, join_with_byte, list_all}
 use Rattle.std.specs.Option.{ok_or, option_and_then, option_map, option_or}

@@ -1,5 +1,7 @@
 //! Schedules: texts that say, line by line, what happens in a world.
 ghost use Rattle.std.specs.Prelude.{◌≡◌, IfOk, List, ℕ, map, string_bytes};
+ghost use Rattle.std.specs.Char.{is_ascii_digit};
+ghost use Rattle.std.specs.List.{join_with_byte, list_all};
 ghost use Rattle.std.specs.Str.Lines.{lines};
 ghost use Rattle.scim_key.specs.Outcome.{Gives, GivesBy};
 ghost use Rattle.scim_filter.specs.Names.{is_lawful, record_named};
@@ -47,11 +49,18 @@ impl<T: Drop> From<AllocFailed<T>> for ScheduleFault {
     }
 }
 
+/// The names of columns, with commas between them.
+fn header(alloc: Global, columns: &[&str]) -> Result<String, AllocError>
+    ensures { IfOk result (λ header. string_bytes header ≡ join_with_byte 44 (named columns.now)) }
+{
+    columns.join(alloc, ",")
+}
+
 /// The file with this header and only this record.
 fn file_of(alloc: Global, columns: &[&str], text: &str) -> Result<String, AllocError>
     ensures { IfOk result (λ file. string_bytes file ≡ file_of (named columns.now) text.now) }
 {
-    let mut file = columns.join(alloc, ",")?;
+    let mut file = header(alloc, columns)?;
     file.push('\n')?;
     file.push_str(text)?;
     Ok(file)
@@ -176,13 +185,18 @@ fn record_in(alloc: Global, text: &str) -> Result<Option<RecordName>, AllocError
     }
 }
 
+/// Whether every byte is a digit.
+fn are_digits(bytes: &[u8]) -> bool
+    ensures { result ≡ list_all is_ascii_digit bytes.now }
+{
+    bytes.iter().all(|byte| byte.is_ascii_digit())
+}
+
 /// Whether a text is 1 to `NUMBER_DIGITS` digits.
 fn is_number(text: &str) -> bool
     ensures { result ≡ spec.is_number text.now }
 {
-    !text.is_empty()
-        && text.len() <= NUMBER_DIGITS
-        && text.as_bytes().iter().all(|byte| byte.is_ascii_digit())
+    !text.is_empty() && text.len() <= NUMBER_DIGITS && are_digits(text.as_bytes())
 }
 
 /// The number that a text writes.

@@ -12,4 +12,4 @@ returns-in-Asked c = λ more some whole.
 pub returns-in-Answered : goal.returns-in-Answered
 returns-in-Answered c = λ more some whole.
     let answers : AnswersSo (c.args.front.now ++ more) c.in-Answered.request c.in-Answered.field-1 = search rules in
-    answer_unread c.args.front.now more some c.read_answered.result c.is_read.result c.in-Answered.request c.in-Answered.field-1 c.read_answered.ensures.ok c.is_read.ensures answers
+    answer_unread c.args.front.now more some c.read_answered.result c.is_read-in-Answered.result c.in-Answered.request c.in-Answered.field-1 c.read_answered.ensures.ok c.is_read-in-Answered.ensures answers
