@@ -16,7 +16,7 @@ mod simulating;
 mod sources;
 
 use arguments::{arguments, tell};
-use causes::cause;
+use causes::report;
 use clap::ArgMatches;
 use commands::words::{journal, store};
 use commands::{CommandFault, Status, told};
@@ -74,7 +74,7 @@ fn ended<R: Runtime + Net + AllocGlobal, K: RowStorage, J: EntryStorage>(
 ) -> Status {
     match carry_out(rt, command, words, store, journal) {
         Ok(status) => status,
-        Err(fault) => told(rt, fault, cause(fault, words, store, journal)),
+        Err(fault) => report(rt, fault, words, store, journal),
     }
 }
 
