@@ -6,9 +6,7 @@ ghost use Rattle.source_csv.specs.Files.{AreRecordsOf, rows_of};
 ghost use Rattle.provisioning.specs.Sources.{are_whole, is_whole, label, read_as, records_of};
 
 use scim_key::Kind;
-use source_csv::{
-    Row, RowFault, SourceFault, SourceRows, multiline_records, read_groups, read_users,
-};
+use source_csv::{Row, RowFault, SourceFault, SourceRows, multiline_records, read_rows};
 use std::alloc::{AllocError, Global};
 use std::fs::Files;
 use std::io::Eprint;
@@ -82,11 +80,7 @@ pub fn read_source(alloc: Global, kind: Kind, bytes: &[u8]) -> Result<Source, Al
     ensures { (records : List Record) → AreRecordsOf bytes.now records →
         IfOk result (λ source. read_as source ≡ rows_of kind records) }
 {
-    let rows = match kind {
-        Kind::User => read_users(alloc, bytes),
-        Kind::Group => read_groups(alloc, bytes),
-    };
-    match rows {
+    match read_rows(alloc, kind, bytes) {
         Ok(rows) => Ok(Source {
             kind,
             rows: Some(rows),

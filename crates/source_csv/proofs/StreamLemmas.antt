@@ -12,10 +12,11 @@ use Rattle.csv.proofs.ReadFacts.{rows-end, rows-more}
 use Rattle.source_csv.specs.Fields.{Record}
 use Rattle.scim_key.specs.Outcome.{Gives}
 use Rattle.scim_key.specs.declared.records.Kind.{Kind}
-use Rattle.source_csv.specs.Files.{AreRecordsOf, at_place, read_row, rows_of}
-use Rattle.source_csv.specs.Opening.{IsReadFault, Opens, source_fault}
+use Rattle.source_csv.specs.Files.{AreRecordsOf, at_place, read_row, rows_from, rows_of}
+use Rattle.source_csv.specs.Opening.{HeaderRead, HeaderUnread, IsReadFault, source_fault}
 use Rattle.source_csv.specs.Streams.{Adds, HasLeft, IsPlain, Leaves, Standing, Takes, last_row, place_after, rows_next}
 use Rattle.source_csv.specs.declared.faults.RowFault.{RowFault}
+use Rattle.source_csv.specs.declared.faults.SourceFault.{SourceFault}
 use Rattle.source_csv.specs.declared.faults.SourceFault.TheVariants.{Header, Memory}
 use Rattle.source_csv.specs.declared.rows.Row.{Row}
 use Rattle.source_csv.specs.declared.streams.ReadFault.{ReadFault}
@@ -106,13 +107,15 @@ memory_alone (Source Header) is = absurd is
 memory_alone (Source Memory) is = refl
 memory_alone (Input why) is = refl
 
--- a file that isn't opened
-pub not_opened : (of : Kind) (records : List Record) (fault : ReadFault) → Opens of records (Err fault) → Gives Memory (Err (source_fault fault)) (rows_of of records)
+-- a file whose header wasn't read
+pub not_opened : (of : Kind) (records : List Record) (fault : ReadFault) → HeaderUnread of records fault → Gives Memory (Err (source_fault fault)) (rows_of of records)
 not_opened of records (Source Header) is = inr is
 not_opened of records (Source Memory) is = inl refl
 not_opened of records (Input why) is = inl refl
 
--- no row yet, after the header
-pub none_yet : (of : Kind) (file : Standing) (items : List (Result Row RowFault)) (records : List Record) → file.kind ≡ of → file.place ≡ 0 → items ≡ [] → Opens of records (Ok file)
-    → (left : List Record) × HasLeft file left × (rows_of of records ≡ Ok (items ++ rows_next file left))
-none_yet of file items records same place none (header, rest, first, columns, left) = (rest, left, rw (first, columns, none, same, place) refl)
+-- the rows of a file whose header was read are those of the records that are left
+pub rows_after : (of : Kind) (columns : Record) (remaining : Option (List ℕ)) (state : State) (records : List Record) (result : Result (List (Result Row RowFault)) SourceFault)
+    → HeaderRead of records columns remaining state
+    → ((left : List Record) → Leaves remaining state left → Gives Memory result (Ok (rows_from of columns 1 left)))
+    → Gives Memory result (rows_of of records)
+rows_after of columns remaining state records result (header, rest, first, known, left) rows = rw (first, known) (rows rest left)

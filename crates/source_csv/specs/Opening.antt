@@ -1,11 +1,12 @@
 -- What the opening of a file of the source finds, and the faults of reading it.
-use Rattle.std.specs.Prelude.{◌≡◌, List, ◌∷◌, Some, Result, Ok, Err, ⊤}
+use Rattle.std.specs.Prelude.{◌≡◌, ℕ, List, ◌∷◌, Option, Some, Result, Ok, Err, ⊤}
 use Rattle.csv.specs.declared.error.ErrorKind.{ErrorKind}
 use Rattle.csv.specs.declared.error.ErrorKind.TheVariants as error
+use Rattle.csv.specs.declared.parser.State.{State}
 use Rattle.scim_key.specs.declared.records.Kind.{Kind}
 use Rattle.source_csv.specs.Fields.{Record}
 use Rattle.source_csv.specs.Files.{columns_of, rows_of}
-use Rattle.source_csv.specs.Streams.{HasLeft, Standing}
+use Rattle.source_csv.specs.Streams.{Leaves, Standing}
 use Rattle.source_csv.specs.declared.faults.SourceFault.{SourceFault}
 use Rattle.source_csv.specs.declared.faults.SourceFault.TheVariants.{Header, Memory}
 use Rattle.source_csv.specs.declared.streams.ReadFault.{ReadFault}
@@ -27,10 +28,17 @@ IsReadFault (Source Header) = ⊥
 IsReadFault (Source Memory) = ⊤
 IsReadFault (Input why) = ⊤
 
--- The opening of a file with these records: the columns are those of its header, and the other records are left. S1 comes
--- exactly if the file says nothing else.
+-- The header of a file with these records was read: it has these columns, and the other records are left in these bytes.
+abbrev pub HeaderRead : Kind → List Record → (columns : Record) → (remaining : Option (List ℕ)) → State → Type 0
+HeaderRead of records columns remaining state = (header : Record) × (rest : List Record) × (records ≡ header ∷ rest) × (columns_of of header ≡ Some columns) × Leaves remaining state rest
+
+-- The header of a file with these records wasn't read. S1 comes exactly if the file says nothing else.
+abbrev pub HeaderUnread : Kind → List Record → ReadFault → Type 0
+HeaderUnread of records (Source Header) = rows_of of records ≡ Err Header
+HeaderUnread of records (Source Memory) = ⊤
+HeaderUnread of records (Input why) = ⊤
+
+-- the opening of a file with these records, which reads its header
 abbrev pub Opens : Kind → List Record → Result Standing ReadFault → Type 0
-Opens of records (Ok rows) = (header : Record) × (rest : List Record) × (records ≡ header ∷ rest) × (columns_of of header ≡ Some rows.columns) × HasLeft rows rest
-Opens of records (Err (Source Header)) = rows_of of records ≡ Err Header
-Opens of records (Err (Source Memory)) = ⊤
-Opens of records (Err (Input why)) = ⊤
+Opens of records (Ok rows) = HeaderRead of records rows.columns rows.remaining rows.state
+Opens of records (Err fault) = HeaderUnread of records fault

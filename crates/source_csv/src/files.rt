@@ -1,14 +1,14 @@
 //! Files of the source that are in memory.
-ghost use Rattle.std.specs.Prelude.{◌≡◌, IfErr, IfOk, List};
+ghost use Rattle.std.specs.Prelude.{◌≡◌, IfErr, IfOk, List, Ok};
 ghost use Rattle.scim_key.specs.Outcome.{Gives};
-ghost use Rattle.scim_key.specs.declared.records.Kind.TheVariants as kind;
 ghost use Rattle.source_csv.specs.Fields.{Record};
 ghost use Rattle.source_csv.specs.Files.{AreRecordsOf, FilesHaveRecords, rows_of};
-ghost use Rattle.source_csv.specs.Streams.{Adds, HasLeft};
+ghost use Rattle.source_csv.specs.Streams.{Adds, HasLeft, rows_next};
 
 use crate::faults::{RowFault, SourceFault};
 use crate::rows::Row;
-use crate::streams::RowReader;
+use crate::streams::{RowReader, read_header, reader_over};
+use csv::ByteRecord;
 use scim_key::Kind;
 use std::alloc::Global;
 use std::marker::Model;
@@ -62,39 +62,40 @@ fn add_next(
     Ok(true)
 }
 
-/// Reads a file of this kind. More records than `u64` counts are out of memory.
-fn read_rows(alloc: Global, kind: Kind, bytes: &[u8]) -> Result<SourceRows, SourceFault>
-    ensures { (records : List Record) → AreRecordsOf bytes.now records
-        → Gives SourceFault.Memory result (rows_of kind records) }
+/// The rows of the records that are left. More than `u64` counts are out of memory.
+fn rows_left(alloc: Global, file: &mut RowReader<&[u8]>) -> Result<SourceRows, SourceFault>
+    ensures { (records : List Record) → HasLeft file.old records
+        → Gives SourceFault.Memory result (Ok (rows_next file.old records)) }
 {
-    let mut file = RowReader::open(alloc, kind, bytes)?;
     let mut rows = Vec::new(alloc);
     for _ in 0..u64::MAX {
-        if !add_next(&mut file, &mut rows)? {
+        if !add_next(file, &mut rows)? {
             return Ok(SourceRows { rows });
         }
     }
     Err(SourceFault::Memory)
 }
 
-/// Reads a file of users. Its records are counted from 1 after the header.
-pub fn read_users(alloc: Global, bytes: &[u8]) -> Result<SourceRows, SourceFault>
+/// Reads a file of this kind. Its records are counted from 1 after the header.
+pub fn read_rows(alloc: Global, kind: Kind, bytes: &[u8]) -> Result<SourceRows, SourceFault>
     ensures { (records : List Record) → AreRecordsOf bytes.now records
-        → Gives SourceFault.Memory result (rows_of kind.User records) }
+        → Gives SourceFault.Memory result (rows_of kind records) }
 {
-    read_rows(alloc, Kind::User, bytes)
+    let mut reader = reader_over(alloc, bytes);
+    let mut raw = ByteRecord::new(alloc);
+    let columns = read_header(kind, &mut reader, &mut raw)?;
+    let mut file = RowReader {
+        alloc,
+        kind,
+        columns,
+        place: 0,
+        raw,
+        reader,
+    };
+    rows_left(alloc, &mut file)
 }
 
-/// Reads a file of groups. Its records are counted from 1 after the header.
-pub fn read_groups(alloc: Global, bytes: &[u8]) -> Result<SourceRows, SourceFault>
-    ensures { (records : List Record) → AreRecordsOf bytes.now records
-        → Gives SourceFault.Memory result (rows_of kind.Group records) }
-{
-    read_rows(alloc, Kind::Group, bytes)
-}
-
-/// Each file has exactly one list of records, which the contracts of `read_users` and `read_groups` are
-/// about.
+/// Each file has exactly one list of records, which the contract of `read_rows` is about.
 pub fn files_have_records()
     ensures { FilesHaveRecords }
 {}

@@ -15,7 +15,7 @@ mod texts;
 mod users;
 
 pub use faults::{RowCode, RowFault, SourceFault};
-pub use files::{SourceRows, files_have_records, read_groups, read_users};
+pub use files::{SourceRows, files_have_records, read_rows};
 pub use groups::{GroupRow, MEMBER_LIMIT};
 pub use headers::{DEPARTMENT_COLUMNS, GROUP_COLUMNS, GROUP_HEADERS, USER_COLUMNS, USER_HEADERS};
 pub use missing_quotes::{Multiline, multiline_at, multiline_records};

@@ -6,7 +6,7 @@ ghost use Rattle.csv.specs.declared.parser.State.TheVariants.{StartRecord};
 ghost use Rattle.std.specs.Option.{option_map};
 ghost use Rattle.source_csv.specs.Fields.{Reads, Record};
 ghost use Rattle.source_csv.specs.Files.{AreRecordsOf, read_row};
-ghost use Rattle.source_csv.specs.Opening.{IsReadFault, Opens, read_fault, source_fault};
+ghost use Rattle.source_csv.specs.Opening.{HeaderRead, HeaderUnread, IsReadFault, Opens, read_fault, source_fault};
 ghost use Rattle.source_csv.specs.Streams.{HasLeft, IsPlain, Leaves, Takes, last_row, place_after};
 
 use crate::columns::Columns;
@@ -48,12 +48,12 @@ impl From<ReadFault> for SourceFault {
 /// A file of the source, read one record at a time. It holds one record, and reads ahead by 8 KiB.
 #[derive(Drop)]
 pub struct RowReader<R: Read + Drop> {
-    alloc: Global,
-    kind: Kind,
-    columns: Columns,
-    place: usize,
-    raw: ByteRecord,
-    reader: Reader<R>,
+    pub(crate) alloc: Global,
+    pub(crate) kind: Kind,
+    pub(crate) columns: Columns,
+    pub(crate) place: usize,
+    pub(crate) raw: ByteRecord,
+    pub(crate) reader: Reader<R>,
 }
 
 impl<R: Read + Drop> Model for RowReader<R> {
@@ -120,6 +120,31 @@ pub(crate) fn read_into<R: Read>(
     }
 }
 
+/// Reads the header of a file of this kind into `raw`, and returns its columns.
+pub(crate) fn read_header<R: Read>(
+    kind: Kind,
+    reader: &mut Reader<R>,
+    raw: &mut ByteRecord,
+) -> Result<Columns, ReadFault>
+    requires { has_failed reader.old ≡ false → IsPlain reader.old }
+    ensures plain { has_failed reader.new ≡ false → IsPlain reader.new }
+    ensures ok { (records : List Record)
+        → Leaves (source_of R.remaining reader.old) (reader_state reader.old) records
+        → IfOk result (λ columns. HeaderRead kind records columns
+        (source_of R.remaining reader.new) (reader_state reader.new)) }
+    ensures err { (records : List Record)
+        → Leaves (source_of R.remaining reader.old) (reader_state reader.old) records
+        → IfErr result (HeaderUnread kind records) }
+{
+    if !read_into(reader, raw)? {
+        return Err(ReadFault::Source(SourceFault::Header));
+    }
+    match columns_of(kind, raw) {
+        Some(columns) => Ok(columns),
+        None => Err(ReadFault::Source(SourceFault::Header)),
+    }
+}
+
 /// Reads a record of a file of this kind with these columns.
 #[tactic(auto, unfolding(crate::specs::Files::read_row))]
 fn read_row(
@@ -145,20 +170,15 @@ impl<R: Read + Drop> RowReader<R> {
     {
         let mut reader = reader_over(alloc, source);
         let mut raw = ByteRecord::new(alloc);
-        if !read_into(&mut reader, &mut raw)? {
-            return Err(ReadFault::Source(SourceFault::Header));
-        }
-        match columns_of(kind, &raw) {
-            Some(columns) => Ok(RowReader {
-                alloc,
-                kind,
-                columns,
-                place: 0,
-                raw,
-                reader,
-            }),
-            None => Err(ReadFault::Source(SourceFault::Header)),
-        }
+        let columns = read_header(kind, &mut reader, &mut raw)?;
+        Ok(RowReader {
+            alloc,
+            kind,
+            columns,
+            place: 0,
+            raw,
+            reader,
+        })
     }
 
     /// Reads the next record, and returns whether there was one. More records than `usize` counts are out of

@@ -14,9 +14,7 @@ ghost use Rattle.world_sim.specs.declared.events.Event.TheVariants as events;
 
 use crate::events::Event;
 use scim_key::{GroupName, Key, Kind, NameFault, RecordName, UserName};
-use source_csv::{
-    GROUP_HEADERS, Row, RowFault, SourceFault, SourceRows, USER_HEADERS, read_groups, read_users,
-};
+use source_csv::{GROUP_HEADERS, Row, RowFault, SourceFault, USER_HEADERS, read_rows};
 use std::alloc::{AllocError, AllocFailed, Global};
 use thiserror::Error;
 
@@ -64,17 +62,6 @@ fn file_of(alloc: Global, columns: &[&str], text: &str) -> Result<String, AllocE
     file.push('\n')?;
     file.push_str(text)?;
     Ok(file)
-}
-
-/// The records of a file of this kind.
-fn read_rows(alloc: Global, kind: Kind, bytes: &[u8]) -> Result<SourceRows, SourceFault>
-    ensures { (records : List Record) → AreRecordsOf bytes.now records
-        → Gives SourceFault.Memory result (rows_of kind records) }
-{
-    match kind {
-        Kind::User => read_users(alloc, bytes),
-        Kind::Group => read_groups(alloc, bytes),
-    }
 }
 
 /// The row, if there is exactly one record and it is a row.

@@ -9,7 +9,7 @@ use connector_core::{Ask, Connector};
 use journal_core::{Entry, Journal, JournalFault, MemoryJournal};
 use provider_core::{MemoryRegistry, Provider};
 use scim_key::{Key, Kind, RecordName, ResourceId, Revision};
-use source_csv::{Row, read_users};
+use source_csv::{Row, read_rows};
 use std::alloc::Global;
 use std::fmt::Display;
 use std::process::Abort;
@@ -119,7 +119,7 @@ fn rows_of(rt: &impl Abort, alloc: Global, records: &str) -> Vec<Row> {
     let text = format!(in alloc;
         "login,revision,number,given,family,mail,status\n{records}"
     ).expect(rt, "memory");
-    let file = read_users(alloc, text.as_bytes()).expect(rt, "a file");
+    let file = read_rows(alloc, Kind::User, text.as_bytes()).expect(rt, "a file");
     let mut rows = Vec::new(alloc);
     for record in file.as_slice() {
         match record {

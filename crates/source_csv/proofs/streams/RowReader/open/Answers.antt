@@ -1,31 +1,17 @@
-use Rattle.std.proofs.Common.{◌≡◌, None, Some, refl, sym}
+use Rattle.std.proofs.lemmas.Result.{err_from_is_err_and}
 use Rattle.csv.specs.Reading.{reader_state, source_of}
-use Rattle.csv.specs.Records.{fields_of}
-use Rattle.source_csv.specs.Files.{columns_of}
-use Rattle.source_csv.proofs.StreamLemmas.{opens, takes_none, takes_one}
+use Rattle.source_csv.proofs.StreamLemmas.{opens}
 use Rattle.source_csv.proofs.streams.RowReader.open.Goals as goal
 
-pub returns-then-not-branch-clause-records : goal.returns-then-not-branch-clause-records
-returns-then-not-branch-clause-records g c bytes known records are =
+pub returns-clause-records : goal.returns-clause-records
+returns-clause-records g c bytes known records are =
     let start = c.reader_over-reader.ensures in
     let left = opens (g.R.Read.remaining c.args.source) (source_of g.R.Read.remaining c.reader_over-reader.result) (reader_state c.reader_over-reader.result) bytes records start.source known are start.state in
-    let taken = c.in_ok-read_into.ensures.records records left in
-    rw (takes_none c.in_ok-read_into.field-0 (fields_of c.read_into.new.raw) (source_of g.R.Read.remaining c.read_into.new.reader) (reader_state c.read_into.new.reader) records c.if-not-branch.true taken) refl
+    c.in_ok-columns.ensures.ok records left
 
-pub returns-in-Some-clause-records : goal.returns-in-Some-clause-records
-returns-in-Some-clause-records g c bytes known records are =
+pub returns-in_err-columns-clause-records : goal.returns-in_err-columns-clause-records
+returns-in_err-columns-clause-records g c bytes known records are =
     let start = c.reader_over-reader.ensures in
     let left = opens (g.R.Read.remaining c.args.source) (source_of g.R.Read.remaining c.reader_over-reader.result) (reader_state c.reader_over-reader.result) bytes records start.source known are start.state in
-    let taken = c.in_ok-read_into.ensures.records records left in
-    let (rest, first, more) = takes_one c.in_ok-read_into.field-0 (fields_of c.read_into.new.raw) (source_of g.R.Read.remaining c.read_into.new.reader) (reader_state c.read_into.new.reader) records c.if-not-branch.false taken in
-    let columns : columns_of c.args.kind (fields_of c.read_into.new.raw) ≡ Some c.in-Some.columns = rw c.in-Some.is at (sym c.columns_of.ensures) in
-    (fields_of c.read_into.new.raw, rest, first, columns, more)
-
-pub returns-in-None-clause-records : goal.returns-in-None-clause-records
-returns-in-None-clause-records g c bytes known records are =
-    let start = c.reader_over-reader.ensures in
-    let left = opens (g.R.Read.remaining c.args.source) (source_of g.R.Read.remaining c.reader_over-reader.result) (reader_state c.reader_over-reader.result) bytes records start.source known are start.state in
-    let taken = c.in_ok-read_into.ensures.records records left in
-    let (rest, first, more) = takes_one c.in_ok-read_into.field-0 (fields_of c.read_into.new.raw) (source_of g.R.Read.remaining c.read_into.new.reader) (reader_state c.read_into.new.reader) records c.if-not-branch.false taken in
-    let other : columns_of c.args.kind (fields_of c.read_into.new.raw) ≡ None = rw c.in-None.is at (sym c.columns_of.ensures) in
-    rw (first, other) refl
+    let made = err_from_is_err_and c.from_residual.result c.from_residual.ensures.1 in
+    rw (made.1, made.2) (c.in_err-columns.ensures.err records left)
