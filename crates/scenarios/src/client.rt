@@ -1,4 +1,4 @@
-//! Requests as the client writes them: planned ones, and those that the program never sends.
+//! Requests as the client writes them: planned ones, and ones that the program never sends.
 use crate::support::{CREATE_BOB, assert_that, base, joined};
 use scim_client::ScimService;
 use scim_filter::Filter;

@@ -6,8 +6,6 @@ mod client;
 #[cfg(test)]
 mod codes;
 #[cfg(test)]
-mod connections;
-#[cfg(test)]
 mod connector;
 #[cfg(test)]
 mod readings;

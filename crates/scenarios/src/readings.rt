@@ -149,7 +149,7 @@ fn is_written(rt: &impl Abort, alloc: Global, filter: &Filter, wanted: &str) {
     assert_same(rt, written.as_str(), wanted);
 }
 
-/// A filter is written with no more than it needs, and so is the copy of the filter that is read from what is
+/// A filter is written without needless brackets and spaces, and so is the copy that is read from what is
 /// written.
 #[test]
 fn filters_are_written_and_copied(rt: HostRuntime) {
