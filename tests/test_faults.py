@@ -28,6 +28,8 @@ TOLD = {
 }
 # How a disk fails: by EIO, once; full (ENOSPC) from there on; the run ends within that write; the power is cut
 WRITE_FAULTS = ("5", "28+", "torn", "cut")
+# A page of zeros
+ZEROS = bytes(4096)
 # The exchanges that carry three records: each is looked for, then created or replaced
 EXCHANGES = 6
 # A new store is opened with each allocation refused in turn, and what is there already with one in so many.
@@ -78,7 +80,15 @@ def kept(site):
     """What the files of both ends are: their sizes, and their bytes but for the zeros at their ends, which are many."""
     files = [file for base in (site.store, site.journal) for file in (base, base.with_name(f"{base.name}-wal"))]
     contents = [file.read_bytes() if file.exists() else None for file in files]
-    return tuple(content and (len(content), content.rstrip(b"\0")) for content in contents)
+    return tuple(content and (len(content), without_zeros(content)) for content in contents)
+
+
+def without_zeros(content):
+    """These bytes but for the zeros at their end. `rstrip` alone takes milliseconds for them, as it asks for each."""
+    end = len(content)
+    while content.endswith(ZEROS, 0, end):
+        end -= len(ZEROS)
+    return content[:end].rstrip(b"\0")
 
 
 def use_up(provider, address):
