@@ -26,6 +26,8 @@ import time
 import typing
 import unittest
 
+from spawning import PIPE_SIZE, spawn
+
 ROOT = pathlib.Path(__file__).resolve().parent.parent
 EXAMPLES = ROOT / "examples"
 PROGRAM = pathlib.Path(os.environ.get("SCIMLINK") or ROOT / "crates/scimlink/out/scimlink").resolve()
@@ -98,8 +100,12 @@ class Ended:
 
 def scimlink(*arguments, stdin=b"", stdout=subprocess.PIPE, program=PROGRAM, **options):
     """A whole run of the program. Its standard input is bytes, or the number of an open file."""
-    source = {"input": stdin} if isinstance(stdin, bytes) else {"stdin": stdin}
     command = [program, *map(str, arguments)]
+    fits = isinstance(stdin, bytes) and len(stdin) <= PIPE_SIZE
+    if fits and stdout == subprocess.PIPE and options.keys() <= {"env"}:
+        status, output, errors = spawn(command, stdin, options.get("env", os.environ), PATIENCE)
+        return Ended(status, output, errors.decode())
+    source = {"input": stdin} if isinstance(stdin, bytes) else {"stdin": stdin}
     run = subprocess.run(
         command, stdout=stdout, stderr=subprocess.PIPE, timeout=PATIENCE, check=False, **source, **options
     )
