@@ -1,5 +1,6 @@
 """Runs of the program of which one call fails, how many such calls there are, and streams that follow a script."""
 import concurrent.futures
+import functools
 import hashlib
 import itertools
 import multiprocessing
@@ -22,12 +23,21 @@ ENDED = 99
 WORKERS = os.cpu_count() or 1
 
 
-def build_shim(folder):
+@functools.cache
+def compiled():
+    """The bytes of the library that tests/shim.c makes."""
     compiler = shutil.which("cc")
     if not compiler:
         raise FileNotFoundError("the tests of faults need a C compiler, and there is no cc")
+    with tempfile.TemporaryDirectory() as name:
+        made = pathlib.Path(name) / "shim.so"
+        subprocess.run([compiler, "-shared", "-fPIC", "-O2", "-o", made, ROOT / "tests/shim.c"], check=True)
+        return made.read_bytes()
+
+
+def build_shim(folder):
     shim = folder / "shim.so"
-    subprocess.run([compiler, "-shared", "-fPIC", "-O2", "-o", shim, ROOT / "tests/shim.c"], check=True)
+    shim.write_bytes(compiled())
     return shim
 
 

@@ -8,7 +8,6 @@ The program is crates/scimlink/out/scimlink, or the one that the environment var
 """
 import contextlib
 import dataclasses
-import http.client
 import json
 import os
 import pathlib
@@ -186,7 +185,7 @@ class Answer:
     """A provider's answer: its status, its field lines, and the JSON of its body."""
 
     status: int
-    fields: http.client.HTTPMessage
+    fields: "http.client.HTTPMessage"
     content: object
 
 
@@ -213,7 +212,9 @@ class Provider(Running):
             return read_all(stream)
 
     def ask(self, method, path, body=None, **fields):
-        """The answer to a request by http.client."""
+        """The answer to a request by http.client. Its import takes longer than that of all else here."""
+        import http.client
+
         fields = {name.replace("_", "-"): value for name, value in fields.items()}
         if body is not None:
             fields.setdefault("Content-Type", SCIM_TYPE)
