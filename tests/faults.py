@@ -46,8 +46,8 @@ class Shim:
 
     def __init__(self, shim, folder, words):
         handle, self.counts = tempfile.mkstemp(dir=folder, prefix="counts-")
-        with open(handle, "wb") as counts:
-            counts.write(bytes(8 * len(KINDS)))
+        os.write(handle, bytes(8 * len(KINDS)))
+        os.close(handle)
         # The options of the run
         self.options = {"env": ENVIRONMENT | words | {"FAULT_COUNTS": self.counts, "LD_PRELOAD": str(shim)}}
 
@@ -82,7 +82,7 @@ class Fault(Shim):
         super().__init__(shim, folder, {f"FAULT_{kind}": str(place), "FAULT_HOW": how})
         self.kind, self.place, self.how, self.left = kind, place, how, left
         # The options of another run beside it, which has no fault
-        self.others = Shim(shim, folder, {}).options
+        self.others = {"env": ENVIRONMENT | {"LD_PRELOAD": str(shim)}}
 
     def count(self):
         """How many calls of the kind there were."""
@@ -96,7 +96,7 @@ class Fault(Shim):
         """Whether another fault left this very state, so that what follows from it is asserted there. Another process
         may have told the story with that one."""
         try:
-            (self.left / hashlib.sha256(pickle.dumps(state)).hexdigest()).touch(exist_ok=False)
+            (self.left / hashlib.blake2b(pickle.dumps(state)).hexdigest()).touch(exist_ok=False)
         except FileExistsError:
             return True
         return False
@@ -110,16 +110,13 @@ class Fault(Shim):
         return f"{self.kind.lower()} {self.place} {self.how}".rstrip()
 
 
-def tell(story, shim, kind, place, how, left):
-    """Tells a story with this fault, in a new folder: whether the fault came, and what was wrong then."""
-    with tempfile.TemporaryDirectory(dir=shim.parent) as name:
-        folder = pathlib.Path(name)
-        fault = Fault(shim, folder, kind, place, how, left)
-        try:
-            story(folder, fault)
-        except Exception as error:
-            return True, f"{fault}: {type(error).__name__}: {error}"
-        return fault.has_come, None
+def tell(story, folder, fault):
+    """Tells a story with this fault, in an empty folder: whether the fault came, and what was wrong then."""
+    try:
+        story(folder, fault)
+    except Exception as error:
+        return True, f"{fault}: {type(error).__name__}: {error}"
+    return fault.has_come, None
 
 
 def places(opening, step):
@@ -134,18 +131,26 @@ def tell_share(story, shim, kind, how, left, opening, step, worker):
     """Tells a story for a worker's share of the places, until one that no fault disturbs: how many failed, and what
     was wrong."""
     failed, wrong = 0, []
-    for place in itertools.islice(places(opening, step), worker, None, WORKERS):
-        has_come, what = tell(story, shim, kind, place, how, left)
-        failed += has_come
-        wrong += [what] if what else []
-        if not has_come or len(wrong) > 100:
-            return failed, wrong
+    with tempfile.TemporaryDirectory(dir=shim.parent) as name:
+        folder = pathlib.Path(name)
+        for place in itertools.islice(places(opening, step), worker, None, WORKERS):
+            has_come, what = tell(story, folder, Fault(shim, folder, kind, place, how, left))
+            for file in os.scandir(folder):
+                os.unlink(file)
+            failed += has_come
+            wrong += [what] if what else []
+            if not has_come or len(wrong) > 100:
+                return failed, wrong
 
 
-def tell_all(story, shim, kind, how, left, opening=0, step=1):
+def workers():
+    """The processes among which the places of a story are shared."""
+    return concurrent.futures.ProcessPoolExecutor(WORKERS, multiprocessing.get_context("fork"))
+
+
+def tell_all(pool, story, shim, kind, how, left, opening=0, step=1):
     """Tells a story with each call of a kind failing in turn, until there are no more: how many failed, and what was
     wrong. For `opening` and `step` see `places`."""
-    with concurrent.futures.ProcessPoolExecutor(WORKERS, multiprocessing.get_context("fork")) as pool:
-        shares = [pool.submit(tell_share, story, shim, kind, how, left, opening, step, worker) for worker in range(WORKERS)]
-        told = [share.result() for share in shares]
+    shares = [pool.submit(tell_share, story, shim, kind, how, left, opening, step, worker) for worker in range(WORKERS)]
+    told = [share.result() for share in shares]
     return sum(failed for failed, _ in told), [what for _, wrong in told for what in wrong]

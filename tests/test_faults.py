@@ -9,7 +9,7 @@ import tempfile
 import time
 import unittest
 
-from faults import ENDED, Fault, build_shim, tell_all
+from faults import ENDED, Fault, build_shim, tell_all, workers
 from support import (
     BOB_CREATED, CREATE_BOB, EXAMPLES, GIVEN_UP, ROOT, Provider, Running, Site,
     OLDER_FORMS, group_entry, make_journal, resource_id, scimlink, sql, user_entry, without_causes,
@@ -392,6 +392,8 @@ class FaultsTest(unittest.TestCase):
         cls.addClassCleanup(folder.cleanup)
         cls.folder = pathlib.Path(folder.name)
         cls.shim = build_shim(cls.folder)
+        cls.pool = workers()
+        cls.addClassCleanup(cls.pool.shutdown)
         site = Site(cls.folder)
         group = "group crew held=1 version=1 members=2"
         site.write_users("ann,1,1001,Ann,Lee,ann@example.com,active", "bob,1,,,,,active")
@@ -415,7 +417,7 @@ class FaultsTest(unittest.TestCase):
             left = pathlib.Path(tempfile.mkdtemp(dir=self.folder))
             for how in ways:
                 with self.subTest(story=story.__name__, how=how):
-                    count, wrong = tell_all(story, self.shim, kind, how, left, **more)
+                    count, wrong = tell_all(self.pool, story, self.shim, kind, how, left, **more)
                     print(f"{story.__name__}: refused {count} {kind.lower()}s {how}".rstrip(), *wrong[:5], sep="\n", flush=True)
                     self.assertEqual(wrong[:5], [], f"{len(wrong)} of {count}")
                     self.assertGreater(count, 0)
