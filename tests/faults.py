@@ -3,6 +3,7 @@ import concurrent.futures
 import functools
 import hashlib
 import itertools
+import mmap
 import multiprocessing
 import os
 import pathlib
@@ -18,6 +19,8 @@ from support import ROOT
 # The calls that tests/shim.c counts
 KINDS = ("ALLOCATION", "WRITE", "READ", "STREAM_WRITE", "STREAM_READ")
 ENVIRONMENT = dict(os.environ)
+# A page of zeros
+ZEROS = bytes(4096)
 # The status of a run that the shim ends
 ENDED = 99
 WORKERS = os.cpu_count() or 1
@@ -45,15 +48,17 @@ class Shim:
     """A run with the shim, which is given these words."""
 
     def __init__(self, shim, folder, words):
-        handle, self.counts = tempfile.mkstemp(dir=folder, prefix="counts-")
-        os.write(handle, bytes(8 * len(KINDS)))
+        handle, name = tempfile.mkstemp(dir=folder, prefix="counts-")
+        os.ftruncate(handle, 8 * len(KINDS))
+        # The counts, which are shared with the run
+        self.counts = mmap.mmap(handle, 8 * len(KINDS))
         os.close(handle)
         # The options of the run
-        self.options = {"env": ENVIRONMENT | words | {"FAULT_COUNTS": self.counts, "LD_PRELOAD": str(shim)}}
+        self.options = {"env": ENVIRONMENT | words | {"FAULT_COUNTS": name, "LD_PRELOAD": str(shim)}}
 
     def count_of(self, kind):
         """How many calls of a kind there were."""
-        return struct.unpack(f"{len(KINDS)}Q", pathlib.Path(self.counts).read_bytes())[KINDS.index(kind)]
+        return struct.unpack(f"{len(KINDS)}Q", self.counts)[KINDS.index(kind)]
 
 
 class Script(typing.NamedTuple):
@@ -92,9 +97,10 @@ class Fault(Shim):
     def has_come(self):
         return self.count() >= self.place
 
-    def left_before(self, *state):
-        """Whether another fault left this very state, so that what follows from it is asserted there. Another process
-        may have told the story with that one."""
+    def left_before(self, contents, printed=None):
+        """Whether another fault left files with these contents, and a run that printed this, so that what follows from
+        it is asserted there. Another process may have told the story with that one."""
+        state = [content and (len(content), without_zeros(content)) for content in contents], printed
         try:
             (self.left / hashlib.blake2b(pickle.dumps(state)).hexdigest()).touch(exist_ok=False)
         except FileExistsError:
@@ -108,6 +114,14 @@ class Fault(Shim):
 
     def __str__(self):
         return f"{self.kind.lower()} {self.place} {self.how}".rstrip()
+
+
+def without_zeros(content):
+    """These bytes but for the zeros at their end, which are many. `rstrip` looks for each, which takes milliseconds."""
+    end = len(content)
+    while content.endswith(ZEROS, 0, end):
+        end -= len(ZEROS)
+    return content[:end].rstrip(b"\0")
 
 
 def tell(story, folder, fault):

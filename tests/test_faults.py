@@ -28,8 +28,6 @@ TOLD = {
 }
 # How a disk fails: by EIO, once; full (ENOSPC) from there on; the run ends within that write; the power is cut
 WRITE_FAULTS = ("5", "28+", "torn", "cut")
-# A page of zeros
-ZEROS = bytes(4096)
 # The exchanges that carry three records: each is looked for, then created or replaced
 EXCHANGES = 6
 # A new store is opened with each allocation refused in turn, and what is there already with one in so many.
@@ -77,18 +75,9 @@ def read_shown(lines):
 
 
 def kept(site):
-    """What the files of both ends are: their sizes, and their bytes but for the zeros at their ends, which are many."""
+    """The bytes of the files of both ends."""
     files = [file for base in (site.store, site.journal) for file in (base, base.with_name(f"{base.name}-wal"))]
-    contents = [file.read_bytes() if file.exists() else None for file in files]
-    return tuple(content and (len(content), without_zeros(content)) for content in contents)
-
-
-def without_zeros(content):
-    """These bytes but for the zeros at their end. `rstrip` alone takes milliseconds for them, as it asks for each."""
-    end = len(content)
-    while content.endswith(ZEROS, 0, end):
-        end -= len(ZEROS)
-    return content[:end].rstrip(b"\0")
+    return [file.read_bytes() if file.exists() else None for file in files]
 
 
 def use_up(provider, address):
@@ -120,7 +109,7 @@ def answer_stored(folder, fault):
     command = ["answer", "--store", folder / "store"]
     run = scimlink(*command, stdin=CREATE_BOB, **fault.options)
     check_answer(run, fault)
-    if fault.left_before(run.output, kept(Site(folder))):
+    if fault.left_before(kept(Site(folder)), run.output):
         return
     again = scimlink(*command, stdin=CREATE_BOB)
     check((again.status, again.errors), (0, ""), "the next answer")
@@ -291,7 +280,7 @@ class Job:
             if run.status == 0:
                 check(len(run.lines), len(self.rows), "lines of a push that ends well")
             after = kept(site)
-            if after == before or fault.left_before(run.output, after):
+            if after == before or fault.left_before(after, run.output):
                 return
             self.check_entries(site, 0, run.lines)
             self.push_again(site, provider)
@@ -309,7 +298,7 @@ class Job:
                 use_up(provider, address)
             check_ending(provider.ends(), fault, "connection fault")
         after = kept(site)
-        if after == before or fault.left_before(run and (run.status, run.output), after):
+        if after == before or fault.left_before(after, run and (run.status, run.output)):
             return
         rows = self.check_rows(site, run.lines if run else ())
         if run and run.status == 0 and rows == self.rows:
@@ -331,7 +320,7 @@ class Job:
         if run.status == 0:
             check(len(records), len(self.rows), "records of a loop that ends well")
         after = kept(site)
-        if after == before or fault.left_before(run.output, after):
+        if after == before or fault.left_before(after, run.output):
             return
         if fault.kind == "WRITE":
             self.check_kept(site, len(reports), self.confirmed[: len(records)])
@@ -355,7 +344,7 @@ class Job:
         run = site.reset(**fault.options)
         check_ending(run, fault)
         check(run.lines, ["reset 1 records"][: len(run.lines)], "lines")
-        if fault.left_before(run.output, kept(site)):
+        if fault.left_before(kept(site), run.output):
             return
         shown = show("--journal", site.journal)
         if shown not in ([entry], [FORGOTTEN]) or (run.output and shown == [entry]):
