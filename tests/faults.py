@@ -1,7 +1,9 @@
 """Runs of the program of which one call fails, how many such calls there are, and streams that follow a script."""
 import concurrent.futures
+import functools
 import hashlib
 import itertools
+import mmap
 import multiprocessing
 import os
 import pathlib
@@ -17,17 +19,28 @@ from support import ROOT
 # The calls that tests/shim.c counts
 KINDS = ("ALLOCATION", "WRITE", "READ", "STREAM_WRITE", "STREAM_READ")
 ENVIRONMENT = dict(os.environ)
+# A page of zeros
+ZEROS = bytes(4096)
 # The status of a run that the shim ends
 ENDED = 99
 WORKERS = os.cpu_count() or 1
 
 
-def build_shim(folder):
+@functools.cache
+def compiled():
+    """The bytes of the library that tests/shim.c makes."""
     compiler = shutil.which("cc")
     if not compiler:
         raise FileNotFoundError("the tests of faults need a C compiler, and there is no cc")
+    with tempfile.TemporaryDirectory() as name:
+        made = pathlib.Path(name) / "shim.so"
+        subprocess.run([compiler, "-shared", "-fPIC", "-O2", "-o", made, ROOT / "tests/shim.c"], check=True)
+        return made.read_bytes()
+
+
+def build_shim(folder):
     shim = folder / "shim.so"
-    subprocess.run([compiler, "-shared", "-fPIC", "-O2", "-o", shim, ROOT / "tests/shim.c"], check=True)
+    shim.write_bytes(compiled())
     return shim
 
 
@@ -35,15 +48,17 @@ class Shim:
     """A run with the shim, which is given these words."""
 
     def __init__(self, shim, folder, words):
-        handle, self.counts = tempfile.mkstemp(dir=folder, prefix="counts-")
-        with open(handle, "wb") as counts:
-            counts.write(bytes(8 * len(KINDS)))
+        handle, name = tempfile.mkstemp(dir=folder, prefix="counts-")
+        os.ftruncate(handle, 8 * len(KINDS))
+        # The counts, which are shared with the run
+        self.counts = mmap.mmap(handle, 8 * len(KINDS))
+        os.close(handle)
         # The options of the run
-        self.options = {"env": ENVIRONMENT | words | {"FAULT_COUNTS": self.counts, "LD_PRELOAD": str(shim)}}
+        self.options = {"env": ENVIRONMENT | words | {"FAULT_COUNTS": name, "LD_PRELOAD": str(shim)}}
 
     def count_of(self, kind):
         """How many calls of a kind there were."""
-        return struct.unpack(f"{len(KINDS)}Q", pathlib.Path(self.counts).read_bytes())[KINDS.index(kind)]
+        return struct.unpack(f"{len(KINDS)}Q", self.counts)[KINDS.index(kind)]
 
 
 class Script(typing.NamedTuple):
@@ -72,7 +87,7 @@ class Fault(Shim):
         super().__init__(shim, folder, {f"FAULT_{kind}": str(place), "FAULT_HOW": how})
         self.kind, self.place, self.how, self.left = kind, place, how, left
         # The options of another run beside it, which has no fault
-        self.others = Shim(shim, folder, {}).options
+        self.others = {"env": ENVIRONMENT | {"LD_PRELOAD": str(shim)}}
 
     def count(self):
         """How many calls of the kind there were."""
@@ -82,11 +97,12 @@ class Fault(Shim):
     def has_come(self):
         return self.count() >= self.place
 
-    def left_before(self, *state):
-        """Whether another fault left this very state, so that what follows from it is asserted there. Another process
-        may have told the story with that one."""
+    def left_before(self, contents, printed=None):
+        """Whether another fault left files with these contents, and a run that printed this, so that what follows from
+        it is asserted there. Another process may have told the story with that one."""
+        state = [content and (len(content), without_zeros(content)) for content in contents], printed
         try:
-            (self.left / hashlib.sha256(pickle.dumps(state)).hexdigest()).touch(exist_ok=False)
+            (self.left / hashlib.blake2b(pickle.dumps(state)).hexdigest()).touch(exist_ok=False)
         except FileExistsError:
             return True
         return False
@@ -100,16 +116,21 @@ class Fault(Shim):
         return f"{self.kind.lower()} {self.place} {self.how}".rstrip()
 
 
-def tell(story, shim, kind, place, how, left):
-    """Tells a story with this fault, in a new folder: whether the fault came, and what was wrong then."""
-    with tempfile.TemporaryDirectory(dir=shim.parent) as name:
-        folder = pathlib.Path(name)
-        fault = Fault(shim, folder, kind, place, how, left)
-        try:
-            story(folder, fault)
-        except Exception as error:
-            return True, f"{fault}: {type(error).__name__}: {error}"
-        return fault.has_come, None
+def without_zeros(content):
+    """These bytes but for the zeros at their end, which are many. `rstrip` looks for each, which takes milliseconds."""
+    end = len(content)
+    while content.endswith(ZEROS, 0, end):
+        end -= len(ZEROS)
+    return content[:end].rstrip(b"\0")
+
+
+def tell(story, folder, fault):
+    """Tells a story with this fault, in an empty folder: whether the fault came, and what was wrong then."""
+    try:
+        story(folder, fault)
+    except Exception as error:
+        return True, f"{fault}: {type(error).__name__}: {error}"
+    return fault.has_come, None
 
 
 def places(opening, step):
@@ -124,18 +145,26 @@ def tell_share(story, shim, kind, how, left, opening, step, worker):
     """Tells a story for a worker's share of the places, until one that no fault disturbs: how many failed, and what
     was wrong."""
     failed, wrong = 0, []
-    for place in itertools.islice(places(opening, step), worker, None, WORKERS):
-        has_come, what = tell(story, shim, kind, place, how, left)
-        failed += has_come
-        wrong += [what] if what else []
-        if not has_come or len(wrong) > 100:
-            return failed, wrong
+    with tempfile.TemporaryDirectory(dir=shim.parent) as name:
+        folder = pathlib.Path(name)
+        for place in itertools.islice(places(opening, step), worker, None, WORKERS):
+            has_come, what = tell(story, folder, Fault(shim, folder, kind, place, how, left))
+            for file in os.scandir(folder):
+                os.unlink(file)
+            failed += has_come
+            wrong += [what] if what else []
+            if not has_come or len(wrong) > 100:
+                return failed, wrong
 
 
-def tell_all(story, shim, kind, how, left, opening=0, step=1):
+def workers():
+    """The processes among which the places of a story are shared."""
+    return concurrent.futures.ProcessPoolExecutor(WORKERS, multiprocessing.get_context("fork"))
+
+
+def tell_all(pool, story, shim, kind, how, left, opening=0, step=1):
     """Tells a story with each call of a kind failing in turn, until there are no more: how many failed, and what was
     wrong. For `opening` and `step` see `places`."""
-    with concurrent.futures.ProcessPoolExecutor(WORKERS, multiprocessing.get_context("fork")) as pool:
-        shares = [pool.submit(tell_share, story, shim, kind, how, left, opening, step, worker) for worker in range(WORKERS)]
-        told = [share.result() for share in shares]
+    shares = [pool.submit(tell_share, story, shim, kind, how, left, opening, step, worker) for worker in range(WORKERS)]
+    told = [share.result() for share in shares]
     return sum(failed for failed, _ in told), [what for _, wrong in told for what in wrong]

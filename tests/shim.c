@@ -4,7 +4,7 @@
    the same ones in each run, so that a fault at the same place leaves the same files.
 
    FAULT_COUNTS      a file of five 64-bit numbers: the allocations, the writes and reads of the disk, and
-                     those of streams so far
+                     those of streams so far. Without it, nothing is counted, and nothing fails
    FAULT_ALLOCATION, FAULT_WRITE, FAULT_READ, FAULT_STREAM_WRITE, FAULT_STREAM_READ
                      which of these fails, from 1. A sync and a change of length count as writes
    FAULT_HOW         how: an error number; one with a + behind it, and the later ones fail too; or the
@@ -52,6 +52,8 @@ __attribute__((constructor)) static void begin(void)
     if (getenv("FAULT_HOW"))
         how = getenv("FAULT_HOW");
     read_scripts();
+    if (!getenv("FAULT_COUNTS"))
+        return;
     int file = open(getenv("FAULT_COUNTS"), O_RDWR | O_CLOEXEC);
     void *shared = mmap(0, sizeof chosen, PROT_READ | PROT_WRITE, MAP_SHARED, file, 0);
     if (shared == MAP_FAILED)

@@ -8,7 +8,6 @@ The program is crates/scimlink/out/scimlink, or the one that the environment var
 """
 import contextlib
 import dataclasses
-import http.client
 import json
 import os
 import pathlib
@@ -25,6 +24,8 @@ import threading
 import time
 import typing
 import unittest
+
+from spawning import PIPE_SIZE, spawn
 
 ROOT = pathlib.Path(__file__).resolve().parent.parent
 EXAMPLES = ROOT / "examples"
@@ -98,8 +99,12 @@ class Ended:
 
 def scimlink(*arguments, stdin=b"", stdout=subprocess.PIPE, program=PROGRAM, **options):
     """A whole run of the program. Its standard input is bytes, or the number of an open file."""
-    source = {"input": stdin} if isinstance(stdin, bytes) else {"stdin": stdin}
     command = [program, *map(str, arguments)]
+    fits = isinstance(stdin, bytes) and len(stdin) <= PIPE_SIZE
+    if fits and stdout == subprocess.PIPE and options.keys() <= {"env"}:
+        status, output, errors = spawn(command, stdin, options.get("env", os.environ), PATIENCE)
+        return Ended(status, output, errors.decode())
+    source = {"input": stdin} if isinstance(stdin, bytes) else {"stdin": stdin}
     run = subprocess.run(
         command, stdout=stdout, stderr=subprocess.PIPE, timeout=PATIENCE, check=False, **source, **options
     )
@@ -180,7 +185,7 @@ class Answer:
     """A provider's answer: its status, its field lines, and the JSON of its body."""
 
     status: int
-    fields: http.client.HTTPMessage
+    fields: "http.client.HTTPMessage"
     content: object
 
 
@@ -207,7 +212,9 @@ class Provider(Running):
             return read_all(stream)
 
     def ask(self, method, path, body=None, **fields):
-        """The answer to a request by http.client."""
+        """The answer to a request by http.client. Its import takes longer than that of all else here."""
+        import http.client
+
         fields = {name.replace("_", "-"): value for name, value in fields.items()}
         if body is not None:
             fields.setdefault("Content-Type", SCIM_TYPE)

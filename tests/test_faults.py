@@ -9,7 +9,7 @@ import tempfile
 import time
 import unittest
 
-from faults import ENDED, Fault, build_shim, tell_all
+from faults import ENDED, Fault, build_shim, tell_all, workers
 from support import (
     BOB_CREATED, CREATE_BOB, EXAMPLES, GIVEN_UP, ROOT, Provider, Running, Site,
     OLDER_FORMS, group_entry, make_journal, resource_id, scimlink, sql, user_entry, without_causes,
@@ -75,10 +75,9 @@ def read_shown(lines):
 
 
 def kept(site):
-    """What the files of both ends are: their sizes, and their bytes but for the zeros at their ends, which are many."""
+    """The bytes of the files of both ends."""
     files = [file for base in (site.store, site.journal) for file in (base, base.with_name(f"{base.name}-wal"))]
-    contents = [file.read_bytes() if file.exists() else None for file in files]
-    return tuple(content and (len(content), content.rstrip(b"\0")) for content in contents)
+    return [file.read_bytes() if file.exists() else None for file in files]
 
 
 def use_up(provider, address):
@@ -110,7 +109,7 @@ def answer_stored(folder, fault):
     command = ["answer", "--store", folder / "store"]
     run = scimlink(*command, stdin=CREATE_BOB, **fault.options)
     check_answer(run, fault)
-    if fault.left_before(run.output, kept(Site(folder))):
+    if fault.left_before(kept(Site(folder)), run.output):
         return
     again = scimlink(*command, stdin=CREATE_BOB)
     check((again.status, again.errors), (0, ""), "the next answer")
@@ -281,7 +280,7 @@ class Job:
             if run.status == 0:
                 check(len(run.lines), len(self.rows), "lines of a push that ends well")
             after = kept(site)
-            if after == before or fault.left_before(run.output, after):
+            if after == before or fault.left_before(after, run.output):
                 return
             self.check_entries(site, 0, run.lines)
             self.push_again(site, provider)
@@ -299,7 +298,7 @@ class Job:
                 use_up(provider, address)
             check_ending(provider.ends(), fault, "connection fault")
         after = kept(site)
-        if after == before or fault.left_before(run and (run.status, run.output), after):
+        if after == before or fault.left_before(after, run and (run.status, run.output)):
             return
         rows = self.check_rows(site, run.lines if run else ())
         if run and run.status == 0 and rows == self.rows:
@@ -321,7 +320,7 @@ class Job:
         if run.status == 0:
             check(len(records), len(self.rows), "records of a loop that ends well")
         after = kept(site)
-        if after == before or fault.left_before(run.output, after):
+        if after == before or fault.left_before(after, run.output):
             return
         if fault.kind == "WRITE":
             self.check_kept(site, len(reports), self.confirmed[: len(records)])
@@ -345,7 +344,7 @@ class Job:
         run = site.reset(**fault.options)
         check_ending(run, fault)
         check(run.lines, ["reset 1 records"][: len(run.lines)], "lines")
-        if fault.left_before(run.output, kept(site)):
+        if fault.left_before(kept(site), run.output):
             return
         shown = show("--journal", site.journal)
         if shown not in ([entry], [FORGOTTEN]) or (run.output and shown == [entry]):
@@ -382,6 +381,8 @@ class FaultsTest(unittest.TestCase):
         cls.addClassCleanup(folder.cleanup)
         cls.folder = pathlib.Path(folder.name)
         cls.shim = build_shim(cls.folder)
+        cls.pool = workers()
+        cls.addClassCleanup(cls.pool.shutdown)
         site = Site(cls.folder)
         group = "group crew held=1 version=1 members=2"
         site.write_users("ann,1,1001,Ann,Lee,ann@example.com,active", "bob,1,,,,,active")
@@ -405,7 +406,7 @@ class FaultsTest(unittest.TestCase):
             left = pathlib.Path(tempfile.mkdtemp(dir=self.folder))
             for how in ways:
                 with self.subTest(story=story.__name__, how=how):
-                    count, wrong = tell_all(story, self.shim, kind, how, left, **more)
+                    count, wrong = tell_all(self.pool, story, self.shim, kind, how, left, **more)
                     print(f"{story.__name__}: refused {count} {kind.lower()}s {how}".rstrip(), *wrong[:5], sep="\n", flush=True)
                     self.assertEqual(wrong[:5], [], f"{len(wrong)} of {count}")
                     self.assertGreater(count, 0)
