@@ -25,26 +25,24 @@ use world_sim::Count;
 /// Where the provider of `run_loop` listens: at a free port that only this machine reaches.
 pub const OWN_ADDRESS: &str = "127.0.0.1:0";
 
-/// Runs the connector against a provider that listens at a free port, and gives the provider back. It
-/// prints a report for each row, then, if every record is settled, how many exchanges there were, then a
-/// line for each record. A fault of the provider's store ends the run.
+/// Runs the connector against a provider that listens at a free port. It prints a report for each row, then, if
+/// every record is settled, how many exchanges there were, then a line for each record. A fault of the
+/// provider's store ends the run.
 pub fn run_loop<'a, N: Net + Clock, R: StoredRows + 'a, J: Journal, W: Write>(
     rt: &'a N,
     alloc: Global,
     service: &ScimService,
     connector: &mut Connector<J>,
-    provider: Provider<R>,
+    provider: &mut Provider<R>,
     sources: &Sources,
     out: &mut W,
-) -> (Provider<R>, Result<Outcome, LoopFault>)
+) -> Result<Outcome, LoopFault>
     ensures { Loops ⟦<OwnReader<'a, 'a, 'a, N, Sockets<'a, N::Listener, N>, R> as Read>⟧.remaining
         ⟦<TimedHandle<'a, N::Stream, N> as Write>⟧.contents J.Journal service.now sources.now
-        connector.old connector.new result.1 }
+        connector.old connector.new result }
 {
-    let mut provider = provider;
-    let carried = carry_here(rt, alloc, service, connector, &mut provider, sources, out);
-    let told = finish(carried, connector, &mut provider, out);
-    (provider, told)
+    let carried = carry_here(rt, alloc, service, connector, provider, sources, out);
+    finish(carried, connector, provider, out)
 }
 
 /// Prints the result of a run, and the state of its records. If the provider's store failed, that is the

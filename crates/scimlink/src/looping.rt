@@ -1,5 +1,5 @@
 //! `loop`: the connector against a provider in the same program, over TCP.
-use crate::output::{StandardOutput, standard_output};
+use crate::output::standard_output;
 use crate::pushing::open_connector;
 use crate::sources::Job;
 use clap::ArgMatches;
@@ -9,7 +9,7 @@ use journal_core::{Journal, MemoryJournal};
 use journal_file::{EntryStorage, StoredEntries};
 use provider_core::Provider;
 use provider_file::{InMemory, RowStorage, StoredRows};
-use provisioning::{RunFault, Sources, run_loop};
+use provisioning::{RunFault, run_loop};
 use std::net::Net;
 use std::rt::Runtime;
 
@@ -37,8 +37,8 @@ fn run_stored<R: Runtime + Net + AllocGlobal, K: RowStorage, J: EntryStorage>(
     journal: Option<&J>,
     job: &Job<'_>,
 ) -> Result<Status, CommandFault> {
-    let provider = Provider::new(storage.open()?);
-    let (provider, ended) = run_from(rt, provider, journal, job);
+    let mut provider = Provider::new(storage.open()?);
+    let ended = run_from(rt, &mut provider, journal, job);
     provider.close().close();
     ended
 }
@@ -46,15 +46,15 @@ fn run_stored<R: Runtime + Net + AllocGlobal, K: RowStorage, J: EntryStorage>(
 /// A run to a provider, from a journal in a file or in memory.
 fn run_from<R: Runtime + Net + AllocGlobal, S: StoredRows, J: EntryStorage>(
     rt: &R,
-    provider: Provider<S>,
+    provider: &mut Provider<S>,
     journal: Option<&J>,
     job: &Job<'_>,
-) -> (Provider<S>, Result<Status, CommandFault>) {
+) -> Result<Status, CommandFault> {
     match journal {
         Some(journal) => run_journaled(rt, provider, journal, job),
         None => match Connector::open(rt.alloc(), MemoryJournal::new(rt.alloc())) {
             Ok(mut connector) => run_over(rt, provider, &mut connector, job),
-            Err((fault, _journal)) => (provider, Err(CommandFault::from(RunFault::from(fault)))),
+            Err((fault, _journal)) => Err(CommandFault::from(RunFault::from(fault))),
         },
     }
 }
@@ -62,62 +62,36 @@ fn run_from<R: Runtime + Net + AllocGlobal, S: StoredRows, J: EntryStorage>(
 /// A run from a journal that it opens first, and closes.
 fn run_journaled<R: Runtime + Net + AllocGlobal, S: StoredRows, J: EntryStorage>(
     rt: &R,
-    provider: Provider<S>,
+    provider: &mut Provider<S>,
     storage: &J,
     job: &Job<'_>,
-) -> (Provider<S>, Result<Status, CommandFault>) {
-    match open_connector(rt, storage) {
-        Ok(mut connector) => {
-            let (provider, ended) = run_over(rt, provider, &mut connector, job);
-            connector.close().close();
-            (provider, ended)
-        }
-        Err(fault) => (provider, Err(fault)),
-    }
+) -> Result<Status, CommandFault> {
+    let mut connector = open_connector(rt, storage)?;
+    let ended = run_over(rt, provider, &mut connector, job);
+    connector.close().close();
+    ended
 }
 
 /// Reads the files, and carries their records to the provider.
 fn run_over<R: Runtime + Net + AllocGlobal, S: StoredRows, J: Journal>(
     rt: &R,
-    provider: Provider<S>,
+    provider: &mut Provider<S>,
     connector: &mut Connector<J>,
     job: &Job<'_>,
-) -> (Provider<S>, Result<Status, CommandFault>) {
-    match read(rt, job) {
-        Ok((sources, out)) => run_of(rt, provider, connector, job, &sources, out),
-        Err(fault) => (provider, Err(fault)),
-    }
-}
-
-/// The records of the files, and where to print how each stands.
-fn read<'a, R: Runtime + AllocGlobal>(
-    rt: &'a R,
-    job: &Job<'_>,
-) -> Result<(Sources, StandardOutput<'a, R>), CommandFault> {
+) -> Result<Status, CommandFault> {
     let sources = job.read(rt)?;
-    Ok((sources, standard_output(rt)?))
-}
-
-/// Carries the records of files to the provider.
-fn run_of<R: Runtime + Net + AllocGlobal, S: StoredRows, J: Journal>(
-    rt: &R,
-    provider: Provider<S>,
-    connector: &mut Connector<J>,
-    job: &Job<'_>,
-    sources: &Sources,
-    mut out: StandardOutput<'_, R>,
-) -> (Provider<S>, Result<Status, CommandFault>) {
-    let (provider, ended) = run_loop(
+    let mut out = standard_output(rt)?;
+    let ended = run_loop(
         rt,
         rt.alloc(),
         &job.service,
         connector,
         provider,
-        sources,
+        &sources,
         &mut out,
     );
     match run_status(ended) {
-        Ok(status) => (provider, Ok(status)),
-        Err(fault) => (provider, Err(out.explained(fault))),
+        Ok(status) => Ok(status),
+        Err(fault) => Err(out.explained(fault)),
     }
 }

@@ -92,22 +92,12 @@ fn print_reports<W: Write>(
 ) -> Result<Vec<Report>, CommandFault> {
     let mut reports = Vec::new(alloc);
     for event in events {
+        let report = world.step(event)?;
         let number = reports.len() + 1;
-        reports.push(print_report(world, event, number, out)?)?;
+        writeln!(out, "{number} {report}")?;
+        reports.push(report)?;
     }
     Ok(reports)
-}
-
-/// Runs an event, and prints its number and its report.
-fn print_report<W: Write>(
-    world: &mut MemoryWorld,
-    event: &Event,
-    number: usize,
-    out: &mut W,
-) -> Result<Report, CommandFault> {
-    let report = world.step(event)?;
-    writeln!(out, "{number} {report}")?;
-    Ok(report)
 }
 
 /// Settles every record, and prints how many exchanges that took.
