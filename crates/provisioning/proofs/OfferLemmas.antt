@@ -12,9 +12,9 @@ use Rattle.source_csv.specs.declared.faults.RowFault.{RowFault}
 use Rattle.source_csv.specs.declared.rows.Row.{Row}
 use Rattle.connector_core.specs.declared.changing.ChangeFault.{ChangeFault}
 use Rattle.provisioning.proofs.ListLemmas.{adds_more}
-use Rattle.provisioning.specs.Faults.{IsUntold}
+use Rattle.provisioning.specs.Runs.{IsUntold}
 use Rattle.provisioning.specs.Offering.{Hears, Tells, is_taken, judged_of, rows_in}
-use Rattle.provisioning.specs.declared.faults.OfferFault.{OfferFault}
+use Rattle.provisioning.specs.declared.faults.RunFault.{RunFault}
 use Rattle.provisioning.specs.declared.offering.Judged.{Judged}
 
 abbrev Source : Type 0
@@ -67,7 +67,7 @@ not_nil [] rest judged none = absurd (cc none)
 not_nil (first ∷ told) rest judged none = absurd (cc none)
 
 -- one row couldn't be reported
-pub told_part : (all left rest : List Judged) (judged : Judged) (before mid now : Option (List Judged)) (taken : Bool) (fault : OfferFault) → left ≡ judged ∷ rest → IsTold all left before mid taken
+pub told_part : (all left rest : List Judged) (judged : Judged) (before mid now : Option (List Judged)) (taken : Bool) (fault : RunFault) → left ≡ judged ∷ rest → IsTold all left before mid taken
     → IsUntold fault → Tells all before now (Err fault)
 told_part all left rest judged before mid now taken fault left_is so_far untold =
     (λ none. not_nil so_far.told rest judged (sym (so_far.all_are ∙ ap (λ xs. so_far.told ++ xs) left_is) ∙ none), untold)

@@ -8,8 +8,6 @@ use Rattle.provisioning.specs.declared.faults.RunFault.{RunFault}
 use Rattle.provisioning.specs.declared.pushing.Tally.{Tally}
 use Rattle.provisioning.specs.Offering.{OffersAll}
 use Rattle.provisioning.specs.Sources.{are_whole}
-use Rattle.provisioning.specs.declared.faults.OfferFault.{OfferFault}
-use Rattle.provisioning.specs.Faults.{run_fault}
 use Rattle.provisioning.specs.declared.carrying.Outcome.{Outcome}
 use Rattle.provisioning.specs.declared.faults.LoopFault.{LoopFault}
 use Rattle.provisioning.specs.declared.offering.Judged.{Judged}
@@ -29,7 +27,7 @@ abbrev pub Carries : {I O J T : Type 0} → (I → Option (List ℕ)) → (O →
 Carries {I} {O} {J} {T} remaining contents g heard told base sources opened old new before after result =
     ((between : State J) × (mid : T) × (taken : Bool) × (tally : Result Tally RunFault) × OffersAll g sources old between (heard before) (heard mid) (Ok taken)
     × PushesAll remaining contents g base opened between new (told mid) (told after) tally × (result ≡ outcome_of taken sources tally))
-    ⊎ ((fault : OfferFault) × (opened ≡ []) × OffersAll g sources old new (heard before) (heard after) (Err fault) × (result ≡ Err (run_fault fault)))
+    ⊎ ((fault : RunFault) × (opened ≡ []) × OffersAll g sources old new (heard before) (heard after) (Err fault) × (result ≡ Err fault))
 
 -- the same, if it isn't known what was reported before, and which streams were opened before
 abbrev pub CarriesSilently : {I O J : Type 0} → (I → Option (List ℕ)) → (O → Option (List ℕ)) → Ghosts J → List ℕ → Sources → (old new : State J) → Result Outcome RunFault → Type 0

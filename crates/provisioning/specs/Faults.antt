@@ -15,8 +15,6 @@ use Rattle.provider_core.specs.declared.registry.RegistryFault.{RegistryFault}
 use Rattle.provider_core.specs.declared.registry.RegistryFault.TheVariants as registry
 use Rattle.provisioning.specs.declared.faults.LoopFault.{LoopFault}
 use Rattle.provisioning.specs.declared.faults.LoopFault.TheVariants as loop
-use Rattle.provisioning.specs.declared.faults.OfferFault.{OfferFault}
-use Rattle.provisioning.specs.declared.faults.OfferFault.TheVariants as offer
 use Rattle.provisioning.specs.declared.faults.RunFault.{RunFault}
 use Rattle.provisioning.specs.declared.faults.RunFault.TheVariants.{Connection, Journal, Untold, Memory}
 use Rattle.provisioning.specs.declared.faults.RecordFault.{RecordFault}
@@ -56,22 +54,6 @@ unlearnt (learning.Refused status) = Ok (Some Refused)
 unlearnt learning.NoSuchRecord = Ok (Some NoSuchRecord)
 unlearnt learning.Store = Err Journal
 unlearnt learning.Memory = Err Memory
-
--- ---- offering
-
--- the fault of a row that can't be reported
-abbrev pub unheard_fault : ErrorKind → OfferFault
-unheard_fault kinds.OutOfMemory = offer.Memory
-unheard_fault _ = offer.Untold
-
-abbrev pub IsUntold : OfferFault → Type 0
-IsUntold fault = (fault ≡ offer.Untold) ⊎ (fault ≡ offer.Memory)
-
--- the fault for one that ended the run while rows were offered
-abbrev pub run_fault : OfferFault → RunFault
-run_fault offer.Journal = Journal
-run_fault offer.Untold = Untold
-run_fault offer.Memory = Memory
 
 -- ---- with a provider in the same program
 

@@ -12,11 +12,11 @@ use Rattle.connector_core.specs.Changing.{CountsChange, IsNoVerdict, entries_all
 use Rattle.connector_core.specs.State.{State}
 use Rattle.connector_core.specs.declared.changing.ChangeFault.{ChangeFault}
 use Rattle.connector_core.specs.declared.changing.ChangeFault.TheVariants.{Store}
-use Rattle.provisioning.specs.Faults.{IsUntold}
+use Rattle.provisioning.specs.Runs.{IsUntold}
 use Rattle.provisioning.specs.Lists.{Adds}
 use Rattle.provisioning.specs.Sources.{records_of}
-use Rattle.provisioning.specs.declared.faults.OfferFault.{OfferFault}
-use Rattle.provisioning.specs.declared.faults.OfferFault.TheVariants as fault_of
+use Rattle.provisioning.specs.declared.faults.RunFault.{RunFault}
+use Rattle.provisioning.specs.declared.faults.RunFault.TheVariants as fault_of
 use Rattle.provisioning.specs.declared.offering.Judged.{Judged}
 use Rattle.provisioning.specs.declared.sources.Source.{Source}
 use Rattle.provisioning.specs.declared.sources.Sources.{Sources}
@@ -45,7 +45,7 @@ abbrev pub is_taken : Judged → Bool
 is_taken judged = is_ok judged.verdict
 
 -- each of these rows was reported, and the result is whether none was refused; or one of them couldn't be reported
-abbrev pub Tells : List Judged → (before after : Option (List Judged)) → Result Bool OfferFault → Type 0
+abbrev pub Tells : List Judged → (before after : Option (List Judged)) → Result Bool RunFault → Type 0
 Tells judged before after (Ok taken) = Hears before after judged × (taken ≡ list_all is_taken judged)
 Tells judged before after (Err fault) = (judged ≢ []) × IsUntold fault
 
@@ -66,36 +66,36 @@ pub record IsRefused {J : Type 0} (g : Ghosts J) (rows : List Row) (cause : Chan
   pub journal : Writes {T = List (Result Verdict ChangeFault)} g CountsChange old.journal new.journal (entries_all (g.entries old.journal) old.book rows) (Err cause)
 
 -- what ends the run if there is no verdict on the rows
-abbrev pub stop_of : ChangeFault → OfferFault
+abbrev pub stop_of : ChangeFault → RunFault
 stop_of Store = fault_of.Journal
 stop_of _ = fault_of.Memory
 
 -- ---- one file
 
 -- the rows were refused together, or memory ran out before they were offered
-abbrev pub IsStopped : {J : Type 0} → Ghosts J → List Row → (old new : State J) → OfferFault → Type 0
+abbrev pub IsStopped : {J : Type 0} → Ghosts J → List Row → (old new : State J) → RunFault → Type 0
 IsStopped g rows old new fault = ((cause : ChangeFault) × IsRefused g rows cause old new × (fault ≡ stop_of cause)) ⊎ ((new ≡ old) × (fault ≡ fault_of.Memory))
 
 -- The rows were taken together and then reported; or none of them was taken and none reported
-abbrev pub OffersFile : {J : Type 0} → Ghosts J → Kind → List (Result Row RowFault) → (old new : State J) → (before after : Option (List Judged)) → Result Bool OfferFault → Type 0
+abbrev pub OffersFile : {J : Type 0} → Ghosts J → Kind → List (Result Row RowFault) → (old new : State J) → (before after : Option (List Judged)) → Result Bool RunFault → Type 0
 OffersFile g of records old new before after result =
     ((said : List (Result Verdict ChangeFault)) × IsTaken g (rows_in records) said old new × Tells (judged_of of 1 records said) before after result)
-    ⊎ ((fault : OfferFault) × IsStopped g (rows_in records) old new fault × (after ≡ before) × (result ≡ Err fault))
+    ⊎ ((fault : RunFault) × IsStopped g (rows_in records) old new fault × (after ≡ before) × (result ≡ Err fault))
 
 -- ---- the files of a run
 
 -- the groups follow the users, if there is a file of them
-abbrev pub OffersGroups : {J : Type 0} → Ghosts J → Option Source → (old new : State J) → (before after : Option (List Judged)) → Result Bool OfferFault → Type 0
+abbrev pub OffersGroups : {J : Type 0} → Ghosts J → Option Source → (old new : State J) → (before after : Option (List Judged)) → Result Bool RunFault → Type 0
 OffersGroups g None old new before after result = (new ≡ old) × (after ≡ before) × (result ≡ Ok true)
 OffersGroups g (Some source) old new before after result = OffersFile g source.kind (records_of source) old new before after result
 
-abbrev pub both : Bool → Result Bool OfferFault → Result Bool OfferFault
+abbrev pub both : Bool → Result Bool RunFault → Result Bool RunFault
 both users (Ok groups) = Ok (users && groups)
 both users (Err fault) = Err fault
 
 -- the file of users, then the file of groups; or the file of users ended the run
-abbrev pub OffersAll : {J : Type 0} → Ghosts J → Sources → (old new : State J) → (before after : Option (List Judged)) → Result Bool OfferFault → Type 0
+abbrev pub OffersAll : {J : Type 0} → Ghosts J → Sources → (old new : State J) → (before after : Option (List Judged)) → Result Bool RunFault → Type 0
 OffersAll {J} g sources old new before after result =
-    ((between : State J) × (mid : Option (List Judged)) × (users : Bool) × (groups : Result Bool OfferFault) × OffersFile g sources.users.kind (records_of sources.users) old between before mid (Ok users)
+    ((between : State J) × (mid : Option (List Judged)) × (users : Bool) × (groups : Result Bool RunFault) × OffersFile g sources.users.kind (records_of sources.users) old between before mid (Ok users)
     × OffersGroups g sources.groups between new mid after groups × (result ≡ both users groups))
-    ⊎ ((fault : OfferFault) × OffersFile g sources.users.kind (records_of sources.users) old new before after (Err fault) × (result ≡ Err fault))
+    ⊎ ((fault : RunFault) × OffersFile g sources.users.kind (records_of sources.users) old new before after (Err fault) × (result ≡ Err fault))

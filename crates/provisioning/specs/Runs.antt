@@ -26,7 +26,7 @@ Done = RecordName × Pushed
 abbrev pub Tells : (old new : Option (List Done)) → List Done → Type 0
 Tells old new done = Adds old new done
 
--- a record can't be reported
+-- a row or a record can't be reported
 abbrev pub IsUntold : RunFault → Type 0
 IsUntold fault = (fault ≡ Untold) ⊎ (fault ≡ Memory)
 

@@ -4,7 +4,7 @@ ghost use Rattle.provisioning.specs.Carrying.{Carries, is_done, outcome_of};
 ghost use Rattle.provisioning.specs.Openings.{Opens};
 
 use crate::dialing::Dial;
-use crate::faults::{RunFault, run_fault};
+use crate::faults::RunFault;
 use crate::offering::{Hear, offer_all};
 use crate::pushing::{Tally, push_all};
 use crate::sources::Sources;
@@ -52,7 +52,7 @@ pub fn carry<J: Journal, D: Dial, T: Hear + Tell>(
             let tally = push_all(alloc, service, connector, dial, teller);
             outcome_of(is_taken, sources, tally)
         }
-        Err(fault) => Err(run_fault(fault)),
+        Err(fault) => Err(fault),
     }
 }
 

@@ -1,7 +1,7 @@
 //! Why a record isn't confirmed, and what ends a run.
 ghost use Rattle.std.specs.Prelude.{◌≡◌};
 ghost use Rattle.std.specs.IoError.{error_kind};
-ghost use Rattle.provisioning.specs.Faults.{failed, open_fault, run_fault, unanswered, unheard_fault, unlearnt};
+ghost use Rattle.provisioning.specs.Faults.{failed, open_fault, unanswered, unlearnt};
 ghost use Rattle.provisioning.specs.Runs.{IsUntold};
 ghost use Rattle.provisioning.specs.declared.faults.RunFault.TheVariants.{Untold};
 
@@ -54,7 +54,7 @@ pub enum RunFault {
     /// The journal's store failed.
     #[error("journal fault J1")]
     Journal,
-    /// The line of a record couldn't be written.
+    /// The line of a row or of a record couldn't be written.
     #[error("file fault")]
     Untold,
     #[error("memory fault")]
@@ -124,36 +124,6 @@ pub(crate) fn unlearnt(fault: LearnFault) -> Result<Option<RecordFault>, RunFaul
     }
 }
 
-/// What ends a run while the rows of its files are offered. It is printed as the `RunFault` of its name.
-#[derive(Clone, Copy, Debug)]
-pub enum OfferFault {
-    /// The journal's store failed.
-    Journal,
-    /// The report of a row can't be written.
-    Untold,
-    Memory,
-}
-
-impl From<AllocError> for OfferFault {
-    ghost use Rattle.provisioning.specs.declared.faults.OfferFault.TheVariants.{Memory};
-
-    ghost from_gives = { λ _ fault. fault ≡ Memory };
-
-    fn from(_: AllocError) -> OfferFault {
-        OfferFault::Memory
-    }
-}
-
-/// The fault that ends a run if a row can't be reported for this reason.
-pub(crate) fn unheard_fault(kind: ErrorKind) -> OfferFault
-    ensures { result ≡ unheard_fault kind }
-{
-    match kind {
-        ErrorKind::OutOfMemory => OfferFault::Memory,
-        _ => OfferFault::Untold,
-    }
-}
-
 /// What ends a run with its own provider. Its text is printed on standard error.
 #[derive(Clone, Copy, Debug, Error)]
 pub enum LoopFault {
@@ -185,17 +155,6 @@ impl From<RegistryFault> for LoopFault {
             RegistryFault::Store => LoopFault::Store,
             RegistryFault::Memory => LoopFault::Ended(RunFault::Memory),
         }
-    }
-}
-
-/// The fault of a run whose rows couldn't all be offered.
-pub(crate) fn run_fault(fault: OfferFault) -> RunFault
-    ensures { result ≡ run_fault fault }
-{
-    match fault {
-        OfferFault::Journal => RunFault::Journal,
-        OfferFault::Untold => RunFault::Untold,
-        OfferFault::Memory => RunFault::Memory,
     }
 }
 

@@ -22,7 +22,7 @@ mod views;
 
 pub use carrying::{Outcome, carry};
 pub use dialing::Dial;
-pub use faults::{LoopFault, OfferFault, RecordFault, RunFault};
+pub use faults::{LoopFault, RecordFault, RunFault};
 pub use lines::Lines;
 pub use looping::{OWN_ADDRESS, run_loop};
 pub use offering::{Hear, Judged, offer_all};

@@ -3,7 +3,7 @@ ghost use Rattle.std.specs.Prelude.{◌≡◌, ◌∷◌, [], List, Option, None
 ghost use Rattle.provisioning.specs.Offering.{Hears, Tells, OffersFile, OffersGroups, OffersAll, judged_of, rows_in, stop_of};
 ghost use Rattle.provisioning.specs.declared.offering.Judged.{Judged as JudgedRow};
 
-use crate::faults::{OfferFault, unheard_fault};
+use crate::faults::{RunFault, unwritten};
 use crate::sources::{Source, Sources};
 use connector_core::{ChangeFault, Connector};
 use journal_core::Journal;
@@ -33,12 +33,12 @@ pub trait Hear {
 }
 
 /// What ends the run if the connector gives no verdict on the rows.
-fn stop_of(cause: &ChangeFault) -> OfferFault
+fn stop_of(cause: &ChangeFault) -> RunFault
     ensures { result ≡ stop_of cause.now }
 {
     match cause {
-        ChangeFault::Store => OfferFault::Journal,
-        _ => OfferFault::Memory,
+        ChangeFault::Store => RunFault::Journal,
+        _ => RunFault::Memory,
     }
 }
 
@@ -56,13 +56,13 @@ fn rows_in(alloc: Global, records: &[Result<Row, RowFault>]) -> Result<Vec<Row>,
 }
 
 /// Reports a row. It returns whether the connector took the row, new or not.
-fn tell<T: Hear>(judged: Judged, teller: &mut T) -> Result<bool, OfferFault>
+fn tell<T: Hear>(judged: Judged, teller: &mut T) -> Result<bool, RunFault>
     ensures { Tells (judged ∷ []) (T.heard teller.old) (T.heard teller.new) result }
 {
     let is_taken = judged.verdict.is_ok();
     match teller.hear(judged) {
         Ok(()) => Ok(is_taken),
-        Err(error) => Err(unheard_fault(error.kind())),
+        Err(error) => Err(unwritten(error)),
     }
 }
 
@@ -72,7 +72,7 @@ fn tell_all<T: Hear>(
     records: &[Result<Row, RowFault>],
     said: Vec<Result<Verdict, ChangeFault>>,
     teller: &mut T,
-) -> Result<bool, OfferFault>
+) -> Result<bool, RunFault>
     ensures { Tells (judged_of kind 1 records.now said.items) (T.heard teller.old)
         (T.heard teller.new) result }
 {
@@ -106,7 +106,7 @@ fn offer_file<J: Journal, T: Hear>(
     kind: Kind,
     records: &[Result<Row, RowFault>],
     teller: &mut T,
-) -> Result<bool, OfferFault>
+) -> Result<bool, RunFault>
     ensures { OffersFile J.Journal kind records.now connector.old connector.new
         (T.heard teller.old) (T.heard teller.new) result }
 {
@@ -123,7 +123,7 @@ fn offer_groups<J: Journal, T: Hear>(
     connector: &mut Connector<J>,
     groups: &Option<Source>,
     teller: &mut T,
-) -> Result<bool, OfferFault>
+) -> Result<bool, RunFault>
     ensures { OffersGroups J.Journal groups.now connector.old connector.new
         (T.heard teller.old) (T.heard teller.new) result }
 {
@@ -141,7 +141,7 @@ pub fn offer_all<J: Journal, T: Hear>(
     connector: &mut Connector<J>,
     sources: &Sources,
     teller: &mut T,
-) -> Result<bool, OfferFault>
+) -> Result<bool, RunFault>
     ensures { OffersAll J.Journal sources.now connector.old connector.new
         (T.heard teller.old) (T.heard teller.new) result }
 {
