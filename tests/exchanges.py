@@ -3,7 +3,8 @@ import json
 import urllib.parse
 
 from peers import LIST
-from support import GROUP, SCIM_TYPE, SOURCE, USER, ProgramTest, compact, resource_id
+from databases import compact
+from support import GROUP, SCIM_TYPE, SOURCE, USER, ProgramTest, resource_id
 
 USERS, GROUPS = "/v2/Users", "/v2/Groups"
 BOB_PATH = f"{USERS}/{resource_id(1)}"

@@ -4,9 +4,10 @@ import urllib.parse
 
 from exchanges import created, shown_user
 from peers import NO_HITS, Peer, answer, hits, user
+from databases import department_text
 from support import (
-    BOB_CREATED, CREATE_BOB, DEPARTMENTS_HEADER, ENTERPRISE, GROUP, SOURCE, USER,
-    ProgramTest, department_text, resource_id, scimlink, text,
+    BOB_CREATED, CREATE_BOB, DEPARTMENTS_HEADER, ENTERPRISE, GROUP, SOURCE, USER, ProgramTest, resource_id, scimlink,
+    text,
 )
 
 PROXY = answer(502, b"<html>")

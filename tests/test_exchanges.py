@@ -4,10 +4,8 @@ from exchanges import (
     ExchangeTest, at_revision, create_user, created, found, get, group, listed, not_modified, refusal, request, search,
     shown_group, shown_user, user,
 )
-from support import (
-    BOB_CREATED, CREATE_BOB, ENTERPRISE, GROUP, SOURCE, USER,
-    compact, make_store, resource_id, user_resource, user_text,
-)
+from databases import compact, make_store, user_resource, user_text
+from support import BOB_CREATED, CREATE_BOB, ENTERPRISE, GROUP, SOURCE, USER, resource_id
 
 FIXED = refusal("400 Bad Request", "the name of a resource is fixed", "mutability")
 LIMIT = refusal("500 Internal Server Error", "a limit of the provider is reached")

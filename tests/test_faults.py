@@ -10,9 +10,9 @@ import time
 import unittest
 
 from faults import ENDED, Fault, build_shim, tell_all, workers
+from databases import OLDER_FORMS, group_entry, make_journal, sql, user_entry
 from support import (
-    BOB_CREATED, CREATE_BOB, EXAMPLES, GIVEN_UP, ROOT, Provider, Running, Site,
-    OLDER_FORMS, group_entry, make_journal, resource_id, scimlink, sql, user_entry, without_causes,
+    BOB_CREATED, CREATE_BOB, EXAMPLES, GIVEN_UP, ROOT, Provider, Running, Site, resource_id, scimlink, without_causes,
 )
 
 BOB_SHOWN = "user bob held=1 version=1 active=true"

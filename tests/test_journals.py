@@ -6,11 +6,10 @@ What is refused of any file, as a text or a locked one, is in test_openings.py.
 import shutil
 import time
 
+from databases import CURRENT, FORMS, OLDER_FORMS, TABLES, group_entry, make_journal, sql, user_entry
 from support import (
-    CURRENT, DEPARTMENTS_HEADER, FORMS, NOWHERE, OLDER_FORMS, ROOT, TABLES,
-    ProgramTest, Running,
-    contents, group_entry, journal_commands, limited_files, make_journal, resource_id, scimlink, silent_provider, sql,
-    user_entry, wait_until,
+    DEPARTMENTS_HEADER, NOWHERE, ROOT, ProgramTest, Running, contents, journal_commands, limited_files, resource_id,
+    scimlink, silent_provider, wait_until,
 )
 
 LAST_EPOCH, LAST_REVISION = 999_999, 2_000_000_000

@@ -7,7 +7,8 @@ import pathlib
 import tempfile
 
 from peers import NO_HITS, TAKEN, Peer, answer, hits, user
-from support import SOURCE, ProgramTest, Site, make_journal, scimlink, text, user_entry
+from databases import make_journal, user_entry
+from support import SOURCE, ProgramTest, Site, scimlink, text
 
 FIND = "GET /v2/Users?filter=userName+eq+%22bob%22 HTTP/1.1"
 CREATE = "POST /v2/Users HTTP/1.1"

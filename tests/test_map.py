@@ -1,8 +1,6 @@
 """`map`: its output, reports and faults. (Images of rows and rejected records are in test_sources.py.)"""
-from support import (
-    EXAMPLES, SOURCE, USERS_HEADER, ProgramTest,
-    broken_pipe, full_disk, scimlink, text, user_text,
-)
+from databases import user_text
+from support import EXAMPLES, SOURCE, USERS_HEADER, ProgramTest, broken_pipe, full_disk, scimlink, text
 
 PERSONNEL = EXAMPLES / "personnel.csv"
 

@@ -2,10 +2,8 @@
 import os
 import subprocess
 
-from support import (
-    CREATE_BOB, EXAMPLES, NOWHERE, OLDER_FORMS, PROGRAM, ProgramTest,
-    limited_memory, make_journal, make_store, scimlink, text, user_entry, user_resource, user_text,
-)
+from databases import OLDER_FORMS, make_journal, make_store, user_entry, user_resource, user_text
+from support import CREATE_BOB, EXAMPLES, NOWHERE, PROGRAM, ProgramTest, limited_memory, scimlink, text
 
 # Enough to start, and far too little for what is asked for here
 STARVED = limited_memory(12_000 * 1024)

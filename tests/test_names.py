@@ -8,7 +8,8 @@ from exchanges import (
 )
 from peers import Peer, hits
 from peers import user as seen_user
-from support import BOB_CREATED, CREATE_BOB, ProgramTest, make_store, resource_id, scimlink, user_resource
+from databases import make_store, user_resource
+from support import BOB_CREATED, CREATE_BOB, ProgramTest, resource_id, scimlink
 
 # A name, and its key: the name is taken for whoever has the same key
 USER_NAMES = [

@@ -5,10 +5,9 @@ import shutil
 import subprocess
 import sys
 
+from databases import CURRENT, FORMS, make_journal, make_store, sql, user_entry, user_resource
 from support import (
-    CREATE_BOB, CURRENT, FORMS, PROGRAM, ProgramTest, Running,
-    is_locked, journal_commands, make_journal, make_store, scimlink, silent_provider, sql,
-    store_commands, user_entry, user_resource,
+    CREATE_BOB, PROGRAM, ProgramTest, Running, is_locked, journal_commands, scimlink, silent_provider, store_commands,
 )
 
 # Another program that executes statements over a file, and holds it until its standard input ends. It isn't the test

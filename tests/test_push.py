@@ -1,8 +1,8 @@
 """`push` to a provider of this program, both over files."""
+from databases import department_text, group_entry, make_journal, sql, user_entry, user_text
 from support import (
-    DEPARTMENTS_HEADER, GROUPS_HEADER, NOWHERE, USERS_HEADER, ProgramTest, Provider,
-    department_text, full_disk, group_entry, limited_files, make_journal, resource_id, scimlink, sql, text,
-    user_entry, user_text, writes_of,
+    DEPARTMENTS_HEADER, GROUPS_HEADER, NOWHERE, USERS_HEADER, ProgramTest, Provider, full_disk, limited_files,
+    resource_id, scimlink, text, writes_of,
 )
 
 ANN_CONFIRMED, BOB_CONFIRMED = "user ann confirmed 1", "user bob confirmed 1"

@@ -8,7 +8,8 @@ from peers import (
     CREATE, FIND_BOB, LATE, NO_HITS, TAKEN, Peer, PeerTest, answer, asked, head, hits, late, reset, stays_after,
     take_no_request, user,
 )
-from support import SCIM_TYPE, Running, Site, make_journal, user_entry
+from databases import make_journal, user_entry
+from support import SCIM_TYPE, Running, Site
 
 REPLACE_BOB = "PUT /v2/Users/7 HTTP/1.1"
 HTML = b"<html><body>Bad Gateway</body></html>"

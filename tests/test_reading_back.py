@@ -3,11 +3,8 @@ from exchanges import (
     GROUPS, SYNTAX, USERS, VALUE, ExchangeTest, create_user, created, found, get, listed, request, user,
 )
 from peers import NO_HITS, Peer, answer
-from support import (
-    GROUP, NOWHERE, SOURCE, USER, ProgramTest,
-    compact, group_entry, journal_commands, make_journal, make_store, scimlink, sql, text,
-    user_entry, user_resource, user_text,
-)
+from databases import compact, group_entry, make_journal, make_store, sql, user_entry, user_resource, user_text
+from support import GROUP, NOWHERE, SOURCE, USER, ProgramTest, journal_commands, scimlink, text
 
 # Texts of revisions, their epochs and numbers, and how they are written
 REVISIONS = [

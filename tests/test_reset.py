@@ -1,7 +1,6 @@
 """`reset`: a journal forgets what the provider has shown. (What it refuses is in test_openings.py and test_journals.py.)"""
-from support import (
-    NOWHERE, ProgramTest, full_disk, group_entry, make_journal, resource_id, sql, user_entry, writes_of,
-)
+from databases import group_entry, make_journal, sql, user_entry
+from support import NOWHERE, ProgramTest, full_disk, resource_id, writes_of
 
 USERS = [
     user_entry("ann", revision=7, confirmed=5, id=resource_id(1), number="1001", given="Ann", family="Lee"),

@@ -1,5 +1,6 @@
 """`show`: what a store or a journal keeps. (Its lines are asserted beside whatever wrote the file.)"""
-from support import ProgramTest, broken_pipe, full_disk, make_journal, make_store, scimlink, user_entry, user_resource
+from databases import make_journal, make_store, user_entry, user_resource
+from support import ProgramTest, broken_pipe, full_disk, scimlink
 
 
 class ShowTest(ProgramTest):

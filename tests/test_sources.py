@@ -3,10 +3,8 @@
 `map` prints what a user's row asks for, `simulate` the verdicts on rows. `loop` shows keys, and groups with their
 members.
 """
-from support import (
-    DEPARTMENTS_HEADER, GROUPS_HEADER, SOURCE, USERS_HEADER, ProgramTest,
-    department_text, scimlink, sql, text, user_text,
-)
+from databases import department_text, sql, user_text
+from support import DEPARTMENTS_HEADER, GROUPS_HEADER, SOURCE, USERS_HEADER, ProgramTest, scimlink, text
 
 # A row with every field, and its image
 ANN = "ann,7,1001,Ann,Lee,ann@example.com,active"

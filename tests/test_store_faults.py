@@ -9,7 +9,8 @@ import tempfile
 
 from exchanges import GROUPS, USERS, ExchangeTest, create_user, get, group, request, user
 from faults import Fault, build_shim
-from support import GIVEN_UP, Provider, compact, make_store, resource_id, user_resource
+from databases import compact, make_store, user_resource
+from support import GIVEN_UP, Provider, resource_id
 
 # Users of the store, which are more than a connection keeps in memory
 COUNT = 3_000

@@ -5,10 +5,10 @@ What is refused of any file, as a text or a locked one, is in test_openings.py.
 import re
 
 from faults import Fault, build_shim
+from databases import RESOURCE, STORE_FORMAT, compact, group_text, make_store, sql, user_resource, user_text
 from support import (
-    BOB, BOB_CREATED, CREATE_BOB, GIVEN_UP, RESOURCE, STORE_FORMAT, USER, ProgramTest, Provider,
-    compact, group_text, limited_files, make_store, resource_id, scimlink, sql, store_commands, user_resource,
-    user_text,
+    BOB, BOB_CREATED, CREATE_BOB, GIVEN_UP, USER, ProgramTest, Provider, limited_files, resource_id, scimlink,
+    store_commands,
 )
 
 BOB_SHOWN = "user bob held=1 version=1 active=true"

@@ -8,10 +8,8 @@ from errno import EAGAIN, EINTR, EIO, ENOMEM, EPIPE, ETIMEDOUT
 
 from faults import Script, build_shim, scripted
 from peers import NO_HITS, TAKEN, Peer
-from support import (
-    BOB_CREATED, CREATE_BOB, USERS_HEADER, ProgramTest, Provider, Site, department_text, read_all, scimlink, text,
-    user_text,
-)
+from databases import user_text
+from support import BOB_CREATED, CREATE_BOB, USERS_HEADER, ProgramTest, Provider, Site, read_all, scimlink, text
 
 FAULT = "connection fault"
 # A call that passes no byte

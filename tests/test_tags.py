@@ -3,7 +3,7 @@ from exchanges import (
     BOB_PATH, OTHER_VERSION, VALUE, ExchangeTest, at_revision, found, not_modified, request, shown_user,
 )
 from peers import Peer, answer, hits, user
-from support import make_store, user_resource
+from databases import make_store, user_resource
 
 # A condition, the version of bob, and whether it holds as `If-Match`, and as `If-None-Match`
 CONDITIONS = [
