@@ -2,8 +2,8 @@
 import json
 import urllib.parse
 
-from peers import LIST
 from databases import compact
+from peers import LIST
 from support import GROUP, SCIM_TYPE, SOURCE, USER, ProgramTest, resource_id
 
 USERS, GROUPS = "/v2/Users", "/v2/Groups"

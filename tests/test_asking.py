@@ -2,9 +2,9 @@
 import json
 import urllib.parse
 
+from databases import department_text
 from exchanges import created, shown_user
 from peers import NO_HITS, Peer, answer, hits, user
-from databases import department_text
 from support import (
     BOB_CREATED, CREATE_BOB, DEPARTMENTS_HEADER, ENTERPRISE, GROUP, SOURCE, USER, ProgramTest, resource_id, scimlink,
     text,

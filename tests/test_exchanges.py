@@ -1,10 +1,10 @@
 """`serve`: users and groups are created, retrieved and replaced, with departments and epochs."""
+from databases import compact, make_store, user_resource, user_text
 from exchanges import (
     BOB_PATH, GROUPS, NO_METHOD, NO_RESOURCE, OTHER_VERSION, SYNTAX, TAKEN, USERS, VALUE,
     ExchangeTest, at_revision, create_user, created, found, get, group, listed, not_modified, refusal, request, search,
     shown_group, shown_user, user,
 )
-from databases import compact, make_store, user_resource, user_text
 from support import BOB_CREATED, CREATE_BOB, ENTERPRISE, GROUP, SOURCE, USER, resource_id
 
 FIXED = refusal("400 Bad Request", "the name of a resource is fixed", "mutability")

@@ -9,8 +9,8 @@ import tempfile
 import time
 import unittest
 
-from faults import ENDED, Fault, build_shim, tell_all, workers
 from databases import OLDER_FORMS, group_entry, make_journal, sql, user_entry
+from faults import ENDED, Fault, build_shim, tell_all, workers
 from support import (
     BOB_CREATED, CREATE_BOB, EXAMPLES, GIVEN_UP, ROOT, Provider, Running, Site, resource_id, scimlink, without_causes,
 )

@@ -4,8 +4,8 @@ The texts that are no filters are in test_filter_texts.py.
 """
 import json
 
-from exchanges import GROUPS, USERS, ExchangeTest, search
 from databases import compact, make_store, user_resource
+from exchanges import GROUPS, USERS, ExchangeTest, search
 from support import GROUP, USER, resource_id
 
 # Resources by their words: their numbers, their versions, and what is stored of them

@@ -6,8 +6,8 @@ answers that come late, by `simulate`.
 import pathlib
 import tempfile
 
-from peers import NO_HITS, TAKEN, Peer, answer, hits, user
 from databases import make_journal, user_entry
+from peers import NO_HITS, TAKEN, Peer, answer, hits, user
 from support import SOURCE, ProgramTest, Site, scimlink, text
 
 FIND = "GET /v2/Users?filter=userName+eq+%22bob%22 HTTP/1.1"

@@ -2,13 +2,13 @@
 
 Too long ones are refused in test_limits.py and test_command_line.py, an empty id in test_refusals.py.
 """
+from databases import make_store, user_resource
 from exchanges import (
     GROUPS, NO_RESOURCE, TAKEN, USERS, VALUE,
     ExchangeTest, create_user, created, found, get, group, listed, request, search, shown_group, shown_user, user,
 )
 from peers import Peer, hits
 from peers import user as seen_user
-from databases import make_store, user_resource
 from support import BOB_CREATED, CREATE_BOB, ProgramTest, resource_id, scimlink
 
 # A name, and its key: the name is taken for whoever has the same key

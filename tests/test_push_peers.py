@@ -4,11 +4,11 @@ import pathlib
 import tempfile
 import threading
 
+from databases import make_journal, user_entry
 from peers import (
     CREATE, FIND_BOB, LATE, NO_HITS, TAKEN, Peer, PeerTest, answer, asked, head, hits, late, reset, stays_after,
     take_no_request, user,
 )
-from databases import make_journal, user_entry
 from support import SCIM_TYPE, Running, Site
 
 REPLACE_BOB = "PUT /v2/Users/7 HTTP/1.1"

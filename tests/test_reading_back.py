@@ -1,9 +1,9 @@
 """What is written is read back the same: revisions, users and groups with every attribute, rows with every field."""
+from databases import compact, group_entry, make_journal, make_store, sql, user_entry, user_resource, user_text
 from exchanges import (
     GROUPS, SYNTAX, USERS, VALUE, ExchangeTest, create_user, created, found, get, listed, request, user,
 )
 from peers import NO_HITS, Peer, answer
-from databases import compact, group_entry, make_journal, make_store, sql, user_entry, user_resource, user_text
 from support import GROUP, NOWHERE, SOURCE, USER, ProgramTest, journal_commands, scimlink, text
 
 # Texts of revisions, their epochs and numbers, and how they are written

@@ -1,7 +1,7 @@
 """How many rows `serve` reads for an answer. The allocations tell: each row that is read takes some."""
+from databases import compact, make_store, user_resource
 from exchanges import GROUPS, USERS, ExchangeTest, create_user, get, listed, shown_user, user
 from faults import Fault, build_shim
-from databases import compact, make_store, user_resource
 from support import GIVEN_UP, GROUP, Provider
 
 # Rows of a store. A walk through them takes more allocations than this, and what reads a few of them takes fewer

@@ -7,9 +7,9 @@ import os
 import shutil
 import tempfile
 
+from databases import compact, make_store, user_resource
 from exchanges import GROUPS, USERS, ExchangeTest, create_user, get, group, request, user
 from faults import Fault, build_shim
-from databases import compact, make_store, user_resource
 from support import GIVEN_UP, Provider, resource_id
 
 # Users of the store, which are more than a connection keeps in memory

@@ -4,8 +4,8 @@ What is refused of any file, as a text or a locked one, is in test_openings.py.
 """
 import re
 
-from faults import Fault, build_shim
 from databases import RESOURCE, STORE_FORMAT, compact, group_text, make_store, sql, user_resource, user_text
+from faults import Fault, build_shim
 from support import (
     BOB, BOB_CREATED, CREATE_BOB, GIVEN_UP, USER, ProgramTest, Provider, limited_files, resource_id, scimlink,
     store_commands,

@@ -6,9 +6,9 @@ import pathlib
 import tempfile
 from errno import EAGAIN, EINTR, EIO, ENOMEM, EPIPE, ETIMEDOUT
 
+from databases import user_text
 from faults import Script, build_shim, scripted
 from peers import NO_HITS, TAKEN, Peer
-from databases import user_text
 from support import BOB_CREATED, CREATE_BOB, USERS_HEADER, ProgramTest, Provider, Site, read_all, scimlink, text
 
 FAULT = "connection fault"

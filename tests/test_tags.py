@@ -1,9 +1,9 @@
 """Entity tags and conditions: as `serve` compares them with versions, and as `push` sends them back (RFC 7232)."""
+from databases import make_store, user_resource
 from exchanges import (
     BOB_PATH, OTHER_VERSION, VALUE, ExchangeTest, at_revision, found, not_modified, request, shown_user,
 )
 from peers import Peer, answer, hits, user
-from databases import make_store, user_resource
 
 # A condition, the version of bob, and whether it holds as `If-Match`, and as `If-None-Match`
 CONDITIONS = [
