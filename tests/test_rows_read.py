@@ -57,6 +57,13 @@ class RowsReadTest(ExchangeTest):
         before = fault.count()
         return provider.exchange(asked), fault.count() - before
 
+    def answer_if_any(self, provider, asked):
+        """The answer to a request. A provider that gives up before it has read the request resets the connection."""
+        try:
+            return provider.exchange(asked)
+        except ConnectionResetError:
+            return b""
+
     def test_a_name_is_found_by_the_index(self):
         bob = user_resource(1, "bob", content=compact(user("bob", active=True)))
         rows = [bob, *map(group_row, range(2, COUNT + 1))]
@@ -111,7 +118,7 @@ class RowsReadTest(ExchangeTest):
         answers = []
         for place in range(first + 1, last + 1):
             with self.subTest(place=place), self.provider(rows, 3, place)[0] as provider:
-                answers.append(provider.exchange(get(USERS)))
+                answers.append(self.answer_if_any(provider, get(USERS)))
                 self.assertIn(answers[-1], (GIVEN_UP, expected, b""))
                 self.assertEqual(provider.exchange(get(f"{USERS}?startIndex=3&count=2")), listed(shown[2:4], 3, 5))
                 self.assertEqual(provider.exchange(get(USERS)), expected)
