@@ -16,7 +16,7 @@ import tempfile
 
 from parts import build, instructions, lay_out
 
-LIBRARIES = "scim_message provider_core source_csv mapping journal_core connector_core anyhow".split()
+LIBRARIES = "scim_key scim_message provider_core source_csv mapping journal_core connector_core anyhow".split()
 SIZES = (1_000, 10_000, 100_000)
 
 

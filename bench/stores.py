@@ -89,7 +89,7 @@ CREATE TABLE resource (number INTEGER PRIMARY KEY CHECK (number >= 1), kind INTE
 class Journal:
     """The connector over its journal."""
     name = "journals"
-    libraries = "source_csv journal_core journal_store connector_core sqlite anyhow".split()
+    libraries = "scim_key source_csv journal_core journal_store connector_core sqlite anyhow".split()
     calls = ("add", "change")
     # with the users that are added, the greatest stays within the limit of a journal
     sizes = (1_000, 10_000, 99_000)
