@@ -16,9 +16,9 @@ use Rattle.scim_key.specs.Records.{name_cmp}
 use Rattle.scim_key.specs.declared.records.Kind.{Kind}
 use Rattle.scim_key.specs.declared.records.Kind.TheVariants.{User, Group}
 use Rattle.scim_key.specs.declared.records.RecordName.{RecordName}
-use Rattle.source_book.specs.History.{same_kind}
 use Rattle.journal_core.specs.Entries.{count_of}
 use Rattle.journal_core.proofs.Trees.{listed, names_same, turned}
+use Rattle.connector_core.specs.History.{same_kind}
 use Rattle.connector_core.specs.Maps.{BookMap, changed, changed_at}
 use Rattle.connector_core.specs.Trees.{Tree, book_in, key_cmp, named_in, of}
 use Rattle.connector_core.specs.declared.knowledge.Known.{Known}

@@ -2,8 +2,8 @@
 use Rattle.std.proofs.Common.{◌≢◌, Ok, Err, refl, arith, inl, inr}
 use Rattle.std.specs.FinMap.{get}
 use Rattle.source_csv.specs.Records.{row_name}
-use Rattle.source_book.specs.declared.accepting.Verdict.TheVariants as verdicts
 use Rattle.journal_core.specs.Stores.{HasRisen}
+use Rattle.connector_core.specs.declared.accepting.Verdict.TheVariants as verdicts
 use Rattle.connector_core.specs.Book.{wanting}
 use Rattle.connector_core.specs.Changing.{CountsChange, MapsAccept}
 use Rattle.connector_core.specs.Laws.{NoStoreFaults}

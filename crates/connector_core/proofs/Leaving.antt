@@ -9,12 +9,12 @@ use Rattle.scim_key.specs.declared.records.RecordName.{RecordName}
 use Rattle.scim_message.specs.declared.messages.Answer.{Answer}
 use Rattle.scim_message.specs.declared.messages.Request.{Request}
 use Rattle.source_csv.specs.declared.rows.Row.{Row}
-use Rattle.source_book.specs.declared.accepting.Verdict.{Verdict}
-use Rattle.source_book.specs.declared.accepting.Verdict.TheVariants as verdicts
 use Rattle.journal_core.specs.Entries.{EntryMap, with_row}
 use Rattle.journal_core.specs.Stores.{LeavesOr}
 use Rattle.journal_core.specs.declared.journals.Journal.{Ghosts as Journals}
 use Rattle.journal_core.proofs.Trees.{name_from_test}
+use Rattle.connector_core.specs.declared.accepting.Verdict.{Verdict}
+use Rattle.connector_core.specs.declared.accepting.Verdict.TheVariants as verdicts
 use Rattle.connector_core.specs.Book.{Book, seeing}
 use Rattle.connector_core.specs.Changing.{accepted_map, book_after, if_new, judged, judging, new_rows, taking_all}
 use Rattle.connector_core.specs.Learning.{after_learning, learn}

@@ -1,3 +1,5 @@
+pub mod Acceptance
+pub mod Rising
 pub mod BookLaws
 pub mod Keeping
 pub mod Leaving

@@ -10,10 +10,10 @@ use Rattle.scim_key.specs.RecordOrder.{names_total, tied}
 use Rattle.scim_key.specs.Records.{name_cmp}
 use Rattle.scim_key.specs.declared.records.RecordName.{RecordName}
 use Rattle.source_csv.specs.declared.rows.Row.{Row}
-use Rattle.source_book.specs.declared.accepting.Verdict.{Verdict}
-use Rattle.source_book.specs.declared.accepting.Verdict.TheVariants as verdict
 use Rattle.journal_core.proofs.Trees.{name_from_test, names_same}
 use Rattle.journal_core.specs.Entries.{EntryMap, CanPutRows, with_rows}
+use Rattle.connector_core.specs.declared.accepting.Verdict.{Verdict}
+use Rattle.connector_core.specs.declared.accepting.Verdict.TheVariants as verdict
 use Rattle.connector_core.specs.Book.{AllLocated, wanting_now}
 use Rattle.connector_core.specs.Changing.{accepted_entries, accepted_map, entries_all, if_new, judged, new_rows, taking, taking_all, verdicts}
 use Rattle.connector_core.specs.Maps.{BookMap, book_of, changed, changed_at}

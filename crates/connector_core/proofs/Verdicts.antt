@@ -10,14 +10,14 @@ use Rattle.scim_key.proofs.RevisionLaws.{transitive}
 use Rattle.scim_key.specs.Revisions.{RevisionValue, before, ◌≺◌, ◌≼◌}
 use Rattle.source_csv.specs.Records.{row_name, row_revision, same_row}
 use Rattle.source_csv.specs.declared.rows.Row.{Row}
-use Rattle.source_book.specs.Accepting.{accepted, newer}
-use Rattle.source_book.specs.History.{members_of, user}
-use Rattle.source_book.specs.declared.accepting.BookFault.{BookFault}
-use Rattle.source_book.specs.declared.accepting.BookFault.TheVariants as faults
-use Rattle.source_book.specs.declared.accepting.Verdict.{Verdict}
-use Rattle.source_book.specs.declared.accepting.Verdict.TheVariants as verdicts
 use Rattle.journal_core.specs.Entries.{EntryMap, CanPutRow, count_of, most_records}
 use Rattle.journal_core.specs.declared.entries.Entry.{Entry}
+use Rattle.connector_core.specs.Accepting.{accepted, newer}
+use Rattle.connector_core.specs.History.{members_of, user}
+use Rattle.connector_core.specs.declared.accepting.BookFault.{BookFault}
+use Rattle.connector_core.specs.declared.accepting.BookFault.TheVariants as faults
+use Rattle.connector_core.specs.declared.accepting.Verdict.{Verdict}
+use Rattle.connector_core.specs.declared.accepting.Verdict.TheVariants as verdicts
 use Rattle.connector_core.specs.Changing.{is_full, judging, limited, unknown_member}
 use Rattle.connector_core.specs.Maps.{BookMap, book_of}
 use Rattle.connector_core.specs.State.{IsKept, entry_of}

@@ -2,22 +2,22 @@
 use Rattle.std.specs.Prelude.{◌≡◌, ◌≤◌, ℕ, Bool, true, false, ◌&&◌, List, [], ◌∷◌, ◌++◌, Option, Result, Ok, Err, is_none, nat_le, unwrap_or}
 use Rattle.std.specs.List.{position_from, slice_get}
 use Rattle.std.specs.BTreeSet.{insert_key}
+use Rattle.std.specs.FinMap.{get, insert, keys}
 use Rattle.scim_key.specs.Records.{name_cmp}
 use Rattle.scim_key.specs.declared.records.Kind.{Kind}
 use Rattle.scim_key.specs.declared.records.RecordName.{RecordName}
 use Rattle.source_csv.specs.Records.{row_name}
 use Rattle.source_csv.specs.declared.rows.Row.{Row}
-use Rattle.source_book.specs.History.{History, user, members_of, last_row, missing_member}
-use Rattle.source_book.specs.Accepting.{accepted}
-use Rattle.source_book.specs.declared.accepting.BookFault.{BookFault}
-use Rattle.source_book.specs.declared.accepting.BookFault.TheVariants as book
-use Rattle.source_book.specs.declared.accepting.Verdict.{Verdict}
-use Rattle.source_book.specs.declared.accepting.Verdict.TheVariants.{New, Known, Older}
-use Rattle.std.specs.FinMap.{get, insert, keys}
 use Rattle.journal_core.specs.Entries.{EntryMap, count_of, most_records, with_row as put_row}
 use Rattle.journal_core.specs.Stores.{HasRisen}
 use Rattle.journal_core.specs.declared.journals.JournalFault.{JournalFault}
 use Rattle.journal_core.specs.declared.journals.JournalFault.TheVariants as journal
+use Rattle.connector_core.specs.History.{History, user, members_of, last_row, missing_member}
+use Rattle.connector_core.specs.Accepting.{accepted}
+use Rattle.connector_core.specs.declared.accepting.BookFault.{BookFault}
+use Rattle.connector_core.specs.declared.accepting.BookFault.TheVariants as book
+use Rattle.connector_core.specs.declared.accepting.Verdict.{Verdict}
+use Rattle.connector_core.specs.declared.accepting.Verdict.TheVariants.{New, Known, Older}
 use Rattle.connector_core.specs.Book.{Book, wanted_row, wanting, with_row}
 use Rattle.connector_core.specs.Maps.{BookMap, book_of}
 use Rattle.connector_core.specs.declared.changing.ChangeFault.{ChangeFault}

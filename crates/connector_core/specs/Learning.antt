@@ -19,7 +19,7 @@ use Rattle.scim_message.specs.declared.messages.Answer.{Answer}
 use Rattle.scim_message.specs.declared.messages.Answer.TheVariants.{Created, Found, Replaced, NotModified, Error}
 use Rattle.scim_message.specs.declared.messages.Answer.TheVariants as answers
 use Rattle.source_csv.specs.Records.{row_revision}
-use Rattle.source_book.specs.History.{same_kind, same_name}
+use Rattle.connector_core.specs.History.{same_kind, same_name}
 use Rattle.connector_core.specs.Book.{Book, put, forgotten}
 use Rattle.connector_core.specs.declared.knowledge.Known.{Known}
 use Rattle.connector_core.specs.declared.knowledge.Seen.{Seen}

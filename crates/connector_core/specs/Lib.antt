@@ -1,3 +1,5 @@
+pub mod History
+pub mod Accepting
 pub mod Book
 pub mod Maps
 pub mod Trees

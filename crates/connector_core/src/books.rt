@@ -3,8 +3,8 @@ ghost use Rattle.std.specs.Prelude.{◌≡◌, ◌++◌, IfOk, OnOk, OnErr, IsSo
 ghost use Rattle.std.specs.BTreeMap.{IsOrdered, Updates, get as get_in, keys as keys_in};
 ghost use Rattle.std.specs.FinMap.{empty, get, insert, keys, remove};
 ghost use Rattle.std.specs.Option.{option_copied, option_map};
-ghost use Rattle.source_book.specs.History.{user};
 ghost use Rattle.journal_core.specs.Entries.{count_of};
+ghost use Rattle.connector_core.specs.History.{user};
 ghost use Rattle.connector_core.specs.Book.{learning, seeing, wanted_row, wanting_now};
 ghost use Rattle.connector_core.specs.Maps.{book_of, changed};
 ghost use Rattle.connector_core.specs.Trees.{key_cmp, of};

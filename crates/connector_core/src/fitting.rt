@@ -6,7 +6,7 @@ ghost use Rattle.scim_key.specs.Outcome.{Gives, GivesBy};
 ghost use Rattle.scim_key.specs.Revisions.{IsRevision, ◌≼◌};
 ghost use Rattle.scim_resource.specs.Contents.{content_name, content_revision};
 ghost use Rattle.source_csv.specs.Records.{row_revision};
-ghost use Rattle.source_book.specs.History.{same_name};
+ghost use Rattle.connector_core.specs.History.{same_name};
 ghost use Rattle.connector_core.specs.Learning as spec;
 ghost use Rattle.connector_core.specs.Noting.{CountsLearn, IsFit, IsNewsOf, lesson_of, within};
 

@@ -2,6 +2,7 @@
 //! from the answers.
 #![tactic(auto)]
 
+mod accepting;
 mod asking;
 mod books;
 mod changing;
@@ -15,6 +16,9 @@ mod offering;
 mod opening;
 mod taking;
 
+pub use accepting::{
+    BookFault, Verdict, accept, accept_is_by_history, histories_rise, new_rows_go_on,
+};
 pub use asking::{Ask, AskFault};
 pub use changing::ChangeFault;
 pub use connectors::Connector;

@@ -2,21 +2,21 @@
 ghost use Rattle.std.specs.Prelude.{◌≡◌, ◌++◌, ◌∷◌, [], IfErr, IfOk, Ok, OnErr, OnOk};
 ghost use Rattle.std.specs.FinMap.{get, insert, keys};
 ghost use Rattle.source_csv.specs.Records.{row_name};
-ghost use Rattle.source_book.specs.declared.accepting.Verdict.TheVariants.{New};
 ghost use Rattle.journal_core.specs.Calls.{Writes};
+ghost use Rattle.connector_core.specs.declared.accepting.Verdict.TheVariants.{New};
 ghost use Rattle.connector_core.specs.Book.{wanting};
 ghost use Rattle.connector_core.specs.Changing.{CountsChange, IsNoVerdict, entries_all, if_new, judged, new_rows, taking, taking_all, verdicts};
 ghost use Rattle.connector_core.specs.Maps.{book_of};
 ghost use Rattle.connector_core.specs.Offering.{AreOffered, all_back, taken_back};
 ghost use Rattle.connector_core.specs.State.{IsKept, Leaves, LeavesBook};
 
+use crate::accepting::Verdict;
 use crate::books::Book;
 use crate::changing::{ChangeFault, judge};
 use crate::connectors::Connector;
 use crate::taking::{Note, take_back, take_row};
 use journal_core::Journal;
 use scim_key::RecordName;
-use source_book::Verdict;
 use source_csv::Row;
 use std::alloc::{AllocError, Global};
 

@@ -5,11 +5,10 @@ use Rattle.std.specs.List.{All, count_by}
 use Rattle.scim_key.specs.Revisions.{RevisionValue, IsNoneOrRevision, IsRevision, no_revision, ◌≼◌}
 use Rattle.scim_key.specs.declared.records.Kind.{Kind}
 use Rattle.scim_key.specs.declared.records.Kind.TheVariants.{User, Group}
-use Rattle.scim_key.specs.Records.{name_cmp}
+use Rattle.scim_key.specs.Records.{name_cmp, same_kind}
 use Rattle.scim_key.specs.declared.records.RecordName.{RecordName}
-use Rattle.source_csv.specs.Records.{row_name, row_revision}
+use Rattle.source_csv.specs.Records.{members_of, row_name, row_revision, user}
 use Rattle.source_csv.specs.declared.rows.Row.{Row}
-use Rattle.source_book.specs.History.{same_kind, members_of, user}
 use Rattle.journal_core.specs.declared.entries.Entry.{Entry}
 use Rattle.journal_core.specs.declared.entries.TheConstants.{USER_LIMIT, GROUP_LIMIT}
 

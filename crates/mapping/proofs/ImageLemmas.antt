@@ -23,11 +23,11 @@ use Rattle.source_csv.proofs.RowLemmas.{short_text}
 use Rattle.source_csv.specs.declared.groups.TheConstants.{MEMBER_LIMIT}
 use Rattle.source_csv.specs.declared.rows.Row.{Row}
 use Rattle.source_csv.specs.declared.rows.Row.TheVariants.{User, Group}
-use Rattle.group_sync.specs.Laws.{GoesOn, HaveIds}
-use Rattle.group_sync.specs.Ready.{ready}
-use Rattle.group_sync.specs.declared.ids.Ready.{Ready}
-use Rattle.group_sync.specs.declared.ids.Ready.TheVariants.{Ids, Waits}
-use Rattle.group_sync.proofs.ReadyLemmas.{means}
+use Rattle.mapping.specs.Readiness.{GoesOn, HaveIds}
+use Rattle.mapping.specs.Ready.{ready}
+use Rattle.mapping.specs.declared.ids.Ready.{Ready}
+use Rattle.mapping.specs.declared.ids.Ready.TheVariants.{Ids, Waits}
+use Rattle.mapping.proofs.ReadyLemmas.{means}
 use Rattle.mapping.specs.Images.{emails_of, group_image, image, image_by, image_texts, source_text, user_image}
 use Rattle.mapping.specs.Laws.{AreIds, ImagesReadBack, ImagesStay, ReadsBack}
 use Rattle.mapping.proofs.MemberLemmas.{once_lawful, text_of_id}

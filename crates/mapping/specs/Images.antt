@@ -16,9 +16,9 @@ use Rattle.source_csv.specs.Rows.{GroupFields, UserFields, text_of}
 use Rattle.source_csv.specs.declared.texts.TextField.TheVariants as field
 use Rattle.source_csv.specs.declared.rows.Row.{Row}
 use Rattle.source_csv.specs.declared.rows.Row.TheVariants.{User, Group}
-use Rattle.group_sync.specs.Ready.{ready}
-use Rattle.group_sync.specs.declared.ids.Ready.{Ready}
-use Rattle.group_sync.specs.declared.ids.Ready.TheVariants.{Ids, Waits}
+use Rattle.mapping.specs.Ready.{ready}
+use Rattle.mapping.specs.declared.ids.Ready.{Ready}
+use Rattle.mapping.specs.declared.ids.Ready.TheVariants.{Ids, Waits}
 use Rattle.mapping.specs.declared.groups.ImageFault.{ImageFault}
 use Rattle.mapping.specs.declared.groups.ImageFault.TheVariants.{MemberWithoutId}
 

@@ -7,9 +7,9 @@ use Rattle.std.proofs.lemmas.List.Folds.{list_all-append}
 use Rattle.std.specs.List.{list_all}
 use Rattle.std.specs.Result.{is_err, result_ok}
 use Rattle.scim_key.specs.declared.records.Kind.{Kind}
-use Rattle.source_book.specs.declared.accepting.Verdict.{Verdict}
 use Rattle.source_csv.specs.declared.faults.RowFault.{RowFault}
 use Rattle.source_csv.specs.declared.rows.Row.{Row}
+use Rattle.connector_core.specs.declared.accepting.Verdict.{Verdict}
 use Rattle.connector_core.specs.declared.changing.ChangeFault.{ChangeFault}
 use Rattle.provisioning.proofs.ListLemmas.{adds_more}
 use Rattle.provisioning.specs.Runs.{IsUntold}

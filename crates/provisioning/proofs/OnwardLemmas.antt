@@ -8,8 +8,8 @@ use Rattle.scim_key.specs.Revisions.{◌≼◌}
 use Rattle.scim_key.specs.declared.records.RecordName.{RecordName}
 use Rattle.scim_message.specs.declared.messages.Answer.{Answer}
 use Rattle.scim_message.specs.declared.messages.Request.{Request}
-use Rattle.source_book.specs.History.{same_name}
 use Rattle.journal_core.specs.declared.journals.Journal.{Ghosts}
+use Rattle.connector_core.specs.History.{same_name}
 use Rattle.connector_core.specs.Book.{Book, confirmed_if, confirmed_of, put, wanted_row}
 use Rattle.connector_core.specs.Learning.{Finding, Shows, Shows_none, Taken, Stale, Learning, Lesson, after_learning, finding, fit, forgetting, is_absent, is_under, learn, lesson, none_sighted, noted, or_fault, sighted, subject}
 use Rattle.connector_core.specs.Maps.{BookMap, book_of}

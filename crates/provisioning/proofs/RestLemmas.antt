@@ -9,9 +9,9 @@ use Rattle.source_csv.specs.Rows.{GroupFields}
 use Rattle.source_csv.specs.Records.{row_revision}
 use Rattle.source_csv.specs.declared.rows.Row.{Row}
 use Rattle.source_csv.specs.declared.rows.Row.TheVariants.{User, Group}
-use Rattle.group_sync.specs.Ready.{ready}
-use Rattle.group_sync.specs.declared.ids.Ready.{Ready}
-use Rattle.group_sync.specs.declared.ids.Ready.TheVariants as readiness
+use Rattle.mapping.specs.Ready.{ready}
+use Rattle.mapping.specs.declared.ids.Ready.{Ready}
+use Rattle.mapping.specs.declared.ids.Ready.TheVariants as readiness
 use Rattle.mapping.specs.Images.{image_by, imaged}
 use Rattle.connector_core.specs.Asking.{asking, asking_of, asking_with, is_done}
 use Rattle.connector_core.specs.Book.{Book, confirmed_if, confirmed_of, known_id, wanted_if, wanted_of}

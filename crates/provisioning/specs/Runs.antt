@@ -3,7 +3,7 @@ use Rattle.std.specs.Prelude.{◌≡◌, ◌⊎◌, ◌+◌, ◌^◌, ◌-◌, �
 use Rattle.std.specs.FinMap.{keys}
 use Rattle.std.specs.List.{list_all, sum_by}
 use Rattle.scim_key.specs.declared.records.RecordName.{RecordName}
-use Rattle.group_sync.specs.Settling.{IsSettleOrder}
+use Rattle.mapping.specs.Settling.{IsSettleOrder}
 use Rattle.journal_core.specs.declared.journals.Journal.{Ghosts}
 use Rattle.connector_core.specs.State.{State}
 use Rattle.provisioning.specs.Lists.{Adds}

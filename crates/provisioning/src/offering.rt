@@ -5,10 +5,9 @@ ghost use Rattle.provisioning.specs.declared.offering.Judged.{Judged as JudgedRo
 
 use crate::faults::{RunFault, unwritten};
 use crate::sources::{Source, Sources};
-use connector_core::{ChangeFault, Connector};
+use connector_core::{ChangeFault, Connector, Verdict};
 use journal_core::Journal;
 use scim_key::Kind;
-use source_book::Verdict;
 use source_csv::{Row, RowFault};
 use std::alloc::{AllocError, Global};
 use std::io;

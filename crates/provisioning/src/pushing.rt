@@ -1,7 +1,7 @@
 //! Pushes every record, one after another.
 ghost use Rattle.std.specs.Prelude.{◌≡◌, ◌∷◌, [], IfErr, IfOk, OnOk};
 ghost use Rattle.std.specs.FinMap.{keys};
-ghost use Rattle.group_sync.specs.Settling.{IsSettleOrder};
+ghost use Rattle.mapping.specs.Settling.{IsSettleOrder};
 ghost use Rattle.provisioning.specs.declared.faults.RunFault.TheVariants.{Memory};
 ghost use Rattle.provisioning.specs.Onward.{Onward};
 ghost use Rattle.provisioning.specs.Openings.{Opens};
@@ -12,8 +12,8 @@ use crate::faults::{RunFault, unwritten};
 use crate::records::{Pushed, Standing, push_record};
 use crate::telling::Tell;
 use connector_core::Connector;
-use group_sync::settle_order;
 use journal_core::Journal;
+use mapping::settle_order;
 use scim_client::ScimService;
 use scim_key::RecordName;
 use std::alloc::Global;

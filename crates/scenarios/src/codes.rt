@@ -1,5 +1,6 @@
 //! The codes that faults and refusals are printed as.
 use crate::support::are_printed;
+use connector_core::BookFault;
 use http_text::{ReadFault, SendFault};
 use mapping::{ImageFault, WriteFault};
 use provider_core::{ProviderFault, RegistryFault};
@@ -10,7 +11,6 @@ use scim_key::NameFault;
 use scim_message::{BodyFault, Refusal};
 use scim_resource::ContentFault;
 use scim_version::TagFault;
-use source_book::BookFault;
 use source_csv::{RowCode, RowFault, SourceFault};
 
 static REFUSALS: &[(Refusal, &str)] = &[

@@ -5,12 +5,12 @@ use Rattle.scim_key.specs.declared.records.RecordName.{RecordName}
 use Rattle.provider_core.proofs.TableLaws.{at_more}
 use Rattle.source_csv.specs.Records.{row_name}
 use Rattle.source_csv.specs.declared.rows.Row.{Row}
-use Rattle.source_book.specs.History.{History, same_name, rows_of}
-use Rattle.source_book.specs.Accepting.{accepting}
-use Rattle.source_book.specs.declared.accepting.BookFault.{BookFault}
-use Rattle.source_book.specs.declared.accepting.BookFault.TheVariants as faults
-use Rattle.source_book.specs.declared.accepting.Verdict.{Verdict}
-use Rattle.source_book.specs.declared.accepting.Verdict.TheVariants as verdicts
+use Rattle.connector_core.specs.History.{History, same_name, rows_of}
+use Rattle.connector_core.specs.Accepting.{accepting}
+use Rattle.connector_core.specs.declared.accepting.BookFault.{BookFault}
+use Rattle.connector_core.specs.declared.accepting.BookFault.TheVariants as faults
+use Rattle.connector_core.specs.declared.accepting.Verdict.{Verdict}
+use Rattle.connector_core.specs.declared.accepting.Verdict.TheVariants as verdicts
 use Rattle.connector_core.specs.Changing.{limited, judging_by_source}
 use Rattle.world_model.specs.Safe.{Has}
 

@@ -28,7 +28,7 @@ use Rattle.provider_core.proofs.RowLaws.{find-passes}
 use Rattle.provider_core.proofs.TableLaws.{found_at, same_if_eq}
 use Rattle.source_csv.specs.Records.{row_name}
 use Rattle.source_csv.specs.declared.rows.Row.{Row}
-use Rattle.source_book.specs.History.{History, rows_of}
+use Rattle.connector_core.specs.History.{History, rows_of}
 use Rattle.connector_core.specs.Learning.{Finding, Shows, Taken, Stale, finding, subject}
 use Rattle.world_model.specs.Safe.{IsAt, Has}
 use Rattle.world_model.specs.Untroubled.{most_entries}

@@ -11,12 +11,12 @@ use Rattle.scim_resource.specs.declared.contents.Content.{Content}
 use Rattle.source_csv.specs.Records.{row_name, row_revision}
 use Rattle.source_csv.specs.declared.rows.Row.{Row}
 use Rattle.source_csv.specs.declared.rows.Row.TheVariants.{User, Group}
-use Rattle.source_book.specs.History.{members_of, user}
-use Rattle.group_sync.specs.Laws.{HaveIds}
-use Rattle.group_sync.proofs.ReadyLemmas.{means}
-use Rattle.group_sync.specs.declared.ids.Ready.{Ready}
+use Rattle.mapping.specs.Readiness.{HaveIds}
+use Rattle.mapping.proofs.ReadyLemmas.{means}
+use Rattle.mapping.specs.declared.ids.Ready.{Ready}
 use Rattle.mapping.specs.Images.{group_image, image_by, imaged, user_image}
 use Rattle.mapping.specs.declared.groups.ImageFault.{ImageFault}
+use Rattle.connector_core.specs.History.{members_of, user}
 use Rattle.connector_core.specs.Book.{Book, known_id}
 use Rattle.connector_core.specs.Asking.{asking, asking_of, asking_with, is_done, request_for}
 use Rattle.connector_core.specs.Learning.{content_revision}

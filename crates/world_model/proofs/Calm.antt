@@ -9,15 +9,15 @@ use Rattle.std.specs.declared.cmp.Ordering.{Ordering}
 use Rattle.std.specs.declared.cmp.Ordering.TheVariants.{Less, Equal, Greater}
 use Rattle.scim_key.proofs.RecordLaws.{same as same_names}
 use Rattle.scim_key.specs.declared.records.RecordName.{RecordName}
+use Rattle.scim_key.specs.Records.{name_cmp}
 use Rattle.source_csv.specs.Records.{row_name}
 use Rattle.source_csv.specs.declared.rows.Row.{Row}
-use Rattle.source_book.proofs.Rising.{goes_on}
-use Rattle.source_book.specs.History.{History, AllAreUsers, MembersAreUsers, is_user, last_row, members_of, rows_of, same_name, user}
-use Rattle.source_book.specs.declared.accepting.Verdict.{Verdict}
-use Rattle.source_book.specs.declared.accepting.Verdict.TheVariants as verdicts
+use Rattle.connector_core.proofs.Rising.{goes_on}
+use Rattle.connector_core.specs.History.{History, AllAreUsers, MembersAreUsers, is_user, last_row, members_of, rows_of, same_name, user}
+use Rattle.connector_core.specs.declared.accepting.Verdict.{Verdict}
+use Rattle.connector_core.specs.declared.accepting.Verdict.TheVariants as verdicts
 use Rattle.connector_core.specs.Asking.{asking}
 use Rattle.connector_core.specs.Changing.{names_of, names_with}
-use Rattle.scim_key.specs.Records.{name_cmp}
 use Rattle.connector_core.specs.declared.asking.Ask.{Ask}
 use Rattle.connector_core.specs.declared.asking.Ask.TheVariants.{Nothing, Waits, Send}
 use Rattle.connector_core.specs.declared.changing.ChangeFault.{ChangeFault}

@@ -14,14 +14,14 @@ use Rattle.scim_key.specs.Records.{name_cmp}
 use Rattle.scim_key.specs.declared.records.Kind.{Kind}
 use Rattle.scim_key.specs.declared.records.Kind.TheVariants.{User, Group}
 use Rattle.scim_key.specs.declared.records.RecordName.{RecordName}
+use Rattle.provider_core.proofs.TableLaws.{at_push}
 use Rattle.source_csv.specs.Records.{row_name}
 use Rattle.source_csv.specs.declared.rows.Row.{Row}
-use Rattle.source_book.specs.History.{History, same_kind}
-use Rattle.connector_core.specs.Changing.{is_full, names_of, names_with}
 use Rattle.journal_core.specs.Entries.{count_of, most_records}
+use Rattle.connector_core.specs.History.{History, same_kind}
+use Rattle.connector_core.specs.Changing.{is_full, names_of, names_with}
 use Rattle.world_model.specs.Safe.{IsAt, Has}
 use Rattle.world_model.specs.Untroubled.{most_entries}
-use Rattle.provider_core.proofs.TableLaws.{at_push}
 
 -- ---- names in their order
 

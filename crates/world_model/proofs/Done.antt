@@ -4,11 +4,11 @@ use Rattle.std.specs.List.{AllByRecursion, last_or}
 use Rattle.scim_key.proofs.RevisionLaws.{irreflexive, none_before}
 use Rattle.scim_key.specs.Revisions.{RevisionValue, no_revision, before, ◌≺◌}
 use Rattle.scim_key.specs.declared.records.RecordName.{RecordName}
+use Rattle.provider_core.proofs.TableLaws.{held_at}
 use Rattle.source_csv.specs.Records.{row_revision}
 use Rattle.source_csv.specs.declared.rows.Row.{Row}
-use Rattle.provider_core.proofs.TableLaws.{held_at}
-use Rattle.source_book.specs.History.{Rises, rows_of}
 use Rattle.mapping.specs.Images.{image}
+use Rattle.connector_core.specs.History.{Rises, rows_of}
 use Rattle.connector_core.specs.declared.knowledge.Known.{Known}
 use Rattle.world_model.specs.Safe.{IsAt, Has, id_in}
 use Rattle.world_model.specs.Settled.{IsSettledOf}

@@ -10,8 +10,8 @@ use Rattle.provider_core.specs.Stories.{Entry, story, Numbered, AllGoOn}
 use Rattle.provider_core.specs.Tables.{entry_named, IsWholeTable, IsFact}
 use Rattle.provider_core.proofs.TableLaws.{at_more, go_on_at, named_found, entry_here}
 use Rattle.source_csv.specs.declared.rows.Row.{Row}
-use Rattle.source_book.specs.History.{History, rows_of}
-use Rattle.group_sync.specs.Laws.{GoesOn}
+use Rattle.mapping.specs.Readiness.{GoesOn}
+use Rattle.connector_core.specs.History.{History, rows_of}
 use Rattle.world_model.specs.Safe.{IsAt, Has, id_in, IsImage, IsVersion}
 use Rattle.world_model.proofs.Imaging.{image_more}
 

@@ -8,13 +8,13 @@ use Rattle.source_csv.specs.Records.{row_name, row_revision}
 use Rattle.source_csv.specs.Rows.{GroupFields}
 use Rattle.source_csv.specs.declared.rows.Row.{Row}
 use Rattle.source_csv.specs.declared.rows.Row.TheVariants.{User, Group}
-use Rattle.source_book.specs.History.{members_of}
-use Rattle.group_sync.specs.Laws.{GoesOn}
-use Rattle.group_sync.specs.Ready.{ready}
-use Rattle.group_sync.specs.declared.ids.Ready.{Ready}
-use Rattle.group_sync.specs.declared.ids.Ready.TheVariants.{Ids, Waits}
+use Rattle.mapping.specs.Readiness.{GoesOn}
+use Rattle.mapping.specs.Ready.{ready}
+use Rattle.mapping.specs.declared.ids.Ready.{Ready}
+use Rattle.mapping.specs.declared.ids.Ready.TheVariants.{Ids, Waits}
 use Rattle.mapping.specs.Images.{group_image, image, image_by, user_image}
 use Rattle.mapping.proofs.ImageLemmas.{images_stay}
+use Rattle.connector_core.specs.History.{members_of}
 use Rattle.connector_core.specs.Learning.{content_revision}
 
 abbrev IdOf : Type 0

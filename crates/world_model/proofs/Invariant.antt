@@ -10,11 +10,11 @@ use Rattle.provider_core.proofs.StoryLaws.{stories_only_grow}
 use Rattle.provider_core.proofs.TableLaws.{at_more, go_on_staying, tables_stay_whole, answers_show_facts}
 use Rattle.source_csv.specs.Records.{row_name, row_revision}
 use Rattle.source_csv.specs.declared.rows.Row.{Row}
-use Rattle.source_book.proofs.Acceptance.{new_is_newer}
-use Rattle.source_book.proofs.Rising.{goes_on}
-use Rattle.source_book.specs.Accepting.{accepting}
-use Rattle.source_book.specs.declared.accepting.Verdict.{Verdict}
-use Rattle.source_book.specs.declared.accepting.Verdict.TheVariants as verdicts
+use Rattle.connector_core.proofs.Acceptance.{new_is_newer}
+use Rattle.connector_core.proofs.Rising.{goes_on}
+use Rattle.connector_core.specs.Accepting.{accepting}
+use Rattle.connector_core.specs.declared.accepting.Verdict.{Verdict}
+use Rattle.connector_core.specs.declared.accepting.Verdict.TheVariants as verdicts
 use Rattle.connector_core.specs.Asking.{asking}
 use Rattle.connector_core.specs.declared.asking.Ask.{Ask}
 use Rattle.connector_core.specs.declared.asking.Ask.TheVariants.{Nothing, Waits, Send}

@@ -11,9 +11,9 @@ use Rattle.scim_message.specs.declared.messages.Request.{Request}
 use Rattle.scim_message.specs.declared.messages.Answer.{Answer}
 use Rattle.source_csv.specs.Records.{row_name}
 use Rattle.source_csv.specs.declared.rows.Row.{Row}
-use Rattle.source_book.specs.History.{History, same_name, rows_of, last_row, user, members_of, missing_member}
-use Rattle.source_book.specs.declared.accepting.Verdict.{Verdict}
-use Rattle.source_book.specs.declared.accepting.Verdict.TheVariants as verdicts
+use Rattle.connector_core.specs.History.{History, same_name, rows_of, last_row, user, members_of, missing_member}
+use Rattle.connector_core.specs.declared.accepting.Verdict.{Verdict}
+use Rattle.connector_core.specs.declared.accepting.Verdict.TheVariants as verdicts
 use Rattle.connector_core.specs.Book.{Book, put, wanting, with_row, forgotten, wanted_row}
 use Rattle.connector_core.specs.Asking.{asking}
 use Rattle.connector_core.specs.declared.asking.Ask.{Ask}

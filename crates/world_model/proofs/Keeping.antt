@@ -18,7 +18,7 @@ use Rattle.provider_core.specs.Tables.{IsWholeTable, Writes, Writes.nothing, Wri
 use Rattle.provider_core.proofs.StoryLaws.{stories_only_grow}
 use Rattle.provider_core.proofs.TableLaws.{at_push, at_one, at_renew, held_at, steps_write, tables_stay_whole}
 use Rattle.source_csv.specs.Records.{row_revision}
-use Rattle.source_book.specs.History.{History}
+use Rattle.connector_core.specs.History.{History}
 use Rattle.connector_core.specs.Learning.{content_revision}
 use Rattle.world_model.specs.Safe.{IsAt, IsImage, StoryRises}
 use Rattle.world_model.specs.Invariant.{Kept, Overwrites, AskedTruly}

@@ -14,7 +14,7 @@ use Rattle.scim_message.specs.declared.messages.Answer.TheVariants.{Created, Fou
 use Rattle.scim_message.specs.declared.messages.Answer.TheVariants as answers
 use Rattle.provider_core.specs.Tables.{shown_in}
 use Rattle.source_csv.specs.Records.{row_revision}
-use Rattle.source_book.specs.History.{same_name}
+use Rattle.connector_core.specs.History.{same_name}
 use Rattle.connector_core.specs.Book.{Book, put}
 use Rattle.connector_core.specs.Learning.{or_fault, fault_unless, Finding, Shows, Shows_none, Taken, Stale, Sight, fit, fits_id, listed, sighted, none_sighted, forgetting, is_absent, is_under, Lesson, lesson, finding, subject, content_revision, Learning, noted, learn}
 use Rattle.connector_core.specs.declared.knowledge.Known.{Known}

@@ -17,7 +17,7 @@ use Rattle.provider_core.specs.Tables.{IsFact}
 use Rattle.provider_core.proofs.TableLaws.{same_if_eq}
 use Rattle.source_csv.specs.Records.{row_revision}
 use Rattle.source_csv.specs.declared.rows.Row.{Row}
-use Rattle.source_book.specs.History.{Rises, rows_of, same_name}
+use Rattle.connector_core.specs.History.{Rises, rows_of, same_name}
 use Rattle.connector_core.specs.Learning.{or_fault, fault_unless, Finding, Shows, Shows_none, Taken, Stale, fit, fits_id, sighted, lesson, finding, subject, content_revision, noted, learn}
 use Rattle.connector_core.specs.declared.knowledge.Known.{Known}
 use Rattle.connector_core.specs.declared.learning.LearnFault.{LearnFault}

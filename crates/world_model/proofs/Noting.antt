@@ -14,7 +14,7 @@ use Rattle.provider_core.specs.Stories.{Entry, AllGoOn}
 use Rattle.provider_core.specs.Tables.{IsWholeTable, IsFact}
 use Rattle.source_csv.specs.Records.{row_name, row_revision}
 use Rattle.source_csv.specs.declared.rows.Row.{Row}
-use Rattle.source_book.specs.History.{same_name}
+use Rattle.connector_core.specs.History.{same_name}
 use Rattle.connector_core.specs.Book.{Book, put, wanting, with_row, forgotten, reopened}
 use Rattle.connector_core.specs.Learning.{Finding, Shows, Sight, sighted, none_sighted, forgetting, is_absent, is_under, Lesson, Learning, learn, after_learning}
 use Rattle.connector_core.specs.declared.knowledge.Known.{Known}

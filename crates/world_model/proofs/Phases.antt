@@ -19,7 +19,7 @@ use Rattle.provider_core.specs.Stories.{Entry, story, Numbered, row_of, step}
 use Rattle.provider_core.specs.Tables.{entry_named}
 use Rattle.provider_core.proofs.TableLaws.{named_found}
 use Rattle.source_csv.specs.Records.{IsRow, row_name, row_revision}
-use Rattle.source_book.specs.History.{rows_of, last_row}
+use Rattle.connector_core.specs.History.{rows_of, last_row}
 use Rattle.connector_core.specs.Asking.{asking, is_done, request_for, search_for, replacement}
 use Rattle.connector_core.specs.Learning.{Shows_none, Taken, Stale, subject, Sight, sighted, none_sighted, forgetting, is_absent, is_under, content_revision}
 use Rattle.connector_core.specs.declared.asking.Ask.TheVariants.{Send}

@@ -1,19 +1,27 @@
 -- Where every row that is offered keeps the limits of the source, no reply is refused and no limit is met.
 use Rattle.std.proofs.Common.{◌<◌, ◌≡◌, ℕ, ◌≤◌, ◌&&◌, Bool, true, false, List, [], ◌∷◌, ◌++◌, length, Option, Some, None, Result, Ok, Err, is_none, ◌⊎◌, inl, inr, refl, ap, sym, ◌∙◌, subst, arith}
 use Rattle.std.specs.List.{AllByRecursion}
+use Rattle.std.specs.Option.{option_map}
+use Rattle.serde_json.specs.Written.{compact_text}
 use Rattle.scim_key.specs.declared.records.RecordName.{RecordName}
+use Rattle.scim_key.specs.Identifiers.{id_text}
+use Rattle.scim_resource.specs.Contents.{content_kind, content_name}
+use Rattle.scim_resource.specs.Writing.{content_data}
+use Rattle.scim_resource.specs.declared.contents.Content.{Content}
 use Rattle.scim_message.specs.declared.messages.Answer.{Answer}
 use Rattle.scim_message.specs.declared.messages.Request.{Request}
+use Rattle.scim_message.specs.declared.messages.Request.TheVariants.{Create, Retrieve, Search, Replace}
 use Rattle.provider_core.specs.Stories.{Entry, step, Numbered}
 use Rattle.provider_core.proofs.TableLaws.{at_push, held_at}
+use Rattle.provider_core.specs.Tables.{entry_named}
 use Rattle.source_csv.specs.Records.{IsRow, row_name}
 use Rattle.source_csv.specs.declared.rows.Row.{Row}
-use Rattle.source_book.specs.Accepting.{accepting}
-use Rattle.source_book.specs.History.{History, rows_of, last_row}
-use Rattle.source_book.specs.declared.accepting.BookFault.{BookFault}
-use Rattle.source_book.specs.declared.accepting.BookFault.TheVariants as faults
-use Rattle.source_book.specs.declared.accepting.Verdict.{Verdict}
-use Rattle.source_book.specs.declared.accepting.Verdict.TheVariants as verdicts
+use Rattle.connector_core.specs.Accepting.{accepting}
+use Rattle.connector_core.specs.History.{History, rows_of, last_row}
+use Rattle.connector_core.specs.declared.accepting.BookFault.{BookFault}
+use Rattle.connector_core.specs.declared.accepting.BookFault.TheVariants as faults
+use Rattle.connector_core.specs.declared.accepting.Verdict.{Verdict}
+use Rattle.connector_core.specs.declared.accepting.Verdict.TheVariants as verdicts
 use Rattle.connector_core.specs.Asking.{asking}
 use Rattle.connector_core.specs.Changing.{limited, is_full, names_of}
 use Rattle.connector_core.specs.declared.asking.Ask.{Ask}
@@ -29,14 +37,6 @@ use Rattle.world_model.proofs.Sending.{row_of_record}
 use Rattle.world_model.proofs.Counting.{Counted, none_counted, push_counted, no_more, few_names}
 use Rattle.world_model.proofs.Ranking.{AllLawful, row_there, row_lawful, versions_few}
 use Rattle.world_model.proofs.Sizes.{image_size}
-use Rattle.serde_json.specs.Written.{compact_text}
-use Rattle.std.specs.Option.{option_map}
-use Rattle.scim_key.specs.Identifiers.{id_text}
-use Rattle.scim_resource.specs.Contents.{content_kind, content_name}
-use Rattle.scim_resource.specs.Writing.{content_data}
-use Rattle.scim_resource.specs.declared.contents.Content.{Content}
-use Rattle.scim_message.specs.declared.messages.Request.TheVariants.{Create, Retrieve, Search, Replace}
-use Rattle.provider_core.specs.Tables.{entry_named}
 use Rattle.world_model.proofs.Answering.{Answers, request_answers, no_limit}
 use Rattle.world_model.proofs.Learning.{learns}
 use Rattle.world_model.specs.Invariant.{Invariant, AskedTruly}

@@ -4,19 +4,19 @@ use Rattle.std.proofs.lemmas.Bool.{ltb-true, leb-true}
 use Rattle.std.proofs.lemmas.Option.{slice_get_within}
 use Rattle.scim_key.proofs.RevisionLaws.{none_before, rank_rises, rank_bounded}
 use Rattle.scim_key.specs.Revisions.{RevisionValue, IsRevision, no_revision, rank, most_revisions}
+use Rattle.scim_key.specs.declared.records.RecordName.{RecordName}
 use Rattle.scim_resource.specs.declared.contents.Content.{Content}
 use Rattle.provider_core.specs.Stories.{Entry, story}
 use Rattle.provider_core.proofs.TableLaws.{held_at}
 use Rattle.source_csv.specs.Records.{IsRow, row_revision}
 use Rattle.source_csv.specs.declared.rows.Row.{Row}
 use Rattle.source_csv.specs.declared.rows.Row.TheVariants.{User, Group}
-use Rattle.source_book.specs.History.{History, same_name, rows_of}
 use Rattle.source_csv.specs.Records.{row_name}
+use Rattle.connector_core.specs.History.{History, same_name, rows_of}
 use Rattle.connector_core.specs.Learning.{content_revision}
 use Rattle.world_model.specs.Safe.{IsAt, Has, StoryRises}
 use Rattle.world_model.specs.Invariant.{Kept}
 use Rattle.world_model.proofs.Lists.{at_within, filter_has}
-use Rattle.scim_key.specs.declared.records.RecordName.{RecordName}
 
 -- a content with a valid revision
 pub record IsOfRevision (c : Content) : Type 0 where

@@ -13,11 +13,11 @@ use Rattle.provider_core.specs.Stories.{Entry}
 use Rattle.source_csv.specs.Records.{row_name, row_revision}
 use Rattle.source_csv.specs.declared.rows.Row.{Row}
 use Rattle.source_csv.specs.declared.rows.Row.TheVariants.{User, Group}
-use Rattle.source_book.specs.History.{History, same_name, rows_of}
-use Rattle.group_sync.specs.Laws.{GoesOn}
+use Rattle.mapping.specs.Readiness.{GoesOn}
 use Rattle.mapping.specs.Images.{image, imaged}
 use Rattle.mapping.specs.declared.groups.ImageFault.{ImageFault}
 use Rattle.mapping.specs.declared.groups.ImageFault.TheVariants.{MemberWithoutId, Memory}
+use Rattle.connector_core.specs.History.{History, same_name, rows_of}
 use Rattle.connector_core.specs.Book.{Book, known_id}
 use Rattle.connector_core.specs.Asking.{asking, asking_of, asking_with, is_done, request_for, search_for, replacement}
 use Rattle.connector_core.specs.declared.asking.Ask.{Ask}

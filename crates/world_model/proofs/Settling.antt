@@ -8,13 +8,13 @@ use Rattle.scim_key.proofs.RecordLaws.{same as same_names}
 use Rattle.scim_key.specs.declared.records.Kind.{Kind}
 use Rattle.scim_key.specs.declared.records.Kind.TheVariants as kinds
 use Rattle.scim_key.specs.declared.records.RecordName.{RecordName}
-use Rattle.provider_core.specs.Stories.{Entry, step}
+use Rattle.scim_key.specs.Records.{name_cmp}
 use Rattle.scim_resource.specs.declared.contents.Content.{Content}
-use Rattle.source_book.specs.History.{MembersAreUsers, members_of, same_name, user}
+use Rattle.provider_core.specs.Stories.{Entry, step}
+use Rattle.connector_core.specs.History.{MembersAreUsers, members_of, same_name, user}
 use Rattle.connector_core.specs.Asking.{is_done}
 use Rattle.connector_core.specs.Book.{Book, known_id, put}
 use Rattle.connector_core.specs.Changing.{names_of}
-use Rattle.scim_key.specs.Records.{name_cmp}
 use Rattle.connector_core.specs.declared.knowledge.Known.{Known}
 use Rattle.connector_core.specs.declared.knowledge.Seen.TheVariants.{Unknown}
 use Rattle.world_model.specs.Safe.{IsAt, Has}

@@ -13,7 +13,6 @@ use Rattle.json.specs.Print.{escape_letter, escape_byte, escape, quoted}
 use Rattle.serde_json.specs.Data.{unsigned, Data, boolean, number, string, array, object, Items, no_items, item, Members, no_members, member}
 use Rattle.serde_json.specs.View.{items_of}
 use Rattle.serde_json.specs.Written.{compact_text, comma_if, items_text, members_text}
-use Rattle.scim_json.specs.Writing.{Part, member_if, members_from}
 use Rattle.scim_key.specs.Identifiers.{hex_digit, lower_hex, id_text}
 use Rattle.scim_key.specs.Names.{IsUserName, IsGroupName, is_user_name_byte, user_name_fault, group_name_fault}
 use Rattle.scim_key.specs.declared.names.NameFault.TheVariants.{Empty, TooLong, Character}
@@ -21,6 +20,7 @@ use Rattle.scim_key.specs.declared.names.TheConstants.{NAME_LIMIT}
 use Rattle.scim_key.specs.Revisions.{RevisionValue, IsRevision, revision_epoch, revision_number}
 use Rattle.scim_key.proofs.RevisionLaws.{are_read_back}
 use Rattle.scim_key.specs.declared.records.RecordName.{RecordName}
+use Rattle.scim_json.specs.Writing.{Part, member_if, members_from}
 use Rattle.scim_resource.specs.Contents.{content_kind}
 use Rattle.scim_resource.specs.Schemas.{core_user, core_group, enterprise_extension, source_extension}
 use Rattle.scim_resource.specs.Texts.{text_if}
@@ -34,10 +34,10 @@ use Rattle.source_csv.specs.Rows.{UserFields, GroupFields, IsUserRow, IsGroupRow
 use Rattle.source_csv.specs.declared.texts.TextField.TheVariants as texts
 use Rattle.source_csv.specs.declared.rows.Row.{Row}
 use Rattle.source_csv.specs.declared.rows.Row.TheVariants.{User, Group}
-use Rattle.source_book.specs.History.{user, members_of}
-use Rattle.group_sync.specs.Laws.{HaveIds}
-use Rattle.group_sync.proofs.ReadyLemmas.{means}
+use Rattle.mapping.specs.Readiness.{HaveIds}
+use Rattle.mapping.proofs.ReadyLemmas.{means}
 use Rattle.mapping.specs.Images.{image_texts, user_image, emails_of, work_email, once, group_image, image}
+use Rattle.connector_core.specs.History.{user, members_of}
 use Rattle.world_model.specs.Untroubled.{longest_body}
 use Rattle.world_model.proofs.Imaging.{image_with, of_image}
 

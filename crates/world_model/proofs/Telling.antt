@@ -6,7 +6,7 @@ use Rattle.scim_message.specs.declared.messages.Request.TheVariants.{Create, Ret
 use Rattle.provider_core.specs.Stories.{Entry}
 use Rattle.provider_core.proofs.TableLaws.{at_push}
 use Rattle.source_csv.specs.Records.{row_name}
-use Rattle.source_book.specs.History.{History}
+use Rattle.connector_core.specs.History.{History}
 use Rattle.world_model.specs.World.{Message, Asked, Answered}
 use Rattle.world_model.specs.Invariant.{AskedTruly, ToldTruly, AllTold}
 use Rattle.world_model.proofs.Growing.{Grows, image_grows, version_grows, fact_grows}

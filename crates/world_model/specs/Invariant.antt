@@ -15,7 +15,7 @@ use Rattle.provider_core.specs.Stories.{Entry, story}
 use Rattle.provider_core.specs.Tables.{IsWholeTable, IsFact, shown_in}
 use Rattle.source_csv.specs.Records.{row_name, row_revision}
 use Rattle.source_csv.specs.declared.rows.Row.{Row}
-use Rattle.source_book.specs.History.{History, rows_of, last_row, AllRise}
+use Rattle.connector_core.specs.History.{History, rows_of, last_row, AllRise}
 use Rattle.connector_core.specs.Asking.{search_for}
 use Rattle.connector_core.specs.Book.{Book, wanted_row}
 use Rattle.connector_core.specs.Learning.{content_revision}

@@ -16,8 +16,8 @@ use Rattle.provider_core.specs.Tables.{entry_named}
 use Rattle.source_csv.specs.Records.{row_revision}
 use Rattle.source_csv.specs.declared.rows.Row.{Row}
 use Rattle.source_csv.specs.declared.rows.Row.TheVariants.{User, Group}
-use Rattle.source_book.specs.History.{History, rows_of, last_row, Rises}
 use Rattle.mapping.specs.Images.{image}
+use Rattle.connector_core.specs.History.{History, rows_of, last_row, Rises}
 use Rattle.connector_core.specs.Book.{wanted_row}
 use Rattle.connector_core.specs.Learning.{content_revision}
 use Rattle.connector_core.specs.Changing.{judging_by_source}

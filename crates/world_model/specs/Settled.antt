@@ -5,8 +5,8 @@ use Rattle.scim_key.specs.declared.records.RecordName.{RecordName}
 use Rattle.scim_message.specs.declared.messages.Request.{Request}
 use Rattle.provider_core.specs.Stories.{Entry}
 use Rattle.source_csv.specs.Records.{row_revision}
-use Rattle.source_book.specs.History.{last_row}
 use Rattle.mapping.specs.Images.{image}
+use Rattle.connector_core.specs.History.{last_row}
 use Rattle.connector_core.specs.Asking.{asking}
 use Rattle.connector_core.specs.declared.asking.Ask.TheVariants.{Nothing, Send}
 use Rattle.connector_core.specs.declared.knowledge.Known.{Known}

@@ -7,8 +7,8 @@ use Rattle.scim_message.specs.declared.messages.Request.{Request}
 use Rattle.scim_message.specs.declared.messages.Answer.{Answer}
 use Rattle.provider_core.specs.Stories.{Entry, Step, step}
 use Rattle.source_csv.specs.declared.rows.Row.{Row}
-use Rattle.source_book.specs.History.{History}
-use Rattle.source_book.specs.declared.accepting.Verdict.{Verdict}
+use Rattle.connector_core.specs.History.{History}
+use Rattle.connector_core.specs.declared.accepting.Verdict.{Verdict}
 use Rattle.connector_core.specs.Book.{Book, empty_book, reopened}
 use Rattle.connector_core.specs.Asking.{asking}
 use Rattle.connector_core.specs.declared.asking.Ask.{Ask}

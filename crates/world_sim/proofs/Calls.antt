@@ -3,10 +3,10 @@ use Rattle.std.specs.Prelude.{◌⊎◌, ℕ, IfErr, IfOk, OnOk}
 use Rattle.std.proofs.Common.{◌≡◌, inl, inr, List, Result, Ok, Err, ap, refl, sym, ◌∙◌, subst}
 use Rattle.std.specs.FinMap.{keys}
 use Rattle.scim_key.specs.declared.records.RecordName.{RecordName}
-use Rattle.source_book.specs.declared.accepting.Verdict.{Verdict}
 use Rattle.source_csv.specs.declared.rows.Row.{Row}
 use Rattle.journal_core.specs.Entries.{EntryMap}
 use Rattle.journal_core.specs.declared.journals.Journal.{Ghosts as Journals}
+use Rattle.connector_core.specs.declared.accepting.Verdict.{Verdict}
 use Rattle.connector_core.specs.Book.{Book}
 use Rattle.connector_core.specs.Changing as changing
 use Rattle.connector_core.specs.Changing.{IsNoVerdict, accepted_map}

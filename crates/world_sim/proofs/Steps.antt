@@ -10,26 +10,26 @@ use Rattle.std.specs.Option.{option_map}
 use Rattle.std.specs.Prelude.{IfErr, IfOk, OnOk}
 use Rattle.scim_key.specs.Records.{name_cmp}
 use Rattle.scim_key.specs.declared.records.RecordName.{RecordName}
-use Rattle.scim_client.specs.Answers.{AnswersSo}
-use Rattle.scim_client.specs.Spelling.{SpellsRequest}
+use Rattle.scim_resource.specs.Rows.{StoredRecord}
 use Rattle.scim_message.specs.Messages.{answer_status}
 use Rattle.scim_message.specs.declared.messages.Request.{Request}
 use Rattle.scim_message.specs.declared.messages.Answer.{Answer}
-use Rattle.scim_resource.specs.Rows.{StoredRecord}
 use Rattle.provider_core.specs.Outcomes.{Outcome, outcome, changed_rows}
 use Rattle.provider_core.specs.Stories.{step, rows_of}
 use Rattle.provider_core.specs.declared.registry.Registry.{Ghosts as Registries}
 use Rattle.provider_core.proofs.StoryLaws.{rows_follow_stories}
+use Rattle.scim_client.specs.Answers.{AnswersSo}
+use Rattle.scim_client.specs.Spelling.{SpellsRequest}
 use Rattle.source_csv.specs.Records.{IsRow, row_name}
 use Rattle.source_csv.specs.declared.rows.Row.{Row}
-use Rattle.source_book.specs.History.{History}
-use Rattle.source_book.specs.declared.accepting.Verdict.{Verdict}
-use Rattle.source_book.specs.declared.accepting.Verdict.TheVariants as verdicts
 use Rattle.journal_core.specs.declared.journals.Journal.{Ghosts as Journals}
+use Rattle.journal_core.specs.Entries.{EntryMap}
+use Rattle.connector_core.specs.History.{History}
+use Rattle.connector_core.specs.declared.accepting.Verdict.{Verdict}
+use Rattle.connector_core.specs.declared.accepting.Verdict.TheVariants as verdicts
 use Rattle.connector_core.proofs.Keeping.{names-put}
 use Rattle.connector_core.proofs.LawProofs.{maps_accept}
 use Rattle.connector_core.specs.Asking.{asking}
-use Rattle.journal_core.specs.Entries.{EntryMap}
 use Rattle.connector_core.specs.Book.{Book, wanting}
 use Rattle.connector_core.specs.Changing.{names_of, names_with, judging, history_after, book_after, accepted_map}
 use Rattle.connector_core.specs.Learning.{learn, after_learning}

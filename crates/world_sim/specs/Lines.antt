@@ -4,8 +4,8 @@ use Rattle.std.specs.Fmt.{decimal}
 use Rattle.scim_key.specs.Revisions.{revision_text}
 use Rattle.scim_key.specs.declared.records.Kind.{Kind}
 use Rattle.scim_key.specs.declared.records.Kind.TheVariants.{User, Group}
-use Rattle.source_book.specs.declared.accepting.Verdict.TheVariants as verdicts
 use Rattle.journal_core.specs.Words.{kind_word}
+use Rattle.connector_core.specs.declared.accepting.Verdict.TheVariants as verdicts
 use Rattle.connector_core.specs.Codes.{change_fault_text, learn_fault_text}
 use Rattle.connector_core.specs.declared.learning.Learnt.TheVariants as lessons
 use Rattle.world_sim.specs.declared.reports.Report.{Report}

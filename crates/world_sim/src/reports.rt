@@ -1,11 +1,10 @@
 //! What an event reports.
 ghost use Rattle.std.specs.Prelude.{◌≡◌};
 
-use connector_core::{ChangeFault, ConnectorOpenFault, LearnFault, Learnt};
+use connector_core::{ChangeFault, ConnectorOpenFault, LearnFault, Learnt, Verdict};
 use journal_core::JournalFault;
 use provider_core::ProviderFault;
 use scim_key::Key;
-use source_book::Verdict;
 use std::alloc::{AllocError, AllocFailed};
 use std::fmt;
 use thiserror::Error;

@@ -2,8 +2,8 @@ use Rattle.std.proofs.Common.{◌≡◌, ◌∙◌, Ok, ap, subst, sym, rules}
 use Rattle.std.specs.FinMap.{get, insert, keys}
 use Rattle.source_csv.specs.Records.{row_name}
 use Rattle.source_csv.specs.declared.rows.Row.{Row}
-use Rattle.source_book.specs.declared.accepting.Verdict.TheVariants as verdicts
 use Rattle.journal_core.specs.Entries.{EntryMap}
+use Rattle.connector_core.specs.declared.accepting.Verdict.TheVariants as verdicts
 use Rattle.connector_core.specs.Book.{AllLocated, wanting}
 use Rattle.connector_core.specs.Changing.{judging}
 use Rattle.connector_core.specs.Maps.{BookMap, book_of}

@@ -1,7 +1,7 @@
 use Rattle.std.proofs.Common.{◌≡◌, Ok, Err, ap, subst, sym, inl, inr}
 use Rattle.std.specs.FinMap.{keys}
 use Rattle.journal_core.specs.Entries.{with_row}
-use Rattle.source_book.specs.declared.accepting.Verdict.TheVariants as verdicts
+use Rattle.connector_core.specs.declared.accepting.Verdict.TheVariants as verdicts
 use Rattle.connector_core.specs.Changing.{IsNoVerdict, accepted_entries, accepted_map, judging}
 use Rattle.connector_core.specs.Maps.{BookMap, book_of}
 use Rattle.connector_core.specs.State.{IsKept, State}

@@ -1,8 +1,8 @@
 use Rattle.std.proofs.Common.{◌∙◌, [], Ok, Err, Result, Vec, Global, refl, subst, sym, inl, inr}
 use Rattle.std.specs.FinMap.{keys}
-use Rattle.source_book.specs.declared.accepting.Verdict.{Verdict}
 use Rattle.journal_core.specs.Calls.{Writes}
 use Rattle.journal_core.specs.Entries.{EntryMap, with_rows}
+use Rattle.connector_core.specs.declared.accepting.Verdict.{Verdict}
 use Rattle.connector_core.specs.Changing.{CountsChange, entries_all, taking_all}
 use Rattle.connector_core.specs.Maps.{BookMap, book_of}
 use Rattle.connector_core.specs.State.{AreOf, LeavesBook, LeavesOneOf, State}

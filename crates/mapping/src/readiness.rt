@@ -1,7 +1,7 @@
 //! Whether each member of a group has an id.
 ghost use Rattle.std.specs.Prelude.{◌≡◌, IfOk};
-ghost use Rattle.group_sync.specs.Ready.{ready};
-ghost use Rattle.group_sync.specs.Laws.{ReadyMeans};
+ghost use Rattle.mapping.specs.Ready.{ready};
+ghost use Rattle.mapping.specs.Readiness.{ReadyMeans};
 
 use crate::ids::{Ids, Ready, ResourceIds};
 use source_csv::GroupRow;

@@ -9,12 +9,12 @@ use Rattle.scim_key.specs.Revisions.{◌≺◌, ◌≼◌}
 use Rattle.scim_key.specs.declared.records.RecordName.{RecordName}
 use Rattle.source_csv.specs.Records.{row_name, row_revision}
 use Rattle.source_csv.specs.declared.rows.Row.{Row}
-use Rattle.source_book.specs.Accepting.{HistoriesRise, NewRowsGoOn, after_verdict, accepting, history_after}
-use Rattle.source_book.specs.History.{AllAreUsers, AllRise, History, MembersAreUsers, Rises, is_user, last_row, members_of, revision_if, rows_of, same_name, user}
-use Rattle.source_book.specs.declared.accepting.BookFault.{BookFault}
-use Rattle.source_book.specs.declared.accepting.Verdict.{Verdict}
-use Rattle.source_book.specs.declared.accepting.Verdict.TheVariants.{New, Known, Older}
-use Rattle.source_book.proofs.Acceptance.{new_has_users, new_is_newer, not_before_earlier}
+use Rattle.connector_core.specs.Accepting.{HistoriesRise, NewRowsGoOn, after_verdict, accepting, history_after}
+use Rattle.connector_core.specs.History.{AllAreUsers, AllRise, History, MembersAreUsers, Rises, is_user, last_row, members_of, revision_if, rows_of, same_name, user}
+use Rattle.connector_core.specs.declared.accepting.BookFault.{BookFault}
+use Rattle.connector_core.specs.declared.accepting.Verdict.{Verdict}
+use Rattle.connector_core.specs.declared.accepting.Verdict.TheVariants.{New, Known, Older}
+use Rattle.connector_core.proofs.Acceptance.{new_has_users, new_is_newer, not_before_earlier}
 
 -- one more row at the end
 all_push : (P : Row → Type 0) (rows : List Row) (row : Row) → AllByRecursion P rows → P row → AllByRecursion P (rows ++ row ∷ [])

@@ -7,11 +7,11 @@ use Rattle.scim_key.specs.Revisions.{RevisionValue, before, ◌≺◌}
 use Rattle.source_csv.proofs.RowLemmas.{row_from_test, row_itself}
 use Rattle.source_csv.specs.Records.{row_name, row_revision, same_row}
 use Rattle.source_csv.specs.declared.rows.Row.{Row}
-use Rattle.source_book.specs.Accepting.{Accepts, Accepts.older, Accepts.known, Accepts.differs, Accepts.missing, Accepts.new, IsNewer, accepted, accepting, newer}
-use Rattle.source_book.specs.History.{AllAreUsers, History, is_user, last_row, members_of, missing_member}
-use Rattle.source_book.specs.declared.accepting.BookFault.{BookFault}
-use Rattle.source_book.specs.declared.accepting.Verdict.{Verdict}
-use Rattle.source_book.specs.declared.accepting.Verdict.TheVariants.{New}
+use Rattle.connector_core.specs.Accepting.{Accepts, Accepts.older, Accepts.known, Accepts.differs, Accepts.missing, Accepts.new, IsNewer, accepted, accepting, newer}
+use Rattle.connector_core.specs.History.{AllAreUsers, History, is_user, last_row, members_of, missing_member}
+use Rattle.connector_core.specs.declared.accepting.BookFault.{BookFault}
+use Rattle.connector_core.specs.declared.accepting.Verdict.{Verdict}
+use Rattle.connector_core.specs.declared.accepting.Verdict.TheVariants.{New}
 
 -- a revision doesn't come before itself, nor before one that comes before it
 not_before_itself : (a b : RevisionValue) → a ≡ b → before a b ≡ false

@@ -5,11 +5,11 @@ use Rattle.scim_key.specs.Revisions.{before, ◌≺◌, ◌≼◌}
 use Rattle.scim_key.specs.declared.records.RecordName.{RecordName}
 use Rattle.source_csv.specs.Records.{row_name, row_revision, same_row}
 use Rattle.source_csv.specs.declared.rows.Row.{Row}
-use Rattle.source_book.specs.History.{AllAreUsers, AllRise, History, MembersAreUsers, is_user, last_row, members_of, missing_member, rows_of, wanted}
-use Rattle.source_book.specs.declared.accepting.BookFault.{BookFault}
-use Rattle.source_book.specs.declared.accepting.BookFault.TheVariants.{Differs, NoSuchMember}
-use Rattle.source_book.specs.declared.accepting.Verdict.{Verdict}
-use Rattle.source_book.specs.declared.accepting.Verdict.TheVariants.{New, Known, Older}
+use Rattle.connector_core.specs.History.{AllAreUsers, AllRise, History, MembersAreUsers, is_user, last_row, members_of, missing_member, rows_of, wanted}
+use Rattle.connector_core.specs.declared.accepting.BookFault.{BookFault}
+use Rattle.connector_core.specs.declared.accepting.BookFault.TheVariants.{Differs, NoSuchMember}
+use Rattle.connector_core.specs.declared.accepting.Verdict.{Verdict}
+use Rattle.connector_core.specs.declared.accepting.Verdict.TheVariants.{New, Known, Older}
 
 -- the verdict on a row with a new revision, by its first member that isn't a user record
 abbrev pub newer : Option ℕ → Result Verdict BookFault

@@ -1,6 +1,6 @@
 use Rattle.source_csv.specs.Records.{user}
-use Rattle.group_sync.proofs.ReadyLemmas.{Found}
-use Rattle.group_sync.proofs.readiness.ready.Given as goal
+use Rattle.mapping.proofs.ReadyLemmas.{Found}
+use Rattle.mapping.proofs.readiness.ready.Given as goal
 
 -- each member so far has an id, and these are the ids
 abbrev pub invariant-loop-place : goal.invariant-loop-place

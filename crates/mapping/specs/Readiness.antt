@@ -3,8 +3,8 @@ use Rattle.std.specs.Prelude.{◌≡◌, ◌↔◌, ℕ, List, ◌∷◌, ◌++�
 use Rattle.std.specs.List.{AllByRecursion}
 use Rattle.scim_key.specs.declared.records.RecordName.{RecordName}
 use Rattle.source_csv.specs.Records.{user}
-use Rattle.group_sync.specs.Ready.{ready}
-use Rattle.group_sync.specs.declared.ids.Ready.TheVariants.{Ids, Waits}
+use Rattle.mapping.specs.Ready.{ready}
+use Rattle.mapping.specs.declared.ids.Ready.TheVariants.{Ids, Waits}
 
 -- each of these users has an id: this list has them, each at its user's place
 abbrev pub HaveIds : (id_of : RecordName → Option (List ℕ)) → (keys ids : List (List ℕ)) → Type 0

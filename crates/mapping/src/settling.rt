@@ -1,5 +1,5 @@
 //! The order in which records settle.
-ghost use Rattle.group_sync.specs.Settling.{IsSettleOrder};
+ghost use Rattle.mapping.specs.Settling.{IsSettleOrder};
 
 use scim_key::RecordName;
 

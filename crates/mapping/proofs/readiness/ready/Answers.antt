@@ -1,8 +1,8 @@
 use Rattle.std.proofs.Common.{◌≡◌, ◌∙◌, Some, true, rules, sym, ap}
 use Rattle.std.specs.Result.{is_ok}
 use Rattle.source_csv.specs.Records.{user}
-use Rattle.group_sync.proofs.ReadyLemmas.{found_more, found_stop}
-use Rattle.group_sync.proofs.readiness.ready.Goals as goal
+use Rattle.mapping.proofs.ReadyLemmas.{found_more, found_stop}
+use Rattle.mapping.proofs.readiness.ready.Goals as goal
 
 pub returns-in-None : goal.returns-in-None
 returns-in-None g c =

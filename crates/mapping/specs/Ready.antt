@@ -3,8 +3,8 @@ use Rattle.std.specs.Prelude.{ℕ, List, Option, Some, None, is_none}
 use Rattle.std.specs.List.{filter_map, position_from}
 use Rattle.scim_key.specs.declared.records.RecordName.{RecordName}
 use Rattle.source_csv.specs.Records.{user}
-use Rattle.group_sync.specs.declared.ids.Ready.{Ready}
-use Rattle.group_sync.specs.declared.ids.Ready.TheVariants.{Ids, Waits}
+use Rattle.mapping.specs.declared.ids.Ready.{Ready}
+use Rattle.mapping.specs.declared.ids.Ready.TheVariants.{Ids, Waits}
 
 -- by the place of the first member that has no id, if there is one, and by the ids of the members
 abbrev pub unless_missing : Option ℕ → List (List ℕ) → Ready

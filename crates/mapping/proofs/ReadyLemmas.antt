@@ -5,9 +5,9 @@ use Rattle.std.proofs.lemmas.List.Elements.{filter_map-append}
 use Rattle.std.specs.List.{AllByRecursion, filter_map, position_from}
 use Rattle.scim_key.specs.declared.records.RecordName.{RecordName}
 use Rattle.source_csv.specs.Records.{user}
-use Rattle.group_sync.specs.Laws.{GoesOn, HaveIds, ReadyMeans}
-use Rattle.group_sync.specs.Ready.{ready, unless_missing}
-use Rattle.group_sync.specs.declared.ids.Ready.TheVariants.{Ids, Waits}
+use Rattle.mapping.specs.Readiness.{GoesOn, HaveIds, ReadyMeans}
+use Rattle.mapping.specs.Ready.{ready, unless_missing}
+use Rattle.mapping.specs.declared.ids.Ready.TheVariants.{Ids, Waits}
 
 abbrev Key : Type 0
 Key = List ℕ

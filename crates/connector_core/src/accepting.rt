@@ -1,7 +1,7 @@
 //! Accepts a row, by the last accepted row of its record.
 ghost use Rattle.std.specs.Prelude.{◌≡◌};
 ghost use Rattle.std.specs.Option.{option_copied};
-ghost use Rattle.source_book.specs.Accepting.{AcceptsByHistory, HistoriesRise, NewRowsGoOn, accepted, newer};
+ghost use Rattle.connector_core.specs.Accepting.{AcceptsByHistory, HistoriesRise, NewRowsGoOn, accepted, newer};
 
 use source_csv::Row;
 use thiserror::Error;

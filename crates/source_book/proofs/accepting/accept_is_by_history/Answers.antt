@@ -1,5 +1,0 @@
-use Rattle.source_book.proofs.Acceptance.{answer_of, case_of}
-use Rattle.source_book.proofs.accepting.accept_is_by_history.Goals as goal
-
-pub returns : goal.returns
-returns c history row answer = (answer_of history row answer, case_of history row answer)
