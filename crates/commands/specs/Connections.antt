@@ -3,12 +3,12 @@ use Rattle.std.specs.Prelude.{◌≡◌, ◌⊎◌, ℕ, List, [], Result, Err}
 use Rattle.scim_resource.specs.Rows.{StoredRecord}
 use Rattle.provider_core.specs.declared.registry.Registry.{Ghosts}
 use Rattle.provider_store.specs.declared.opening.RegistryOpenFault.{RegistryOpenFault}
-use Rattle.provider_file.specs.Serving.{AnswersFrom}
 use Rattle.http_text.specs.declared.fault.ReadFault.{ReadFault}
 use Rattle.http_text.specs.Counts.{Reading, Writing}
 use Rattle.http_text.specs.Message.{Message}
-use Rattle.scim_server.specs.declared.serving.Served.{Served}
-use Rattle.scim_server.specs.Serving.{HasRead, Serves}
+use Rattle.connection.specs.declared.answering.Served.{Served}
+use Rattle.connection.specs.Serving.{HasRead, Serves}
+use Rattle.provider_file.specs.Serving.{AnswersFrom}
 use Rattle.commands.specs.declared.status.CommandFault.{CommandFault}
 use Rattle.commands.specs.declared.status.Status.{Status}
 use Rattle.commands.specs.Statuses.{served_status, store_fault}

@@ -9,17 +9,9 @@ use Rattle.clap.specs.declared.error.kind.ErrorKind.{ErrorKind}
 use Rattle.clap.specs.declared.error.kind.ErrorKind.TheVariants as kind
 use Rattle.scim_key.specs.declared.names.NameFault.{NameFault}
 use Rattle.scim_key.specs.declared.names.NameFault.TheVariants as name
-use Rattle.scim_server.specs.declared.serving.Served.{Served}
-use Rattle.scim_server.specs.declared.serving.Served.TheVariants.{Answered, NoRequest, Lost}
-use Rattle.connection.specs.declared.serving.ConnectionFault.{ConnectionFault}
+use Rattle.scim_key.specs.Revisions.{same_revision}
 use Rattle.provider_store.specs.declared.opening.RegistryOpenFault.{RegistryOpenFault}
 use Rattle.provider_store.specs.declared.opening.RegistryOpenFault.TheVariants as opening
-use Rattle.journal_store.specs.declared.opening.JournalOpenFault.{JournalOpenFault}
-use Rattle.journal_store.specs.declared.opening.JournalOpenFault.TheVariants as journal
-use Rattle.journal_file.specs.declared.showing.ShowJournalFault.{ShowJournalFault}
-use Rattle.journal_file.specs.declared.showing.ShowJournalFault.TheVariants as show_journal
-use Rattle.provider_file.specs.declared.showing.ShowStoreFault.{ShowStoreFault}
-use Rattle.provider_file.specs.declared.showing.ShowStoreFault.TheVariants as show
 use Rattle.source_csv.specs.declared.faults.RowFault.{RowFault}
 use Rattle.source_csv.specs.declared.faults.SourceFault.{SourceFault}
 use Rattle.source_csv.specs.declared.faults.SourceFault.TheVariants as source
@@ -28,7 +20,10 @@ use Rattle.source_csv.specs.declared.streams.ReadFault.{ReadFault}
 use Rattle.source_csv.specs.declared.streams.ReadFault.TheVariants as read
 use Rattle.mapping.specs.declared.lines.WriteFault.{WriteFault}
 use Rattle.mapping.specs.declared.lines.WriteFault.TheVariants as write
-use Rattle.scim_key.specs.Revisions.{same_revision}
+use Rattle.journal_store.specs.declared.opening.JournalOpenFault.{JournalOpenFault}
+use Rattle.journal_store.specs.declared.opening.JournalOpenFault.TheVariants as journal
+use Rattle.journal_file.specs.declared.showing.ShowJournalFault.{ShowJournalFault}
+use Rattle.journal_file.specs.declared.showing.ShowJournalFault.TheVariants as show_journal
 use Rattle.world_sim.specs.declared.reports.Report.{Report}
 use Rattle.world_sim.specs.declared.reports.Report.TheVariants as report
 use Rattle.world_sim.specs.declared.reports.WorldFault.{WorldFault}
@@ -36,6 +31,11 @@ use Rattle.world_sim.specs.declared.reports.WorldFault.TheVariants as world
 use Rattle.world_sim.specs.declared.schedules.ScheduleFault.{ScheduleFault}
 use Rattle.world_sim.specs.declared.schedules.ScheduleFault.TheVariants as schedule
 use Rattle.world_sim.specs.declared.views.View.{View}
+use Rattle.connection.specs.declared.answering.Served.{Served}
+use Rattle.connection.specs.declared.answering.Served.TheVariants.{Answered, NoRequest, Lost}
+use Rattle.connection.specs.declared.serving.ConnectionFault.{ConnectionFault}
+use Rattle.provider_file.specs.declared.showing.ShowStoreFault.{ShowStoreFault}
+use Rattle.provider_file.specs.declared.showing.ShowStoreFault.TheVariants as show
 use Rattle.provisioning.specs.Carrying.{is_done}
 use Rattle.provisioning.specs.declared.carrying.Outcome.{Outcome}
 use Rattle.provisioning.specs.declared.faults.LoopFault.{LoopFault}

@@ -4,12 +4,11 @@ ghost use Rattle.commands.specs.Connections.{AnswersOne, AnswersStored};
 ghost use Rattle.commands.specs.Statuses.{served_status};
 
 use crate::status::{CommandFault, Status};
-use connection::answered;
+use connection::{Served, answered, serve};
 use http_text::{Input, Output};
 use provider_core::{MemoryRegistry, Provider};
 use provider_file::{RowStorage, serve_one};
 use scim_key::Base;
-use scim_server::{Served, serve};
 use std::alloc::Global;
 use std::io::{Read, Write};
 

@@ -1,3 +1,4 @@
+pub mod ServedLemmas
 mod RequestLemmas
 mod StreamLemmas
 mod TurnLemmas

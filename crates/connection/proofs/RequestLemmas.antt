@@ -9,9 +9,9 @@ use Rattle.http_text.specs.declared.fault.ReadFault.{ReadFault}
 use Rattle.http_text.specs.Counts.{Writing}
 use Rattle.http_text.specs.Message.{Message}
 use Rattle.http_text.specs.Judging.{is_head}
-use Rattle.scim_server.specs.declared.serving.Served.{Served}
 use Rattle.scim_http.specs.Replies.{ReplyRecord}
-use Rattle.scim_server.specs.Serving.{AnswersMeaning, AnswersMessage, GivesUp, Serves}
+use Rattle.connection.specs.declared.answering.Served.{Served}
+use Rattle.connection.specs.Serving.{AnswersMeaning, AnswersMessage, GivesUp, Serves}
 use Rattle.connection.specs.Turns.{Turn, taken, unopened, fresh_writing, IsTurn, AreTurns}
 use Rattle.connection.specs.Requests.{rows_after, FollowRequests}
 

@@ -1,3 +1,6 @@
+pub mod Reactions
+pub mod Serving
+pub mod Known
 pub mod Deadlines
 pub mod Listening
 pub mod Requests

@@ -6,9 +6,9 @@ use Rattle.provider_core.specs.Stores.{IsQuiet}
 use Rattle.http_text.specs.declared.fault.ReadFault.{ReadFault}
 use Rattle.http_text.specs.Counts.{Reading, Writing}
 use Rattle.http_text.specs.Message.{Message}
-use Rattle.scim_server.specs.declared.serving.Served.{Served}
-use Rattle.scim_server.specs.declared.serving.Served.TheVariants.{Answered, NoRequest, Lost}
-use Rattle.scim_server.specs.Serving.{AnswersFaults, HasRead, LeavesRows, Serves}
+use Rattle.connection.specs.declared.answering.Served.{Served}
+use Rattle.connection.specs.declared.answering.Served.TheVariants.{Answered, NoRequest, Lost}
+use Rattle.connection.specs.Serving.{AnswersFaults, HasRead, LeavesRows, Serves}
 use Rattle.connection.specs.declared.serving.ConnectionFault.{ConnectionFault}
 use Rattle.connection.specs.Listening.{Takes}
 

@@ -2,14 +2,17 @@
 #![tactic(auto)]
 
 mod ahead;
+mod answering;
 mod deadline;
 mod ending;
 mod endings;
 mod held;
 mod late;
+mod laws;
 mod listening;
 mod pace;
 mod prompt;
+mod reactions;
 mod readiness;
 mod serving;
 mod shared;
@@ -18,8 +21,10 @@ mod timed;
 mod waiting;
 
 pub use ahead::AheadReader;
+pub use answering::{Served, serve};
 pub use deadline::Deadline;
 pub use late::LateWriter;
+pub use laws::stops_leave_one_request;
 pub use listening::Listen;
 pub use prompt::PromptStream;
 pub use serving::{ConnectionFault, answered, serve_connections, serve_from_memory, serve_next};

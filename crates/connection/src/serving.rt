@@ -4,11 +4,11 @@ ghost use Rattle.provider_core.specs.Memory.{MemoryRecord};
 ghost use Rattle.connection.specs.Requests.{FollowRequests};
 ghost use Rattle.connection.specs.Turns.{IsServed, TakesTurn, ServesTurns, answered};
 
+use crate::answering::{Served, serve};
 use crate::listening::Listen;
 use http_text::{Input, Output};
 use provider_core::{MemoryRegistry, Provider, Registry};
 use scim_key::Base;
-use scim_server::{Served, serve};
 use std::alloc::Global;
 use std::io::{Eprint, Read, Write};
 use thiserror::Error;

@@ -5,8 +5,8 @@ use Rattle.provider_core.specs.declared.registry.Registry.{Ghosts}
 use Rattle.http_text.specs.declared.fault.ReadFault.{ReadFault}
 use Rattle.http_text.specs.Counts.{Reading, Writing}
 use Rattle.http_text.specs.Message.{Message}
-use Rattle.scim_server.specs.declared.serving.Served.{Served}
-use Rattle.scim_server.specs.Serving.{HasRead, LeavesRows, Serves}
+use Rattle.connection.specs.declared.answering.Served.{Served}
+use Rattle.connection.specs.Serving.{HasRead, LeavesRows, Serves}
 use Rattle.connection.specs.declared.serving.ConnectionFault.{ConnectionFault}
 use Rattle.connection.specs.Requests.{FollowRequests}
 use Rattle.connection.specs.Turns.{ServesTurns}

@@ -4,12 +4,11 @@ ghost use Rattle.provider_file.specs.Opened.{IsMended};
 ghost use Rattle.provider_file.specs.Serving.{AnswersFrom, IsRefused, ServesEach, ServesFrom, ServesNext};
 
 use crate::storage::{RowStorage, StoredRows};
-use connection::{ConnectionFault, Listen, serve_connections};
+use connection::{ConnectionFault, Listen, Served, serve, serve_connections};
 use http_text::{Input, Output};
 use provider_core::Provider;
 use provider_store::RegistryOpenFault;
 use scim_key::Base;
-use scim_server::{Served, serve};
 use std::alloc::Global;
 use std::io::{Eprint, Read, Write};
 

@@ -1,10 +1,10 @@
 //! An answer and a request that can't be flushed. No stream of the program fails so.
 use crate::client::{bob, service};
 use crate::support::{BOB_CREATED, CREATE_BOB, assert_same, assert_that, base, empty};
+use connection::{Served, serve};
 use http_text::{Input, Output, SendFault};
 use scim_client::ExchangeFault;
 use scim_message::Request;
-use scim_server::{Served, serve};
 use std::alloc::Global;
 use std::io;
 use std::io::{ErrorKind, Write};

@@ -1,8 +1,8 @@
 //! Whole exchanges, and their answers.
+use connection::{Served, serve};
 use http_text::{Input, Output};
 use provider_core::{MemoryRegistry, Provider, Registry};
 use scim_key::Base;
-use scim_server::{Served, serve};
 use std::alloc::Global;
 use std::fmt::{Debug, Display};
 use std::process::Abort;

@@ -1,5 +1,5 @@
 use Rattle.std.proofs.Common.{inl, inr}
-use Rattle.scim_server.proofs.laws.stops_leave_one_request.Goals as goal
+use Rattle.connection.proofs.laws.stops_leave_one_request.Goals as goal
 
 pub returns : goal.returns
 returns g c old new read faithful honest leaves found may = elim (leaves.stop honest found may) [

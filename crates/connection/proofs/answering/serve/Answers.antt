@@ -1,6 +1,6 @@
 use Rattle.std.proofs.Common.{Ok, Err, refl, inl}
-use Rattle.scim_server.proofs.ServedLemmas.{leaves_all, serves_known}
-use Rattle.scim_server.proofs.serving.serve.Goals as goal
+use Rattle.connection.proofs.ServedLemmas.{leaves_all, serves_known}
+use Rattle.connection.proofs.answering.serve.Goals as goal
 
 pub returns-in-Ok-clause-known : goal.returns-in-Ok-clause-known
 returns-in-Ok-clause-known g c =

@@ -1,9 +1,9 @@
 //! A law of what a connection leaves of a store.
 ghost use Rattle.std.specs.Prelude.{◌≡◌, ◌⊎◌, List, Result};
+ghost use Rattle.scim_resource.specs.Rows.{StoredRecord};
 ghost use Rattle.http_text.specs.Message.{Message};
 ghost use Rattle.http_text.specs.declared.fault.ReadFault.{ReadFault};
-ghost use Rattle.scim_resource.specs.Rows.{StoredRecord};
-ghost use Rattle.scim_server.specs.Serving.{IsAfter, LeavesRows};
+ghost use Rattle.connection.specs.Serving.{IsAfter, LeavesRows};
 
 use provider_core::Registry;
 

@@ -1,10 +1,10 @@
 -- What a connection does after a fault of reading.
 use Rattle.std.specs.Prelude.{false}
+use Rattle.scim_message.specs.declared.refusals.Refusal.TheVariants as refusals
 use Rattle.http_text.specs.declared.fault.ReadFault.{ReadFault}
 use Rattle.http_text.specs.declared.fault.ReadFault.TheVariants as faults
-use Rattle.scim_message.specs.declared.refusals.Refusal.TheVariants as refusals
-use Rattle.scim_server.specs.declared.reactions.Reaction.{Reaction}
-use Rattle.scim_server.specs.declared.reactions.Reaction.TheVariants.{Refuse, GiveUp, StaySilent}
+use Rattle.connection.specs.declared.reactions.Reaction.{Reaction}
+use Rattle.connection.specs.declared.reactions.Reaction.TheVariants.{Refuse, GiveUp, StaySilent}
 
 -- a refusal, without a body for HEAD; the fixed text; or nothing
 abbrev pub reaction_to : ReadFault → Reaction

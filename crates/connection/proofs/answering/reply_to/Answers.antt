@@ -2,10 +2,10 @@ use Rattle.std.proofs.Common.{◌≡◌, Ok, Err, refl, subst, inl, inr, rules}
 use Rattle.std.specs.Prelude.{IfOk}
 use Rattle.scim_http.specs.declared.requests.MeaningFault.TheVariants.{Refused}
 use Rattle.scim_http.specs.Meaning.{Asks, TellsOf}
-use Rattle.scim_server.specs.Serving.{AnswersRequest}
 use Rattle.scim_http.proofs.SearchLemmas.{if_ok}
-use Rattle.scim_server.proofs.ServedLemmas.{leaves_all}
-use Rattle.scim_server.proofs.serving.reply_to.Goals as goal
+use Rattle.connection.specs.Serving.{AnswersRequest}
+use Rattle.connection.proofs.ServedLemmas.{leaves_all}
+use Rattle.connection.proofs.answering.reply_to.Goals as goal
 
 pub returns-in-Ok-clause-reply : goal.returns-in-Ok-clause-reply
 returns-in-Ok-clause-reply g c =

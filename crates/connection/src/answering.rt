@@ -1,16 +1,16 @@
 //! One connection.
 ghost use Rattle.std.specs.Prelude.{◌≡◌, ◌≤◌, ◌+◌, Result, IfOk, OnErr, OnOk};
-ghost use Rattle.scim_server.specs.Reactions.{reaction_to};
+ghost use Rattle.provider_core.specs.Stores.{IsQuiet, CountsFaults, CountsProviderFault};
+ghost use Rattle.provider_core.specs.Outcomes.{outcome, changed_rows};
+ghost use Rattle.provider_core.specs.Calls.{Writes};
 ghost use Rattle.http_text.specs.Counts.{CountsTurns};
 ghost use Rattle.http_text.specs.Judging as judging;
 ghost use Rattle.http_text.specs.Message.{Message};
 ghost use Rattle.http_text.specs.declared.fault.ReadFault.{ReadFault};
-ghost use Rattle.provider_core.specs.Stores.{IsQuiet, CountsFaults, CountsProviderFault};
-ghost use Rattle.provider_core.specs.Outcomes.{outcome, changed_rows};
-ghost use Rattle.provider_core.specs.Calls.{Writes};
 ghost use Rattle.scim_http.specs.Replies.{fixed_reply};
-ghost use Rattle.scim_server.specs.Serving as spec;
-ghost use Rattle.scim_server.specs.Known.{ServesKnown};
+ghost use Rattle.connection.specs.Reactions.{reaction_to};
+ghost use Rattle.connection.specs.Serving as spec;
+ghost use Rattle.connection.specs.Known.{ServesKnown};
 
 use crate::reactions::{Reaction, reaction_to};
 use http_text::{Incoming, Input, Output, ReadFault, read_request, send};

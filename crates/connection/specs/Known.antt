@@ -12,10 +12,10 @@ use Rattle.http_text.specs.Message.{Head, Message, head_limit, field_limit}
 use Rattle.http_text.specs.Forms.{IsRequestHead, IsRequestMessage, IsAccepted}
 use Rattle.http_text.specs.Judging.{judge_head, is_head}
 use Rattle.http_text.specs.Requests.{IsPartOfHead, IsPartOfBody, IsLongPart, HasLongSection}
-use Rattle.scim_server.specs.declared.serving.Served.{Served}
 use Rattle.scim_http.specs.Meaning.{Asks}
-use Rattle.scim_server.specs.Reactions.{reaction_to}
-use Rattle.scim_server.specs.Serving.{AnswersMeaning, GivesUp, Sends, IsSilent, Reacts}
+use Rattle.connection.specs.declared.answering.Served.{Served}
+use Rattle.connection.specs.Reactions.{reaction_to}
+use Rattle.connection.specs.Serving.{AnswersMeaning, GivesUp, Sends, IsSilent, Reacts}
 
 -- the reader failed, or gave no whole request within its turns
 abbrev pub IsReaderFault : ReadFault → Type 0

@@ -1,6 +1,6 @@
 //! What a connection does after a fault of reading.
 ghost use Rattle.std.specs.Prelude.{◌≡◌};
-ghost use Rattle.scim_server.specs.Reactions as spec;
+ghost use Rattle.connection.specs.Reactions as spec;
 
 use http_text::ReadFault;
 use scim_message::Refusal;

@@ -18,13 +18,13 @@ use Rattle.http_text.specs.Judging.{is_head}
 use Rattle.http_text.specs.Heads.{EndsReading}
 use Rattle.http_text.specs.Requests.{TakesMessage, TakesRefused, FindsMessage, FindsRefusedHead, FindsEnd, FindsLong, FindsMalformed}
 use Rattle.http_text.specs.Sending.{IsLost, EndsSending}
-use Rattle.scim_server.specs.declared.serving.Served.{Served}
-use Rattle.scim_server.specs.declared.serving.Served.TheVariants.{Answered, NoRequest, Lost}
-use Rattle.scim_server.specs.declared.reactions.Reaction.{Reaction}
-use Rattle.scim_server.specs.declared.reactions.Reaction.TheVariants.{Refuse, GiveUp, StaySilent}
 use Rattle.scim_http.specs.Meaning.{Asks}
-use Rattle.scim_server.specs.Reactions.{reaction_to}
 use Rattle.scim_http.specs.Replies.{ReplyRecord, reply_of, fixed_reply}
+use Rattle.connection.specs.declared.answering.Served.{Served}
+use Rattle.connection.specs.declared.answering.Served.TheVariants.{Answered, NoRequest, Lost}
+use Rattle.connection.specs.declared.reactions.Reaction.{Reaction}
+use Rattle.connection.specs.declared.reactions.Reaction.TheVariants.{Refuse, GiveUp, StaySilent}
+use Rattle.connection.specs.Reactions.{reaction_to}
 
 -- the model's answer to a request, and its change of the rows, while the store is faithful
 pub record AnswersRequest (faithful : Type 0) (base : List ℕ) (old new : List StoredRecord) (leaves_body_out : Bool) (request : Request) (reply : ReplyRecord) : Type 0 where

@@ -5,6 +5,7 @@ use Rattle.httparse.specs.Spans.{RequestExceeds}
 use Rattle.scim_resource.specs.Rows.{StoredRecord}
 use Rattle.scim_message.specs.declared.messages.Request.{Request}
 use Rattle.scim_message.specs.declared.refusals.Refusal.{Refusal}
+use Rattle.provider_core.specs.declared.registry.Registry.{Ghosts}
 use Rattle.http_text.specs.declared.fault.ReadFault.{ReadFault}
 use Rattle.http_text.specs.declared.fault.ReadFault.TheVariants.{Malformed, HostMissingOrRepeated, LengthMissing, BodyTooLong, HeadTooLong, TransferCoding, Expectation, EndedEarly, ReadFailed, OutOfMemory, TurnsExhausted}
 use Rattle.http_text.specs.Counts.{Reading, Writing}
@@ -13,13 +14,12 @@ use Rattle.http_text.specs.Forms.{IsRequestMessage, IsAccepted}
 use Rattle.http_text.specs.Heads.{IsStreamFault, Answers}
 use Rattle.http_text.specs.Judging.{is_head}
 use Rattle.http_text.specs.Requests.{FindsMessage, AnswersMalformed}
-use Rattle.scim_server.specs.declared.serving.Served.{Served}
 use Rattle.scim_http.specs.Meaning.{Asks}
 use Rattle.scim_http.proofs.MeaningLaws.{one_meaning}
 use Rattle.scim_http.specs.Replies.{ReplyRecord}
-use Rattle.provider_core.specs.declared.registry.Registry.{Ghosts}
-use Rattle.scim_server.specs.Serving.{AnswersMeaning, AnswersMessage, GivesUp, LeavesRows, Sends, IsSent, Serves, HasRead}
-use Rattle.scim_server.specs.Known.{IsHindered, MeetsFault, ServesKnown}
+use Rattle.connection.specs.declared.answering.Served.{Served}
+use Rattle.connection.specs.Serving.{AnswersMeaning, AnswersMessage, GivesUp, LeavesRows, Sends, IsSent, Serves, HasRead}
+use Rattle.connection.specs.Known.{IsHindered, MeetsFault, ServesKnown}
 
 module _ (faithful : Type 0) (base : List ℕ) (old new : List StoredRecord) (before after : Writing) (served : Served) where
   hindered : (fault : ReadFault) → IsStreamFault fault → Serves faithful base old new before after (Err fault) served
