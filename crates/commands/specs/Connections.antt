@@ -8,7 +8,7 @@ use Rattle.http_text.specs.Counts.{Reading, Writing}
 use Rattle.http_text.specs.Message.{Message}
 use Rattle.connection.specs.declared.answering.Served.{Served}
 use Rattle.connection.specs.Serving.{HasRead, Serves}
-use Rattle.provider_file.specs.Serving.{AnswersFrom}
+use Rattle.storage.specs.Serving.{AnswersFrom}
 use Rattle.commands.specs.declared.status.CommandFault.{CommandFault}
 use Rattle.commands.specs.declared.status.Status.{Status}
 use Rattle.commands.specs.Statuses.{served_status, store_fault}

@@ -22,8 +22,6 @@ use Rattle.mapping.specs.declared.lines.WriteFault.{WriteFault}
 use Rattle.mapping.specs.declared.lines.WriteFault.TheVariants as write
 use Rattle.journal_store.specs.declared.opening.JournalOpenFault.{JournalOpenFault}
 use Rattle.journal_store.specs.declared.opening.JournalOpenFault.TheVariants as journal
-use Rattle.journal_file.specs.declared.showing.ShowJournalFault.{ShowJournalFault}
-use Rattle.journal_file.specs.declared.showing.ShowJournalFault.TheVariants as show_journal
 use Rattle.world_sim.specs.declared.reports.Report.{Report}
 use Rattle.world_sim.specs.declared.reports.Report.TheVariants as report
 use Rattle.world_sim.specs.declared.reports.WorldFault.{WorldFault}
@@ -34,8 +32,10 @@ use Rattle.world_sim.specs.declared.views.View.{View}
 use Rattle.connection.specs.declared.answering.Served.{Served}
 use Rattle.connection.specs.declared.answering.Served.TheVariants.{Answered, NoRequest, Lost}
 use Rattle.connection.specs.declared.serving.ConnectionFault.{ConnectionFault}
-use Rattle.provider_file.specs.declared.showing.ShowStoreFault.{ShowStoreFault}
-use Rattle.provider_file.specs.declared.showing.ShowStoreFault.TheVariants as show
+use Rattle.storage.specs.declared.journal_showing.ShowJournalFault.{ShowJournalFault}
+use Rattle.storage.specs.declared.journal_showing.ShowJournalFault.TheVariants as show_journal
+use Rattle.storage.specs.declared.store_showing.ShowStoreFault.{ShowStoreFault}
+use Rattle.storage.specs.declared.store_showing.ShowStoreFault.TheVariants as show
 use Rattle.provisioning.specs.Carrying.{is_done}
 use Rattle.provisioning.specs.declared.carrying.Outcome.{Outcome}
 use Rattle.provisioning.specs.declared.faults.LoopFault.{LoopFault}

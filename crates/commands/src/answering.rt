@@ -7,10 +7,10 @@ use crate::status::{CommandFault, Status};
 use connection::{Served, answered, serve};
 use http_text::{Input, Output};
 use provider_core::{MemoryRegistry, Provider};
-use provider_file::{RowStorage, serve_one};
 use scim_key::Base;
 use std::alloc::Global;
 use std::io::{Read, Write};
+use storage::{RowStorage, serve_one};
 
 /// Opens the rows, then reads one request and answers it.
 pub fn answer_stored<K: RowStorage, I: Read, O: Write>(

@@ -9,7 +9,6 @@ use crate::simulating::EventsFault;
 use crate::words::MOST_REQUESTS;
 use connection::ConnectionFault;
 use mapping::WriteFault;
-use provider_file::ShowStoreFault;
 use provider_store::RegistryOpenFault;
 use provisioning::{LoopFault, RunFault, UnreadFile};
 use scim_key::Kind;
@@ -18,6 +17,7 @@ use std::alloc::{AllocError, AllocFailed};
 use std::io;
 use std::io::ErrorKind;
 use std::rt::Runtime;
+use storage::{DatabaseReason, ShowJournalFault, ShowStoreFault};
 use thiserror::Error;
 use world_sim::{ScheduleFault, WorldFault};
 
@@ -334,13 +334,13 @@ impl From<journal_store::JournalOpenFault> for CommandFault {
     }
 }
 
-impl From<journal_file::ShowJournalFault> for CommandFault {
+impl From<ShowJournalFault> for CommandFault {
     ghost from_gives = { λ show fault. fault ≡ show_journal_fault show };
 
-    fn from(fault: journal_file::ShowJournalFault) -> CommandFault {
+    fn from(fault: ShowJournalFault) -> CommandFault {
         match fault {
-            journal_file::ShowJournalFault::Journal(fault) => CommandFault::from(fault),
-            journal_file::ShowJournalFault::Output => CommandFault::File,
+            ShowJournalFault::Journal(fault) => CommandFault::from(fault),
+            ShowJournalFault::Output => CommandFault::File,
         }
     }
 }
@@ -383,7 +383,7 @@ pub enum Reason {
     #[error("{0}")]
     System(io::Error),
     #[error("{0}")]
-    Database(database_file::DatabaseReason),
+    Database(DatabaseReason),
 }
 
 /// What a run used when a fault ended it, by its name in the arguments, and why it failed.

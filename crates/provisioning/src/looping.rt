@@ -13,13 +13,13 @@ use connection::{Listen, Sockets, TimedHandle};
 use connector_core::Connector;
 use journal_core::Journal;
 use provider_core::Provider;
-use provider_file::StoredRows;
 use scim_client::ScimService;
 use std::alloc::Global;
 use std::cell::RefCell;
 use std::io::{Read, Write};
 use std::net::{Net, OpenListener, TcpListener};
 use std::time::{Clock, Duration};
+use storage::StoredRows;
 use world_sim::Count;
 
 /// Where the provider of `run_loop` listens: at a free port that only this machine reaches.

@@ -3,7 +3,6 @@ use crate::dialing::Dial;
 use crate::sockets::Remote;
 use connection::{Listen, TimedHandle, serve_next};
 use provider_core::Provider;
-use provider_file::StoredRows;
 use scim_key::Base;
 use std::alloc::Global;
 use std::cell::RefCell;
@@ -11,6 +10,7 @@ use std::io;
 use std::io::{ErrorKind, Read};
 use std::net::Net;
 use std::time::Clock;
+use storage::StoredRows;
 
 /// A provider, and the connections to it.
 #[derive(Drop)]

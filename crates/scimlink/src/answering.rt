@@ -3,9 +3,9 @@ use clap::ArgMatches;
 use commands::words::base;
 use commands::{CommandFault, Status, answer_one, answer_stored};
 use http_text::{Input, Output};
-use provider_file::RowStorage;
 use std::io;
 use std::rt::Runtime;
+use storage::RowStorage;
 
 /// Answers one request from standard input, over the rows of a file, or over an empty provider in memory.
 pub fn answer<R: Runtime + AllocGlobal, K: RowStorage>(

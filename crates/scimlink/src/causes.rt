@@ -2,10 +2,9 @@
 use clap::ArgMatches;
 use commands::words::{address, file, groups, journal as journal_in, to, users};
 use commands::{Cause, CommandFault, Part, Reason, Status, told};
-use journal_file::EntryStorage;
-use provider_file::RowStorage;
 use provisioning::OWN_ADDRESS;
 use std::rt::Runtime;
+use storage::{EntryStorage, RowStorage};
 
 /// Reports a fault on standard error, with the part that failed and why, if a part did. Returns the exit status.
 pub fn report<R: Runtime + AllocGlobal, K: RowStorage, J: EntryStorage>(

@@ -6,12 +6,11 @@ use clap::ArgMatches;
 use commands::{CommandFault, Status, run_status};
 use connector_core::Connector;
 use journal_core::{Journal, MemoryJournal};
-use journal_file::{EntryStorage, StoredEntries};
 use provider_core::Provider;
-use provider_file::{InMemory, RowStorage, StoredRows};
 use provisioning::{RunFault, run_loop};
 use std::net::Net;
 use std::rt::Runtime;
+use storage::{EntryStorage, InMemory, RowStorage, StoredEntries, StoredRows};
 
 /// Carries the records of files from a journal to a store, each in a file or in memory.
 pub fn run<R: Runtime + Net + AllocGlobal, K: RowStorage, J: EntryStorage>(

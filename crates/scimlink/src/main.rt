@@ -20,13 +20,11 @@ use causes::report;
 use clap::ArgMatches;
 use commands::words::{journal, store};
 use commands::{CommandFault, Status, told};
-use database_file::DatabaseFile;
-use journal_file::{EntryStorage, JournalFile};
 use options::{events_help, program};
-use provider_file::{RowStorage, StoreFile};
 use std::net::Net;
 use std::process::ExitCode;
 use std::rt::{HostRuntime, Runtime};
+use storage::{DatabaseFile, EntryStorage, JournalFile, RowStorage, StoreFile};
 
 fn main(rt: HostRuntime) -> ExitCode {
     ExitCode::from(run(&rt).code())

@@ -6,10 +6,10 @@ use commands::words::to;
 use commands::{CommandFault, Status, carried_status};
 use connector_core::Connector;
 use journal_core::Journal;
-use journal_file::{EntryStorage, StoredEntries};
 use provisioning::{RunFault, Sources};
 use std::net::Net;
 use std::rt::Runtime;
+use storage::{EntryStorage, StoredEntries};
 
 /// Opens the journal, carries the records of files to the provider at an address, and closes the journal. What
 /// was confirmed stays in the journal, however the run ends.

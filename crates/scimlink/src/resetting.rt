@@ -1,9 +1,9 @@
 //! `reset`: has a journal forget what the provider has shown.
 use crate::output::standard_output;
 use commands::{CommandFault, Part, Status, unread_fault};
-use journal_file::{EntryStorage, reset_entries};
 use std::fs;
 use std::rt::Runtime;
+use storage::{EntryStorage, reset_entries};
 
 /// Forgets the confirmed revision and the id of each record of a journal, and prints how many records this
 /// changed. If there is no such file, it makes none.

@@ -3,13 +3,13 @@ use clap::ArgMatches;
 use commands::words::{address, base, requests};
 use commands::{CommandFault, Status, listen_fault, outcome_status};
 use connection::{Sockets, serve_from_memory};
-use provider_file::{RowStorage, StoredRows, serve_stored};
 use provisioning::CONNECTION_SECONDS;
 use scim_key::Base;
 use std::io;
 use std::net::{Net, OpenListener, SocketAddr, TcpListener};
 use std::rt::Runtime;
 use std::time::Duration;
+use storage::{RowStorage, StoredRows, serve_stored};
 
 /// Serves some connections to an address from the rows of a file, which it opens first, or from a provider in
 /// memory that starts empty.

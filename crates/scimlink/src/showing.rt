@@ -1,9 +1,8 @@
 //! `show`: prints what a file keeps, one line each.
 use crate::output::standard_output;
 use commands::{CommandFault, Status};
-use journal_file::{EntryStorage, show_entries};
-use provider_file::{RowStorage, show_rows};
 use std::rt::Runtime;
+use storage::{EntryStorage, RowStorage, show_entries, show_rows};
 
 /// Prints what one of the files keeps: the rows of a provider, in order of creation, or the entries of a
 /// connector, users by key, then groups by key.

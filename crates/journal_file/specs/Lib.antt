@@ -1,4 +1,0 @@
-pub mod Opened
-pub mod Lines
-pub mod Showing
-pub mod Resetting

@@ -1,2 +1,0 @@
-mod ServingLemmas
-mod ShowingLemmas

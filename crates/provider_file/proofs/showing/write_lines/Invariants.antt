@@ -1,8 +1,0 @@
-use Rattle.std.proofs.Common.{take}
-use Rattle.std.specs.Io.KnownBytes.{Appends}
-use Rattle.provider_file.specs.Lines.{lines_of}
-use Rattle.provider_file.proofs.showing.write_lines.Given as goal
-
--- the lines of the rows so far are written
-abbrev pub invariant-loop-row : goal.invariant-loop-row
-invariant-loop-row g l = Appends (g.W.Write.contents l.initial.out) (g.W.Write.contents l.out) (lines_of (take l.row-index l.rows))

@@ -1,4 +1,0 @@
-pub mod Opened
-pub mod Serving
-pub mod Lines
-pub mod Showing

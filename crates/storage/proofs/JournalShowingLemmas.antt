@@ -1,0 +1,22 @@
+-- One entry more is shown.
+use Rattle.std.proofs.Common.{◌≡◌, ℕ, ◌+◌, ◌<◌, List, [], ◌∷◌, ◌++◌, Option, Some, None, length, take, get_or, sym, ap, subst, ◌∙◌, append_assoc, append-nil}
+use Rattle.std.proofs.lemmas.Grind.{flat_map-append}
+use Rattle.std.proofs.lemmas.List.{take_more}
+use Rattle.std.specs.Io.KnownBytes.{Appends}
+use Rattle.journal_core.specs.declared.entries.Entry.{Entry}
+use Rattle.storage.specs.JournalLines.{entry_line, lines_of}
+
+appends_more : (old between new : Option (List ℕ)) (xs ys : List ℕ) → Appends old between xs → Appends between new ys → Appends old new (xs ++ ys)
+appends_more None between new xs ys a b = tt
+appends_more (Some o) None new xs ys a b = absurd a
+appends_more (Some o) (Some m) None xs ys a b = absurd b
+appends_more (Some o) (Some m) (Some n) xs ys a b = b ∙ ap (λ t. t ++ ys) a ∙ append_assoc o xs ys
+
+pub one_more : (before middle now : Option (List ℕ)) (list : List Entry) (n : ℕ) (entry : Entry) (line : List ℕ)
+    → n < length list → entry ≡ get_or list n entry → line ≡ entry_line entry
+    → Appends before middle (lines_of (take n list)) → Appends middle now line → Appends before now (lines_of (take (n + 1) list))
+one_more before middle now list n entry line within is said so_far written =
+    let more : take (n + 1) list ≡ take n list ++ entry ∷ [] = take_more list n entry within ∙ ap (λ e. take n list ++ e ∷ []) (sym is) in
+    let lines : lines_of (take (n + 1) list) ≡ lines_of (take n list) ++ line =
+    ap lines_of more ∙ flat_map-append entry_line (take n list) (entry ∷ []) ∙ ap (λ l. lines_of (take n list) ++ l) (append-nil (entry_line entry) ∙ sym said) in
+    subst (Appends before now) (sym lines) (appends_more before middle now (lines_of (take n list)) line so_far written)

@@ -1,0 +1,3 @@
+mod JournalShowingLemmas
+mod ServingLemmas
+mod StoreShowingLemmas

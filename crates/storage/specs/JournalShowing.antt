@@ -1,0 +1,30 @@
+-- What is shown of a journal.
+use Rattle.std.specs.Prelude.{ℕ, List, Option}
+use Rattle.std.specs.Io.KnownBytes.{Appends}
+use Rattle.journal_core.specs.Entries.{EntryMap, IsListOf}
+use Rattle.journal_core.specs.declared.entries.Entry.{Entry}
+use Rattle.journal_core.specs.declared.journals.Journal.{Ghosts}
+use Rattle.journal_core.specs.declared.journals.JournalFault.{JournalFault}
+use Rattle.journal_core.specs.declared.journals.JournalFault.TheVariants as journal
+use Rattle.journal_store.specs.declared.opening.JournalOpenFault.TheVariants as opening
+use Rattle.storage.specs.declared.journal_showing.ShowJournalFault.{ShowJournalFault}
+use Rattle.storage.specs.declared.journal_showing.ShowJournalFault.TheVariants.{Journal}
+use Rattle.storage.specs.JournalOpened.{IsOpened}
+use Rattle.storage.specs.JournalLines.{lines_of}
+
+abbrev pub journal_fault : JournalFault → ShowJournalFault
+journal_fault journal.Store = Journal opening.Store
+journal_fault journal.Memory = Journal opening.Memory
+
+-- a line for each entry is written, in order of the names
+pub record WritesEntries (map_ : EntryMap) (before after : Option (List ℕ)) : Type 0 where
+  pub list : List Entry
+  pub whole : IsListOf map_ list
+  pub lines : Appends before after (lines_of list)
+
+-- this holds for the journal that was opened
+pub record ShowsFrom {J : Type 0} (g : Ghosts J) (before after : Option (List ℕ)) : Type 0 where
+  pub first : J
+  pub last : J
+  pub opened : IsOpened g first
+  pub lines : g.is_faithful last → WritesEntries (g.entries first) before after

@@ -1,0 +1,27 @@
+-- What is shown of a store.
+use Rattle.std.specs.Prelude.{◌≡◌, ℕ, List, Option}
+use Rattle.std.specs.Io.KnownBytes.{Appends}
+use Rattle.provider_core.specs.declared.registry.Registry.{Ghosts}
+use Rattle.provider_core.specs.declared.registry.RegistryFault.{RegistryFault}
+use Rattle.provider_core.specs.declared.registry.RegistryFault.TheVariants as registry
+use Rattle.provider_store.specs.declared.opening.RegistryOpenFault.TheVariants as opening
+use Rattle.storage.specs.declared.store_showing.ShowStoreFault.{ShowStoreFault}
+use Rattle.storage.specs.declared.store_showing.ShowStoreFault.TheVariants.{Store}
+use Rattle.storage.specs.StoreOpened.{IsOpened}
+use Rattle.storage.specs.StoreLines.{lines_of}
+
+abbrev pub registry_fault : RegistryFault → ShowStoreFault
+registry_fault registry.Store = Store opening.Store
+registry_fault registry.Memory = Store opening.Memory
+
+-- a call that only reads: if the store is faithful after it, it was faithful before, and the rows are the same
+pub record ReadsOn {R : Type 0} (g : Ghosts R) (old new : R) : Type 0 where
+  pub was : g.is_faithful new → g.is_faithful old
+  pub same : g.is_faithful new → g.rows new ≡ g.rows old
+
+-- a line for each row that was opened is written, in order
+pub record ShowsFrom {R : Type 0} (g : Ghosts R) (before after : Option (List ℕ)) : Type 0 where
+  pub first : R
+  pub last : R
+  pub opened : IsOpened g first
+  pub lines : g.is_faithful last → Appends before after (lines_of (g.rows first))

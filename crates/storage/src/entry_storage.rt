@@ -1,0 +1,46 @@
+//! Where the entries of a connector are kept.
+ghost use Rattle.std.specs.Prelude.{◌≡◌, IfOk, OnOk};
+ghost use Rattle.journal_core.specs.Calls.{Writes};
+ghost use Rattle.journal_core.specs.Forgetting.{forgotten, learnt_count};
+ghost use Rattle.journal_core.specs.Stores.{CountsFault};
+ghost use Rattle.storage.specs.JournalOpened.{IsOpened};
+
+use crate::reason::DatabaseReason;
+use journal_core::{Journal, JournalFault};
+use journal_store::JournalOpenFault;
+
+/// The entries of a connector, opened where they are kept.
+pub trait StoredEntries: Journal {
+    /// What remains after the entries are closed.
+    type Left: Drop;
+
+    ghost is_closed: { Self → Self.Left → Type 0 };
+
+    /// Forgets the confirmed revision and the id of each record, by one write: of all records or of none.
+    /// The rows stay. Returns how many entries that changes.
+    fn reset(&mut self) -> Result<usize, JournalFault>
+        ensures puts { Writes Self.Journal CountsFault self.old self.new
+            (forgotten (Self.entries self.old)) result }
+        ensures count { Self.is_faithful self.new
+            → IfOk result (λ count. count ≡ learnt_count (Self.entries self.old)) }
+        ensures open { Self.is_honest self.new → OnOk result (Self.is_faithful self.new) };
+
+    /// Closes the entries. What was committed stays, even if closing fails.
+    fn close(self) -> Self::Left
+        ensures { is_closed self result };
+}
+
+/// Where the entries of a connector are kept, open or not.
+pub trait EntryStorage {
+    type Entries: StoredEntries;
+
+    /// Opens the entries.
+    fn open(&self) -> Result<Self::Entries, JournalOpenFault>
+        ensures { IfOk result (IsOpened Self.Entries.Journal) };
+
+    /// Why they can't be opened now, if the system or the database says it. They must be closed.
+    fn reason(&self) -> Option<DatabaseReason>;
+
+    /// The name of the place in the arguments.
+    fn name(&self) -> &str;
+}

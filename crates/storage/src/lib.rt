@@ -1,0 +1,31 @@
+//! Where the rows of a provider and the journal of a connector are kept: in database files, which are opened, closed
+//! and shown, or in memory.
+#![tactic(auto)]
+
+mod database;
+mod entry_storage;
+mod journal_file;
+mod journal_lines;
+mod journal_showing;
+mod memory;
+mod reason;
+mod resetting;
+mod row_storage;
+mod serving;
+mod store_file;
+mod store_lines;
+mod store_showing;
+
+pub use database::DatabaseFile;
+pub use entry_storage::{EntryStorage, StoredEntries};
+pub use journal_file::JournalFile;
+pub use journal_lines::{entry_line, reset_line};
+pub use journal_showing::{ShowJournalFault, show_entries, write_entries};
+pub use memory::InMemory;
+pub use reason::DatabaseReason;
+pub use resetting::reset_entries;
+pub use row_storage::{RowStorage, StoredRows};
+pub use serving::{serve_one, serve_stored};
+pub use store_file::StoreFile;
+pub use store_lines::row_line;
+pub use store_showing::{ShowStoreFault, show_rows, write_rows};

@@ -1,0 +1,43 @@
+//! Where the rows of a provider are kept.
+ghost use Rattle.std.specs.Prelude.{◌<◌, ◌↔◌, IfErr, IfOk, IsTrue};
+ghost use Rattle.provider_store.specs.declared.opening.RegistryOpenFault.{RegistryOpenFault as Refusal};
+ghost use Rattle.storage.specs.StoreOpened.{IsOpened};
+
+use crate::reason::DatabaseReason;
+use provider_core::Registry;
+use provider_store::RegistryOpenFault;
+
+/// The rows of a provider, opened where they are kept.
+pub trait StoredRows: Registry {
+    /// Whether a fault of the store was counted since the rows were opened.
+    fn has_failed(&self) -> bool
+        ensures { IsTrue result ↔ (0 < Self.faults self.now) };
+
+    /// What remains after the rows are closed.
+    type Left: Drop;
+
+    ghost is_closed: { Self → Self.Left → Type 0 };
+
+    /// Closes the rows. What was committed stays, even if closing fails.
+    fn close(self) -> Self::Left
+        ensures { is_closed self result };
+}
+
+/// Where the rows of a provider are kept, open or not.
+pub trait RowStorage {
+    type Rows: StoredRows;
+
+    /// The refusals with which opening may fail.
+    ghost refuses: { Self → Refusal → Type 0 };
+
+    /// Opens the rows.
+    fn open(&self) -> Result<Self::Rows, RegistryOpenFault>
+        ensures opened { IfOk result (IsOpened Self.Rows.Registry) }
+        ensures refused { IfErr result (refuses self.now) };
+
+    /// Why they can't be opened now, if the system or the database says it. They must be closed.
+    fn reason(&self) -> Option<DatabaseReason>;
+
+    /// The name of the place in the arguments.
+    fn name(&self) -> &str;
+}
