@@ -10,6 +10,7 @@ use Rattle.commands.specs.declared.status.CommandFault.{CommandFault}
 use Rattle.commands.specs.declared.status.CommandFault.TheVariants as fault
 use Rattle.commands.specs.declared.status.Part.{Part}
 use Rattle.commands.specs.declared.status.Part.TheVariants as part
+use Rattle.commands.specs.declared.status.Status.{Status}
 
 -- ---- a writer
 
@@ -23,6 +24,11 @@ abbrev pub explained : (last : Option Error) → CommandFault → CommandFault
 explained (Some error) fault.File = fault.Output error
 explained (Some error) (fault.Run run.Untold) = fault.Output error
 explained _ why = why
+
+-- how a run ended, its fault with the system's error
+abbrev pub concluded : (last : Option Error) → Result Status CommandFault → Result Status CommandFault
+concluded last (Ok status) = Ok status
+concluded last (Err why) = Err (explained last why)
 
 -- ---- a run
 

@@ -32,14 +32,13 @@ use Rattle.world_sim.specs.declared.views.View.{View}
 use Rattle.connection.specs.declared.answering.Served.{Served}
 use Rattle.connection.specs.declared.answering.Served.TheVariants.{Answered, NoRequest, Lost}
 use Rattle.connection.specs.declared.serving.ConnectionFault.{ConnectionFault}
-use Rattle.storage.specs.declared.journal_showing.ShowJournalFault.{ShowJournalFault}
-use Rattle.storage.specs.declared.journal_showing.ShowJournalFault.TheVariants as show_journal
-use Rattle.storage.specs.declared.store_showing.ShowStoreFault.{ShowStoreFault}
-use Rattle.storage.specs.declared.store_showing.ShowStoreFault.TheVariants as show
+use Rattle.storage.specs.declared.show_fault.ShowFault.{ShowFault}
+use Rattle.storage.specs.declared.show_fault.ShowFault.TheVariants as show
 use Rattle.provisioning.specs.Carrying.{is_done}
 use Rattle.provisioning.specs.declared.carrying.Outcome.{Outcome}
 use Rattle.provisioning.specs.declared.faults.LoopFault.{LoopFault}
 use Rattle.provisioning.specs.declared.faults.LoopFault.TheVariants as looping
+use Rattle.provisioning.specs.declared.faults.RunFault.{RunFault}
 use Rattle.commands.specs.declared.status.CommandFault.{CommandFault}
 use Rattle.commands.specs.declared.status.CommandFault.TheVariants as fault
 use Rattle.commands.specs.declared.status.Part.{Part}
@@ -117,20 +116,17 @@ abbrev pub store_fault : RegistryOpenFault → CommandFault
 store_fault opening.Memory = fault.Memory
 store_fault why = fault.StoreFile why
 
--- the fault of rows that couldn't be shown whole
-abbrev pub show_fault : ShowStoreFault → CommandFault
-show_fault (show.Store why) = store_fault why
-show_fault show.Output = fault.File
-
 -- the fault of a file of a journal that couldn't be opened, or failed
 abbrev pub journal_fault : JournalOpenFault → CommandFault
 journal_fault journal.Memory = fault.Memory
 journal_fault why = fault.JournalFile why
 
--- the fault of entries that couldn't be shown whole
-abbrev pub show_journal_fault : ShowJournalFault → CommandFault
-show_journal_fault (show_journal.Journal why) = journal_fault why
-show_journal_fault show_journal.Output = fault.File
+-- the fault of rows or entries that couldn't be shown whole
+abbrev pub show_fault : ShowFault → CommandFault
+show_fault (show.Store why) = store_fault why
+show_fault (show.Journal why) = journal_fault why
+show_fault show.Memory = fault.Memory
+show_fault show.Output = fault.File
 
 -- the exit status after connections whose faults were reported
 abbrev pub outcome_status : Result (Unit {0}) ConnectionFault → Status
@@ -195,6 +191,17 @@ loop_fault looping.Store = fault.StoreFile opening.Store
 abbrev pub carried_status : Outcome → Status
 carried_status outcome = if is_done outcome then Done else Refused
 
+-- the exit status of a `push`
+abbrev pub pushed_status : Result Outcome RunFault → Result Status CommandFault
+pushed_status (Ok outcome) = Ok (carried_status outcome)
+pushed_status (Err why) = Err (fault.Run why)
+
+-- the exit status of a `show` or a `reset`
+abbrev pub shown_status : Result (Unit {0}) ShowFault → Result Status CommandFault
+shown_status (Ok done) = Ok Done
+shown_status (Err why) = Err (show_fault why)
+
+-- the exit status of a `loop`
 abbrev pub run_status : Result Outcome LoopFault → Result Status CommandFault
 run_status (Ok outcome) = Ok (carried_status outcome)
 run_status (Err why) = Err (loop_fault why)

@@ -1,11 +1,12 @@
 //! The exit status of a run, by its result.
 ghost use Rattle.std.specs.Prelude.{◌≡◌};
 ghost use Rattle.std.specs.List.{list_all};
-ghost use Rattle.commands.specs.Statuses.{carried_status, is_confirmed, is_taken, outcome_status, run_status, simulated_status};
+ghost use Rattle.commands.specs.Statuses.{carried_status, is_confirmed, is_taken, outcome_status, pushed_status, run_status, shown_status, simulated_status};
 
 use crate::status::{CommandFault, Status};
 use connection::ConnectionFault;
-use provisioning::{LoopFault, Outcome};
+use provisioning::{LoopFault, Outcome, RunFault};
+use storage::ShowFault;
 use world_sim::{Report, View};
 
 /// The exit status of a run that has reported each fault of its connections.
@@ -18,8 +19,8 @@ pub fn outcome_status(outcome: Result<(), ConnectionFault>) -> Status
     }
 }
 
-/// The exit status of a run of the connector.
-pub fn carried_status(outcome: Outcome) -> Status
+/// The exit status of a run of the connector that came to its end.
+fn carried_status(outcome: Outcome) -> Status
     ensures { result ≡ carried_status outcome }
 {
     if outcome.is_done() {
@@ -29,7 +30,22 @@ pub fn carried_status(outcome: Outcome) -> Status
     }
 }
 
-/// The exit status of a run with this result.
+/// The exit status of a `push`, by the result of its run.
+pub fn pushed_status(ended: Result<Outcome, RunFault>) -> Result<Status, CommandFault>
+    ensures { result ≡ pushed_status ended }
+{
+    Ok(carried_status(ended?))
+}
+
+/// The exit status of a `show` or a `reset`, by whether its lines were written.
+pub fn shown_status(shown: Result<(), ShowFault>) -> Result<Status, CommandFault>
+    ensures { result ≡ shown_status shown }
+{
+    shown?;
+    Ok(Status::Done)
+}
+
+/// The exit status of a `loop`, by the result of its run.
 pub fn run_status(ended: Result<Outcome, LoopFault>) -> Result<Status, CommandFault>
     ensures { result ≡ run_status ended }
 {

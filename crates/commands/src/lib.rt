@@ -12,7 +12,7 @@ mod status;
 pub mod words;
 
 pub use answering::{answer_one, answer_stored};
-pub use endings::{carried_status, outcome_status, run_status, simulated_status};
+pub use endings::{outcome_status, pushed_status, run_status, shown_status, simulated_status};
 pub use images::print_images;
 pub use output::NotedWriter;
 pub use status::{

@@ -2,9 +2,9 @@
 ghost use Rattle.std.specs.Prelude.{◌≡◌, None};
 ghost use Rattle.std.specs.Io.{WritesAtMost};
 ghost use Rattle.std.specs.Io.KnownBytes.{Keeps, WriteAppends};
-ghost use Rattle.commands.specs.Causes.{explained, last_error};
+ghost use Rattle.commands.specs.Causes.{concluded, explained, last_error};
 
-use crate::status::CommandFault;
+use crate::status::{CommandFault, Status};
 use provisioning::RunFault;
 use std::io;
 use std::io::Write;
@@ -25,8 +25,18 @@ impl<W: Write + Drop> NotedWriter<W> {
         NotedWriter { inner, last: None }
     }
 
-    /// The fault that ended a run that wrote here; if a line couldn't be written, with the system's error.
-    pub fn explained(&self, fault: CommandFault) -> CommandFault
+    /// How a run that wrote here ended; if a line couldn't be written, with the system's error.
+    pub fn concluded(&self, ended: Result<Status, CommandFault>) -> Result<Status, CommandFault>
+        ensures { result ≡ concluded self.now.last ended }
+    {
+        match ended {
+            Ok(status) => Ok(status),
+            Err(fault) => Err(self.explained(fault)),
+        }
+    }
+
+    /// The fault of a line that couldn't be written, with the system's error; any other as it is.
+    fn explained(&self, fault: CommandFault) -> CommandFault
         ensures { result ≡ explained self.now.last fault }
     {
         match (fault, self.last) {

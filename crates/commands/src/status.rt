@@ -2,7 +2,7 @@
 ghost use Rattle.std.specs.Prelude.{◌≡◌};
 ghost use Rattle.std.specs.IoError.{error_kind};
 ghost use Rattle.commands.specs.Causes.{error_of, part_of, source_part};
-ghost use Rattle.commands.specs.Statuses.{fault_status, file_fault, journal_fault, lines_fault, loop_fault, schedule_fault, show_fault, show_journal_fault, status_code, store_fault, unless_memory, unread_fault, users_fault, words_fault, world_fault};
+ghost use Rattle.commands.specs.Statuses.{fault_status, file_fault, journal_fault, lines_fault, loop_fault, schedule_fault, show_fault, status_code, store_fault, unless_memory, unread_fault, users_fault, words_fault, world_fault};
 ghost use Rattle.commands.specs.declared.status.CommandFault.TheVariants.{Memory, Output, Unopened};
 
 use crate::simulating::EventsFault;
@@ -17,7 +17,7 @@ use std::alloc::{AllocError, AllocFailed};
 use std::io;
 use std::io::ErrorKind;
 use std::rt::Runtime;
-use storage::{DatabaseReason, ShowJournalFault, ShowStoreFault};
+use storage::{DatabaseReason, ShowFault};
 use thiserror::Error;
 use world_sim::{ScheduleFault, WorldFault};
 
@@ -334,17 +334,6 @@ impl From<journal_store::JournalOpenFault> for CommandFault {
     }
 }
 
-impl From<ShowJournalFault> for CommandFault {
-    ghost from_gives = { λ show fault. fault ≡ show_journal_fault show };
-
-    fn from(fault: ShowJournalFault) -> CommandFault {
-        match fault {
-            ShowJournalFault::Journal(fault) => CommandFault::from(fault),
-            ShowJournalFault::Output => CommandFault::File,
-        }
-    }
-}
-
 impl From<RunFault> for CommandFault {
     ghost use Rattle.commands.specs.declared.status.CommandFault.TheVariants.{Run};
 
@@ -366,13 +355,15 @@ impl From<LoopFault> for CommandFault {
     }
 }
 
-impl From<ShowStoreFault> for CommandFault {
+impl From<ShowFault> for CommandFault {
     ghost from_gives = { λ show fault. fault ≡ show_fault show };
 
-    fn from(fault: ShowStoreFault) -> CommandFault {
+    fn from(fault: ShowFault) -> CommandFault {
         match fault {
-            ShowStoreFault::Store(fault) => CommandFault::from(fault),
-            ShowStoreFault::Output => CommandFault::File,
+            ShowFault::Store(fault) => CommandFault::from(fault),
+            ShowFault::Journal(fault) => CommandFault::from(fault),
+            ShowFault::Memory => CommandFault::Memory,
+            ShowFault::Output => CommandFault::File,
         }
     }
 }

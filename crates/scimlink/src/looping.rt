@@ -89,8 +89,5 @@ fn run_over<R: Runtime + Net + AllocGlobal, S: StoredRows, J: Journal>(
         &sources,
         &mut out,
     );
-    match run_status(ended) {
-        Ok(status) => Ok(status),
-        Err(fault) => Err(out.explained(fault)),
-    }
+    out.concluded(run_status(ended))
 }

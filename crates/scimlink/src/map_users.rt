@@ -27,8 +27,6 @@ fn map_rows<R: Runtime + AllocGlobal, F: Read + Drop>(
     rows: &mut RowReader<F>,
 ) -> Result<Status, CommandFault> {
     let mut out = standard_output(rt)?;
-    match print_images(rt, rt.alloc(), rows, &mut out) {
-        Ok(status) => Ok(status),
-        Err(fault) => Err(out.explained(fault)),
-    }
+    let ended = print_images(rt, rt.alloc(), rows, &mut out);
+    out.concluded(ended)
 }

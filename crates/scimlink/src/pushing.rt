@@ -3,7 +3,7 @@ use crate::output::standard_output;
 use crate::sources::Job;
 use clap::ArgMatches;
 use commands::words::to;
-use commands::{CommandFault, Status, carried_status};
+use commands::{CommandFault, Status, pushed_status};
 use connector_core::Connector;
 use journal_core::Journal;
 use provisioning::{RunFault, Sources};
@@ -71,7 +71,7 @@ fn push_of<R: Runtime + Net + AllocGlobal, J: Journal>(
     to: &str,
 ) -> Result<Status, CommandFault> {
     let mut out = standard_output(rt)?;
-    match provisioning::push(
+    let ended = provisioning::push(
         rt,
         rt.alloc(),
         &job.service,
@@ -79,8 +79,6 @@ fn push_of<R: Runtime + Net + AllocGlobal, J: Journal>(
         sources,
         to,
         &mut out,
-    ) {
-        Ok(outcome) => Ok(carried_status(outcome)),
-        Err(fault) => Err(out.explained(CommandFault::from(fault))),
-    }
+    );
+    out.concluded(pushed_status(ended))
 }

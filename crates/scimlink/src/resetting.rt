@@ -1,6 +1,6 @@
 //! `reset`: has a journal forget what the provider has shown.
 use crate::output::standard_output;
-use commands::{CommandFault, Part, Status, unread_fault};
+use commands::{CommandFault, Part, Status, shown_status, unread_fault};
 use std::fs;
 use std::rt::Runtime;
 use storage::{EntryStorage, reset_entries};
@@ -24,8 +24,6 @@ fn reset_there<R: Runtime + AllocGlobal, J: EntryStorage>(
     journal: &J,
 ) -> Result<Status, CommandFault> {
     let mut out = standard_output(rt)?;
-    match reset_entries(rt.alloc(), journal, &mut out) {
-        Ok(()) => Ok(Status::Done),
-        Err(fault) => Err(out.explained(CommandFault::from(fault))),
-    }
+    let shown = reset_entries(rt.alloc(), journal, &mut out);
+    out.concluded(shown_status(shown))
 }

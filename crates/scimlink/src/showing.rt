@@ -1,6 +1,6 @@
 //! `show`: prints what a file keeps, one line each.
 use crate::output::standard_output;
-use commands::{CommandFault, Status};
+use commands::{CommandFault, Status, shown_status};
 use std::rt::Runtime;
 use storage::{EntryStorage, RowStorage, show_entries, show_rows};
 
@@ -23,10 +23,8 @@ fn show_store<R: Runtime + AllocGlobal, K: RowStorage>(
     store: &K,
 ) -> Result<Status, CommandFault> {
     let mut out = standard_output(rt)?;
-    match show_rows(rt.alloc(), store, &mut out) {
-        Ok(()) => Ok(Status::Done),
-        Err(fault) => Err(out.explained(CommandFault::from(fault))),
-    }
+    let shown = show_rows(rt.alloc(), store, &mut out);
+    out.concluded(shown_status(shown))
 }
 
 fn show_journal<R: Runtime + AllocGlobal, J: EntryStorage>(
@@ -34,8 +32,6 @@ fn show_journal<R: Runtime + AllocGlobal, J: EntryStorage>(
     journal: &J,
 ) -> Result<Status, CommandFault> {
     let mut out = standard_output(rt)?;
-    match show_entries(rt.alloc(), journal, &mut out) {
-        Ok(()) => Ok(Status::Done),
-        Err(fault) => Err(out.explained(CommandFault::from(fault))),
-    }
+    let shown = show_entries(rt.alloc(), journal, &mut out);
+    out.concluded(shown_status(shown))
 }

@@ -4,13 +4,8 @@ use Rattle.std.proofs.lemmas.Grind.{flat_map-append}
 use Rattle.std.proofs.lemmas.List.{take_more}
 use Rattle.std.specs.Io.KnownBytes.{Appends}
 use Rattle.journal_core.specs.declared.entries.Entry.{Entry}
+use Rattle.storage.proofs.StoreShowingLemmas.{appends_more}
 use Rattle.storage.specs.JournalLines.{entry_line, lines_of}
-
-appends_more : (old between new : Option (List ℕ)) (xs ys : List ℕ) → Appends old between xs → Appends between new ys → Appends old new (xs ++ ys)
-appends_more None between new xs ys a b = tt
-appends_more (Some o) None new xs ys a b = absurd a
-appends_more (Some o) (Some m) None xs ys a b = absurd b
-appends_more (Some o) (Some m) (Some n) xs ys a b = b ∙ ap (λ t. t ++ ys) a ∙ append_assoc o xs ys
 
 pub one_more : (before middle now : Option (List ℕ)) (list : List Entry) (n : ℕ) (entry : Entry) (line : List ℕ)
     → n < length list → entry ≡ get_or list n entry → line ≡ entry_line entry

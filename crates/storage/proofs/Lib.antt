@@ -1,3 +1,3 @@
-mod JournalShowingLemmas
 mod ServingLemmas
 mod StoreShowingLemmas
+mod JournalShowingLemmas

@@ -4,17 +4,8 @@ use Rattle.std.specs.Io.KnownBytes.{Appends}
 use Rattle.journal_core.specs.Entries.{EntryMap, IsListOf}
 use Rattle.journal_core.specs.declared.entries.Entry.{Entry}
 use Rattle.journal_core.specs.declared.journals.Journal.{Ghosts}
-use Rattle.journal_core.specs.declared.journals.JournalFault.{JournalFault}
-use Rattle.journal_core.specs.declared.journals.JournalFault.TheVariants as journal
-use Rattle.journal_store.specs.declared.opening.JournalOpenFault.TheVariants as opening
-use Rattle.storage.specs.declared.journal_showing.ShowJournalFault.{ShowJournalFault}
-use Rattle.storage.specs.declared.journal_showing.ShowJournalFault.TheVariants.{Journal}
 use Rattle.storage.specs.JournalOpened.{IsOpened}
 use Rattle.storage.specs.JournalLines.{lines_of}
-
-abbrev pub journal_fault : JournalFault → ShowJournalFault
-journal_fault journal.Store = Journal opening.Store
-journal_fault journal.Memory = Journal opening.Memory
 
 -- a line for each entry is written, in order of the names
 pub record WritesEntries (map_ : EntryMap) (before after : Option (List ℕ)) : Type 0 where

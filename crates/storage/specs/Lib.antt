@@ -2,6 +2,7 @@ pub mod Closed
 pub mod StoreOpened
 pub mod Serving
 pub mod StoreLines
+pub mod ShowFaults
 pub mod StoreShowing
 pub mod JournalOpened
 pub mod JournalLines

@@ -2,17 +2,8 @@
 use Rattle.std.specs.Prelude.{◌≡◌, ℕ, List, Option}
 use Rattle.std.specs.Io.KnownBytes.{Appends}
 use Rattle.provider_core.specs.declared.registry.Registry.{Ghosts}
-use Rattle.provider_core.specs.declared.registry.RegistryFault.{RegistryFault}
-use Rattle.provider_core.specs.declared.registry.RegistryFault.TheVariants as registry
-use Rattle.provider_store.specs.declared.opening.RegistryOpenFault.TheVariants as opening
-use Rattle.storage.specs.declared.store_showing.ShowStoreFault.{ShowStoreFault}
-use Rattle.storage.specs.declared.store_showing.ShowStoreFault.TheVariants.{Store}
 use Rattle.storage.specs.StoreOpened.{IsOpened}
 use Rattle.storage.specs.StoreLines.{lines_of}
-
-abbrev pub registry_fault : RegistryFault → ShowStoreFault
-registry_fault registry.Store = Store opening.Store
-registry_fault registry.Memory = Store opening.Memory
 
 -- a call that only reads: if the store is faithful after it, it was faithful before, and the rows are the same
 pub record ReadsOn {R : Type 0} (g : Ghosts R) (old new : R) : Type 0 where

@@ -5,7 +5,7 @@ ghost use Rattle.storage.specs.Resetting.{PrintsReset, ResetsFrom, reset_line};
 
 use crate::entry_storage::{EntryStorage, StoredEntries};
 use crate::journal_lines::reset_line;
-use crate::journal_showing::ShowJournalFault;
+use crate::show_fault::ShowFault;
 use std::alloc::Global;
 use std::io::Write;
 
@@ -15,7 +15,7 @@ pub fn reset_entries<K: EntryStorage, W: Write>(
     alloc: Global,
     storage: &K,
     out: &mut W,
-) -> Result<(), ShowJournalFault>
+) -> Result<(), ShowFault>
     ensures { OnOk result
         (PrintsReset K.Entries.Journal (W.contents out.old) (W.contents out.new)) }
 {
@@ -25,7 +25,7 @@ pub fn reset_entries<K: EntryStorage, W: Write>(
 
 /// Opens the entries, forgets what was learnt of each record, and closes them. Returns how many entries this
 /// changed.
-fn reset_stored<K: EntryStorage>(storage: &K) -> Result<usize, ShowJournalFault>
+fn reset_stored<K: EntryStorage>(storage: &K) -> Result<usize, ShowFault>
     ensures { IfOk result (ResetsFrom K.Entries.Journal) }
 {
     let mut entries = storage.open()?;
@@ -35,7 +35,7 @@ fn reset_stored<K: EntryStorage>(storage: &K) -> Result<usize, ShowJournalFault>
 }
 
 /// Writes the line of a reset, and flushes.
-fn write_count<W: Write>(alloc: Global, count: usize, out: &mut W) -> Result<(), ShowJournalFault>
+fn write_count<W: Write>(alloc: Global, count: usize, out: &mut W) -> Result<(), ShowFault>
     ensures { OnOk result (Appends (W.contents out.old) (W.contents out.new) (reset_line count)) }
 {
     let line = reset_line(alloc, count)?;

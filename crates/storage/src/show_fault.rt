@@ -1,0 +1,96 @@
+//! Why what is kept wasn't shown whole.
+ghost use Rattle.std.specs.Prelude.{◌≡◌, ◌≢◌};
+ghost use Rattle.storage.specs.ShowFaults.{journal_fault, registry_fault};
+ghost use Rattle.storage.specs.declared.show_fault.ShowFault.TheVariants.{Memory, Output};
+
+use journal_core::JournalFault;
+use journal_store::JournalOpenFault;
+use provider_core::RegistryFault;
+use provider_store::RegistryOpenFault;
+use std::alloc::AllocError;
+use std::io;
+use std::io::ErrorKind;
+use thiserror::Error;
+
+/// Why the lines of a store or a journal weren't written whole.
+#[derive(Clone, Copy, Debug, Error)]
+pub enum ShowFault {
+    /// The store couldn't be opened, or it failed.
+    #[error("store {0}")]
+    Store(RegistryOpenFault),
+    /// The journal couldn't be opened, or it failed.
+    #[error("journal {0}")]
+    Journal(JournalOpenFault),
+    #[error("memory")]
+    Memory,
+    /// A write or the flush failed.
+    #[error("output")]
+    Output,
+}
+
+impl From<RegistryOpenFault> for ShowFault {
+    ghost use Rattle.storage.specs.declared.show_fault.ShowFault.TheVariants.{Store};
+
+    ghost from_gives = { λ opening fault. fault ≡ Store opening };
+
+    fn from(fault: RegistryOpenFault) -> ShowFault {
+        ShowFault::Store(fault)
+    }
+}
+
+impl From<RegistryFault> for ShowFault {
+    ghost from_gives = { λ registry fault. fault ≡ registry_fault registry };
+
+    fn from(fault: RegistryFault) -> ShowFault {
+        match fault {
+            RegistryFault::Store => ShowFault::Store(RegistryOpenFault::Store),
+            RegistryFault::Memory => ShowFault::Memory,
+        }
+    }
+}
+
+impl From<JournalOpenFault> for ShowFault {
+    ghost use Rattle.storage.specs.declared.show_fault.ShowFault.TheVariants.{Journal};
+
+    ghost from_gives = { λ opening fault. fault ≡ Journal opening };
+
+    fn from(fault: JournalOpenFault) -> ShowFault {
+        ShowFault::Journal(fault)
+    }
+}
+
+impl From<JournalFault> for ShowFault {
+    ghost from_gives = { λ journal fault. fault ≡ journal_fault journal };
+
+    fn from(fault: JournalFault) -> ShowFault {
+        match fault {
+            JournalFault::Store => ShowFault::Journal(JournalOpenFault::Store),
+            JournalFault::Memory => ShowFault::Memory,
+        }
+    }
+}
+
+impl From<AllocError> for ShowFault {
+    ghost from_gives = { λ _ fault. fault ≡ Memory };
+
+    fn from(_: AllocError) -> ShowFault {
+        ShowFault::Memory
+    }
+}
+
+impl From<io::Error> for ShowFault {
+    fn from(error: io::Error) -> ShowFault {
+        output_fault(error.kind())
+    }
+}
+
+/// The fault for a failed write.
+fn output_fault(kind: ErrorKind) -> ShowFault
+    ensures memory { kind ≡ ErrorKind.OutOfMemory → result ≡ Memory }
+    ensures output { kind ≢ ErrorKind.OutOfMemory → result ≡ Output }
+{
+    match kind {
+        ErrorKind::OutOfMemory => ShowFault::Memory,
+        _ => ShowFault::Output,
+    }
+}
