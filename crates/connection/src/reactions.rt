@@ -6,7 +6,7 @@ use http_text::ReadFault;
 use scim_message::Refusal;
 
 /// What to do if no message was read.
-#[derive(Clone, Copy, Debug)]
+#[derive(Clone, Copy)]
 pub(crate) enum Reaction {
     /// Answer with the refusal, without a body for HEAD.
     Refuse {

@@ -8,7 +8,7 @@ use std::alloc::{AllocError, Global};
 use std::marker::Model;
 
 /// The places of the users and of the groups among all rows, counted from 0, in rising order.
-#[derive(Debug, Drop)]
+#[derive(Drop)]
 pub(crate) struct KindPlaces {
     users: Vec<u32>,
     groups: Vec<u32>,

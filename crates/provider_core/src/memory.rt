@@ -9,7 +9,7 @@ use std::collections::BTreeMap;
 use std::marker::Model;
 
 /// A registry with its rows in memory, and an index by name.
-#[derive(Debug, Drop)]
+#[derive(Drop)]
 pub struct MemoryRegistry {
     rows: Vec<Stored>,
     numbers: BTreeMap<RecordName, u32>,

@@ -4,7 +4,7 @@ use scim_resource::Stored;
 use std::marker::Model;
 
 /// How the rows change.
-#[derive(Debug, Drop)]
+#[derive(Drop)]
 pub enum Change {
     /// Nothing.
     Unchanged,
@@ -15,7 +15,7 @@ pub enum Change {
 }
 
 /// The answer to a request and its change, which isn't made yet.
-#[derive(Debug, Drop)]
+#[derive(Drop)]
 pub struct Pending {
     pub(crate) change: Change,
     pub(crate) answer: Answer,

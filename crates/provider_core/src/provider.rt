@@ -60,7 +60,7 @@ impl From<RegistryFault> for ProviderFault {
 }
 
 /// A provider (RFC 7644 section 3) over the rows of a registry.
-#[derive(Debug, Drop)]
+#[derive(Drop)]
 pub struct Provider<R: Registry> {
     registry: R,
     /// The places of each type's rows, once a list without a filter has asked for them.

@@ -44,7 +44,7 @@ pub(crate) fn page_size(count: Option<i64>) -> usize
 }
 
 /// The state of a search: one page and a count.
-#[derive(Debug, Drop)]
+#[derive(Drop)]
 pub(crate) struct Gathered {
     first: u64,
     size: usize,

@@ -15,7 +15,7 @@ use std::alloc::{AllocError, Global};
 use std::marker::Model;
 
 /// A SCIM service, to which requests are sent.
-#[derive(Debug, Drop)]
+#[derive(Drop)]
 pub struct ScimService {
     base: Base,
 }
@@ -111,7 +111,7 @@ impl ScimService {
 }
 
 /// A Create that is being built.
-#[derive(Debug, Drop)]
+#[derive(Drop)]
 pub struct CreateRequest<'a> {
     service: &'a ScimService,
     content: &'a Content,
@@ -153,7 +153,7 @@ impl<'a> CreateRequest<'a> {
 }
 
 /// A Retrieve that is being built.
-#[derive(Debug, Drop)]
+#[derive(Drop)]
 pub struct RetrieveRequest<'a> {
     service: &'a ScimService,
     kind: Kind,
@@ -203,7 +203,7 @@ impl<'a> RetrieveRequest<'a> {
 }
 
 /// A Search that is being built.
-#[derive(Debug, Drop)]
+#[derive(Drop)]
 pub struct SearchRequest<'a> {
     service: &'a ScimService,
     kind: Kind,
@@ -268,7 +268,7 @@ impl<'a> SearchRequest<'a> {
 }
 
 /// A Replace that is being built.
-#[derive(Debug, Drop)]
+#[derive(Drop)]
 pub struct ReplaceRequest<'a> {
     service: &'a ScimService,
     content: &'a Content,

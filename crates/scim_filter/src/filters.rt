@@ -48,7 +48,7 @@ impl<T: Drop> From<AllocFailed<T>> for FilterFault {
 }
 
 /// The tree of a filter.
-#[derive(Debug, Drop)]
+#[derive(Drop)]
 pub(crate) enum Node {
     Test(Test),
     And(Box<Node>, Box<Node>),
@@ -57,7 +57,7 @@ pub(crate) enum Node {
 }
 
 /// A filter: tests of attributes, joined by `and`, `or` and `not`.
-#[derive(Debug, Drop)]
+#[derive(Drop)]
 pub struct Filter {
     root: Node,
 }

@@ -15,7 +15,7 @@ pub const DEPTH_LIMIT: usize = 32;
 
 /// What comes right before the next token. Before an item or a parenthesis, the boolean says whether a gap
 /// may come; after an item, whether one came.
-#[derive(Clone, Copy, Debug)]
+#[derive(Clone, Copy)]
 pub(crate) enum Place {
     BeforeItem(bool),
     BeforeOpen(bool),
@@ -29,7 +29,7 @@ pub(crate) enum Place {
 
 /// What was read since a parenthesis was opened: the left operand of an `or`, and the items joined by `and`
 /// after it.
-#[derive(Debug, Drop)]
+#[derive(Drop)]
 pub(crate) struct Level {
     pub(crate) negated: bool,
     pub(crate) either: Option<Filter>,
@@ -38,7 +38,7 @@ pub(crate) struct Level {
 
 /// A filter that was read in part: the levels outside the open parentheses, outermost first, and the level
 /// within.
-#[derive(Debug, Drop)]
+#[derive(Drop)]
 pub(crate) struct Reader {
     pub(crate) outer: Vec<Level>,
     pub(crate) level: Level,

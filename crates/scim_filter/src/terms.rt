@@ -5,7 +5,7 @@ use std::alloc::AllocError;
 use std::marker::Model;
 
 /// An attribute whose values are texts.
-#[derive(Clone, Copy, Debug, PartialEq, Eq)]
+#[derive(Clone, Copy)]
 pub enum TextAttribute {
     UserName,
     DisplayName,
@@ -20,21 +20,21 @@ pub enum TextAttribute {
 }
 
 /// An attribute whose values are booleans.
-#[derive(Clone, Copy, Debug, PartialEq, Eq)]
+#[derive(Clone, Copy)]
 pub enum FlagAttribute {
     Active,
     EmailPrimary,
 }
 
 /// An attribute that a filter may name.
-#[derive(Clone, Copy, Debug, PartialEq, Eq)]
+#[derive(Clone, Copy)]
 pub enum Attribute {
     OfText(TextAttribute),
     OfFlag(FlagAttribute),
 }
 
 /// How a text is compared: `eq`, `ne`, `co`, `sw` or `ew`.
-#[derive(Clone, Copy, Debug, PartialEq, Eq)]
+#[derive(Clone, Copy)]
 pub enum TextOperator {
     Equal,
     NotEqual,
@@ -44,14 +44,14 @@ pub enum TextOperator {
 }
 
 /// How a boolean is compared: `eq` or `ne`.
-#[derive(Clone, Copy, Debug, PartialEq, Eq)]
+#[derive(Clone, Copy)]
 pub enum FlagOperator {
     Is,
     IsNot,
 }
 
 /// A text that a filter compares with. It may be empty.
-#[derive(Debug, Drop)]
+#[derive(Drop)]
 pub struct FilterText {
     text: String,
 }
@@ -90,7 +90,7 @@ impl Clone for FilterText {
 }
 
 /// One test of a filter, on one attribute.
-#[derive(Clone, Debug, Drop)]
+#[derive(Clone, Drop)]
 pub enum Test {
     Present(Attribute),
     Text(TextAttribute, TextOperator, FilterText),

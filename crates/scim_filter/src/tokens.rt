@@ -14,7 +14,7 @@ use serde_json::error::Category;
 use std::alloc::Global;
 
 /// A token: one space or more, a parenthesis, a word, or a JSON string.
-#[derive(Debug, Drop)]
+#[derive(Drop)]
 pub enum Token {
     Gap,
     Open,

@@ -6,7 +6,7 @@ ghost use Rattle.scim_filter.specs.Words.{joining_word, comparing_word, text_att
 use crate::terms::{Attribute, FlagAttribute, TextAttribute, TextOperator};
 
 /// A word of the grammar.
-#[derive(Clone, Copy, Debug, PartialEq, Eq)]
+#[derive(Clone, Copy)]
 pub enum Word {
     Not,
     And,

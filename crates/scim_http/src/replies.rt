@@ -21,7 +21,7 @@ use std::marker::Model;
 const FIELD_LINES: usize = 6;
 
 /// A response as it is sent: its status code and its bytes.
-#[derive(Debug, Drop)]
+#[derive(Drop)]
 pub struct Reply {
     status: u16,
     text: Vec<u8>,

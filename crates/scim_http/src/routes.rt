@@ -9,7 +9,7 @@ use scim_key::{Kind, ResourceId};
 use std::alloc::{AllocError, Global};
 
 /// What a path names.
-#[derive(Debug, Drop)]
+#[derive(Drop)]
 pub(crate) enum Route {
     /// All resources of a type.
     Collection(Kind),

@@ -5,7 +5,7 @@ use scim_resource::Shown;
 use std::marker::Model;
 
 /// The resources of one page, in their order.
-#[derive(Debug, Drop)]
+#[derive(Drop)]
 pub struct Resources {
     items: Vec<Shown>,
 }
@@ -41,7 +41,7 @@ impl Resources {
 }
 
 /// One page of the resources that a search found.
-#[derive(Debug, Drop)]
+#[derive(Drop)]
 pub struct ListResponse {
     /// How many resources were found, on this page or not.
     pub total: u64,

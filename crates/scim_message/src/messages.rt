@@ -10,7 +10,6 @@ use scim_resource::{Content, Shown};
 use scim_version::{Condition, EntityTag};
 
 /// What a client asks of the provider.
-#[derive(Debug)]
 pub enum Request {
     /// A new resource (section 3.3).
     Create {
@@ -68,7 +67,6 @@ impl Drop for Request {
 }
 
 /// What the provider answers.
-#[derive(Debug)]
 pub enum Answer {
     /// The new resource.
     Created(Shown),

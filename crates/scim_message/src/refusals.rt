@@ -112,7 +112,6 @@ impl Refusal {
 }
 
 /// An error message: a status code from 400 to 599, and a `scimType` and a detail if it has them.
-#[derive(Debug)]
 pub struct ErrorResponse {
     status: u16,
     scim_type: Option<String>,

@@ -16,7 +16,7 @@ use scim_message::{Answer, Request};
 use std::alloc::{AllocError, Global};
 
 /// Why bytes couldn't be read as a message.
-#[derive(Clone, Copy, Debug)]
+#[derive(Clone, Copy)]
 pub(crate) enum ReadingFault {
     /// They aren't exactly one message that asks for something, or that answers the request.
     Unread,
