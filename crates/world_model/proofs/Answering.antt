@@ -34,7 +34,7 @@ use Rattle.world_model.specs.Safe.{IsAt, Has}
 use Rattle.world_model.specs.Untroubled.{most_entries}
 use Rattle.world_model.proofs.Ranking.{AllLawful, row_lawful, versions_few}
 use Rattle.world_model.proofs.Searched.{Says, search_is, search_subject, search_said, shown_name}
-use Rattle.world_model.specs.Invariant.{Kept, Overwrites, AskedTruly}
+use Rattle.world_model.specs.Invariant.{all_names, Kept, Overwrites, AskedTruly}
 
 -- an answer that says something of a record with accepted rows
 pub record Answers (history : History) (request : Request) (answer : Answer) : Type 0 where
@@ -121,7 +121,7 @@ abbrev Replaces : List Entry → List ℕ → Content → Condition → Conditio
 Replaces es id content if_match if_none_match o =
     (said : Finding) × Says (Replace id content if_match if_none_match) said (content_name content) (replacing_entry o es content if_match if_none_match).answer
 
-module _ (history : History) (es : List Entry) (kept : Kept history es) (lawful : AllLawful history) (few : length es ≤ most_entries) where
+module _ (history : History) (es : List Entry) (kept : Kept all_names history es) (lawful : AllLawful history) (few : length es ≤ most_entries) where
   replace_said : (id : List ℕ) (content : Content) (if_match if_none_match : Condition) → Overwrites history es id content if_match
       → Replaces es id content if_match if_none_match (entry_with_id (content_kind content) id es)
   replace_said id content if_match if_none_match asked =

@@ -1,5 +1,5 @@
 -- A record whose wanted revision is confirmed is settled.
-use Rattle.std.proofs.Common.{◌≡◌, ◌≢◌, ℕ, zero, suc, true, List, [], ◌∷◌, length, Some, None, ◌⊎◌, inl, inr, ap, sym, ◌∙◌, subst}
+use Rattle.std.proofs.Common.{◌≡◌, ◌≢◌, ℕ, zero, suc, true, List, [], ◌∷◌, length, Some, None, ◌⊎◌, inl, inr, refl, ap, sym, ◌∙◌, subst}
 use Rattle.std.specs.List.{AllByRecursion, last_or}
 use Rattle.scim_key.proofs.RevisionLaws.{irreflexive, none_before}
 use Rattle.scim_key.specs.Revisions.{RevisionValue, no_revision, before, ◌≺◌}
@@ -53,8 +53,8 @@ module _ (w : World) (q : Quiet w) (name : RecordName) (known : Known) (in_book 
   its_image : image (id_in w.entries) known.wanted ≡ Some has_version.version.entry.held
   its_image =
       let v = has_version.version in
-      let is = q.inv.kept.imaged v.place (length v.entry.earlier) v.entry v.entry.held v.here (held_at v.entry) in
-      let reached = none_above_held v.entry (q.inv.kept.rises v.place v.entry v.here) v.turn v.content known.confirmed (row_revision is.row) v.held v.at_revision is.revision in
+      let is = q.inv.kept.imaged v.place (length v.entry.earlier) v.entry v.entry.held v.here refl (held_at v.entry) in
+      let reached = none_above_held v.entry (q.inv.kept.rises v.place v.entry v.here refl) v.turn v.content known.confirmed (row_revision is.row) v.held v.at_revision is.revision in
       let there : Has (rows_of w.history name) is.row = subst (λ (n : RecordName). Has (rows_of w.history n) is.row) v.of_record is.accepted in
       elim (last_or_below (rows_of w.history name) there.0 is.row known.wanted (q.inv.rising name) there.1 (is_last w q name known in_book)) [
         | inl same ↦ ap (image (id_in w.entries)) (sym same) ∙ is.image

@@ -1,5 +1,5 @@
--- The headline: what the provider holds at each moment, and what it holds later.
-use Rattle.std.proofs.Common.{◌≡◌, ◌≢◌, ℕ, zero, suc, ◌+◌, List, [], ◌∷◌, ◌++◌, length, Some, refl, ap, sym, ◌∙◌, subst, arith}
+-- The headline: what the provider holds at each moment, and what it holds later, among others too.
+use Rattle.std.proofs.Common.{◌≡◌, ◌≢◌, ℕ, zero, suc, ◌+◌, true, List, [], ◌∷◌, ◌++◌, length, Some, refl, ap, sym, ◌∙◌, subst, arith}
 use Rattle.scim_key.specs.Identifiers.{id_text}
 use Rattle.scim_key.specs.Revisions.{no_revision}
 use Rattle.scim_key.specs.declared.records.RecordName.{RecordName}
@@ -12,11 +12,12 @@ use Rattle.connector_core.specs.Learning.{content_revision}
 use Rattle.connector_core.specs.declared.knowledge.Known.{Known}
 use Rattle.world_model.specs.World.{World, empty, run}
 use Rattle.world_model.specs.Safe.{IsAt, Has, rows, HasReached, IsImage, IsLater, HeadlineHolds}
-use Rattle.world_model.proofs.Onwards.{always_onward}
+use Rattle.world_model.proofs.Onwards.{always_onward, always_onward_among}
 use Rattle.world_model.proofs.Keeping.{held_revision, none_above_held}
-use Rattle.world_model.proofs.Safety.{version_reached}
-use Rattle.world_model.proofs.Invariant.{always_inv}
-use Rattle.world_model.specs.Invariant.{Invariant}
+use Rattle.world_model.proofs.Safety.{in_book_ours, version_reached}
+use Rattle.world_model.proofs.Invariant.{always_inv, always_inv_among}
+use Rattle.world_model.specs.Invariant.{Names, InvariantOf}
+use Rattle.world_model.specs.Others.{Act, run_among, Holds, KeepsApart, HeadlineAmong, HeadlineHoldsAmong}
 
 -- ---- rows and entries
 
@@ -46,7 +47,7 @@ row_here m k (d ∷ es) (suc i) e number at = row_here (suc m) k es i e (omega (
 
 -- ---- at one moment
 
-module _ (w : World) (inv : Invariant w) where
+module _ {ours : Names} (w : World) (inv : InvariantOf ours w) where
   held_named : (i : ℕ) (e : Entry) → IsAt w.entries i e → content_name e.held ≡ e.name
   held_named i e at = inv.kept.whole.named i (length e.earlier) e e.held at (held_at e)
 
@@ -66,11 +67,15 @@ module _ (w : World) (inv : Invariant w) where
       inv.kept.whole.distinct has_s.0 has_t.0 r.entry q.entry r.here q.here (sym (its_name s has_s r) ∙ same ∙ its_name t has_t q) in
       r.numbered ∙ ap suc place ∙ sym q.numbered
 
-  its_image : (s : StoredRecord) → Has (rows w) s → IsImage w.history w.entries (content_name s.content) s.content
-  its_image s has =
+  row_ours : (s : StoredRecord) (holds : Holds ours w s) (r : IsRowOf w.entries holds.0.0 (suc holds.0.0) s) → ours r.entry.name ≡ true
+  row_ours s holds r = ap ours (sym (its_name s holds.0 r)) ∙ holds.1
+
+  its_image : (s : StoredRecord) → Holds ours w s → IsImage w.history w.entries (content_name s.content) s.content
+  its_image s holds =
+      let has = holds.0 in
       let r = row_of_entry s has in
       let e = r.entry in
-      let image = inv.kept.imaged has.0 (length e.earlier) e e.held r.here (held_at e) in
+      let image = inv.kept.imaged has.0 (length e.earlier) e e.held r.here (row_ours s holds r) (held_at e) in
       subst (λ (c : Content). IsImage w.history w.entries (content_name c) c) r.held
       (subst (λ (n : RecordName). IsImage w.history w.entries n e.held) (sym (held_named has.0 e r.here)) image)
 
@@ -83,21 +88,25 @@ module _ (w : World) (inv : Invariant w) where
         (v.place, row_here 1 (suc v.place) w.entries v.place v.entry (omega arith) v.here),
         held_named v.place v.entry v.here ∙ v.of_record,
         has.known ∙ ap Some v.has_id,
-        version_reached w inv name has.id has.tag known.confirmed v,
+        version_reached w inv name has.id has.tag known.confirmed (in_book_ours w inv name known in_book) v,
       )
 
 -- ---- and later
 
-never_back : (w v : World) (inv_w : Invariant w) (inv_v : Invariant v) → AllGoOn w.entries v.entries → (s : StoredRecord) → Has (rows w) s → (t : StoredRecord) × Has (rows v) t × IsLater s t
-never_back w v inv_w inv_v all s has =
+never_back : {ours : Names} (w v : World) (inv_w : InvariantOf ours w) (inv_v : InvariantOf ours v) → AllGoOn w.entries v.entries → (s : StoredRecord) → Holds ours w s
+    → (t : StoredRecord) × Has (rows v) t × IsLater s t
+never_back {ours} w v inv_w inv_v all s holds =
+    let has = holds.0 in
     let r = row_of_entry w inv_w s has in
     let e = r.entry in
     let (f, at, goes) = go_on_at w.entries v.entries has.0 e all r.here in
-    let (earlier, has_earlier) = held_revision w.history w.entries inv_w.kept has.0 e r.here in
-    let (held, has_held) = held_revision v.history v.entries inv_v.kept has.0 f at in
+    let mine = row_ours w inv_w s holds r in
+    let still : ours f.name ≡ true = ap ours goes.name ∙ mine in
+    let (earlier, has_earlier) = held_revision w.history w.entries inv_w.kept has.0 e r.here mine in
+    let (held, has_held) = held_revision v.history v.entries inv_v.kept has.0 f at still in
     let in_story : IsAt (story f) (length e.earlier) e.held =
     subst (λ (contents : List Content). IsAt contents (length e.earlier) e.held) (sym goes.story) (at_more (story e) goes.more (length e.earlier) e.held (held_at e)) in
-    let up = none_above_held f (inv_v.kept.rises has.0 f at) (length e.earlier) e.held earlier held in_story has_earlier has_held in
+    let up = none_above_held f (inv_v.kept.rises has.0 f at still) (length e.earlier) e.held earlier held in_story has_earlier has_held in
     let later : IsLater s (row_of (suc has.0) f) = record {
       number = sym r.numbered;
       name = held_named v inv_v has.0 f at ∙ goes.name ∙ sym (its_name w inv_w s has r);
@@ -107,14 +116,30 @@ never_back w v inv_w inv_v all s has =
     } in
     (row_of (suc has.0) f, (has.0, row_here 1 (suc has.0) v.entries has.0 f (omega arith) at), later)
 
+headline_now : {ours : Names} (w v : World) → InvariantOf ours w → InvariantOf ours v → AllGoOn w.entries v.entries → HeadlineAmong ours w v
+headline_now w v inv_w inv_v all = record {
+  one_per_name = one_per_name w inv_w;
+  its_image = its_image w inv_w;
+  never_back = never_back w v inv_w inv_v all;
+  reached = reached w inv_w;
+}
+
+-- what an early part does, others leave alone too
+apart_early : (ours : Names) (early late : List Act) → KeepsApart ours (early ++ late) → KeepsApart ours early
+apart_early ours [] late apart = tt
+apart_early ours (act ∷ early) late apart = (apart.0, apart_early ours early late apart.1)
+
+pub headline_holds_among : HeadlineHoldsAmong
+headline_holds_among ours early late apart =
+    headline_now (run_among empty early) (run_among empty (early ++ late)) (always_inv_among ours early (apart_early ours early late apart))
+    (always_inv_among ours (early ++ late) apart) (always_onward_among early late).stories
+
 pub headline_holds : HeadlineHolds
 headline_holds early late =
-    let w = run empty early in
-    let v = run empty (early ++ late) in
-    let inv = always_inv early in
+    let among = headline_now (run empty early) (run empty (early ++ late)) (always_inv early) (always_inv (early ++ late)) (always_onward early late).stories in
     record {
-      one_per_name = one_per_name w inv;
-      its_image = its_image w inv;
-      never_back = never_back w v inv (always_inv (early ++ late)) (always_onward early late).stories;
-      reached = reached w inv;
+      one_per_name = among.one_per_name;
+      its_image = λ s has. among.its_image s (has, refl);
+      never_back = λ s has. among.never_back s (has, refl);
+      reached = among.reached;
     }

@@ -1,5 +1,5 @@
--- What is true after every event.
-use Rattle.std.proofs.Common.{◌≡◌, ℕ, zero, suc, List, [], ◌∷◌, Option, Some, None, Result, Ok, Err, refl, ap, sym, ◌∙◌, subst}
+-- What is true after every event, and after every act of ours and others.
+use Rattle.std.proofs.Common.{◌≡◌, ℕ, zero, suc, true, List, [], ◌∷◌, Option, Some, None, Result, Ok, Err, inl, inr, refl, ap, sym, ◌∙◌, subst}
 use Rattle.std.specs.Option.{option_map}
 use Rattle.scim_key.specs.Revisions.{◌≺◌}
 use Rattle.scim_key.specs.declared.records.RecordName.{RecordName}
@@ -7,7 +7,7 @@ use Rattle.scim_message.specs.declared.messages.Request.{Request}
 use Rattle.scim_message.specs.declared.messages.Answer.{Answer}
 use Rattle.provider_core.specs.Stories.{step}
 use Rattle.provider_core.proofs.StoryLaws.{stories_only_grow}
-use Rattle.provider_core.proofs.TableLaws.{at_more, go_on_staying, tables_stay_whole, answers_show_facts}
+use Rattle.provider_core.proofs.TableLaws.{at_more, at_push, go_on_staying, tables_stay_whole, answers_show_facts}
 use Rattle.source_csv.specs.Records.{row_name, row_revision}
 use Rattle.source_csv.specs.declared.rows.Row.{Row}
 use Rattle.connector_core.proofs.Acceptance.{new_is_newer}
@@ -22,12 +22,13 @@ use Rattle.connector_core.specs.declared.changing.ChangeFault.{ChangeFault}
 use Rattle.connector_core.specs.declared.knowledge.Known.{Known}
 use Rattle.world_model.specs.World.{World, Message, Asked, Answered, Event, Changes, Sends, Delivers, Cuts, Restarts_provider, Restarts_connector, changes, sends, arrives, delivers, message_at, happens, empty, judged, run}
 use Rattle.world_model.specs.Safe.{IsAt}
-use Rattle.world_model.specs.Invariant.{Follows, Kept, AskedTruly, ShowsTruly, Invariant, EventsKeepIt, AlwaysKept, FactsStay}
+use Rattle.world_model.specs.Invariant.{Names, all_names, AllOurs, Follows, Kept, AskedTruly, ShowsTruly, InvariantOf, Invariant, EventsKeepIt, AlwaysKept, FactsStay}
+use Rattle.world_model.specs.Others.{Act, Ours, Theirs, acts, run_among, OfOurs, IsApart, KeepsApart, ActsKeepIt}
 use Rattle.world_model.proofs.Onwards.{run_on}
 use Rattle.world_model.proofs.Judging.{event_follows, judged_by_source}
 use Rattle.world_model.proofs.Accepting.{rows_stay, new_by_source}
 use Rattle.world_model.proofs.Growing.{Grows, image_grows}
-use Rattle.world_model.proofs.Keeping.{step_grows, step_keeps}
+use Rattle.world_model.proofs.Keeping.{WritesTruly, if_asked, if_alone, step_grows, step_keeps}
 use Rattle.world_model.proofs.Noting.{all_noted_grow, row_noted, reopened_noted, learning_noted}
 use Rattle.world_model.proofs.Sending.{what_is_asked}
 use Rattle.world_model.proofs.Telling.{all_told_grow, told_push}
@@ -37,23 +38,31 @@ use Rattle.world_model.proofs.Telling.{all_told_grow, told_push}
 abbrev with_new : World → Row → World
 with_new w row = changes w row (Ok verdicts.New)
 
-module _ (w : World) (row : Row) (inv : Invariant w) (new : accepting w.history row ≡ Ok verdicts.New) (follows : Follows (with_new w row).book (with_new w row).history) where
+module _ {ours : Names} (w : World) (row : Row) (its : ours (row_name row) ≡ true) (inv : InvariantOf ours w) (new : accepting w.history row ≡ Ok verdicts.New)
+    (follows : Follows (with_new w row).book (with_new w row).history) where
   new_grows : Grows w.history w.entries (with_new w row).history w.entries
   new_grows = record { rows = λ name r has. rows_stay w.history row name r has; entries = go_on_staying w.entries; whole = inv.kept.whole }
 
-  new_kept : Kept (with_new w row).history w.entries
+  new_mine : AllOurs ours (with_new w row).history
+  new_mine r has = elim (at_push w.history row has.0 r has.1) [
+    | inl old ↦ inv.mine r (has.0, old)
+    | inr new ↦ subst (λ (x : Row). ours (row_name x) ≡ true) new.1 its
+  ]
+
+  new_kept : Kept ours (with_new w row).history w.entries
   new_kept = record {
     whole = inv.kept.whole;
     rises = inv.kept.rises;
-    imaged = λ i j e c at held. image_grows w.history w.entries (with_new w row).history w.entries new_grows e.name c (inv.kept.imaged i j e c at held);
+    imaged = λ i j e c at mine held. image_grows w.history w.entries (with_new w row).history w.entries new_grows e.name c (inv.kept.imaged i j e c at mine held);
     short = inv.kept.short;
   }
 
   above : (known : Known) → w.book (row_name row) ≡ Some known → row_revision known.wanted ≺ row_revision row
   above known in_book = new_is_newer w.history row new known.wanted (sym (inv.follows (row_name row)) ∙ ap (option_map (λ k. k.wanted)) in_book)
 
-  new_inv : Invariant (with_new w row)
+  new_inv : InvariantOf ours (with_new w row)
   new_inv = record {
+    mine = new_mine;
     rising = (goes_on w.history row new).rises inv.rising;
     follows = follows;
     kept = new_kept;
@@ -61,19 +70,21 @@ module _ (w : World) (row : Row) (inv : Invariant w) (new : accepting w.history 
     told = all_told_grow w.history w.entries (with_new w row).history w.entries new_grows w.messages inv.told;
   }
 
-changes_inv : (w : World) (row : Row) (v : Result Verdict ChangeFault) → Invariant w → judged w row ≡ v → Follows (changes w row v).book (changes w row v).history → Invariant (changes w row v)
-changes_inv w row (Ok verdicts.New) inv is follows = new_inv w row inv (new_by_source w.history row (sym (judged_by_source w row inv.follows) ∙ is)) follows
-changes_inv w row (Ok verdicts.Known) inv is follows = inv
-changes_inv w row (Ok verdicts.Older) inv is follows = inv
-changes_inv w row (Err fault) inv is follows = inv
+changes_inv : {ours : Names} (w : World) (row : Row) (v : Result Verdict ChangeFault) → ours (row_name row) ≡ true → InvariantOf ours w → judged w row ≡ v
+    → Follows (changes w row v).book (changes w row v).history → InvariantOf ours (changes w row v)
+changes_inv w row (Ok verdicts.New) its inv is follows = new_inv w row its inv (new_by_source w.history row (sym (judged_by_source w row inv.follows) ∙ is)) follows
+changes_inv w row (Ok verdicts.Known) its inv is follows = inv
+changes_inv w row (Ok verdicts.Older) its inv is follows = inv
+changes_inv w row (Err fault) its inv is follows = inv
 
 -- ---- a message is sent, and arrives
 
-sends_inv : (w : World) (name : RecordName) (o : Option Ask) → Invariant w → asking w.book name ≡ o → Invariant (sends w o)
+sends_inv : {ours : Names} (w : World) (name : RecordName) (o : Option Ask) → InvariantOf ours w → asking w.book name ≡ o → InvariantOf ours (sends w o)
 sends_inv w name None inv is = inv
 sends_inv w name (Some Nothing) inv is = inv
 sends_inv w name (Some (Waits member)) inv is = inv
 sends_inv w name (Some (Send request)) inv is = record {
+  mine = inv.mine;
   rising = inv.rising;
   follows = inv.follows;
   kept = inv.kept;
@@ -81,22 +92,36 @@ sends_inv w name (Some (Send request)) inv is = record {
   told = told_push w.history w.entries w.messages (Asked request) inv.told (what_is_asked w.history w.entries w.book inv.follows inv.noted name request is);
 }
 
-request_inv : (w : World) (request : Request) → Invariant w → AskedTruly w.history w.entries request → Invariant (arrives w (Asked request))
-request_inv w request inv asked =
+-- the table after a request
+step_inv : {ours : Names} (w : World) (request : Request) → InvariantOf ours w → WritesTruly ours w.history w.entries request → InvariantOf ours (acts w (Theirs request))
+step_inv w request inv asked =
     let after = step w.entries request in
-    let grows = step_grows w.history w.entries request inv.kept.whole in
     record {
+      mine = inv.mine;
       rising = inv.rising;
       follows = inv.follows;
       kept = step_keeps w.history w.entries request inv.kept asked;
       noted = all_noted_grow w.entries after.entries w.book (stories_only_grow w.entries request) (tables_stay_whole w.entries request inv.kept.whole) inv.noted;
-      told = told_push w.history after.entries w.messages (Answered request after.answer)
-          (all_told_grow w.history w.entries w.history after.entries grows w.messages inv.told) (answers_show_facts w.entries request);
+      told = all_told_grow w.history w.entries w.history after.entries (step_grows w.history w.entries request inv.kept.whole) w.messages inv.told;
     }
 
-reply_inv : (w : World) (request : Request) (answer : Answer) → Invariant w → ShowsTruly w.entries answer → Follows (arrives w (Answered request answer)).book w.history
-    → Invariant (arrives w (Answered request answer))
+request_inv : {ours : Names} (w : World) (request : Request) → InvariantOf ours w → AskedTruly w.history w.entries request → InvariantOf ours (arrives w (Asked request))
+request_inv {ours} w request inv asked =
+    let after = step w.entries request in
+    let on = step_inv w request inv (if_asked ours w.history w.entries request asked) in
+    record {
+      mine = on.mine;
+      rising = on.rising;
+      follows = on.follows;
+      kept = on.kept;
+      noted = on.noted;
+      told = told_push w.history after.entries w.messages (Answered request after.answer) on.told (answers_show_facts w.entries request);
+    }
+
+reply_inv : {ours : Names} (w : World) (request : Request) (answer : Answer) → InvariantOf ours w → ShowsTruly w.entries answer → Follows (arrives w (Answered request answer)).book w.history
+    → InvariantOf ours (arrives w (Answered request answer))
 reply_inv w request answer inv shows follows = record {
+  mine = inv.mine;
   rising = inv.rising;
   follows = follows;
   kept = inv.kept;
@@ -108,7 +133,8 @@ pub message_there : (messages : List Message) (number : ℕ) (message : Message)
 message_there messages zero message is = absurd (cc)
 message_there messages (suc place) message is = (place, is)
 
-delivers_inv : (w : World) (number : ℕ) (o : Option Message) → Invariant w → message_at w.messages number ≡ o → Follows (delivers w o).book (delivers w o).history → Invariant (delivers w o)
+delivers_inv : {ours : Names} (w : World) (number : ℕ) (o : Option Message) → InvariantOf ours w → message_at w.messages number ≡ o
+    → Follows (delivers w o).book (delivers w o).history → InvariantOf ours (delivers w o)
 delivers_inv w number None inv is follows = inv
 delivers_inv w number (Some (Asked request)) inv is follows =
     let (i, at) = message_there w.messages number (Asked request) is in request_inv w request inv (inv.told i (Asked request) at)
@@ -117,13 +143,14 @@ delivers_inv w number (Some (Answered request answer)) inv is follows =
 
 -- ---- every event
 
-pub event_inv : (w : World) (event : Event) → Invariant w → Invariant (happens w event)
-event_inv w (Changes row) inv = changes_inv w row (judged w row) inv refl (event_follows w (Changes row) inv.follows)
-event_inv w (Sends name) inv = sends_inv w name (asking w.book name) inv refl
-event_inv w (Delivers number) inv = delivers_inv w number (message_at w.messages number) inv refl (event_follows w (Delivers number) inv.follows)
-event_inv w (Cuts number length) inv = inv
-event_inv w Restarts_provider inv = inv
-event_inv w Restarts_connector inv = record {
+of_ours_inv : {ours : Names} (w : World) (event : Event) → OfOurs ours event → InvariantOf ours w → InvariantOf ours (happens w event)
+of_ours_inv w (Changes row) its inv = changes_inv w row (judged w row) its inv refl (event_follows w (Changes row) inv.follows)
+of_ours_inv w (Sends name) its inv = sends_inv w name (asking w.book name) inv refl
+of_ours_inv w (Delivers number) its inv = delivers_inv w number (message_at w.messages number) inv refl (event_follows w (Delivers number) inv.follows)
+of_ours_inv w (Cuts number length) its inv = inv
+of_ours_inv w Restarts_provider its inv = inv
+of_ours_inv w Restarts_connector its inv = record {
+  mine = inv.mine;
   rising = inv.rising;
   follows = event_follows w Restarts_connector inv.follows;
   kept = inv.kept;
@@ -131,19 +158,35 @@ event_inv w Restarts_connector inv = record {
   told = inv.told;
 }
 
-pub empty_inv : Invariant empty
-empty_inv = record {
+-- every event is of ours if every record is
+pub all_of_ours : (event : Event) → OfOurs all_names event
+all_of_ours (Changes row) = refl
+all_of_ours (Sends name) = tt
+all_of_ours (Delivers number) = tt
+all_of_ours (Cuts number length) = tt
+all_of_ours Restarts_provider = tt
+all_of_ours Restarts_connector = tt
+
+pub event_inv : (w : World) (event : Event) → Invariant w → Invariant (happens w event)
+event_inv w event inv = of_ours_inv w event (all_of_ours event) inv
+
+pub none_inv : (ours : Names) → InvariantOf ours empty
+none_inv ours = record {
+  mine = λ row has. absurd (cc has.1);
   rising = λ name. tt;
   follows = λ name. refl;
   kept = record {
     whole = record { named = λ i j e c at held. absurd (cc); distinct = λ i j d e at_d at_e same. absurd (cc) };
-    rises = λ i e at. absurd (cc);
-    imaged = λ i j e c at held. absurd (cc);
+    rises = λ i e at mine. absurd (cc);
+    imaged = λ i j e c at mine held. absurd (cc);
     short = λ i e at. absurd (cc);
   };
   noted = λ name known is. absurd (cc);
   told = λ i message at. absurd (cc);
 }
+
+pub empty_inv : Invariant empty
+empty_inv = none_inv all_names
 
 pub run_inv : (w : World) (events : List Event) → Invariant w → Invariant (run w events)
 run_inv w [] inv = inv
@@ -152,7 +195,23 @@ run_inv w (event ∷ events) inv = run_inv (happens w event) events (event_inv w
 pub always_inv : (events : List Event) → Invariant (run empty events)
 always_inv events = run_inv empty events empty_inv
 
+-- ---- every act
+
+pub act_inv : {ours : Names} (w : World) (act : Act) → IsApart ours act → InvariantOf ours w → InvariantOf ours (acts w act)
+act_inv w (Ours event) its inv = of_ours_inv w event its inv
+act_inv {ours} w (Theirs request) alone inv = step_inv w request inv (if_alone ours w.history w.entries request alone)
+
+pub among_inv : {ours : Names} (w : World) (later : List Act) → KeepsApart ours later → InvariantOf ours w → InvariantOf ours (run_among w later)
+among_inv w [] apart inv = inv
+among_inv w (act ∷ later) apart inv = among_inv (acts w act) later apart.1 (act_inv w act apart.0 inv)
+
+pub always_inv_among : (ours : Names) (all : List Act) → KeepsApart ours all → InvariantOf ours (run_among empty all)
+always_inv_among ours all apart = among_inv empty all apart (none_inv ours)
+
 -- ---- the laws
+
+pub acts_keep_it : ActsKeepIt
+acts_keep_it ours = act_inv
 
 pub events_keep_it : EventsKeepIt
 events_keep_it = event_inv

@@ -27,6 +27,7 @@ use Rattle.world_model.proofs.Learned.{Learns, Learns.sees, Learns.misses, Learn
 use Rattle.world_model.specs.World.{World, Message, Asked, Answered, Event, Changes, Sends, Delivers, Cuts, Restarts_provider, Restarts_connector, sends, delivers, message_at, happens, empty, names, judged, run}
 use Rattle.world_model.specs.Safe.{JudgesBySource}
 use Rattle.world_model.specs.Invariant.{Follows}
+use Rattle.world_model.specs.Others.{Act, Ours, Theirs, acts, run_among, JudgesBySourceAmong}
 
 -- ---- the wanted row is the last of its record
 
@@ -146,3 +147,16 @@ judged_by_source w row follows =
 
 pub judges_by_source : JudgesBySource
 judges_by_source events row = judged_by_source (run empty events) row (run_follows empty events (λ name. refl))
+
+-- ---- among others
+
+act_follows : (w : World) (act : Act) → Follows w.book w.history → Follows (acts w act).book (acts w act).history
+act_follows w (Ours event) follows = event_follows w event follows
+act_follows w (Theirs request) follows = follows
+
+among_follows : (w : World) (later : List Act) → Follows w.book w.history → Follows (run_among w later).book (run_among w later).history
+among_follows w [] follows = follows
+among_follows w (act ∷ later) follows = among_follows (acts w act) later (act_follows w act follows)
+
+pub judges_by_source_among : JudgesBySourceAmong
+judges_by_source_among all row = judged_by_source (run_among empty all) row (among_follows empty all (λ name. refl))

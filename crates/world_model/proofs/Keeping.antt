@@ -13,6 +13,7 @@ use Rattle.scim_resource.specs.Contents.{content_name}
 use Rattle.scim_resource.specs.Rows.{last_version}
 use Rattle.scim_resource.specs.declared.contents.Content.{Content}
 use Rattle.scim_message.specs.declared.messages.Request.{Request}
+use Rattle.scim_message.specs.declared.messages.Request.TheVariants.{Create, Retrieve, Search, Replace}
 use Rattle.provider_core.specs.Stories.{Entry, story, first_entry, renewed, renew_at, step}
 use Rattle.provider_core.specs.Tables.{IsWholeTable, Writes, Writes.nothing, Writes.created, Writes.replaced}
 use Rattle.provider_core.proofs.StoryLaws.{stories_only_grow}
@@ -21,15 +22,16 @@ use Rattle.source_csv.specs.Records.{row_revision}
 use Rattle.connector_core.specs.History.{History}
 use Rattle.connector_core.specs.Learning.{content_revision}
 use Rattle.world_model.specs.Safe.{IsAt, IsImage, StoryRises}
-use Rattle.world_model.specs.Invariant.{Kept, Overwrites, AskedTruly}
+use Rattle.world_model.specs.Invariant.{Names, Kept, Overwrites, AskedTruly}
+use Rattle.world_model.specs.Others.{LeavesAlone}
 use Rattle.world_model.proofs.Growing.{Grows, image_grows}
 use Rattle.world_model.proofs.Order.{at_most_before}
 
 -- the revision of what an entry holds
-pub held_revision : (history : History) (es : List Entry) → Kept history es → (i : ℕ) (e : Entry) → IsAt es i e
+pub held_revision : {ours : Names} (history : History) (es : List Entry) → Kept ours history es → (i : ℕ) (e : Entry) → IsAt es i e → ours e.name ≡ true
     → (held : RevisionValue) × (content_revision e.held ≡ Some held)
-held_revision history es kept i e at =
-    let image = kept.imaged i (length e.earlier) e e.held at (held_at e) in
+held_revision history es kept i e at mine =
+    let image = kept.imaged i (length e.earlier) e e.held at mine (held_at e) in
     (row_revision image.row, image.revision)
 
 -- no content of a story has a higher revision than the one that is held
@@ -67,22 +69,22 @@ one_rises content (suc i) j c d r s lt at_c at_d has_r has_s = absurd (cc)
 
 -- ---- a Create
 
-module _ (history : History) (es : List Entry) (content : Content) (kept : Kept history es) (asked : IsImage history es (content_name content) content)
-    (grows : Grows history es history (es ++ first_entry content ∷ [])) where
+module _ {ours : Names} (history : History) (es : List Entry) (content : Content) (kept : Kept ours history es)
+    (asked : ours (content_name content) ≡ true → IsImage history es (content_name content) content) (grows : Grows history es history (es ++ first_entry content ∷ [])) where
   abbrev with_first : List Entry
   with_first = es ++ first_entry content ∷ []
 
-  created_imaged : (i j : ℕ) (e : Entry) (c : Content) → IsAt with_first i e → IsAt (story e) j c → IsImage history with_first e.name c
-  created_imaged i j e c at held = elim (at_push es (first_entry content) i e at) [
-    | inl old ↦ image_grows history es history with_first grows e.name c (kept.imaged i j e c old held)
-    | inr new ↦ subst (λ (x : Entry). IsAt (story x) j c → IsImage history with_first x.name c) new.1 (λ in_first.
+  created_imaged : (i j : ℕ) (e : Entry) (c : Content) → IsAt with_first i e → ours e.name ≡ true → IsAt (story e) j c → IsImage history with_first e.name c
+  created_imaged i j e c at mine held = elim (at_push es (first_entry content) i e at) [
+    | inl old ↦ image_grows history es history with_first grows e.name c (kept.imaged i j e c old mine held)
+    | inr new ↦ subst (λ (x : Entry). ours x.name ≡ true → IsAt (story x) j c → IsImage history with_first x.name c) new.1 (λ its in_first.
         subst (λ (x : Content). IsImage history with_first (content_name content) x) (at_one content j c in_first)
-        (image_grows history es history with_first grows (content_name content) content asked)) held
+        (image_grows history es history with_first grows (content_name content) content (asked its))) mine held
   ]
 
-  created_rises : (i : ℕ) (e : Entry) → IsAt with_first i e → StoryRises (story e)
-  created_rises i e at = elim (at_push es (first_entry content) i e at) [
-    | inl old ↦ kept.rises i e old
+  created_rises : (i : ℕ) (e : Entry) → IsAt with_first i e → ours e.name ≡ true → StoryRises (story e)
+  created_rises i e at mine = elim (at_push es (first_entry content) i e at) [
+    | inl old ↦ kept.rises i e old mine
     | inr new ↦ subst (λ (x : Entry). StoryRises (story x)) new.1 (one_rises content)
   ]
 
@@ -92,7 +94,7 @@ module _ (history : History) (es : List Entry) (content : Content) (kept : Kept 
     | inr new ↦ subst (λ (x : Entry). length (story x) ≤ last_version) new.1 (omega arith)
   ]
 
-  pub created_kept : Kept history with_first
+  pub created_kept : Kept ours history with_first
   created_kept = record { whole = grows.whole; rises = created_rises; imaged = created_imaged; short = created_short }
 
 -- ---- a Replace
@@ -105,8 +107,9 @@ tag_is_last turn count tag if_match alone is within short holds =
     let Q : List ℕ → Type 0 = λ t. holds_match (Tags (t ∷ [])) (Some count) ≡ true in
     (has_version-alone (suc turn) count (omega (arith, within, short)) (omega (arith, short))).0 (subst Q is (subst P alone holds))
 
-module _ (history : History) (es : List Entry) (i : ℕ) (e : Entry) (content : Content) (if_match : Condition) (id : List ℕ) (kept : Kept history es)
-    (asked : Overwrites history es id content if_match) (there : IsAt es i e) (named : e.name ≡ content_name content) (below : length (story e) < last_version)
+-- the story of a record of ours
+module _ {ours : Names} (history : History) (es : List Entry) (i : ℕ) (e : Entry) (content : Content) (if_match : Condition) (id : List ℕ) (kept : Kept ours history es)
+    (mine : ours e.name ≡ true) (asked : Overwrites history es id content if_match) (there : IsAt es i e) (named : e.name ≡ content_name content) (below : length (story e) < last_version)
     (holds : holds_match if_match (Some (length (story e))) ≡ true) (grows : Grows history es history (renew_at i content es)) where
   -- the version that the request is for is the last of the entry's story
   overwritten : (held : RevisionValue) → content_revision e.held ≡ Some held → held ≡ asked.older
@@ -126,12 +129,28 @@ module _ (history : History) (es : List Entry) (i : ℕ) (e : Entry) (content : 
 
   all_below : (j : ℕ) (c : Content) (r : RevisionValue) → IsAt (story e) j c → content_revision c ≡ Some r → r ≺ asked.newer
   all_below j c r at has_r =
-      let (held, has_held) = held_revision history es kept i e there in
-      let up = none_above_held e (kept.rises i e there) j c r held at has_r has_held in
+      let (held, has_held) = held_revision history es kept i e there mine in
+      let up = none_above_held e (kept.rises i e there mine) j c r held at has_r has_held in
       at_most_before r asked.older asked.newer (subst (λ (x : RevisionValue). r ≼ x) (overwritten held has_held) up) asked.rises
 
   renewed_story_rises : StoryRises (story (renewed e content))
-  renewed_story_rises = push_rises (story e) content asked.newer (kept.rises i e there) asked.revision all_below
+  renewed_story_rises = push_rises (story e) content asked.newer (kept.rises i e there mine) asked.revision all_below
+
+  story_imaged : (j : ℕ) (c : Content) → IsAt (story e ++ content ∷ []) j c → IsImage history (renew_at i content es) e.name c
+  story_imaged j c at = elim (at_push (story e) content j c at) [
+    | inl old ↦ image_grows history es history (renew_at i content es) grows e.name c (kept.imaged i j e c there mine old)
+    | inr new ↦
+        let P : Content → Type 0 = λ x. IsImage history (renew_at i content es) e.name x in
+        subst P new.1 (subst (λ name. IsImage history (renew_at i content es) name content) (sym named)
+        (image_grows history es history (renew_at i content es) grows (content_name content) content asked.image))
+  ]
+
+-- any story
+module _ {ours : Names} (history : History) (es : List Entry) (i : ℕ) (e : Entry) (content : Content) (if_match : Condition) (id : List ℕ) (kept : Kept ours history es)
+    (asked : ours (content_name content) ≡ true → Overwrites history es id content if_match) (there : IsAt es i e) (named : e.name ≡ content_name content)
+    (below : length (story e) < last_version) (holds : holds_match if_match (Some (length (story e))) ≡ true) (grows : Grows history es history (renew_at i content es)) where
+  asked_if_mine : ours e.name ≡ true → Overwrites history es id content if_match
+  asked_if_mine mine = asked (ap ours (sym named) ∙ mine)
 
   abbrev with_next : List Entry
   with_next = renew_at i content es
@@ -151,24 +170,18 @@ module _ (history : History) (es : List Entry) (i : ℕ) (e : Entry) (content : 
             inr (new.1 ∙ ap (λ x. renewed x content) entry)
       ]
 
-  renewed_rises : (k : ℕ) (f : Entry) → IsAt with_next k f → StoryRises (story f)
-  renewed_rises k f at = elim (cases k f at) [
-    | inl old ↦ kept.rises k f old
-    | inr new ↦ subst (λ (x : Entry). StoryRises (story x)) (sym new) renewed_story_rises
+  renewed_rises : (k : ℕ) (f : Entry) → IsAt with_next k f → ours f.name ≡ true → StoryRises (story f)
+  renewed_rises k f at mine = elim (cases k f at) [
+    | inl old ↦ kept.rises k f old mine
+    | inr new ↦ subst (λ (x : Entry). ours x.name ≡ true → StoryRises (story x)) (sym new)
+        (λ its. renewed_story_rises history es i e content if_match id kept its (asked_if_mine its) there named below holds grows) mine
   ]
 
-  story_imaged : (j : ℕ) (c : Content) → IsAt (story e ++ content ∷ []) j c → IsImage history with_next e.name c
-  story_imaged j c at = elim (at_push (story e) content j c at) [
-    | inl old ↦ image_grows history es history with_next grows e.name c (kept.imaged i j e c there old)
-    | inr new ↦
-        let P : Content → Type 0 = λ x. IsImage history with_next e.name x in
-        subst P new.1 (subst (λ name. IsImage history with_next name content) (sym named) (image_grows history es history with_next grows (content_name content) content asked.image))
-  ]
-
-  renewed_imaged : (k j : ℕ) (f : Entry) (c : Content) → IsAt with_next k f → IsAt (story f) j c → IsImage history with_next f.name c
-  renewed_imaged k j f c at held = elim (cases k f at) [
-    | inl old ↦ image_grows history es history with_next grows f.name c (kept.imaged k j f c old held)
-    | inr new ↦ subst (λ (x : Entry). IsAt (story x) j c → IsImage history with_next x.name c) (sym new) (story_imaged j c) held
+  renewed_imaged : (k j : ℕ) (f : Entry) (c : Content) → IsAt with_next k f → ours f.name ≡ true → IsAt (story f) j c → IsImage history with_next f.name c
+  renewed_imaged k j f c at mine held = elim (cases k f at) [
+    | inl old ↦ image_grows history es history with_next grows f.name c (kept.imaged k j f c old mine held)
+    | inr new ↦ subst (λ (x : Entry). ours x.name ≡ true → IsAt (story x) j c → IsImage history with_next x.name c) (sym new)
+        (λ its. story_imaged history es i e content if_match id kept its (asked_if_mine its) there named below holds grows j c) mine held
   ]
 
   renewed_short : (k : ℕ) (f : Entry) → IsAt with_next k f → length (story f) ≤ last_version
@@ -177,13 +190,33 @@ module _ (history : History) (es : List Entry) (i : ℕ) (e : Entry) (content : 
     | inr new ↦ subst (λ (x : Entry). length (story x) ≤ last_version) (sym new) (omega (arith, below, length-append (story e) (content ∷ [])))
   ]
 
-  pub renewed_kept : Kept history with_next
+  pub renewed_kept : Kept ours history with_next
   renewed_kept = record { whole = grows.whole; rises = renewed_rises; imaged = renewed_imaged; short = renewed_short }
 
 -- ---- every request
 
-kept_by : (history : History) {es : List Entry} {request : Request} {fs : List Entry} → Writes es request fs → Kept history es → AskedTruly history es request
-    → Grows history es history fs → Kept history fs
+-- what a request writes of our records is asked truly
+abbrev pub WritesTruly : Names → History → List Entry → Request → Type 0
+WritesTruly ours history es (Create content) = ours (content_name content) ≡ true → IsImage history es (content_name content) content
+WritesTruly ours history es (Retrieve kind id if_match if_none_match) = Unit {0}
+WritesTruly ours history es (Search kind wanted start count) = Unit {0}
+WritesTruly ours history es (Replace id content if_match if_none_match) = ours (content_name content) ≡ true → Overwrites history es id content if_match
+
+-- so it is if the connector asks, or if somebody else does and leaves our records alone
+pub if_asked : (ours : Names) (history : History) (es : List Entry) (request : Request) → AskedTruly history es request → WritesTruly ours history es request
+if_asked ours history es (Create content) asked = λ mine. asked
+if_asked ours history es (Retrieve kind id if_match if_none_match) asked = tt
+if_asked ours history es (Search kind wanted start count) asked = tt
+if_asked ours history es (Replace id content if_match if_none_match) asked = λ mine. asked
+
+pub if_alone : (ours : Names) (history : History) (es : List Entry) (request : Request) → LeavesAlone ours request → WritesTruly ours history es request
+if_alone ours history es (Create content) alone = λ mine. absurd (cc)
+if_alone ours history es (Retrieve kind id if_match if_none_match) alone = tt
+if_alone ours history es (Search kind wanted start count) alone = tt
+if_alone ours history es (Replace id content if_match if_none_match) alone = λ mine. absurd (cc)
+
+kept_by : {ours : Names} (history : History) {es : List Entry} {request : Request} {fs : List Entry} → Writes es request fs → Kept ours history es → WritesTruly ours history es request
+    → Grows history es history fs → Kept ours history fs
 kept_by history nothing kept asked grows = kept
 kept_by history (created {es = es} content free) kept asked grows = created_kept history es content kept asked grows
 kept_by history (replaced {es = es} i e content m n there named below holds) kept asked grows =
@@ -196,5 +229,6 @@ step_grows history es request whole = record {
   whole = tables_stay_whole es request whole;
 }
 
-pub step_keeps : (history : History) (es : List Entry) (request : Request) → Kept history es → AskedTruly history es request → Kept history (step es request).entries
+pub step_keeps : {ours : Names} (history : History) (es : List Entry) (request : Request) → Kept ours history es → WritesTruly ours history es request
+    → Kept ours history (step es request).entries
 step_keeps history es request kept asked = kept_by history (steps_write es request) kept asked (step_grows history es request kept.whole)

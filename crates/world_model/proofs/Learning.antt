@@ -91,7 +91,7 @@ module _ (w : World) (inv : Invariant w) (name : RecordName) (known : Known) (in
   fact_fits : (s : ShownRecord) → IsFact w.entries s → content_name s.content ≡ name → IsOk (fit name known s)
   fact_fits s fact named =
       let of_record : fact.entry.name ≡ name = sym (inv.kept.whole.named fact.place fact.turn fact.entry s.content fact.here fact.held) ∙ named in
-      let image = inv.kept.imaged fact.place fact.turn fact.entry s.content fact.here fact.held in
+      let image = inv.kept.imaged fact.place fact.turn fact.entry s.content fact.here refl fact.held in
       let accepted : Has (rows_of w.history name) image.row = subst (λ (n : RecordName). Has (rows_of w.history n) image.row) of_record image.accepted in
       let up = each_up_to (rows_of w.history name) accepted.0 image.row known.wanted (inv.rising name) accepted.1 last in
       let its = id_at w.entries name fact.place fact.entry inv.kept.whole fact.here of_record in

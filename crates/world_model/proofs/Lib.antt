@@ -13,6 +13,8 @@ pub mod Sending
 pub mod Invariant
 pub mod Safety
 pub mod Headlines
+pub mod Others
+pub mod Several
 pub mod Counting
 pub mod Ranking
 pub mod Searched

@@ -30,6 +30,7 @@ use Rattle.connector_core.specs.Changing.{history_after, book_after}
 use Rattle.world_model.proofs.Learned.{Learns, Learns.sees, Learns.misses, Learns.is_taken, Learns.is_stale, learnt_by}
 use Rattle.world_model.specs.World.{World, Message, Asked, Answered, Event, Changes, Sends, Delivers, Cuts, Restarts_provider, Restarts_connector, sends, delivers, message_at, happens, empty, judged, run}
 use Rattle.world_model.specs.Safe.{IsPrefixOf, Onward, AlwaysOnward}
+use Rattle.world_model.specs.Others.{Act, Ours, Theirs, acts, run_among, AlwaysOnwardAmong}
 
 -- ---- lists
 
@@ -179,3 +180,25 @@ run-append w (event ∷ early) late = run-append (happens w event) early late
 
 pub always_onward : AlwaysOnward
 always_onward early late = subst (Onward (run empty early)) (sym (run-append empty early late)) (run_on (run empty early) late)
+
+-- ---- every act
+
+act_on : (w : World) (act : Act) → Onward w (acts w act)
+act_on w (Ours event) = event_on w event
+act_on w (Theirs request) = record {
+  rows = λ name. stays (rows_of w.history name);
+  stories = stories_only_grow w.entries request;
+  messages = stays w.messages;
+  confirmed = none_falls w.book;
+}
+
+pub among_on : (w : World) (later : List Act) → Onward w (run_among w later)
+among_on w [] = here_still w
+among_on w (act ∷ later) = and_on w (acts w act) (run_among (acts w act) later) (act_on w act) (among_on (acts w act) later)
+
+pub among-append : (w : World) (early late : List Act) → run_among w (early ++ late) ≡ run_among (run_among w early) late
+among-append w [] late = refl
+among-append w (act ∷ early) late = among-append (acts w act) early late
+
+pub always_onward_among : AlwaysOnwardAmong
+always_onward_among early late = subst (Onward (run_among empty early)) (sym (among-append empty early late)) (among_on (run_among empty early) late)

@@ -56,7 +56,7 @@ pub record Quiet (w : World) : Type 0 where
 -- each entry's record is one of the source
 entry_named_there : (w : World) → Quiet w → (i : ℕ) (e : Entry) → IsAt w.entries i e → Has (names_of w.history) e.name
 entry_named_there w q i e at =
-    let image = q.inv.kept.imaged i (length e.earlier) e e.held at (held_at e) in
+    let image = q.inv.kept.imaged i (length e.earlier) e e.held at refl (held_at e) in
     let there = row_there w.history e.name image.row image.accepted in
     subst (λ (n : RecordName). Has (names_of w.history) n) (row_of_record w.history e.name image.row image.accepted) (q.counted.every there.0 image.row there.1)
 

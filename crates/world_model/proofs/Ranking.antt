@@ -15,7 +15,7 @@ use Rattle.source_csv.specs.Records.{row_name}
 use Rattle.connector_core.specs.History.{History, same_name, rows_of}
 use Rattle.connector_core.specs.Learning.{content_revision}
 use Rattle.world_model.specs.Safe.{IsAt, Has, StoryRises}
-use Rattle.world_model.specs.Invariant.{Kept}
+use Rattle.world_model.specs.Invariant.{all_names, Kept}
 use Rattle.world_model.proofs.Lists.{at_within, filter_has}
 
 -- a content with a valid revision
@@ -61,7 +61,7 @@ row_there history name row has = filter_has (λ r. same_name (row_name r) name) 
 pub row_lawful : (history : History) → AllLawful history → (name : RecordName) (row : Row) → Has (rows_of history name) row → IsRow row
 row_lawful history lawful name row has = let there = row_there history name row has in lawful there.0 row there.1
 
-pub versions_few : (history : History) (es : List Entry) → Kept history es → AllLawful history → (i : ℕ) (e : Entry) → IsAt es i e → length (story e) ≤ most_revisions
-versions_few history es kept lawful i e at = few_versions e (kept.rises i e at) (λ j c in_story.
-    let image = kept.imaged i j e c at in_story in
+pub versions_few : (history : History) (es : List Entry) → Kept all_names history es → AllLawful history → (i : ℕ) (e : Entry) → IsAt es i e → length (story e) ≤ most_revisions
+versions_few history es kept lawful i e at = few_versions e (kept.rises i e at refl) (λ j c in_story.
+    let image = kept.imaged i j e c at refl in_story in
     record { revision = row_revision image.row; has = image.revision; lawful = lawful_revision image.row (row_lawful history lawful e.name image.row image.accepted) })

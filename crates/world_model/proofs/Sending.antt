@@ -64,7 +64,7 @@ asked_of : (o : Option Known) (f : Known → Ask) (ask : Ask) → option_map f o
 asked_of None f ask is = absurd (cc)
 asked_of (Some known) f ask is = (known, refl, cc)
 
-wanted_of : (o : Option Known) (known : Known) → o ≡ Some known → option_map (λ k. k.wanted) o ≡ Some known.wanted
+pub wanted_of : (o : Option Known) (known : Known) → o ≡ Some known → option_map (λ k. k.wanted) o ≡ Some known.wanted
 wanted_of o known is = ap (option_map (λ k. k.wanted)) is
 
 search_asked : (history : History) (es : List Entry) (row : Row) → Has (rows_of history (row_name row)) row → AskedTruly history es (search_for row)

@@ -1,6 +1,7 @@
 -- What every event keeps, and so what is true after every run: the reason why the promise holds. What was true of a
 -- message when it was sent stays true.
-use Rattle.std.specs.Prelude.{◌≡◌, ◌≢◌, ℕ, ◌≤◌, List, [], ◌∷◌, length, Option, Some}
+-- It is true of the records that are ours, whatever others wrote of other records. Without others, every record is ours.
+use Rattle.std.specs.Prelude.{◌≡◌, ◌≢◌, ℕ, ◌≤◌, Bool, true, List, [], ◌∷◌, length, Option, Some}
 use Rattle.scim_key.specs.Revisions.{RevisionValue, no_revision, ◌≺◌, ◌≼◌}
 use Rattle.scim_key.specs.declared.records.RecordName.{RecordName}
 use Rattle.scim_version.specs.declared.conditions.Condition.{Condition}
@@ -24,13 +25,27 @@ use Rattle.connector_core.specs.declared.knowledge.Seen.TheVariants.{At}
 use Rattle.world_model.specs.World.{World, Message, Asked, Answered, Event, happens, empty, run}
 use Rattle.world_model.specs.Safe.{Has, IsAt, IsImage, IsVersion, StoryRises, id_in}
 
+-- ---- which records are ours
+
+-- the records whose names pass this test
+abbrev pub Names : Type 0
+Names = RecordName → Bool
+
+-- every record is ours
+abbrev pub all_names : Names
+all_names name = true
+
+-- every accepted row is of a record of ours
+abbrev pub AllOurs : Names → History → Type 0
+AllOurs ours history = (row : Row) → Has history row → ours (row_name row) ≡ true
+
 -- ---- the provider
 
--- no two entries are of the same record; revisions rise along each story, and each content is the image of its row
-pub record Kept (history : History) (es : List Entry) : Type 0 where
+-- no two entries are of the same record; along each story of ours revisions rise, and each content is the image of its row
+pub record Kept (ours : Names) (history : History) (es : List Entry) : Type 0 where
   pub whole : IsWholeTable es
-  pub rises : (i : ℕ) (e : Entry) → IsAt es i e → StoryRises (story e)
-  pub imaged : (i j : ℕ) (e : Entry) (c : Content) → IsAt es i e → IsAt (story e) j c → IsImage history es e.name c
+  pub rises : (i : ℕ) (e : Entry) → IsAt es i e → ours e.name ≡ true → StoryRises (story e)
+  pub imaged : (i j : ℕ) (e : Entry) (c : Content) → IsAt es i e → ours e.name ≡ true → IsAt (story e) j c → IsImage history es e.name c
   pub short : (i : ℕ) (e : Entry) → IsAt es i e → length (story e) ≤ last_version
 
 -- ---- the connector
@@ -103,13 +118,18 @@ AllTold history es messages = (i : ℕ) (message : Message) → IsAt messages i 
 
 -- ---- the invariant and its laws
 
--- Invariant: what is true of source, connector, provider and messages
-pub record Invariant (w : World) : Type 0 where
+-- what is true of source, connector, provider and messages, if these records are ours
+pub record InvariantOf (ours : Names) (w : World) : Type 0 where
+  pub mine : AllOurs ours w.history
   pub rising : AllRise w.history
   pub follows : Follows w.book w.history
-  pub kept : Kept w.history w.entries
+  pub kept : Kept ours w.history w.entries
   pub noted : AllNoted w.entries w.book
   pub told : AllTold w.history w.entries w.messages
+
+-- Invariant: what is true of them if every record is ours
+abbrev pub Invariant : World → Type 0
+Invariant w = InvariantOf all_names w
 
 -- Every event keeps it
 abbrev pub EventsKeepIt : Type 0

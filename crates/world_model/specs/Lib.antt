@@ -4,3 +4,5 @@ pub mod Invariant
 pub mod Reports
 pub mod Untroubled
 pub mod Settled
+pub mod Others
+pub mod Several

@@ -1,7 +1,16 @@
 //! Laws of all runs, with nothing to run.
 ghost use Rattle.world_model.specs.Invariant.{AlwaysKept, EventsKeepIt, FactsStay};
+ghost use Rattle.world_model.specs.Others.{
+  ActsKeepIt,
+  AlwaysOnwardAmong,
+  AlwaysSafeAmong,
+  HeadlineHoldsAmong,
+  JudgesBySourceAmong,
+  WithoutOthers,
+};
 ghost use Rattle.world_model.specs.Safe.{AlwaysOnward, AlwaysSafe, HeadlineHolds, JudgesBySource};
 ghost use Rattle.world_model.specs.Settled.{LeadsOn, OneWay, Settles};
+ghost use Rattle.world_model.specs.Several.{AlwaysOnwardForEach, AlwaysSafeForEach, EachIsAmongOthers, HeadlineHoldsForEach};
 ghost use Rattle.world_model.specs.Untroubled.{NeverRefused};
 
 /// After every run, the connector judges each row as the history of the source alone does.
@@ -56,4 +65,27 @@ pub fn settles()
     ensures by_three { Settles }
     ensures one_way { OneWay }
     ensures leads_on { LeadsOn }
+{}
+
+/// Others write at the same provider, at any time and whatever they like, except records of ours. Then the
+/// headline holds for our records (`headline`), the world is safe for them (`safe`), nothing of ours is lost
+/// or changed, and no confirmed revision falls (`onward`), and the connector judges as before (`judges`).
+/// Each act keeps the invariant (`kept`). Without others these are the laws above (`without`).
+pub fn holds_among_others()
+    ensures headline { HeadlineHoldsAmong }
+    ensures safe { AlwaysSafeAmong }
+    ensures onward { AlwaysOnwardAmong }
+    ensures judges { JudgesBySourceAmong }
+    ensures kept { ActsKeepIt }
+    ensures without { WithoutOthers }
+{}
+
+/// Several connectors share the provider, each with a source of its own. If no two of them have a record in
+/// common, then for each one the others are others who leave its records alone (`among`), so the headline
+/// holds for each (`headline`), the world of each is safe (`safe`) and goes on (`onward`).
+pub fn holds_for_each()
+    ensures among { EachIsAmongOthers }
+    ensures headline { HeadlineHoldsForEach }
+    ensures safe { AlwaysSafeForEach }
+    ensures onward { AlwaysOnwardForEach }
 {}

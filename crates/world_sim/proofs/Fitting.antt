@@ -238,7 +238,7 @@ module _ (base : List ℕ) (is_base : IsBase base) (w : World) (q : Quiet w) whe
 
   shown_short : (s : ShownRecord) → IsFact w.entries s → length (compact_text (shown_data base s)) ≤ 22797
   shown_short s fact =
-      let content = image_most fact.entry.name s.content (q.inv.kept.imaged fact.place fact.turn fact.entry s.content fact.here fact.held) in
+      let content = image_most fact.entry.name s.content (q.inv.kept.imaged fact.place fact.turn fact.entry s.content fact.here refl fact.held) in
       omega (arith, shown_most base s (brief_shown s fact), content)
 
   location_brief : (s : ShownRecord) → IsFact w.entries s → IsWithin 226 (Some (location_text base (content_kind s.content) s.id))
