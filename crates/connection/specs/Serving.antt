@@ -1,7 +1,10 @@
 -- What one connection does: what it writes, and how the rows change.
 use Rattle.std.specs.Prelude.{◌≡◌, ℕ, ◌⊎◌, Bool, List, Result, Ok, Err, IfOk, IfErr, OnOk}
 use Rattle.std.specs.Io.KnownBytes.{Appends}
+use Rattle.std.specs.Str.{IsUtf8}
 use Rattle.scim_resource.specs.Rows.{StoredRecord}
+use Rattle.scim_message.specs.Bodies.{body_text}
+use Rattle.scim_message.specs.Fitting.{ShowsLawfully}
 use Rattle.scim_message.specs.declared.messages.Answer.{Answer}
 use Rattle.scim_message.specs.declared.messages.Answer.TheVariants.{Error}
 use Rattle.scim_message.specs.declared.messages.Request.{Request}
@@ -26,10 +29,13 @@ use Rattle.connection.specs.declared.reactions.Reaction.{Reaction}
 use Rattle.connection.specs.declared.reactions.Reaction.TheVariants.{Refuse, GiveUp, StaySilent}
 use Rattle.connection.specs.Reactions.{reaction_to}
 
--- the model's answer to a request, and its change of the rows, while the store is faithful
+-- the model's answer to a request, and its change of the rows, while the store is faithful; what the answer shows is
+-- valid, and its body is UTF-8
 pub record AnswersRequest (faithful : Type 0) (base : List ℕ) (old new : List StoredRecord) (leaves_body_out : Bool) (request : Request) (reply : ReplyRecord) : Type 0 where
   pub answer : Answer
   pub reply_is : reply ≡ reply_of base leaves_body_out answer
+  pub lawful : ShowsLawfully answer
+  pub utf8 : IsUtf8 (body_text base answer)
   pub answer_is : faithful → answer ≡ (outcome old request).answer
   pub rows : faithful → new ≡ changed_rows old (outcome old request).change
 

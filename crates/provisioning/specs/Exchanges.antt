@@ -6,7 +6,7 @@ use Rattle.scim_key.specs.declared.records.RecordName.{RecordName}
 use Rattle.scim_message.specs.declared.messages.Answer.{Answer}
 use Rattle.scim_message.specs.declared.messages.Request.{Request}
 use Rattle.http_text.specs.Counts.{Reading, Writing}
-use Rattle.scim_client.specs.Exchanges.{Sends, Reads, ExchangesKnown}
+use Rattle.scim_client.specs.Exchanges.{Sends, SpellsSent, Reads, ExchangesKnown}
 use Rattle.scim_client.specs.Requests.{text_of}
 use Rattle.scim_client.specs.declared.exchange.ExchangeFault.{ExchangeFault}
 use Rattle.connection.specs.Turns.{fresh_reading, fresh_writing}
@@ -16,7 +16,7 @@ use Rattle.connector_core.specs.Asking.{asking}
 use Rattle.connector_core.specs.Learning.{after_learning, learn}
 use Rattle.connector_core.specs.Maps.{GivesUnless, book_of}
 use Rattle.connector_core.specs.Noting.{CountsLearn, KeepsEntries, MayStandFor, learnt_of, note, noted_entries}
-use Rattle.connector_core.specs.State.{State}
+use Rattle.connector_core.specs.State.{Leaves, LeavesBook, State}
 use Rattle.connector_core.specs.declared.asking.Ask.TheVariants.{Send}
 use Rattle.connector_core.specs.declared.learning.LearnFault.{LearnFault}
 use Rattle.connector_core.specs.declared.learning.Learnt.{Learnt}
@@ -46,7 +46,7 @@ outcome (lost fault) = unanswered fault
 -- ---- how it changes the connector
 
 -- What is learnt from an answer is what the connector's definition says, and nothing else changes its book and its
--- journal
+-- journal. A stop leaves the book before it or after it
 pub record Learns {J : Type 0} (g : Ghosts J) (request : Request) (answer : Answer) (result : Result Learnt LearnFault) (old new : State J) : Type 0 where
   pub learnt : GivesUnless (MayStandFor (learn (book_of old.book) request answer)) result (learnt_of (learn (book_of old.book) request answer))
   pub ok : OnOk result (book_of new.book ≡ after_learning (book_of old.book) (learn (book_of old.book) request answer))
@@ -54,6 +54,7 @@ pub record Learns {J : Type 0} (g : Ghosts J) (request : Request) (answer : Answ
   pub names : keys new.book ≡ keys old.book
   pub journal : Writes g CountsLearn old.journal new.journal (noted_entries (g.entries old.journal) (note (book_of old.book) request answer)) result
   pub quiet : KeepsEntries old.book new.book → g.writes new.journal ≡ g.writes old.journal
+  pub leaves : g.is_honest new.journal → LeavesBook g old → Leaves g old new (after_learning (book_of old.book) (learn (book_of old.book) request answer)) (keys old.book) result
 
 -- without an answer, the connector is unchanged
 abbrev pub Becomes : {J : Type 0} → Ghosts J → Request → Came → (old new : State J) → Type 0
@@ -62,11 +63,12 @@ Becomes g request (lost fault) old new = new ≡ old
 
 -- ---- on its stream
 
--- The request's text was written to the writer, and the result is what the bytes of the reader say, from the first on
+-- The request's text, which spells it, was written to the writer, and the result is what the bytes of the reader say, from the first on
 pub record IsAsked {I O : Type 0} (remaining : I → Option (List ℕ)) (contents : O → Option (List ℕ)) (base : List ℕ) (request : Request) (reader : I) (writer : O) (came : Result Answer ExchangeFault) : Type 0 where
   pub left : Reading
   pub written : Writing
   pub sent : Sends (text_of base request) (fresh_writing (contents writer)) written came
+  pub spelled : SpellsSent base request (fresh_writing (contents writer)) written
   pub read : Reads request (fresh_reading (remaining reader)) left came
   pub known : ExchangesKnown request (remaining reader) left.remaining came
 

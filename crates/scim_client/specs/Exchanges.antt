@@ -18,6 +18,8 @@ use Rattle.scim_client.specs.declared.answers.AnswerFault.TheVariants.{NotOneRes
 use Rattle.scim_client.specs.declared.answers.AnswerFault.TheVariants as answers
 use Rattle.scim_client.specs.declared.exchange.ExchangeFault.{ExchangeFault}
 use Rattle.scim_client.specs.declared.exchange.ExchangeFault.TheVariants.{Unsent, EndedEarly, ReadFailed, OutOfMemory, TurnsExhausted, NoAnswer}
+use Rattle.scim_client.specs.Requests.{text_of}
+use Rattle.scim_client.specs.Spelling.{IsWritable, KeepsLimits, SpellsRequest}
 use Rattle.scim_client.specs.Answers.{answer_in, AnswersSo, RefusesBody, SaysSo}
 
 -- ---- what is sent
@@ -41,6 +43,10 @@ Sends text old new (Err (NoAnswer NotOneResponse)) = IsSent old new text
 Sends text old new (Err (NoAnswer NotJson)) = IsSent old new text
 Sends text old new (Err (NoAnswer WrongShape)) = IsSent old new text
 Sends text old new (Err (NoAnswer answers.OutOfMemory)) = IsSent old new text ⊎ (new ≡ old)
+
+-- nothing was written, or the request's text spells it, if it is within the limits
+abbrev pub SpellsSent : (base : List ℕ) → Request → (old new : Writing) → Type 0
+SpellsSent base request old new = (new ≡ old) ⊎ (IsWritable request → KeepsLimits base request → SpellsRequest (text_of base request) request)
 
 -- ---- what is read
 

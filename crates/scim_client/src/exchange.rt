@@ -66,6 +66,7 @@ impl ScimService {
         // What was written, and what was taken from the reader; the answer is the one in these bytes.
         ensures sent { spec.Sends (text_of self.now request.now) writer.old writer.new result }
         ensures read { spec.Reads request.now reader.old reader.new result }
+        ensures spelled { spec.SpellsSent self.now request.now writer.old writer.new }
 
         // The response at the reader's front is the result, whatever follows it, unless something hinders
         // the exchange.

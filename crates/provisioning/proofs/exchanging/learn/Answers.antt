@@ -6,7 +6,7 @@ pub returns-in-Ok : goal.returns-in-Ok
 returns-in-Ok g c = let e = c.in-Ok.ensures in record {
   came = answered c.args.answer.now (Ok c.in-Ok.field-0);
   answer_is = refl;
-  becomes = record { learnt = e.learnt; ok = e.ok; err = e.err; names = e.names; journal = e.journal; quiet = e.quiet };
+  becomes = record { learnt = e.learnt; ok = e.ok; err = e.err; names = e.names; journal = e.journal; quiet = e.quiet; leaves = e.leaves };
   result_is = refl;
 }
 
@@ -14,6 +14,6 @@ pub returns-in-Err : goal.returns-in-Err
 returns-in-Err g c = let e = c.in-Err.ensures in record {
   came = answered c.args.answer.now (Err c.in-Err.fault);
   answer_is = refl;
-  becomes = record { learnt = e.learnt; ok = e.ok; err = e.err; names = e.names; journal = e.journal; quiet = e.quiet };
+  becomes = record { learnt = e.learnt; ok = e.ok; err = e.err; names = e.names; journal = e.journal; quiet = e.quiet; leaves = e.leaves };
   result_is = c.unlearnt.ensures;
 }

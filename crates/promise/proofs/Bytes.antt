@@ -1,0 +1,88 @@
+-- What is read of a first part of a message, and what was written of a reply.
+use Rattle.std.proofs.Common.{◌≡◌, ℕ, Bool, true, false, List, [], ◌∷◌, ◌++◌, Option, Some, None, refl, ap, sym, subst, ◌∙◌, append_assoc}
+use Rattle.std.proofs.lemmas.List.{append-nil, append_cancel_left}
+use Rattle.std.specs.Io.KnownBytes.{Appends, Consumes}
+use Rattle.scim_message.specs.Bodies.{body_text}
+use Rattle.scim_message.specs.declared.messages.Answer.{Answer}
+use Rattle.http_text.specs.Counts.{Writing}
+use Rattle.http_text.specs.Forms.{IsMessage, request_form, response_form}
+use Rattle.http_text.specs.Message.{Message}
+use Rattle.http_text.specs.Requests.{TakesMessage}
+use Rattle.http_text.specs.Responses.{TakesResponse}
+use Rattle.http_text.proofs.FormLaws.{request_laws, response_laws}
+use Rattle.http_text.proofs.MessageLemmas.{messages_same}
+use Rattle.scim_http.specs.Replies.{ReplyRecord, answer_text}
+use Rattle.connection.specs.declared.answering.Served.{Served}
+use Rattle.connection.specs.declared.answering.Served.TheVariants.{Answered, NoRequest, Lost}
+use Rattle.connection.specs.Serving.{IsSent}
+use Rattle.world_model.specs.Safe.{IsPrefixOf}
+use Rattle.promise.specs.Traces.{IsAtFront}
+
+pub part_of_part : (a b c : List ℕ) → IsPrefixOf a b → IsPrefixOf b c → IsPrefixOf a c
+part_of_part a b c p q = (p.0 ++ q.0, q.1 ∙ ap (λ (l : List ℕ). l ++ q.0) p.1 ∙ append_assoc a p.0 q.0)
+
+module _ (came text : List ℕ) (left : Option (List ℕ)) (m : Message) (part : IsPrefixOf came text) where
+  taken_front : (bytes rest : List ℕ) → came ≡ bytes ++ rest → IsPrefixOf bytes text
+  taken_front bytes rest split = part_of_part bytes came text (rest, split) part
+
+  -- a message that is taken from a first part of some bytes is at the front of these
+  pub taken_request : TakesMessage (Some came) left m → IsAtFront request_form text m
+  taken_request takes = go left takes.1
+    where
+      go : (o : Option (List ℕ)) → Consumes (Some came) o takes.0 → IsAtFront request_form text m
+      go None c = absurd c
+      go (Some rest) c = (takes.0, takes.2, taken_front takes.0 rest c)
+
+  pub taken_response : TakesResponse (Some came) left m → IsAtFront response_form text m
+  taken_response takes = go left takes.1
+    where
+      go : (o : Option (List ℕ)) → Consumes (Some came) o takes.0 → IsAtFront response_form text m
+      go None c = absurd c
+      go (Some rest) c = (takes.0, takes.2, taken_front takes.0 rest c)
+
+first_empty : (xs ys : List ℕ) → xs ++ ys ≡ [] → xs ≡ []
+first_empty [] ys e = refl
+first_empty (x ∷ xs) ys e = absurd (cc e)
+
+-- no response is taken from no bytes
+no_message : (bytes : List ℕ) (m : Message) → bytes ≡ [] → IsMessage response_form bytes m → ⊥
+no_message bytes m none is =
+    let front : is.front ≡ [] = first_empty is.front m.body (sym is.split ∙ none) in
+    response_laws.undecided.none is.head.tree [] (subst (λ (b : List ℕ). response_form.Reads b is.head.tree []) front is.head.reads)
+
+pub none_taken : (left : Option (List ℕ)) (m : Message) → TakesResponse (Some []) left m → ⊥
+none_taken left m takes = go left takes.1
+  where
+    go : (o : Option (List ℕ)) → Consumes (Some []) o takes.0 → ⊥
+    go None c = c
+    go (Some rest) c = no_message takes.0 m (first_empty takes.0 rest (sym c)) takes.2
+
+-- a message at the front of the text of a message is that message
+pub one_request_message : (text : List ℕ) (m n : Message) → IsAtFront request_form text m → IsMessage request_form text n → m ≡ n
+one_request_message text m n front is = (messages_same request_form request_laws front.0 front.2.0 text [] m n (sym front.2.1 ∙ sym (append-nil text)) front.1 is).2
+
+pub one_response_message : (text : List ℕ) (m n : Message) → IsAtFront response_form text m → IsMessage response_form text n → m ≡ n
+one_response_message text m n front is = (messages_same response_form response_laws front.0 front.2.0 text [] m n (sym front.2.1 ∙ sym (append-nil text)) front.1 is).2
+
+-- ---- what was written
+
+appended : (held out text : List ℕ) (old new : Option (List ℕ)) → old ≡ Some held → new ≡ Some (held ++ out) → Appends old new text → out ≡ text
+appended held out text old new before after appends =
+    let known : Appends (Some held) (Some (held ++ out)) text = subst (λ n. Appends (Some held) n text) after (subst (λ o. Appends o new text) before appends) in
+    append_cancel_left held out text known
+
+-- it is a first part of the reply, or all of it
+pub sent_part : (held out : List ℕ) (before after : Writing) (reply : ReplyRecord) (served : Served) → before.contents ≡ Some held → after.contents ≡ Some (held ++ out) → IsSent before after reply served
+    → IsPrefixOf out reply.text
+sent_part held out before after reply (Answered status) b a is =
+    let same = appended held out reply.text before.contents after.contents b a is.1 in ([], sym same ∙ sym (append-nil out))
+sent_part held out before after reply (NoRequest fault) b a is = absurd is
+sent_part held out before after reply (Lost status) b a is =
+    let lost = is.1.1 in
+    let same = appended held out lost.front before.contents after.contents b a lost.appends in
+    (lost.left, lost.split ∙ ap (λ (l : List ℕ). l ++ lost.left) (sym same))
+
+-- without its body, a reply is a first part of the whole
+pub without_body : (base : List ℕ) (leaves_out : Bool) (answer : Answer) → IsPrefixOf (answer_text base leaves_out answer) (answer_text base false answer)
+without_body base false answer = ([], sym (append-nil (answer_text base false answer)))
+without_body base true answer = (body_text base answer, ap (λ (l : List ℕ). l ++ body_text base answer) (sym (append-nil _)))

@@ -1,0 +1,445 @@
+-- Each step of a trace over bytes is at most one step of a trace of requests and answers.
+use Rattle.std.proofs.Common.{arith, ◌≡◌, ℕ, Bool, false, List, [], ◌∷◌, ◌++◌, Option, Result, Ok, Err, refl, ap, sym, subst, ◌∙◌, inl, inr}
+use Rattle.std.specs.FinMap.{keys}
+use Rattle.std.specs.Prelude.{◌⊎◌, IfOk}
+use Rattle.scim_key.specs.Bases.{IsBase}
+use Rattle.scim_resource.specs.Rows.{StoredRecord}
+use Rattle.scim_message.specs.Refusals.{ErrorRecord, error_of}
+use Rattle.scim_message.specs.declared.answers.BodyFault.{BodyFault}
+use Rattle.scim_message.specs.declared.messages.Answer.{Answer}
+use Rattle.scim_message.specs.declared.messages.Answer.TheVariants.{Error}
+use Rattle.scim_message.specs.declared.messages.Request.{Request}
+use Rattle.scim_message.specs.declared.refusals.Refusal.{Refusal}
+use Rattle.scim_message.specs.declared.refusals.Refusal.TheVariants as refusals
+use Rattle.provider_core.specs.Outcomes.{outcome, changed_rows}
+use Rattle.provider_core.specs.declared.registry.Registry.{Ghosts as Registries}
+use Rattle.http_text.specs.declared.fault.ReadFault.{ReadFault}
+use Rattle.http_text.specs.declared.fault.ReadFault.TheVariants as reads
+use Rattle.http_text.specs.Counts.{Writing}
+use Rattle.http_text.specs.Forms.{request_form, response_form}
+use Rattle.http_text.specs.Judging.{is_head}
+use Rattle.http_text.specs.Message.{Message}
+use Rattle.scim_http.specs.Laws.{fixed_error}
+use Rattle.scim_http.specs.Meaning.{Asks}
+use Rattle.scim_http.specs.Replies.{ReplyRecord, answer_text, fixed_reply, fixed_text}
+use Rattle.scim_http.proofs.MeaningLaws.{one_meaning}
+use Rattle.scim_http.proofs.ReplyLaws.{replies_are_lawful}
+use Rattle.scim_client.specs.Answers.{AnswersSo, answer_in}
+use Rattle.scim_client.specs.Exchanges.{Reads}
+use Rattle.scim_client.specs.Requests.{text_of}
+use Rattle.scim_client.specs.Spelling.{SpellsRequest}
+use Rattle.connection.specs.Reactions.{reaction_to}
+use Rattle.connection.specs.declared.answering.Served.{Served}
+use Rattle.connection.specs.Serving.{AnswersFault, AnswersMeaning, AnswersRequest, IsAfter, Reacts, Sends, Serves as ServesSo}
+use Rattle.connection.specs.Turns.{fresh_reading, fresh_writing}
+use Rattle.journal_core.specs.Entries.{EntryMap}
+use Rattle.journal_core.specs.declared.journals.Journal.{Ghosts as Journals}
+use Rattle.connector_core.specs.Asking.{asking}
+use Rattle.connector_core.specs.Changing.{history_after, judged, taking}
+use Rattle.connector_core.specs.Learning.{after_learning, learn}
+use Rattle.connector_core.specs.Maps.{BookMap, book_of}
+use Rattle.connector_core.specs.State.{AreOf, IsOpened, State as Connector}
+use Rattle.connector_core.specs.declared.learning.Learnt.{Learnt}
+use Rattle.connector_core.specs.declared.learning.LearnFault.{LearnFault}
+use Rattle.provisioning.specs.Exchanges.{Becomes, Came, answered, lost, answer_in as answer_of}
+use Rattle.world_model.specs.World.{Asked, Answered, empty, run}
+use Rattle.world_model.specs.Invariant.{AskedTruly}
+use Rattle.world_model.proofs.Invariant.{always_inv}
+use Rattle.world_model.specs.Safe.{Has, IsPrefixOf}
+use Rattle.world_sim.specs.Fitting.{IsFormed}
+use Rattle.world_sim.proofs.Fitting.{messages_are_read}
+use Rattle.promise.specs.Traces.{CameFrom, Hears, IsAt, IsAtFront, IsShutOut, LeavesBook, Serves, State, Step, Step.offers, Step.asks, Step.serves, Step.hears, Step.reopens, Step.rests, Trace, Trace.here, Trace.next, TracesAreRuns, Written, reacted_text, reply_text, start}
+use Rattle.promise.specs.Typed as typed
+use Rattle.promise.proofs.Bytes.{one_request_message, one_response_message, part_of_part, without_body}
+use Rattle.promise.proofs.Errors.{IsReadable, error_is_read, fixed_readable, refusal_readable}
+use Rattle.promise.proofs.Lists.{each_more, has_last, has_more}
+use Rattle.promise.proofs.Promises.{promised}
+use Rattle.promise.proofs.Typed.{Leads, at_start, other_error, traced, typed_traces_are_runs}
+
+-- ---- what was written, as answers
+
+-- these bytes are a first part of an answer that was given, or of another error, or all of it
+data Says (base : List ℕ) (replies : List typed.Reply) (request : Request) (bytes : List ℕ) : Type 0 where
+  by_answer : (answer : Answer) → Has replies (request, answer) → IsFormed base (Answered request answer) → IsPrefixOf bytes (answer_text base false answer) → Says base replies request bytes
+  by_error : (error : ErrorRecord) → typed.IsOtherError error → IsReadable error → IsPrefixOf bytes (answer_text base false (Error error)) → Says base replies request bytes
+
+says_more : (base : List ℕ) (replies more : List typed.Reply) (request : Request) (bytes : List ℕ) → Says base replies request bytes → Says base (replies ++ more) request bytes
+says_more base replies more request bytes (by_answer answer has formed part) = by_answer answer (has_more replies more (request, answer) has) formed part
+says_more base replies more request bytes (by_error error other readable part) = by_error error other readable part
+
+-- a first part of that says the same
+says_part : (base : List ℕ) (replies : List typed.Reply) (request : Request) (bytes whole : List ℕ) → IsPrefixOf bytes whole → Says base replies request whole → Says base replies request bytes
+says_part base replies request bytes whole p (by_answer answer has formed part) = by_answer answer has formed (part_of_part bytes whole _ p part)
+says_part base replies request bytes whole p (by_error error other readable part) = by_error error other readable (part_of_part bytes whole _ p part)
+
+fixed_other : typed.IsOtherError fixed_error
+fixed_other = record { taken = λ e. absurd (omega (arith, e)); stale = λ e. absurd (omega (arith, e)) }
+
+says_fixed : (base : List ℕ) (replies : List typed.Reply) (request : Request) (bytes : List ℕ) → IsPrefixOf bytes fixed_text → Says base replies request bytes
+says_fixed base replies request bytes part = by_error fixed_error fixed_other fixed_readable (subst (IsPrefixOf bytes) (replies_are_lawful.fixed base) part)
+
+says_nothing : (base : List ℕ) (replies : List typed.Reply) (request : Request) → Says base replies request []
+says_nothing base replies request = says_fixed base replies request [] (fixed_text, refl)
+
+-- ---- the two states
+
+-- the trace of requests and answers that a trace over bytes makes
+record Spoken (base : List ℕ) (s : State) (u : typed.State) : Type 0 where
+  rows : s.rows ≡ u.rows
+  history : s.history ≡ u.history
+  book : s.book ≡ u.book
+  sent : s.sent ≡ u.sent
+  formed : (request : Request) → Has s.sent request → IsFormed base (Asked request)
+  written : (w : Written) → Has s.written w → Says base u.replies w.0 w.1
+
+-- it goes on
+record Goes (base : List ℕ) (u : typed.State) (t : State) : Type 0 where
+  later : typed.State
+  trace : typed.Trace u later
+  spoken : Spoken base t later
+
+-- ---- the provider
+
+refusal_says : (base : List ℕ) (replies : List typed.Reply) (request : Request) (leaves_out : Bool) (refusal : Refusal) → typed.IsOtherError (error_of refusal)
+    → Says base replies request (answer_text base leaves_out (Error (error_of refusal)))
+refusal_says base replies request leaves_out refusal other = by_error (error_of refusal) other (refusal_readable refusal) (without_body base leaves_out (Error (error_of refusal)))
+
+module _ (base : List ℕ) (replies : List typed.Reply) (request : Request) (out : List ℕ) (before after : Writing) (served : Served) where
+  fixed_text_sent : (text : List ℕ) → text ≡ fixed_text → IsPrefixOf out text → Says base replies request out
+  fixed_text_sent text same part = says_fixed base replies request out (subst (IsPrefixOf out) same part)
+
+  fixed_sent : (sends : Sends before after (λ reply. reply ≡ fixed_reply) served) → IsPrefixOf out sends.0.text → Says base replies request out
+  fixed_sent sends part = fixed_text_sent sends.0.text (ap (λ (r : ReplyRecord). r.text) sends.1) part
+
+  refusal_sent : (leaves_out : Bool) (refusal : Refusal) → typed.IsOtherError (error_of refusal) → (sends : Sends before after (AnswersFault base leaves_out refusal) served) → IsPrefixOf out sends.0.text
+      → Says base replies request out
+  refusal_sent leaves_out refusal other sends part = elim (sends.1) [
+    | inl refuses ↦ says_part base replies request out (answer_text base leaves_out (Error (error_of refusal))) (subst (IsPrefixOf out) (ap (λ (r : ReplyRecord). r.text) refuses) part)
+        (refusal_says base replies request leaves_out refusal other)
+    | inr fixed ↦ fixed_text_sent sends.0.text (ap (λ (r : ReplyRecord). r.text) fixed) part
+  ]
+
+  silence : IsPrefixOf out [] → Says base replies request out
+  silence part = says_part base replies request out [] part (says_nothing base replies request)
+
+  other_by : (refusal : Refusal) → ((error_of refusal).status ≡ 409 → ⊥) → ((error_of refusal).status ≡ 412 → ⊥) → typed.IsOtherError (error_of refusal)
+  other_by refusal taken stale = record { taken = taken; stale = stale }
+
+  reacted : (fault : ReadFault) (r : Reacts base before after fault (reaction_to fault) served) → IsPrefixOf out (reacted_text base before after served fault r) → Says base replies request out
+  reacted reads.Malformed r part = refusal_sent false refusals.Malformed (other_by refusals.Malformed (λ e. absurd (omega (arith, e))) (λ e. absurd (omega (arith, e)))) r part
+  reacted (reads.HostMissingOrRepeated x) r part = refusal_sent x refusals.Host (other_by refusals.Host (λ e. absurd (omega (arith, e))) (λ e. absurd (omega (arith, e)))) r part
+  reacted (reads.LengthMissing x) r part = refusal_sent x refusals.LengthMissing (other_by refusals.LengthMissing (λ e. absurd (omega (arith, e))) (λ e. absurd (omega (arith, e)))) r part
+  reacted (reads.BodyTooLong x) r part = refusal_sent x refusals.BodyTooLong (other_by refusals.BodyTooLong (λ e. absurd (omega (arith, e))) (λ e. absurd (omega (arith, e)))) r part
+  reacted reads.HeadTooLong r part = refusal_sent false refusals.HeadTooLong (other_by refusals.HeadTooLong (λ e. absurd (omega (arith, e))) (λ e. absurd (omega (arith, e)))) r part
+  reacted (reads.TransferCoding x) r part = refusal_sent x refusals.TransferCoding (other_by refusals.TransferCoding (λ e. absurd (omega (arith, e))) (λ e. absurd (omega (arith, e)))) r part
+  reacted (reads.Expectation x) r part = refusal_sent x refusals.Expectation (other_by refusals.Expectation (λ e. absurd (omega (arith, e))) (λ e. absurd (omega (arith, e)))) r part
+  reacted reads.EndedEarly r part = silence part
+  reacted reads.ReadFailed r part = silence part
+  reacted reads.OutOfMemory r part = fixed_sent r part
+  reacted reads.TurnsExhausted r part = silence part
+
+-- what a message means that is at the front of the text of a request
+meant : (m : Message) (text : List ℕ) (request : Request) → IsAtFront request_form text m → SpellsRequest text request → Asks m (Ok request)
+meant m text request front spells = subst (λ n. Asks n (Ok request)) (sym (one_request_message text m spells.message front spells.is)) spells.asks
+
+-- ---- the connector
+
+-- the only answer that is read of these bytes
+module _ (base : List ℕ) (is_base : IsBase base) (u : typed.State) (trace : typed.Trace typed.start u) where
+  ran : Leads empty u
+  ran = traced typed.start u empty trace at_start
+
+  -- a request that was sent has a text that spells it
+  spelled : (request : Request) → Has u.sent request → IsFormed base (Asked request) → SpellsRequest (text_of base request) request
+  spelled request has formed =
+      messages_are_read base ran.events (Asked request) is_base ran.lawful (ran.mirrors.sent request has) formed
+
+  asked_truly : (request : Request) → Has u.sent request → AskedTruly (run empty ran.events).history (run empty ran.events).entries request
+  asked_truly request has = let there = ran.mirrors.sent request has in (always_inv ran.events).told there.0 (Asked request) there.1
+
+  -- an answer that was given has a text that is read as that answer
+  answer_is_read : (request : Request) (answer : Answer) → Has u.replies (request, answer) → IsFormed base (Answered request answer) → AnswersSo (answer_text base false answer) request answer
+  answer_is_read request answer has formed = messages_are_read base ran.events (Answered request answer) is_base ran.lawful (ran.mirrors.replies (request, answer) has) formed
+
+  -- what a client reads at the front of a text is the answer of the text
+  read_at_front : (request : Request) (text : List ℕ) (m : Message) (read answer : Answer) → AnswersSo text request answer → IsAtFront response_form text m → answer_in request m ≡ Ok read → read ≡ answer
+  read_at_front request text m read answer so front says =
+      let same = one_response_message text m so.message front so.is_message.0 in
+      let e : ◌≡◌ {A = Result Answer BodyFault} (Ok read) (Ok answer) = sym says ∙ ap (answer_in request) same ∙ so.says in
+      cc
+
+  at_whole : (bytes text : List ℕ) (m : Message) → IsAtFront response_form bytes m → IsPrefixOf bytes text → IsAtFront response_form text m
+  at_whole bytes text m front part = (front.0, front.1, part_of_part front.0 bytes text front.2 part)
+
+  -- an answer that is read of what was written was given, or is another error
+  read_answer : (request : Request) (bytes : List ℕ) (m : Message) (read : Answer) → Has u.sent request → Says base u.replies request bytes
+      → IsAtFront response_form bytes m → answer_in request m ≡ Ok read
+      → Has u.replies (request, read) ⊎ ((error : ErrorRecord) × (read ≡ Error error) × typed.IsOtherError error)
+  read_answer request bytes m read sent (by_answer answer has formed part) front says =
+      inl (subst (λ (x : Answer). Has u.replies (request, x))
+      (sym (read_at_front request (answer_text base false answer) m read answer (answer_is_read request answer has formed) (at_whole bytes (answer_text base false answer) m front part) says)) has)
+  read_answer request bytes m read sent (by_error error other readable part) front says =
+      let text = answer_text base false (Error error) in
+      let so = error_is_read base is_base error readable (run empty ran.events).history (run empty ran.events).entries request (asked_truly request sent) in
+      inr (error, read_at_front request text m read (Error error) so (at_whole bytes text m front part) says, other)
+
+  -- ---- one step
+
+  module _ (old : State) (spoken : Spoken base old u) where
+    -- a connection that changed no row
+    quiet : (request : Request) (rows : List StoredRecord) (out : List ℕ) → rows ≡ old.rows → Says base u.replies request out
+        → Goes base u (record old { rows = rows; written = old.written ++ (request, out) ∷ [] })
+    quiet request rows out same says = record {
+      later = u;
+      trace = typed.here;
+      spoken = record {
+        rows = same ∙ spoken.rows;
+        history = spoken.history;
+        book = spoken.book;
+        sent = spoken.sent;
+        formed = spoken.formed;
+        written = each_more (λ (w : Written). Says base u.replies w.0 w.1) old.written (request, out) spoken.written says;
+      };
+    }
+
+    -- a connection whose request was carried out
+    carried_out : (request : Request) (rows : List StoredRecord) (out : List ℕ) → Has old.sent request → rows ≡ changed_rows old.rows (outcome old.rows request).change
+        → Says base (u.replies ++ (request, (outcome u.rows request).answer) ∷ []) request out
+        → Goes base u (record old { rows = rows; written = old.written ++ (request, out) ∷ [] })
+    carried_out request rows out has done says = record {
+      later = record u { rows = changed_rows u.rows (outcome u.rows request).change; replies = u.replies ++ (request, (outcome u.rows request).answer) ∷ [] };
+      trace = typed.next typed.here (typed.answers request (subst (λ sent. Has sent request) spoken.sent has));
+      spoken = record {
+        rows = done ∙ ap (λ rows. changed_rows rows (outcome rows request).change) spoken.rows;
+        history = spoken.history;
+        book = spoken.book;
+        sent = spoken.sent;
+        formed = spoken.formed;
+        written = each_more (λ (w : Written). Says base (u.replies ++ (request, (outcome u.rows request).answer) ∷ []) w.0 w.1) old.written (request, out)
+            (λ w has. says_more base u.replies ((request, (outcome u.rows request).answer) ∷ []) w.0 w.1 (spoken.written w has)) says;
+      };
+    }
+
+    module _ {R J I O P Q : Type 0} (g : Registries R) (h : Journals J) (received : I → Option (List ℕ)) (posted : O → Option (List ℕ)) (remaining : P → Option (List ℕ)) (contents : Q → Option (List ℕ)) where
+      module _ (request : Request) (rows : List StoredRecord) (out : List ℕ) (s : Serves g h received posted remaining contents base old request rows out) where
+        abbrev after_serving : State
+        after_serving = record old { rows = rows; written = old.written ++ (request, out) ∷ [] }
+
+        -- the text of the reply, by what was read
+        abbrev text_by : (read : Result Message ReadFault) → ServesSo (g.is_faithful s.after) base (g.rows s.before) (g.rows s.after) (fresh_writing (contents s.writer)) s.is.written read s.served → List ℕ
+        text_by = reply_text base (fresh_writing (contents s.writer)) s.is.written s.served (g.is_faithful s.after) (g.rows s.before) (g.rows s.after)
+
+        -- the message that was read asks for the request
+        asks_for : (m : Message) → IsAtFront request_form (text_of base request) m → Asks m (Ok request)
+        asks_for m front = meant m (text_of base request) request front (spelled request (subst (λ sent. Has sent request) spoken.sent s.sent) (spoken.formed request s.sent))
+
+        answered_so : (m : Message) (reply : ReplyRecord) → g.is_faithful s.after → rows ≡ g.rows s.after
+            → AnswersRequest (g.is_faithful s.after) base (g.rows s.before) (g.rows s.after) (is_head m.head) request reply
+            → IsPrefixOf out reply.text → Goes base u after_serving
+        answered_so m reply faithful kept is part =
+            let done : rows ≡ changed_rows old.rows (outcome old.rows request).change = kept ∙ is.rows faithful ∙ ap (λ r. changed_rows r (outcome r request).change) s.was in
+            let said : is.answer ≡ (outcome u.rows request).answer = is.answer_is faithful ∙ ap (λ r. (outcome r request).answer) (s.was ∙ spoken.rows) in
+            let formed : IsFormed base (Answered request (outcome u.rows request).answer) = subst (λ (a : Answer). IsFormed base (Answered request a)) said (is.lawful, is.utf8) in
+            let text : reply.text ≡ answer_text base (is_head m.head) (outcome u.rows request).answer =
+            ap (λ (r : ReplyRecord). r.text) is.reply_is ∙ ap (λ (a : Answer). answer_text base (is_head m.head) a) said in
+            let replies = u.replies ++ (request, (outcome u.rows request).answer) ∷ [] in
+            carried_out request rows out s.sent done
+            (by_answer (outcome u.rows request).answer (has_last u.replies (request, (outcome u.rows request).answer)) formed
+            (part_of_part out reply.text (answer_text base false (outcome u.rows request).answer) part
+            (subst (λ (t : List ℕ). IsPrefixOf t (answer_text base false (outcome u.rows request).answer)) (sym text) (without_body base (is_head m.head) (outcome u.rows request).answer))))
+
+        open_message : (m : Message) → IsAtFront request_form (text_of base request) m → g.is_faithful s.after → rows ≡ g.rows s.after
+            → (so : ServesSo (g.is_faithful s.after) base (g.rows s.before) (g.rows s.after) (fresh_writing (contents s.writer)) s.is.written (Ok m) s.served) → IsPrefixOf out so.0.text → Goes base u after_serving
+        open_message m front faithful kept so part = elim (so.1) [
+          | inl message ↦
+              let same : message.asked ≡ Ok request = one_meaning m message.asked (Ok request) message.asked_is (asks_for m front) in
+              answered_so m so.0 faithful kept
+              (subst (λ (x : Result Request Refusal). AnswersMeaning (g.is_faithful s.after) base (g.rows s.before) (g.rows s.after) (is_head m.head) x so.0) same message.answer) part
+          | inr gives_up ↦ quiet request rows out (kept ∙ gives_up.rows faithful ∙ s.was)
+              (fixed_text_sent base u.replies request out (fresh_writing (contents s.writer)) s.is.written s.served so.0.text (ap (λ (r : ReplyRecord). r.text) gives_up.reply_is) part)
+        ]
+
+        open_read : (read : Result Message ReadFault) → IfOk read (IsAtFront request_form (text_of base request)) → g.is_faithful s.after → rows ≡ g.rows s.after
+            → (so : ServesSo (g.is_faithful s.after) base (g.rows s.before) (g.rows s.after) (fresh_writing (contents s.writer)) s.is.written read s.served) → IsPrefixOf out (text_by read so) → Goes base u after_serving
+        open_read (Ok m) front faithful kept so part = open_message m front faithful kept so part
+        open_read (Err fault) front faithful kept so part =
+            quiet request rows out (kept ∙ so.1 ∙ s.was) (reacted base u.replies request out (fresh_writing (contents s.writer)) s.is.written s.served fault so.0 part)
+
+        -- a fault has shut the store
+        shut_after : (read : Result Message ReadFault) → IfOk read (IsAtFront request_form (text_of base request)) → IsAfter (g.rows s.before) read rows → Says base u.replies request out → Goes base u after_serving
+        shut_after (Err fault) front after says = absurd after
+        shut_after (Ok m) front after says =
+            let e : ◌≡◌ {A = Result Request Refusal} (Ok after.0) (Ok request) = one_meaning m (Ok after.0) (Ok request) after.1 (asks_for m front) in
+            let same : after.0 ≡ request = cc in
+            let done : rows ≡ changed_rows (g.rows s.before) (outcome (g.rows s.before) request).change = subst (λ (r : Request). rows ≡ changed_rows (g.rows s.before) (outcome (g.rows s.before) r).change) same after.2 in
+            carried_out request rows out s.sent (done ∙ ap (λ r. changed_rows r (outcome r request).change) s.was)
+            (says_more base u.replies ((request, (outcome u.rows request).answer) ∷ []) request out says)
+
+        shut_out : IsShutOut (g.rows s.before) rows s.is.read out → Goes base u after_serving
+        shut_out shut = elim (shut.0) [
+          | inl same ↦ quiet request rows out (same ∙ s.was) (says_fixed base u.replies request out shut.1)
+          | inr after ↦ shut_after s.is.read s.came after (says_fixed base u.replies request out shut.1)
+        ]
+
+        served_step : Goes base u after_serving
+        served_step = elim (s.leaves) [
+          | inl leaves ↦ open_read s.is.read s.came leaves.faithful leaves.kept s.is.serves leaves.wrote
+          | inr shut ↦ shut_out shut
+        ]
+
+      -- ---- an exchange is over
+
+      module _ (request : Request) (book : BookMap) (x : Hears g h received posted remaining contents base old request book) where
+        abbrev after_hearing : State
+        after_hearing = record old { book = book }
+
+        -- the book is as it was
+        unchanged : book ≡ old.book → Goes base u after_hearing
+        unchanged same = record {
+          later = u;
+          trace = typed.here;
+          spoken = record { rows = spoken.rows; history = spoken.history; book = same ∙ spoken.book; sent = spoken.sent; formed = spoken.formed; written = spoken.written };
+        }
+
+        -- the trace goes on with another book
+        rebooked : typed.Step u (record u { book = book }) → Goes base u after_hearing
+        rebooked step = record {
+          later = record u { book = book };
+          trace = typed.next typed.here step;
+          spoken = record { rows = spoken.rows; history = spoken.history; book = refl; sent = spoken.sent; formed = spoken.formed; written = spoken.written };
+        }
+
+        abbrev Heard : Answer → Type 0
+        Heard answer = Has u.replies (request, answer) ⊎ ((error : ErrorRecord) × (answer ≡ Error error) × typed.IsOtherError error)
+
+        heard : (answer : Answer) (learnt : Result Learnt LearnFault) (taken : Reads request (fresh_reading (received x.reader)) x.asked.left (Ok answer))
+            → CameFrom old.written request (fresh_reading (received x.reader)) x.asked.left (answered answer learnt) taken → Heard answer
+        heard answer learnt taken from =
+            read_answer request from.0 taken.message answer (subst (λ sent. Has sent request) spoken.sent x.sent) (spoken.written (request, from.0) from.1) from.2 taken.says
+
+        books_same : x.before.book ≡ u.book
+        books_same = x.was ∙ spoken.book
+
+        -- the connector learnt
+        taught : (answer : Answer) → Heard answer → book_of book ≡ after_learning (book_of x.before.book) (learn (book_of x.before.book) request answer) → keys book ≡ keys x.before.book
+            → Goes base u after_hearing
+        taught answer said is names =
+            let there : book_of book ≡ after_learning (book_of u.book) (learn (book_of u.book) request answer) =
+            is ∙ ap (λ (b : BookMap). after_learning (book_of b) (learn (book_of b) request answer)) books_same in
+            let named : keys book ≡ keys u.book = names ∙ ap keys books_same in
+            elim said [
+              | inl has ↦ rebooked (typed.learns request answer book has there named)
+              | inr error ↦
+                  let as_error : book_of book ≡ after_learning (book_of u.book) (learn (book_of u.book) request (Error error.0)) =
+                  subst (λ (a : Answer). book_of book ≡ after_learning (book_of u.book) (learn (book_of u.book) request a)) error.1 there in
+                  rebooked (typed.refused request error.0 book error.2 as_error named)
+            ]
+
+        -- the journal was opened again with what was learnt
+        found_taught : (answer : Answer) → Heard answer → (found : EntryMap) → AreOf found (after_learning (book_of x.before.book) (learn (book_of x.before.book) request answer)) (keys x.before.book)
+            → IsOpened found book → Goes base u after_hearing
+        found_taught answer said found are opened =
+            let there : AreOf found (after_learning (book_of u.book) (learn (book_of u.book) request answer)) (keys u.book) =
+            subst (λ (b : BookMap). AreOf found (after_learning (book_of b) (learn (book_of b) request answer)) (keys b)) books_same are in
+            elim said [
+              | inl has ↦ rebooked (typed.relearns request answer found book has there opened)
+              | inr error ↦
+                  let as_error : AreOf found (after_learning (book_of u.book) (learn (book_of u.book) request (Error error.0))) (keys u.book) =
+                  subst (λ (a : Answer). AreOf found (after_learning (book_of u.book) (learn (book_of u.book) request a)) (keys u.book)) error.1 there in
+                  rebooked (typed.reopens found book (subst (λ b. AreOf found b (keys u.book)) (other_error (book_of u.book) request error.0 error.2) as_error) opened)
+            ]
+
+        -- the connector has the book that the call left
+        left_by : (answer : Answer) (learnt : Result Learnt LearnFault) → Heard answer → Becomes h request (answered answer learnt) x.before x.after → book ≡ x.after.book → Goes base u after_hearing
+        left_by answer (Ok learnt) said becomes same = taught answer said (ap book_of same ∙ becomes.ok) (ap keys same ∙ becomes.names)
+        left_by answer (Err fault) said becomes same = unchanged (same ∙ becomes.err ∙ x.was)
+
+        answers_same : (answer other : Answer) (learnt also : Result Learnt LearnFault) → answered answer learnt ≡ answered other also → other ≡ answer
+        answers_same answer other learnt also e = cc
+
+        by_came : (came : Came) (taken : Reads request (fresh_reading (received x.reader)) x.asked.left (answer_of came)) → Becomes h request came x.before x.after
+            → LeavesBook request came x.before x.after book → CameFrom old.written request (fresh_reading (received x.reader)) x.asked.left came taken → Goes base u after_hearing
+        by_came (lost fault) taken becomes leaves from = elim leaves [
+          | inl same ↦ unchanged (same ∙ ap (λ (c : Connector J). c.book) becomes ∙ x.was)
+          | inr none ↦ absurd (never none.3)
+        ]
+          where
+            never : {answer : Answer} {learnt : Result Learnt LearnFault} → lost fault ≡ answered answer learnt → ⊥
+            never e = cc
+        by_came (answered answer learnt) taken becomes leaves from = elim leaves [
+          | inl same ↦ left_by answer learnt (heard answer learnt taken from) becomes same
+          | inr found ↦ found_taught found.0 (subst Heard (sym (answers_same answer found.0 learnt found.1 found.3)) (heard answer learnt taken from)) found.2 found.4 found.5
+        ]
+
+        hearing_step : Goes base u after_hearing
+        hearing_step = by_came x.came x.asked.read x.becomes x.leaves x.from
+
+      -- ---- every step
+
+      goes : (new : State) → Step g h received posted remaining contents base old new → Goes base u new
+      goes new (offers row law) = record {
+        later = _;
+        trace = typed.next typed.here (typed.offers row law);
+        spoken = record {
+          rows = spoken.rows;
+          history = ap (λ x. history_after x row (judged old.book row)) spoken.history ∙ ap (λ (b : BookMap). history_after u.history row (judged b row)) spoken.book;
+          book = ap (λ (b : BookMap). taking b row) spoken.book;
+          sent = spoken.sent;
+          formed = spoken.formed;
+          written = spoken.written;
+        };
+      }
+      goes new (asks name request is formed) = record {
+        later = _;
+        trace = typed.next typed.here (typed.asks name request (ap (λ (b : BookMap). asking (book_of b) name) (sym spoken.book) ∙ is));
+        spoken = record {
+          rows = spoken.rows;
+          history = spoken.history;
+          book = spoken.book;
+          sent = ap (λ sent. sent ++ request ∷ []) spoken.sent;
+          formed = each_more (λ r. IsFormed base (Asked r)) old.sent request spoken.formed formed;
+          written = spoken.written;
+        };
+      }
+      goes new (serves request rows out s) = served_step request rows out s
+      goes new (hears request book x) = hearing_step request book x
+      goes new (reopens found book are is) = record {
+        later = record u { book = book };
+        trace = typed.next typed.here (typed.reopens found book (subst (λ (b : BookMap). AreOf found (book_of b) (keys b)) spoken.book are) is);
+        spoken = record { rows = spoken.rows; history = spoken.history; book = refl; sent = spoken.sent; formed = spoken.formed; written = spoken.written };
+      }
+      goes new rests = record { later = u; trace = typed.here; spoken = spoken }
+
+-- ---- every trace
+
+and_then : (a b c : typed.State) → typed.Trace a b → typed.Trace b c → typed.Trace a c
+and_then a b c first typed.here = first
+and_then a b c first (typed.next {mid = mid} more step) = typed.next (and_then a b mid first more) step
+
+module _ {R J I O P Q : Type 0} (g : Registries R) (h : Journals J) (received : I → Option (List ℕ)) (posted : O → Option (List ℕ)) (remaining : P → Option (List ℕ)) (contents : Q → Option (List ℕ)) where
+  along : (base : List ℕ) (old new : State) (u : typed.State) → IsBase base → typed.Trace typed.start u → Spoken base old u → Trace g h received posted remaining contents base old new → Goes base u new
+  along base old new u is_base trace spoken here = record { later = u; trace = typed.here; spoken = spoken }
+  along base old new u is_base trace spoken (next {mid = mid} more step) =
+      let first = along base old mid u is_base trace spoken more in
+      let last = goes base is_base first.later (and_then typed.start u first.later trace first.trace) mid first.spoken g h received posted remaining contents new step in
+      record { later = last.later; trace = and_then u first.later last.later first.trace last.trace; spoken = last.spoken }
+
+  spoken_start : (base : List ℕ) → Spoken base start typed.start
+  spoken_start base = record { rows = refl; history = refl; book = refl; sent = refl; formed = λ request has. absurd (cc has.1); written = λ w has. absurd (cc has.1) }
+
+  pub traces_are_runs : TracesAreRuns g h received posted remaining contents
+  traces_are_runs base s t is_base trace more =
+      let first = along base start s typed.start is_base typed.here (spoken_start base) trace in
+      let last = along base s t first.later is_base first.trace first.spoken more in
+      let runs = typed_traces_are_runs first.later last.later first.trace last.trace in
+      let before : IsAt s (run empty runs.early) = record { rows = first.spoken.rows ∙ runs.before.rows; history = first.spoken.history ∙ runs.before.history; book = ap book_of first.spoken.book ∙ runs.before.book } in
+      let after : IsAt t (run empty (runs.early ++ runs.late)) = record { rows = last.spoken.rows ∙ runs.after.rows; history = last.spoken.history ∙ runs.after.history; book = ap book_of last.spoken.book ∙ runs.after.book } in
+      record {
+        early = runs.early;
+        late = runs.late;
+        lawful = runs.lawful;
+        before = before;
+        after = after;
+        headline = runs.headline;
+        promised = promised runs.early runs.late s.history s.rows (book_of s.book) t.rows before.history before.rows before.book after.rows runs.headline;
+      }

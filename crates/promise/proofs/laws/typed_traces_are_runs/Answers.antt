@@ -1,0 +1,5 @@
+use Rattle.promise.proofs.Typed as laws
+use Rattle.promise.proofs.laws.typed_traces_are_runs.Goals as goal
+
+pub returns : goal.returns
+returns c = laws.typed_traces_are_runs

@@ -1,0 +1,3 @@
+pub mod Typed
+pub mod Traces
+pub mod Calls
