@@ -79,7 +79,7 @@ class GuideTest(ProgramTest):
         self.assertGreater(len(list(commands())), 50)
 
     def test_other_blocks_are_files_of_examples(self):
-        examples = {path.read_text() for path in EXAMPLES.iterdir()}
+        examples = {path.read_text() for path in EXAMPLES.iterdir() if path.is_file()}
         for language, content in BLOCKS:
             if language != "console":
                 with self.subTest(content.partition("\n")[0]):

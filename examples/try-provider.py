@@ -1,0 +1,342 @@
+#!/usr/bin/env python3
+"""Tries whether a SCIM provider meets the conditions of `scimlink push`.
+
+It creates a user with a name that nobody has, replaces that user some times, and leaves the user inactive. It changes
+no other account. It prints a line for each condition: `met`, `not met` or `can't be tried`, and what that means.
+
+Status: 0 if all are met, 1 if one isn't, 2 if the arguments are invalid, 3 if the provider can't be reached.
+"""
+import secrets
+import sys
+import urllib.parse
+
+from provider_calls import (
+    ENTERPRISE, SOURCE, USER, Provider, arguments, attribute, found_in, is_strong, name_of, printed, revision_of,
+    version_of,
+)
+
+MET, NOT_MET, UNTRIED = "met", "not met", "can't be tried"
+NO_USER = UNTRIED, "There is no user to try it with"
+UNNOTICED = "push can't notice it: a late message can switch a leaver on"
+DEPARTMENT = "Trials"
+# A version that no user has
+NO_VERSION = '"scimlink-try"'
+# The revisions that the user gets, and then one with an epoch
+FIRST, SECOND, IN_EPOCH = (0, 1), (0, 2), (1, 1)
+# The most bytes of a body that `push` reads
+BODY_LIMIT = 8_388_608
+# A creation that is refused with one of these isn't refused for its content
+NOT_FOR_CONTENT = {401, 403, 404, 409, 429}
+
+
+def is_success(answer):
+    return answer.status in range(200, 300)
+
+
+class Trial:
+    """The requests about one user, and what the provider answered to each; None: it wasn't asked."""
+
+    def __init__(self, provider, name):
+        self.provider, self.name = provider, name
+        self.extensions = [ENTERPRISE, SOURCE]
+        self.absent = self.groups = self.created = self.found = self.in_capitals = None
+        self.twice = self.replaced = self.late = self.after = self.in_epoch = None
+        self.answers = []  # all of them
+        self.shown = []  # each user of ours that they showed, and the revision that it should have
+        self.users = {}  # by its id, each user of ours as it was shown last
+
+    def run(self):
+        self.absent = self.note(self.provider.search(self.name))
+        self.groups = self.note(self.provider.search(self.name, "Groups", "displayName"))
+        self.created = self.create()
+        self.found = self.note(self.provider.search(self.name), FIRST)
+        if not self.users and is_success(self.created) and "Location" in self.created.fields:
+            id = urllib.parse.unquote(self.created.fields["Location"].rpartition("/")[2])
+            self.note(self.provider.read(id), FIRST)
+        if not self.users:
+            return
+        self.in_capitals = self.note(self.provider.search(self.name.upper()))
+        id, before = self.id, self.version()
+        self.twice = self.note(self.provider.ask("POST", "Users", self.content(FIRST, False, self.name.upper())))
+        self.replaced = self.replace(id, SECOND, False, before)
+        if before is not None:
+            # a message that was sent before that, and comes late
+            old = before if self.replaced.status == 200 else NO_VERSION
+            self.late = self.replace(id, FIRST, True, old)
+        self.after = self.note(self.provider.search(self.name), self.revision_after())
+        if SOURCE in self.extensions:
+            self.in_epoch = self.replace(id, IN_EPOCH, False, self.version())
+
+    # ---- requests
+
+    def content(self, revision, active, name=None):
+        """A user as `push` sends it."""
+        epoch, number = revision
+        source = {"epoch": epoch, "revision": number} if epoch else {"revision": number}
+        extensions = {ENTERPRISE: {"department": DEPARTMENT}, SOURCE: source}
+        return {
+            "active": active,
+            "emails": [{"primary": True, "type": "work", "value": f"{self.name}@example.com"}],
+            "externalId": self.name,
+            "name": {"familyName": "Try", "givenName": "Scimlink"},
+            "schemas": [USER, *self.extensions],
+            "userName": name or self.name,
+        } | {it: extensions[it] for it in self.extensions}
+
+    def create(self):
+        """Creates the user, without the extensions for which the provider refuses it."""
+        first = None
+        for extensions in ([ENTERPRISE, SOURCE], [SOURCE], [ENTERPRISE], []):
+            self.extensions = extensions
+            answer = self.note(self.provider.ask("POST", "Users", self.content(FIRST, True)), FIRST)
+            first = first or answer
+            if answer.status < 400:
+                return answer
+            if answer.status >= 500 or answer.status in NOT_FOR_CONTENT:
+                break
+        self.extensions = [ENTERPRISE, SOURCE]
+        return first
+
+    def replace(self, id, revision, active, version):
+        return self.note(self.provider.replace(id, self.content(revision, active), version), revision)
+
+    # ---- answers
+
+    def is_ours(self, resource):
+        id = attribute(resource, "id")
+        return name_of(resource) == self.name and isinstance(id, str) and id != ""
+
+    def note(self, answer, revision=None):
+        """Keeps an answer. Each user of ours that it shows should have this revision, if one is given."""
+        self.answers.append(answer)
+        for resource in filter(self.is_ours, found_in(answer) or [answer.content]):
+            self.users[attribute(resource, "id")] = resource
+            if revision and self.is_first(resource):
+                self.shown.append((resource, revision))
+        return answer
+
+    @property
+    def id(self):
+        """The id of the user that was created first."""
+        return next(iter(self.users))
+
+    def is_first(self, resource):
+        return attribute(resource, "id") == self.id
+
+    def version(self):
+        """The version of the user as it was shown last; None if there is none."""
+        version = version_of(self.users[self.id])
+        return version if isinstance(version, str) and version.isprintable() else None
+
+    def revision_after(self):
+        """The revision that the user should have after the late message; None if that wasn't refused."""
+        if self.late is None or self.late.status < 400:
+            return None
+        return SECOND if is_success(self.replaced) else FIRST
+
+    def is_undone(self):
+        """Whether the late message took the place of the replacement."""
+        users = filter(self.is_first, found_in(self.after) or [])
+        is_active = any(attribute(it, "active") is not False for it in users)
+        return is_success(self.late) or is_success(self.replaced) and is_active
+
+    def shows(self, answer, status):
+        """Whether an answer has this status and shows the user."""
+        schemas = attribute(answer.content, "schemas")
+        has_schema = isinstance(schemas, list) and USER.lower() in [str(it).lower() for it in schemas]
+        return answer.status == status and self.is_ours(answer.content) and has_schema
+
+    def finds(self, answer):
+        """Whether a search found the user, and no other."""
+        found = found_in(answer) or []
+        return len(found) == 1 and self.is_ours(found[0])
+
+    # ---- the end
+
+    def leave(self):
+        """Switches off each user that was created: whether all of them are shown as inactive."""
+        return all([self.is_off(id) or self.switch_off(id) for id in list(self.users)])
+
+    def is_off(self, id):
+        self.note(self.provider.read(id))
+        return attribute(self.users[id], "active") is False
+
+    def switch_off(self, id):
+        user = self.users[id]
+        version = version_of(user) if is_strong(version_of(user)) else None
+        content = self.content(SECOND, False, attribute(user, "userName"))
+        self.note(self.provider.replace(id, content, version))
+        return self.is_off(id)
+
+
+# ---- the conditions: of each whether it is met, and what that means
+
+
+def searches(trial):
+    absent, groups = found_in(trial.absent), found_in(trial.groups)
+    if trial.absent.status in (401, 403):
+        return NOT_MET, f"The provider answers {trial.absent.detail}: it wants a token, which a proxy adds"
+    if absent is None:
+        return NOT_MET, f"A search for a user is answered {trial.absent.detail}. Users stay unconfirmed: C4, K2 or K3"
+    if absent:
+        return NOT_MET, "A search for a name that nobody has finds users. Users stay unconfirmed: C1"
+    if groups is None:
+        return NOT_MET, f"A search for a group is answered {trial.groups.detail}. Only users can be pushed"
+    if groups:
+        return NOT_MET, "A search for a name that no group has finds groups. Only users can be pushed"
+    if not trial.users and not is_success(trial.created):
+        return UNTRIED, "Nobody is found where nobody is, but the provider didn't create a user to find"
+    if not trial.finds(trial.found):
+        return NOT_MET, "The user that was created isn't found by its name. Users stay unconfirmed"
+    return MET, "push finds users and groups by their names"
+
+
+def one_of_a_name(trial):
+    if not trial.users:
+        return NO_USER
+    if is_success(trial.twice):
+        return NOT_MET, "A second user of the name was created, in capitals. Then both stay unconfirmed: C1"
+    if trial.twice.status != 409:
+        told = f"The creation of a name that is taken is answered {trial.twice.detail}, and not 409"
+        return NOT_MET, f"{told}. A record that somebody else just created is unconfirmed until the next push: C4"
+    if not trial.finds(trial.in_capitals):
+        return NOT_MET, "A search in capitals doesn't find the user. A login that is spelled anew stays unconfirmed"
+    return MET, "push can't create a second user of a name. Groups weren't tried"
+
+
+def source_extension(trial):
+    if trial.users and SOURCE not in trial.extensions:
+        return NOT_MET, "A user with it is refused. Nobody gets an account, and leavers keep theirs: C4"
+    if not trial.shown:
+        return NO_USER
+    revisions = [(revision_of(resource), wanted) for resource, wanted in trial.shown]
+    if any(shown is None for shown, _ in revisions):
+        return NOT_MET, "The user is shown without its revision. Joiners get an account, and leavers keep it: C1"
+    if any(shown != wanted for shown, wanted in revisions if wanted != IN_EPOCH):
+        return NOT_MET, "The user is shown with another revision than it was given. Leavers keep their accounts"
+    in_epoch = [shown for shown, wanted in revisions if wanted == IN_EPOCH]
+    if set(in_epoch) != {IN_EPOCH}:
+        return MET, "push sees which revision an account has. But epochs aren't kept: use revisions without one"
+    return MET, "push sees which revision an account has, also with an epoch"
+
+
+def enterprise_extension(trial):
+    if not trial.users:
+        return NO_USER
+    if ENTERPRISE not in trial.extensions:
+        return NOT_MET, "A user with a department is refused. Rows with departments stay unconfirmed: C4"
+    if attribute(attribute(trial.users[trial.id], ENTERPRISE), "department") != DEPARTMENT:
+        return NOT_MET, "The department is dropped. Rows with departments are confirmed: push can't notice it"
+    return MET, "Accounts get their departments"
+
+
+def if_match(trial):
+    if not trial.users:
+        return NO_USER
+    if trial.late is None:
+        return UNTRIED, "The user is shown without a version"
+    if trial.is_undone():
+        return NOT_MET, f"An old version was replaced. {UNNOTICED}"
+    if trial.late.status != 412:
+        return NOT_MET, f"An old version is answered {trial.late.detail}, and not 412. Records stay unconfirmed: C4"
+    if trial.replaced.status == 412:
+        return NOT_MET, "The version that the user has is refused. Changed records stay unconfirmed"
+    if not is_success(trial.replaced):
+        return UNTRIED, "A version that nobody has is refused, but so is the present one"
+    return MET, "A late message can't undo a newer one"
+
+
+def version(trial):
+    if not trial.shown:
+        return NO_USER
+    versions = [version_of(resource) for resource, _ in trial.shown]
+    if None in versions:
+        return NOT_MET, "The user is shown without meta.version. Accounts can't be replaced: C2"
+    other = next((printed(it) for it in versions if not is_strong(it)), None)
+    if other is not None and other.startswith("W/"):
+        return NOT_MET, f"The version {other} is weak. New records are confirmed, and changed ones may stay unconfirmed"
+    if other is not None:
+        return NOT_MET, f'The version {other} isn\'t an entity tag, as "1" is. Accounts can\'t be replaced: C2'
+    if trial.replaced.status == 200 and versions[0] == versions[-1]:
+        return NOT_MET, f"The version stays when the user changes. {UNNOTICED}"
+    return MET, "push can name the version that it replaces"
+
+
+def content_length(trial):
+    for answer in trial.answers:
+        if not answer.status:
+            return NOT_MET, "What came isn't one answer of HTTP/1.1. Records stay unconfirmed: K1 or H10"
+        lengths = answer.fields.get_all("Content-Length") or []
+        if answer.status not in (204, 304) and (len(lengths) != 1 or "Transfer-Encoding" in answer.fields):
+            return NOT_MET, f"An answer with status {answer.status} has no single length. Records stay unconfirmed: K1"
+        if len(answer.body) > BODY_LIMIT:
+            return NOT_MET, f"An answer has {len(answer.body)} bytes of body. Records stay unconfirmed: K1"
+    return MET, "push can read the answers to their ends"
+
+
+def created_and_replaced(trial):
+    if not is_success(trial.created):
+        return NOT_MET, f"The creation of a user is answered {trial.created.detail}. Nobody gets an account"
+    until = "is unconfirmed until the push after that: K1, K2 or K3"
+    if not trial.shows(trial.created, 201):
+        told = f"A creation is answered {trial.created.detail}, and not 201 with the user"
+        return NOT_MET, f"{told}. A new record {until}"
+    if trial.replaced.status >= 400:
+        return NOT_MET, f"A replacement is answered {trial.replaced.detail}. Changed records stay unconfirmed"
+    if not trial.shows(trial.replaced, 200):
+        told = f"A replacement is answered {trial.replaced.detail}, and not 200 with the user"
+        return NOT_MET, f"{told}. A changed record {until}"
+    return MET, "push sees in the answer what became of the user"
+
+
+CONDITIONS = {
+    "searches": searches,
+    "one user of a name": one_of_a_name,
+    "source extension": source_extension,
+    "enterprise extension": enterprise_extension,
+    "If-Match": if_match,
+    "strong version": version,
+    "Content-Length": content_length,
+    "201 and 200": created_and_replaced,
+}
+
+
+# ---- the run
+
+
+def report(trial, is_left_off):
+    """Prints the lines: the status."""
+    verdicts = {name: condition(trial) for name, condition in CONDITIONS.items()}
+    for name, (verdict, meaning) in verdicts.items():
+        print(f"{verdict}: {name}. {meaning}")
+    if not trial.users:
+        is_made = is_success(trial.created)
+        print(f"the user {trial.name} isn't shown: switch it off by hand" if is_made else "no user was created")
+    elif is_left_off:
+        print(f"the user {trial.name} is left inactive")
+    else:
+        print(f"the user {trial.name} isn't shown as inactive: switch it off by hand. Leavers may keep their accounts")
+    return 0 if is_left_off and all(verdict == MET for verdict, _ in verdicts.values()) else 1
+
+
+def main():
+    options = arguments(__doc__).parse_args()
+    trial = Trial(Provider(options), f"scimlink-try-{secrets.token_hex(4)}")
+    try:
+        trial.run()
+        return report(trial, trial.leave())
+    except OSError as fault:
+        print(f"no connection: {fault.strerror or fault}", file=sys.stderr)
+    except KeyboardInterrupt:
+        print("stopped", file=sys.stderr)
+    try:
+        is_left_off = trial.leave()
+    except OSError:
+        is_left_off = False
+    if not is_left_off:
+        print(f"the user {trial.name} may be active: switch it off by hand", file=sys.stderr)
+    return 3
+
+
+if __name__ == "__main__":
+    sys.exit(main())

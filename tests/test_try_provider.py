@@ -1,0 +1,375 @@
+"""examples/try-provider.py: against `serve`, and against providers by script that break one condition each."""
+import json
+import re
+import subprocess
+import sys
+
+from example_tools import run_tool
+from peers import answer, head
+from small_provider import DropsExtension, SmallProvider
+from support import ENTERPRISE, EXAMPLES, NOWHERE, PATIENCE, SOURCE, ProgramTest, Provider
+
+NAMES = [
+    "searches", "one user of a name", "source extension", "enterprise extension", "If-Match", "strong version",
+    "Content-Length", "201 and 200",
+]
+LATE_MESSAGE = "push can't notice it: a late message can switch a leaver on"
+ANN = {"schemas": [], "userName": "ann", "active": True}
+
+
+def try_provider(*arguments):
+    return run_tool("try-provider.py", *arguments)
+
+
+def without(resource, *path):
+    """A resource without the attribute at this path."""
+    name, *rest = path
+    if not rest:
+        return {key: value for key, value in resource.items() if key != name}
+    return resource | {name: without(resource[name], *rest)} if name in resource else resource
+
+
+# ---- providers that break a condition
+
+
+class IgnoresFilters(SmallProvider):
+    def find(self, name):
+        return list(self.users)
+
+    def create(self, content):
+        return self.created(self.keep(content))
+
+
+class HasNoGroups(SmallProvider):
+    def search(self, kind, name):
+        return super().search(kind, name) if kind == "Users" else answer(404)
+
+
+class WantsAToken(SmallProvider):
+    def respond(self, lines, body):
+        return answer(401, {"detail": "token expired"})
+
+
+class IsNoProvider(SmallProvider):
+    def respond(self, lines, body):
+        return b"SSH-2.0-OpenSSH_9.2\r\n"
+
+
+class HasTwoOfAName(SmallProvider):
+    def find(self, name):
+        return [id for id, user in self.users.items() if user["userName"] == name]
+
+
+class RefusesTakenNamesOtherwise(SmallProvider):
+    def taken(self):
+        return answer(400, {"detail": "name in use"})
+
+
+class FindsExactNames(SmallProvider):
+    def search(self, kind, name):
+        return super().search(kind, name if name.islower() else "nobody")
+
+
+class RefusesExtension(SmallProvider):
+    def create(self, content):
+        return answer(400) if SOURCE in content else super().create(content)
+
+
+class ListsWithoutExtension(SmallProvider):
+    def listed(self, id):
+        return without(self.shown(id), SOURCE)
+
+
+class KeepsTheFirstRevision(SmallProvider):
+    def keep(self, content, id=None):
+        first = {SOURCE: self.users[id][SOURCE]} if id else {}
+        return super().keep(content | first, id)
+
+
+class DropsEpochs(SmallProvider):
+    def shown(self, id):
+        return without(super().shown(id), SOURCE, "epoch")
+
+
+class DropsDepartments(SmallProvider):
+    def shown(self, id):
+        return without(super().shown(id), ENTERPRISE)
+
+
+class RefusesDepartments(SmallProvider):
+    def create(self, content):
+        return answer(400) if ENTERPRISE in content else super().create(content)
+
+
+class IgnoresIfMatch(SmallProvider):
+    def replace(self, id, content, if_match):
+        return super().replace(id, content, None)
+
+
+class RefusesVersionsOtherwise(SmallProvider):
+    def stale(self):
+        return answer(409, {"detail": "conflict"})
+
+
+class ShowsNoVersion(SmallProvider):
+    def shown(self, id):
+        return without(super().shown(id), "meta")
+
+
+class ShowsWeakVersions(SmallProvider):
+    def version(self, id):
+        return "W/" + super().version(id)
+
+
+class ComparesStrongly(ShowsWeakVersions):
+    def replace(self, id, content, if_match):
+        return self.stale() if if_match else super().replace(id, content, None)
+
+
+class ShowsOneVersion(SmallProvider):
+    def version(self, id):
+        return '"1"'
+
+
+class ShowsNoTag(SmallProvider):
+    def version(self, id):
+        return "v" + super().version(id)[2:-1]
+
+
+class SendsChunks(SmallProvider):
+    def replaced(self, id):
+        body = json.dumps(self.shown(id)).encode()
+        chunks = b"%x\r\n%b\r\n0\r\n\r\n" % (len(body), body)
+        return head(200, Transfer_Encoding="chunked") + chunks
+
+
+class SendsNoLength(SmallProvider):
+    def stale(self):
+        return head(412)
+
+
+class CreatesWith200(SmallProvider):
+    def created(self, id):
+        return answer(200, self.shown(id))
+
+
+class CreatesWithoutShowing(SmallProvider):
+    def created(self, id):
+        return answer(201)
+
+
+class ReplacesWith204(SmallProvider):
+    def replaced(self, id):
+        return head(204)
+
+
+class RefusesUsers(SmallProvider):
+    def create(self, content):
+        return answer(403, {"detail": "read only"})
+
+
+NO_USER = "can't be tried: {}. There is no user to try it with".format
+TWO_OF_A_NAME = (
+    "not met: one user of a name. A second user of the name was created, in capitals. Then both stay unconfirmed: C1"
+)
+# What is printed in place of `met`, for each provider
+BROKEN = {
+    IgnoresFilters: [
+        "not met: searches. A search for a name that nobody has finds users. Users stay unconfirmed: C1",
+        TWO_OF_A_NAME,
+    ],
+    HasNoGroups: ["not met: searches. A search for a group is answered 404. Only users can be pushed"],
+    HasTwoOfAName: [TWO_OF_A_NAME],
+    RefusesTakenNamesOtherwise: [
+        'not met: one user of a name. The creation of a name that is taken is answered 400, "name in use", and not '
+        "409. A record that somebody else just created is unconfirmed until the next push: C4",
+    ],
+    FindsExactNames: [
+        "not met: one user of a name. A search in capitals doesn't find the user. A login that is spelled anew stays "
+        "unconfirmed",
+    ],
+    DropsExtension: [
+        "not met: source extension. The user is shown without its revision. Joiners get an account, and leavers keep "
+        "it: C1",
+    ],
+    RefusesExtension: [
+        "not met: source extension. A user with it is refused. Nobody gets an account, and leavers keep theirs: C4",
+    ],
+    ListsWithoutExtension: [
+        "not met: source extension. The user is shown without its revision. Joiners get an account, and leavers keep "
+        "it: C1",
+    ],
+    KeepsTheFirstRevision: [
+        "not met: source extension. The user is shown with another revision than it was given. Leavers keep their "
+        "accounts",
+    ],
+    DropsDepartments: [
+        "not met: enterprise extension. The department is dropped. Rows with departments are confirmed: push can't "
+        "notice it",
+    ],
+    RefusesDepartments: [
+        "not met: enterprise extension. A user with a department is refused. Rows with departments stay unconfirmed: "
+        "C4",
+    ],
+    IgnoresIfMatch: [f"not met: If-Match. An old version was replaced. {LATE_MESSAGE}"],
+    RefusesVersionsOtherwise: [
+        'not met: If-Match. An old version is answered 409, "conflict", and not 412. Records stay unconfirmed: C4',
+    ],
+    ShowsNoVersion: [
+        "can't be tried: If-Match. The user is shown without a version",
+        "not met: strong version. The user is shown without meta.version. Accounts can't be replaced: C2",
+    ],
+    ShowsWeakVersions: [
+        'not met: strong version. The version W/"v1" is weak. New records are confirmed, and changed ones may stay '
+        "unconfirmed",
+    ],
+    ComparesStrongly: [
+        "not met: If-Match. The version that the user has is refused. Changed records stay unconfirmed",
+        'not met: strong version. The version W/"v1" is weak. New records are confirmed, and changed ones may stay '
+        "unconfirmed",
+        "not met: 201 and 200. A replacement is answered 412. Changed records stay unconfirmed",
+    ],
+    ShowsOneVersion: [
+        f"not met: If-Match. An old version was replaced. {LATE_MESSAGE}",
+        f"not met: strong version. The version stays when the user changes. {LATE_MESSAGE}",
+    ],
+    ShowsNoTag: [
+        "not met: strong version. The version v1 isn't an entity tag, as \"1\" is. Accounts can't be replaced: C2",
+    ],
+    SendsChunks: [
+        "not met: Content-Length. An answer with status 200 has no single length. Records stay unconfirmed: K1",
+    ],
+    SendsNoLength: [
+        "not met: Content-Length. An answer with status 412 has no single length. Records stay unconfirmed: K1",
+    ],
+    CreatesWith200: [
+        "not met: 201 and 200. A creation is answered 200, and not 201 with the user. A new record is unconfirmed "
+        "until the push after that: K1, K2 or K3",
+    ],
+    CreatesWithoutShowing: [
+        "not met: 201 and 200. A creation is answered 201, and not 201 with the user. A new record is unconfirmed "
+        "until the push after that: K1, K2 or K3",
+    ],
+    ReplacesWith204: [
+        "not met: 201 and 200. A replacement is answered 204, and not 200 with the user. A changed record is "
+        "unconfirmed until the push after that: K1, K2 or K3",
+    ],
+}
+
+
+class TryProviderTest(ProgramTest):
+    def assert_tells(self, run, *other):
+        """The tool printed these lines, and `met` for each other condition; the last line is of the user."""
+        *lines, last = run.lines
+        names = [re.match(r"[^:]*: ([^.]*)\. ", line)[1] for line in lines]
+        self.assertEqual((names, run.errors), (NAMES, ""))
+        self.assertEqual([line for line in lines if not line.startswith("met: ")], list(other))
+        self.assertEqual(run.status, 1 if other else 0)
+        return last
+
+    def assert_left_inactive(self, provider, last):
+        """The user that was made is inactive, and nobody else was touched."""
+        self.assertRegex(last, "^the user scimlink-try-[0-9a-f]{8} is left inactive$")
+        others = [user for user in provider.users.values() if user["userName"] == "ann"]
+        self.assertEqual(others, [ANN | {"changes": 1}])
+        ours = [user for user in provider.users.values() if user["userName"] != "ann"]
+        self.assertGreater(len(ours), 0)
+        self.assertEqual({user["active"] for user in ours}, {False})
+
+    def test_scimlink(self):
+        with Provider(20) as provider:
+            last = self.assert_tells(try_provider("--to", provider.address))
+            name = last.split()[2]
+            found = provider.ask("GET", f"/v2/Users?filter=userName+eq+%22{name}%22").content["Resources"]
+            self.assertEqual([user["active"] for user in found], [False])
+            listed = provider.ask("GET", "/v2/Users").content
+            self.assertEqual(listed["totalResults"], 1)
+
+    def test_a_provider_that_meets_all(self):
+        with SmallProvider(ANN) as provider:
+            self.assert_left_inactive(provider, self.assert_tells(try_provider("--to", provider.address)))
+
+    def test_providers_that_break_a_condition(self):
+        for kind, lines in BROKEN.items():
+            with self.subTest(kind.__name__), kind(ANN) as provider:
+                run = try_provider("--to", provider.address)
+                self.assert_left_inactive(provider, self.assert_tells(run, *lines))
+
+    def test_a_provider_that_drops_epochs(self):
+        with DropsEpochs(ANN) as provider:
+            run = try_provider("--to", provider.address)
+            self.assert_left_inactive(provider, self.assert_tells(run))
+            self.assertIn("But epochs aren't kept: use revisions without one", run.output.decode())
+
+    def test_providers_without_a_user(self):
+        token = "The provider answers 401, \"token expired\": it wants a token, which a proxy adds"
+        refused = "The creation of a user is answered {}. Nobody gets an account".format
+        for kind, searches, length, creation in (
+            (WantsAToken, f"not met: searches. {token}", "", '401, "token expired"'),
+            (
+                RefusesUsers,
+                "can't be tried: searches. Nobody is found where nobody is, but the provider didn't create a user to "
+                "find",
+                "",
+                '403, "read only"',
+            ),
+            (
+                IsNoProvider,
+                "not met: searches. A search for a user is answered no HTTP. Users stay unconfirmed: C4, K2 or K3",
+                "not met: Content-Length. What came isn't one answer of HTTP/1.1. Records stay unconfirmed: K1 or H10",
+                "no HTTP",
+            ),
+        ):
+            with self.subTest(kind.__name__), kind() as provider:
+                lines = [searches, *map(NO_USER, NAMES[1:6]), *filter(None, [length])]
+                last = self.assert_tells(
+                    try_provider("--to", provider.address), *lines, f"not met: 201 and 200. {refused(creation)}"
+                )
+                self.assertEqual((last, provider.users), ("no user was created", {}))
+
+    def test_a_user_who_is_found_by_its_location_alone(self):
+        class FindsNobody(SmallProvider):
+            def search(self, kind, name):
+                return answer(400, {"detail": "no filters"})
+
+            def created(self, id):
+                return answer(201, Location=f"http://localhost/v2/Users/{id}")
+
+        with FindsNobody(ANN) as provider:
+            run = try_provider("--to", provider.address)
+            self.assertEqual(run.status, 1)
+            self.assert_left_inactive(provider, run.lines[-1])
+
+    def test_an_active_that_stays(self):
+        class StaysActive(SmallProvider):
+            def shown(self, id):
+                return super().shown(id) | {"active": True}
+
+        with StaysActive() as provider:
+            run = try_provider("--to", provider.address)
+            self.assertEqual(run.status, 1)
+            self.assertIn("isn't shown as inactive: switch it off by hand", run.lines[-1])
+
+    def test_a_connection_that_is_lost(self):
+        class Ends(SmallProvider):
+            def replace(self, id, content, if_match):
+                return super().replace(id, content, if_match) if self.requests.count(("PUT", "Users/1")) > 1 else b""
+
+        with Ends() as provider:
+            run = try_provider("--to", provider.address)
+            self.assertEqual((run.status, run.output), (3, b""))
+            self.assertEqual(provider.users["1"]["active"], False)
+        run = try_provider("--to", NOWHERE)
+        self.assertEqual((run.status, run.output, run.errors), (3, b"", "no connection: Connection refused\n"))
+
+    def test_the_command_line(self):
+        for arguments in ([], ["--to", "127.0.0.1"], ["--to", "[::1:1"], ["--to", "a b:80"], ["--to", "a:+80"],
+                          ["--to", "a:0"], ["--to", NOWHERE, "--base", "https://a/v2"], ["--t", NOWHERE]):
+            with self.subTest(arguments):
+                run = try_provider(*arguments)
+                self.assertEqual((run.status, run.output), (2, b""))
+
+    def test_a_run_by_its_name(self):
+        command = [sys.executable, "-B", EXAMPLES / "try-provider.py", "--to", NOWHERE]
+        run = subprocess.run(command, cwd=self.folder, capture_output=True, timeout=PATIENCE, check=False)
+        self.assertEqual((run.returncode, run.stderr), (3, b"no connection: Connection refused\n"))
