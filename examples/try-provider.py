@@ -238,7 +238,8 @@ def if_match(trial):
     if trial.is_undone():
         return NOT_MET, f"An old version was replaced. {UNNOTICED}"
     if trial.late.status != 412:
-        return NOT_MET, f"An old version is answered {trial.late.detail}, and not 412. Records stay unconfirmed: C4"
+        told = f"An old version is answered {trial.late.detail}, and not 412"
+        return NOT_MET, f"{told}. A record that somebody else just changed is unconfirmed until the next push: C4"
     if trial.replaced.status == 412:
         return NOT_MET, "The version that the user has is refused. Changed records stay unconfirmed"
     if not is_success(trial.replaced):

@@ -1,4 +1,5 @@
 """docs/GUIDE.md: its commands print what it says, in their order, and its other blocks are files of examples."""
+import datetime
 import os
 import re
 import shlex
@@ -6,7 +7,9 @@ import shutil
 import subprocess
 import unittest
 
-from support import EXAMPLES, PROGRAM, ROOT, ProgramTest, free_port, wait_until, watchdog
+from support import (
+    EXAMPLES, PROGRAM, ROOT, USER, ProgramTest, Provider, free_port, scimlink, wait_until, watchdog,
+)
 
 PAGE = (ROOT / "docs/GUIDE.md").read_text()
 # Each block of the page: its language, and its text
@@ -15,6 +18,8 @@ BLOCKS = re.findall(r"^```(\w*)\n(.*?)^```$", PAGE, re.MULTILINE | re.DOTALL)
 ADDRESS = "127.0.0.1:8080"
 # What the shell says of its jobs, which the page leaves out
 OF_JOBS = re.compile(r"^.*: line \d+: +\d+ Terminated .*\n", re.MULTILINE)
+# A name that try-provider.py made up
+TRIED = re.compile(r"scimlink-try-[0-9a-f]{8}")
 
 
 def commands():
@@ -31,7 +36,7 @@ class Shell:
 
     def __init__(self, folder, programs):
         self.folder = folder
-        environment = os.environ | {"PATH": f"{programs}:{os.environ['PATH']}"}
+        environment = os.environ | {"PATH": f"{programs}:{os.environ['PATH']}", "PYTHONDONTWRITEBYTECODE": "1"}
         pipes = {"stdin": subprocess.PIPE, "stdout": subprocess.PIPE, "stderr": subprocess.DEVNULL, "text": True}
         self.process = subprocess.Popen(["bash"], cwd=folder, env=environment, **pipes)
         self.watchdog = watchdog(self.process)
@@ -72,7 +77,8 @@ class GuideTest(ProgramTest):
                 if command.endswith("&"):
                     # it prints in its own time
                     wait_until(lambda: output.stat().st_size >= len(printed), "what it prints")
-                self.assertEqual(OF_JOBS.sub("", output.read_text()), printed)
+                told = OF_JOBS.sub("", output.read_text())
+                self.assertEqual(TRIED.sub("TRIED", told), TRIED.sub("TRIED", printed))
 
     def test_blocks(self):
         self.assertEqual(PAGE.count("\n```"), 2 * len(BLOCKS))
@@ -84,6 +90,47 @@ class GuideTest(ProgramTest):
             if language != "console":
                 with self.subTest(content.partition("\n")[0]):
                     self.assertTrue(content in examples, content)
+
+    def test_the_mail_of_cron_has_what_is_not_confirmed(self):
+        line = next(line for line in (EXAMPLES / "scimlink.cron").read_text().splitlines() if line[0] == "*")
+        places = {
+            "/usr/local/bin/scimlink": PROGRAM,
+            "/srv/personnel/users.csv": self.site.users,
+            "/srv/personnel/groups.csv": self.site.groups,
+            "/var/lib/scimlink-connector/journal.db": self.site.journal,
+        }
+        command = line.split(" scimlink ", 1)[1]
+        self.site.write_users("ann,1,,,,,active", "bob,1:2,,,,,active", "cid,2000000000,,,,,left")
+        self.site.write_groups("confirmed,1,ann", "crew,1:1,ann")
+        with Provider(100) as provider:
+            provider.ask("POST", "/v2/Users", f'{{"schemas":["{USER}"],"userName":"bob"}}')
+            for theirs, ours in (places | {ADDRESS: provider.address}).items():
+                self.assertIn(theirs, command)
+                command = command.replace(theirs, str(ours))
+            mail = subprocess.run(["sh", "-c", command], capture_output=True, text=True, check=False)
+            self.assertEqual(mail.stdout + mail.stderr, "user bob unconfirmed C1\n")
+
+    def test_revisions_from_dates_and_times(self):
+        table = PAGE[PAGE.index("### Revisions from dates and times"):PAGE.index("### Departments")]
+        rows = re.findall(r"^\|[^|`]*\| `([^`]*)` \|", table, re.MULTILINE)
+        self.assertEqual(len(rows), 5)
+        self.site.write_users(*(f"ann,{revision},,,,,active" for revision in rows))
+        run = scimlink("map", self.site.users)
+        self.assertEqual((len(run.lines), run.errors), (5, ""))
+        # none of them falls
+        read = [tuple(map(int, f"0:{revision}".split(":")[-2:])) for revision in rows]
+        self.assertEqual(read, sorted(read))
+        moment = datetime.datetime(2026, 11, 26, 14, 30, tzinfo=datetime.UTC)
+        days, seconds = divmod(int(moment.timestamp()), 86_400)
+        times = [moment.timestamp() // 60, moment.timestamp()]
+        self.assertEqual(read[1:], [(0, int(f"{moment:%Y%m%d}")), *((0, it) for it in times), (days, seconds + 1)])
+        last = datetime.datetime.fromtimestamp(2_000_000_000, datetime.UTC)
+        self.assertEqual(f"{last:%-d %B %Y}", "18 May 2033")
+        self.assertEqual([1970 + int(ends) for ends in (2e9 / 60 / 24 / 365.2425, 999_999 / 365.2425)], [5772, 4707])
+        for revision in re.findall(r"`([^`]*)`", table[table.index("A timestamp as a whole"):table.index("Milliseconds")]):
+            if revision != "S5":
+                self.site.write_users(f"ann,{revision},,,,,active")
+                self.assert_prints(scimlink("map", self.site.users), status=1, errors=["users record 1: S5"])
 
     @unittest.skipUnless(shutil.which("systemd-analyze"), "there is no systemd here")
     def test_units(self):

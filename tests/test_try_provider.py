@@ -1,20 +1,25 @@
 """examples/try-provider.py: against `serve`, and against providers by script that break one condition each."""
 import json
+import pathlib
 import re
 import subprocess
 import sys
+import tempfile
 
 from example_tools import run_tool
 from peers import answer, head
 from small_provider import DropsExtension, SmallProvider
-from support import ENTERPRISE, EXAMPLES, NOWHERE, PATIENCE, SOURCE, ProgramTest, Provider
+from support import (
+    DEPARTMENTS_HEADER, ENTERPRISE, EXAMPLES, NOWHERE, PATIENCE, SOURCE, USER, USERS_HEADER, ProgramTest, Provider,
+    Site,
+)
 
 NAMES = [
     "searches", "one user of a name", "source extension", "enterprise extension", "If-Match", "strong version",
     "Content-Length", "201 and 200",
 ]
 LATE_MESSAGE = "push can't notice it: a late message can switch a leaver on"
-ANN = {"schemas": [], "userName": "ann", "active": True}
+ANN = {"schemas": [USER], "userName": "ann", "active": True, SOURCE: {"revision": 1}}
 
 
 def try_provider(*arguments):
@@ -213,7 +218,8 @@ BROKEN = {
     ],
     IgnoresIfMatch: [f"not met: If-Match. An old version was replaced. {LATE_MESSAGE}"],
     RefusesVersionsOtherwise: [
-        'not met: If-Match. An old version is answered 409, "conflict", and not 412. Records stay unconfirmed: C4',
+        'not met: If-Match. An old version is answered 409, "conflict", and not 412. A record that somebody else just '
+        "changed is unconfirmed until the next push: C4",
     ],
     ShowsNoVersion: [
         "can't be tried: If-Match. The user is shown without a version",
@@ -256,6 +262,29 @@ BROKEN = {
     ],
 }
 
+JOINS, LEAVES = "bob,1,,,,,active", "bob,2,,,,,left"
+# What push prints of bob, who joins and then leaves, at a provider for which the tool says so
+PUSHES = {
+    SmallProvider: [(JOINS, "confirmed 1"), (LEAVES, "confirmed 2")],
+    IgnoresFilters: [(JOINS, "unconfirmed C1")],
+    WantsAToken: [(JOINS, "unconfirmed C4")],
+    IsNoProvider: [(JOINS, "unconfirmed K1")],
+    FindsExactNames: [(JOINS, "confirmed 1"), (LEAVES.upper().replace("LEFT", "left"), "unconfirmed -")],
+    DropsExtension: [(JOINS, "unconfirmed C1"), (LEAVES, "unconfirmed C1")],
+    RefusesExtension: [(JOINS, "unconfirmed C4")],
+    DropsEpochs: [(JOINS, "confirmed 1"), (LEAVES, "confirmed 2"), ("bob,1:1,,,,,left", "unconfirmed -")],
+    DropsDepartments: [(f"{JOINS},Sales", "confirmed 1")],
+    RefusesDepartments: [(f"{JOINS},Sales", "unconfirmed C4")],
+    ShowsNoVersion: [(JOINS, "unconfirmed C2")],
+    ComparesStrongly: [(JOINS, "confirmed 1"), (LEAVES, "unconfirmed -")],
+    ShowsNoTag: [(JOINS, "unconfirmed C2")],
+    SendsChunks: [(JOINS, "confirmed 1"), (LEAVES, "unconfirmed K1")],
+    CreatesWith200: [(JOINS, "unconfirmed K3"), (JOINS, "confirmed 1")],
+    CreatesWithoutShowing: [(JOINS, "unconfirmed K2"), (JOINS, "confirmed 1")],
+    ReplacesWith204: [(JOINS, "confirmed 1"), (LEAVES, "unconfirmed K1"), (LEAVES, "confirmed 2")],
+    RefusesUsers: [(JOINS, "unconfirmed C4")],
+}
+
 
 class TryProviderTest(ProgramTest):
     def assert_tells(self, run, *other):
@@ -270,8 +299,7 @@ class TryProviderTest(ProgramTest):
     def assert_left_inactive(self, provider, last):
         """The user that was made is inactive, and nobody else was touched."""
         self.assertRegex(last, "^the user scimlink-try-[0-9a-f]{8} is left inactive$")
-        others = [user for user in provider.users.values() if user["userName"] == "ann"]
-        self.assertEqual(others, [ANN | {"changes": 1}])
+        self.assertEqual([user["changes"] for user in provider.users.values() if user["userName"] == "ann"], [1])
         ours = [user for user in provider.users.values() if user["userName"] != "ann"]
         self.assertGreater(len(ours), 0)
         self.assertEqual({user["active"] for user in ours}, {False})
@@ -294,6 +322,17 @@ class TryProviderTest(ProgramTest):
             with self.subTest(kind.__name__), kind(ANN) as provider:
                 run = try_provider("--to", provider.address)
                 self.assert_left_inactive(provider, self.assert_tells(run, *lines))
+
+    def test_push_prints_what_the_tool_says(self):
+        for kind, pushes in PUSHES.items():
+            with kind(ANN) as provider:
+                self.site = Site(pathlib.Path(tempfile.mkdtemp(dir=self.folder)))
+                for row, becomes in pushes:
+                    header = DEPARTMENTS_HEADER if row.count(",") == 7 else USERS_HEADER
+                    self.site.write_users(row, header=header)
+                    with self.subTest(kind.__name__, row=row):
+                        status = 0 if becomes.startswith("confirmed") else 1
+                        self.assert_prints(self.site.push(provider.address), f"user bob {becomes}", status=status)
 
     def test_a_provider_that_drops_epochs(self):
         with DropsEpochs(ANN) as provider:
