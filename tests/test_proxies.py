@@ -170,6 +170,8 @@ class BeforeServeTest(ProxiesTest):
             "connector POST /v2/Users 413 -",
         ]
         self.assertEqual([line.split(" ", 1)[1] for line in self.access_log.read_text().splitlines()], record)
+        for line in record[0], record[3]:
+            self.assertIn(f" {line}\n", PAGE)
 
     def test_bodies_that_scimlink_does_not_take(self):
         provider = self.provider()
