@@ -44,6 +44,7 @@ class Trial:
         self.answers = []  # all of them
         self.shown = []  # each user of ours that they showed, and the revision that it should have
         self.users = {}  # by its id, each user of ours as it was shown last
+        self.may_exist = False  # whether a creation was sent
 
     def run(self):
         self.absent = self.note(self.provider.search(self.name))
@@ -56,12 +57,12 @@ class Trial:
         if not self.users:
             return
         self.in_capitals = self.note(self.provider.search(self.name.upper()))
-        id, before = self.id, self.version()
         self.twice = self.note(self.provider.ask("POST", "Users", self.content(FIRST, False, self.name.upper())))
+        id, before = self.id, self.version()
         self.replaced = self.replace(id, SECOND, False, before)
         if before is not None:
             # a message that was sent before that, and comes late
-            old = before if self.replaced.status == 200 else NO_VERSION
+            old = before if is_success(self.replaced) else NO_VERSION
             self.late = self.replace(id, FIRST, True, old)
         self.after = self.note(self.provider.search(self.name), self.revision_after())
         if SOURCE in self.extensions:
@@ -87,7 +88,7 @@ class Trial:
         """Creates the user, without the extensions for which the provider refuses it."""
         first = None
         for extensions in ([ENTERPRISE, SOURCE], [SOURCE], [ENTERPRISE], []):
-            self.extensions = extensions
+            self.extensions, self.may_exist = extensions, True
             answer = self.note(self.provider.ask("POST", "Users", self.content(FIRST, True)), FIRST)
             first = first or answer
             if answer.status < 400:
@@ -157,6 +158,14 @@ class Trial:
         """Switches off each user that was created: whether all of them are shown as inactive."""
         return all([self.is_off(id) or self.switch_off(id) for id in list(self.users)])
 
+    def leave_after_fault(self):
+        """The same after a run that ended early, whose last request may have created the user."""
+        try:
+            self.note(self.provider.search(self.name))
+            return self.leave()
+        except OSError:
+            return False
+
     def is_off(self, id):
         self.note(self.provider.read(id))
         return attribute(self.users[id], "active") is False
@@ -194,6 +203,8 @@ def searches(trial):
 def one_of_a_name(trial):
     if not trial.users:
         return NO_USER
+    if is_success(trial.twice) and len(trial.users) == 1:
+        return NOT_MET, f"The creation of a name that is taken replaced the user. {UNNOTICED}"
     if is_success(trial.twice):
         return NOT_MET, "A second user of the name was created, in capitals. Then both stay unconfirmed: C1"
     if trial.twice.status != 409:
@@ -330,11 +341,7 @@ def main():
         print(f"no connection: {fault.strerror or fault}", file=sys.stderr)
     except KeyboardInterrupt:
         print("stopped", file=sys.stderr)
-    try:
-        is_left_off = trial.leave()
-    except OSError:
-        is_left_off = False
-    if not is_left_off:
+    if trial.may_exist and not trial.leave_after_fault():
         print(f"the user {trial.name} may be active: switch it off by hand", file=sys.stderr)
     return 3
 

@@ -65,6 +65,12 @@ class HasTwoOfAName(SmallProvider):
         return [id for id, user in self.users.items() if user["userName"] == name]
 
 
+class ReplacesByCreating(SmallProvider):
+    def create(self, content):
+        found = self.find(content["userName"])
+        return self.created(self.keep(content, found[0] if found else None))
+
+
 class RefusesTakenNamesOtherwise(SmallProvider):
     def taken(self):
         return answer(400, {"detail": "name in use"})
@@ -185,6 +191,9 @@ BROKEN = {
     ],
     HasNoGroups: ["not met: searches. A search for a group is answered 404. Only users can be pushed"],
     HasTwoOfAName: [TWO_OF_A_NAME],
+    ReplacesByCreating: [
+        f"not met: one user of a name. The creation of a name that is taken replaced the user. {LATE_MESSAGE}",
+    ],
     RefusesTakenNamesOtherwise: [
         'not met: one user of a name. The creation of a name that is taken is answered 400, "name in use", and not '
         "409. A record that somebody else just created is unconfirmed until the next push: C4",
@@ -395,6 +404,15 @@ class TryProviderTest(ProgramTest):
                 return super().replace(id, content, if_match) if self.requests.count(("PUT", "Users/1")) > 1 else b""
 
         with Ends() as provider:
+            run = try_provider("--to", provider.address)
+            self.assertEqual((run.status, run.output), (3, b""))
+            self.assertEqual(provider.users["1"]["active"], False)
+
+        class EndsAfterCreating(SmallProvider):
+            def created(self, id):
+                return b""
+
+        with EndsAfterCreating() as provider:
             run = try_provider("--to", provider.address)
             self.assertEqual((run.status, run.output), (3, b""))
             self.assertEqual(provider.users["1"]["active"], False)
