@@ -104,13 +104,14 @@ def spelled(revision):
 def with_revision(account):
     """All that an account has, and the revision."""
     content = {name: value for name, value in account.items() if small(name) not in ("schemas", SOURCE.lower())}
-    schemas = [it for it in attribute(account, "schemas") or [USER] if small(str(it)) != SOURCE.lower()]
+    schemas = attribute(account, "schemas")
+    schemas = [it for it in schemas if small(str(it)) != SOURCE.lower()] if isinstance(schemas, list) else [USER]
     return content | {"schemas": [*schemas, SOURCE], SOURCE: {"revision": ADOPTED}}
 
 
 def lost(account, shown):
     """The names of the attributes that an account had and doesn't have any more."""
-    return [printed(name) for name in account if attribute(shown, name) is None is not attribute(account, name)]
+    return [printed(name) for name, value in account.items() if value is not None and attribute(shown, name) is None]
 
 
 def cleared_by_push(account):
@@ -176,7 +177,7 @@ class Adoption:
         if answer.status not in range(200, 300):
             return False, f"stays: the replacement of it is answered {answer.detail}"
         shown = self.provider.read(id).content
-        if revision_of(shown) != (0, ADOPTED):
+        if revision_of(shown) is None:
             raise Stop("the provider doesn't keep the source extension: push can't be used with it")
         cleared = lost(account, shown)
         if cleared:
