@@ -10,8 +10,9 @@ import time
 import unittest
 
 from example_tools import run_tool
+from small_provider import SmallProvider
 from support import (
-    BOB, NOWHERE, PATIENCE, ROOT, ProgramTest, Provider, free_port, resource_id, wait_until, watchdog,
+    BOB, NOWHERE, PATIENCE, ROOT, USER, ProgramTest, Provider, free_port, resource_id, wait_until, watchdog,
 )
 
 PATH = f"{os.environ['PATH']}:/usr/sbin"
@@ -208,6 +209,18 @@ class BehindPushTest(ProxiesTest):
         tried = run_tool("try-provider.py", "--to", f"127.0.0.1:{self.push_port}")
         self.assertEqual([line.split(":")[0] for line in tried.lines[:-1]], ["met"] * 8, tried.output.decode())
         self.assertEqual(tried.status, 0)
+
+    def test_a_leaver_who_had_an_account_before(self):
+        foreign = SmallProvider(*({"schemas": [USER], "userName": name, "active": True} for name in ("Ann", "bob")))
+        self.start(self.before_serve(self.start(foreign).address))
+        self.behind_push()
+        self.site.write_users("ann,5,,,,,active", "bob,5,,,,,active")
+        self.assert_prints(self.push(), "user ann unconfirmed C1", "user bob unconfirmed C1", status=1)
+        adopted = run_tool("adopt.py", "--users", self.site.users, "--to", f"127.0.0.1:{self.push_port}")
+        self.assertEqual(adopted.lines, ["ann adopted at revision 1", "bob adopted at revision 1"])
+        self.site.write_users("ann,5,,,,,active", "bob,6,,,,,left")
+        self.assert_prints(self.push(), "user ann confirmed 5", "user bob confirmed 6")
+        self.assertEqual([user["active"] for user in foreign.users.values()], [True, False])
 
     def test_an_expired_certificate(self):
         self.site.write_users("bob,1,,,,,active")
