@@ -111,26 +111,27 @@ class GuideTest(ProgramTest):
             self.assertEqual(mail.stdout + mail.stderr, "user bob unconfirmed C1\n")
 
     def test_revisions_from_dates_and_times(self):
-        table = PAGE[PAGE.index("### Revisions from dates and times"):PAGE.index("### Departments")]
-        rows = re.findall(r"^\|[^|`]*\| `([^`]*)` \|", table, re.MULTILINE)
-        self.assertEqual(len(rows), 5)
-        self.site.write_users(*(f"ann,{revision},,,,,active" for revision in rows))
-        run = scimlink("map", self.site.users)
-        self.assertEqual((len(run.lines), run.errors), (5, ""))
-        # none of them falls
-        read = [tuple(map(int, f"0:{revision}".split(":")[-2:])) for revision in rows]
-        self.assertEqual(read, sorted(read))
-        moment = datetime.datetime(2026, 11, 26, 14, 30, tzinfo=datetime.UTC)
-        days, seconds = divmod(int(moment.timestamp()), 86_400)
-        times = [moment.timestamp() // 60, moment.timestamp()]
-        self.assertEqual(read[1:], [(0, int(f"{moment:%Y%m%d}")), *((0, it) for it in times), (days, seconds + 1)])
-        last = datetime.datetime.fromtimestamp(2_000_000_000, datetime.UTC)
-        self.assertEqual(f"{last:%-d %B %Y}", "18 May 2033")
-        self.assertEqual([1970 + int(ends) for ends in (2e9 / 60 / 24 / 365.2425, 999_999 / 365.2425)], [5772, 4707])
-        for revision in re.findall(r"`([^`]*)`", table[table.index("A timestamp as a whole"):table.index("Milliseconds")]):
-            if revision != "S5":
-                self.site.write_users(f"ann,{revision},,,,,active")
-                self.assert_prints(scimlink("map", self.site.users), status=1, errors=["users record 1: S5"])
+        part = PAGE[PAGE.index("### Revisions from dates and times"):PAGE.index("### Departments")]
+        moment = datetime.datetime(2026, 11, 26, 14, 30, tzinfo=datetime.timezone.utc)
+        seconds = int(moment.timestamp())
+        day, second = divmod(seconds, 86_400)
+        revisions = ["7", f"{moment:%Y%m%d}", str(seconds // 60), str(seconds), f"{day}:{second + 1}"]
+        self.assertEqual(re.findall(r"^\|[^|`]*\| `([^`]*)` \|", part, re.MULTILINE), revisions)
+        # each is above the one before it
+        self.site.write_users(*(f"ann,{revision},,,,,active" for revision in revisions))
+        self.assertEqual(self.site.loop().lines[:5], [f"{place} new" for place in range(1, 6)])
+        # none of these is a revision
+        too_large = re.findall(r"`(\d{10,})`", part[part.index("A timestamp as a whole"):])
+        self.site.write_users(*(f"ann,{revision},,,,,active" for revision in too_large))
+        errors = [f"users record {place}: S5" for place in (1, 2)]
+        self.assert_prints(scimlink("map", self.site.users), status=1, errors=errors)
+
+    def test_when_revisions_end(self):
+        largest, last_epoch, minute, year = 2_000_000_000, 999_999, 60, 365.2425 * 86_400
+        end = datetime.datetime.fromtimestamp(largest, datetime.timezone.utc)
+        self.assertIn(f"| on {end.day} {end:%B %Y} |", PAGE)
+        for seconds in (largest * minute, last_epoch * 86_400):
+            self.assertIn(f"| in the year {1970 + int(seconds / year)} |", PAGE)
 
     @unittest.skipUnless(shutil.which("systemd-analyze"), "there is no systemd here")
     def test_units(self):

@@ -101,7 +101,9 @@ class ProxiesTest(ProgramTest):
         self.run_openssl("x509", "-req", "-in", "request", *by, "-days", str(days), "-out", name)
 
     def start(self, running):
-        return self.enterContext(running)
+        started = running.__enter__()
+        self.addCleanup(running.__exit__, None, None, None)
+        return started
 
     def provider(self):
         return self.start(Provider(1000, "--base", "http://scim.example/v2", "--store", self.site.store))
