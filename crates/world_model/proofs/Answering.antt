@@ -31,10 +31,10 @@ use Rattle.source_csv.specs.declared.rows.Row.{Row}
 use Rattle.connector_core.specs.History.{History, rows_of}
 use Rattle.connector_core.specs.Learning.{Finding, Shows, Taken, Stale, finding, subject}
 use Rattle.world_model.specs.Safe.{IsAt, Has}
-use Rattle.world_model.specs.Untroubled.{most_entries}
-use Rattle.world_model.proofs.Ranking.{AllLawful, row_lawful, versions_few}
+use Rattle.world_model.proofs.Ranking.{AllLawful, row_lawful, record_ours, versions_few_of}
+use Rattle.world_model.proofs.Room.{Lacks}
 use Rattle.world_model.proofs.Searched.{Says, search_is, search_subject, search_said, shown_name}
-use Rattle.world_model.specs.Invariant.{all_names, Kept, Overwrites, AskedTruly}
+use Rattle.world_model.specs.Invariant.{Names, AllOurs, Kept, Overwrites, AskedTruly}
 
 -- an answer that says something of a record with accepted rows
 pub record Answers (history : History) (request : Request) (answer : Answer) : Type 0 where
@@ -47,10 +47,10 @@ pub record Answers (history : History) (request : Request) (answer : Answer) : T
 
 -- ---- a Create
 
-create_said : (taken : Option Entry) (full : Bool) (es : List Entry) (content : Content) → full ≡ false
+create_said : (taken : Option Entry) (full : Bool) (es : List Entry) (content : Content) → (taken ≡ None → full ≡ false)
     → (said : Finding) × Says (Create content) said (content_name content) (creating_entry taken full es content).answer
 create_said (Some e) full es content room = (Taken, record { says = refl; its = λ s shows. absurd (cc) })
-create_said None true es content room = absurd (cc)
+create_said None true es content room = let free : true ≡ false = room refl in absurd (cc)
 create_said None false es content room =
     let x = shown (row_of (suc (length es)) (first_entry content)) in
     (Shows x, record { says = refl; its = λ s shows. shown_name x s (content_name content) shows refl })
@@ -60,6 +60,16 @@ create_said None false es content room =
 cond_none : {X : Type 0} (b : Bool) (x : X) (rest : Option X) → cond b (Some x) rest ≡ None → (b ≡ false) × (rest ≡ None)
 cond_none true x rest none = absurd (cc)
 cond_none false x rest none = (refl, none)
+
+-- no entry has a name that isn't found
+pub none_found : (name : RecordName) (es : List Entry) → find (is_entry_of name) es ≡ None → Lacks es name
+none_found name [] none i e at named = absurd (cc)
+none_found name (d ∷ es) none zero e at named =
+    let same : d ≡ e = cc in
+    let tested : is_entry_of name d ≡ true = same_if_eq name d.name (sym named ∙ ap (λ (x : Entry). x.name) (sym same)) in
+    let clash : true ≡ false = sym tested ∙ (cond_none (is_entry_of name d) d (find (is_entry_of name) es) none).0 in
+    absurd (cc)
+none_found name (d ∷ es) none (suc i) e at named = none_found name es (cond_none (is_entry_of name d) d (find (is_entry_of name) es) none).1 i e at named
 
 -- the entry of an id is found
 with_id : (id : List ℕ) (m : ℕ) (es : List Entry) (i : ℕ) (e : Entry) → IsAt es i e → id ≡ id_text (m + i) → find (has_entry_id id) (numbered_from m es) ≡ None → ⊥
@@ -84,7 +94,7 @@ pub record Found (es : List Entry) (id : List ℕ) (e : Entry) : Type 0 where
   pub found : find (has_entry_id id) (numbered_from 1 es) ≡ Some n
   pub same : n.entry ≡ e
 
-pub found_by_id : (es : List Entry) (i : ℕ) (e : Entry) (id : List ℕ) → length es ≤ most_entries → IsAt es i e → id ≡ id_text (suc i) → Found es id e
+pub found_by_id : (es : List Entry) (i : ℕ) (e : Entry) (id : List ℕ) → length es ≤ most_resources → IsAt es i e → id ≡ id_text (suc i) → Found es id e
 found_by_id es i e id few at is = go (find (has_entry_id id) (numbered_from 1 es)) refl
   where
     first : suc i ≡ 1 + i
@@ -121,18 +131,24 @@ abbrev Replaces : List Entry → List ℕ → Content → Condition → Conditio
 Replaces es id content if_match if_none_match o =
     (said : Finding) × Says (Replace id content if_match if_none_match) said (content_name content) (replacing_entry o es content if_match if_none_match).answer
 
-module _ (history : History) (es : List Entry) (kept : Kept all_names history es) (lawful : AllLawful history) (few : length es ≤ most_entries) where
+-- a record with accepted rows has an entry, or there is a free place for it
+abbrev pub HasPlaces : History → List Entry → Type 0
+HasPlaces history es = (name : RecordName) (row : Row) → Has (rows_of history name) row → Lacks es name → length es < most_resources
+
+module _ {ours : Names} (history : History) (es : List Entry) (kept : Kept ours history es) (mine : AllOurs ours history) (lawful : AllLawful history) (few : length es ≤ most_resources)
+    (free : HasPlaces history es) where
   replace_said : (id : List ℕ) (content : Content) (if_match if_none_match : Condition) → Overwrites history es id content if_match
       → Replaces es id content if_match if_none_match (entry_with_id (content_kind content) id es)
   replace_said id content if_match if_none_match asked =
       let v = asked.version in
+      let its : ours v.entry.name ≡ true = ap ours v.of_record ∙ record_ours ours history mine (content_name content) asked.image.row asked.image.accepted in
       let f = found_by_id es v.place v.entry id few v.here v.has_id in
       let n = f.n in
       let named : n.entry.name ≡ content_name content = ap (λ e. e.name) f.same ∙ v.of_record in
       let of_kind : n.entry.name.kind ≡ content_kind content = ap (λ name. name.kind) named in
       let is : entry_with_id (content_kind content) id es ≡ Some n = ap (if_entry_of_kind (content_kind content)) f.found ∙ of_its_kind (content_kind content) n of_kind in
       let short : length (story n.entry) < last_version =
-      subst (λ (e : Entry). length (story e) < last_version) (sym f.same) (below_last (length (story v.entry)) (versions_few history es kept lawful v.place v.entry v.here)) in
+      subst (λ (e : Entry). length (story e) < last_version) (sym f.same) (below_last (length (story v.entry)) (versions_few_of history es kept lawful v.place v.entry v.here its)) in
       subst (Replaces es id content if_match if_none_match) (sym is)
       (write_said _ _ _ n es id content if_match if_none_match (same_if_eq n.entry.name (content_name content) named) (lt-leb last_version (length (story n.entry)) short))
 
@@ -140,8 +156,8 @@ module _ (history : History) (es : List Entry) (kept : Kept all_names history es
 
   pub request_answers : (request : Request) → AskedTruly history es request → Answers history request (step es request).answer
   request_answers (Create content) asked =
-      let room : nat_le most_resources (length es) ≡ false = lt-leb most_resources (length es) (omega (arith, few)) in
-      let (said, says) = create_said (find (is_entry_of (content_name content)) es) (nat_le most_resources (length es)) es content room in
+      let (said, says) = create_said (find (is_entry_of (content_name content)) es) (nat_le most_resources (length es)) es content (λ none.
+      lt-leb most_resources (length es) (free (content_name content) asked.row asked.accepted (none_found (content_name content) es none))) in
       record { name = content_name content; about = refl; row = asked.row; accepted = asked.accepted; said = said; says = says }
   request_answers (Retrieve kind id if_match if_none_match) asked = absurd asked
   request_answers (Search kind wanted start count) asked =

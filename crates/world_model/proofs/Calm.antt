@@ -26,20 +26,26 @@ use Rattle.world_model.specs.World.{World, Message, Asked, Answered, Event, Chan
 use Rattle.world_model.specs.Safe.{IsAt, Has}
 use Rattle.world_model.specs.Untroubled.{IsLawful}
 use Rattle.world_model.proofs.Accepting.{new_by_source}
-use Rattle.world_model.proofs.Finding.{kept_has}
-use Rattle.world_model.specs.Invariant.{Invariant}
-use Rattle.world_model.proofs.Invariant.{event_inv, empty_inv}
+use Rattle.world_model.specs.Invariant.{Names, all_names, InvariantOf, Invariant}
+use Rattle.world_model.specs.Others.{Act, Ours, Theirs, acts, run_among, KeepsApart}
+use Rattle.world_model.specs.Room.{HasRoom, IsLawfulAct}
+use Rattle.world_model.proofs.Invariant.{event_inv, empty_inv, act_inv}
 use Rattle.world_model.proofs.Judging.{judged_by_source}
-use Rattle.world_model.proofs.Lists.{has_last}
-use Rattle.world_model.proofs.Quiet.{Quiet, always_quiet}
+use Rattle.world_model.proofs.Lists.{has_last, kept_has}
+use Rattle.world_model.proofs.Quiet.{QuietAmong, room_alone, always_quiet, none_quiet, among_quiet}
+use Rattle.world_model.proofs.Room.{room_was_there}
 
-pub record Calm (w : World) : Type 0 where
-  pub quiet : Quiet w
+pub record CalmAmong (ours : Names) (w : World) : Type 0 where
+  pub quiet : QuietAmong ours w
+  pub room : HasRoom w
   pub members : MembersAreUsers w.history
+
+abbrev pub Calm : World → Type 0
+Calm w = CalmAmong all_names w
 
 -- ---- members
 
-changes_members : (w : World) (row : Row) (v : Result Verdict ChangeFault) → Invariant w → judged w row ≡ v → MembersAreUsers w.history → MembersAreUsers (changes w row v).history
+changes_members : {ours : Names} (w : World) (row : Row) (v : Result Verdict ChangeFault) → InvariantOf ours w → judged w row ≡ v → MembersAreUsers w.history → MembersAreUsers (changes w row v).history
 changes_members w row (Ok verdicts.New) inv is members = (goes_on w.history row (new_by_source w.history row (sym (judged_by_source w row inv.follows) ∙ is))).members members
 changes_members w row (Ok verdicts.Known) inv is members = members
 changes_members w row (Ok verdicts.Older) inv is members = members
@@ -56,7 +62,7 @@ delivers_members w None members = members
 delivers_members w (Some (Asked request)) members = members
 delivers_members w (Some (Answered request answer)) members = members
 
-event_members : (w : World) (event : Event) → Invariant w → MembersAreUsers w.history → MembersAreUsers (happens w event).history
+event_members : {ours : Names} (w : World) (event : Event) → InvariantOf ours w → MembersAreUsers w.history → MembersAreUsers (happens w event).history
 event_members w (Changes row) inv members = changes_members w row (judged w row) inv refl members
 event_members w (Sends name) inv members = sends_members w (asking w.book name) members
 event_members w (Delivers number) inv members = delivers_members w (message_at w.messages number) members
@@ -69,7 +75,27 @@ run_members w [] inv members = members
 run_members w (event ∷ events) inv members = run_members (happens w event) events (event_inv w event inv) (event_members w event inv members)
 
 pub always_calm : (events : List Event) → AllByRecursion IsLawful events → Calm (run empty events)
-always_calm events law = record { quiet = always_quiet events law; members = run_members empty events empty_inv tt }
+always_calm events law =
+    let quiet = always_quiet events law in
+    record { quiet = quiet; room = room_alone (run empty events) quiet; members = run_members empty events empty_inv tt }
+
+-- among others
+act_members : {ours : Names} (w : World) (act : Act) → InvariantOf ours w → MembersAreUsers w.history → MembersAreUsers (acts w act).history
+act_members w (Ours event) inv members = event_members w event inv members
+act_members w (Theirs request) inv members = members
+
+among_members : {ours : Names} (w : World) (later : List Act) → KeepsApart ours later → InvariantOf ours w → MembersAreUsers w.history → MembersAreUsers (run_among w later).history
+among_members w [] apart inv members = members
+among_members w (act ∷ later) apart inv members = among_members (acts w act) later apart.1 (act_inv w act apart.0 inv) (act_members w act inv members)
+
+pub among_calm : {ours : Names} (w : World) (later : List Act) → KeepsApart ours later → AllByRecursion IsLawfulAct later → HasRoom (run_among w later) → CalmAmong ours w
+    → CalmAmong ours (run_among w later)
+among_calm w later apart law room c =
+    record { quiet = among_quiet w later apart law room c.quiet; room = room; members = among_members w later apart c.quiet.inv c.members }
+
+pub calm_among : (ours : Names) (all : List Act) → KeepsApart ours all → AllByRecursion IsLawfulAct all → HasRoom (run_among empty all) → CalmAmong ours (run_among empty all)
+calm_among ours all apart law room =
+    among_calm empty all apart law room (record { quiet = none_quiet ours; room = room_was_there empty all room; members = tt })
 
 all_at : {X : Type 0} (P : X → Type 0) (xs : List X) (i : ℕ) (x : X) → AllByRecursion P xs → IsAt xs i x → P x
 all_at P [] i x all at = absurd (cc)
@@ -86,7 +112,7 @@ last_known None q is there = absurd (cc)
 last_known (Some known) q is there = (known, refl)
 
 -- each member of an accepted row is in the book
-pub member_known : (w : World) → Calm w → (row : Row) → Has w.history row → (i : ℕ) (key : List ℕ) → IsAt (members_of row) i key → (known : Known) × (w.book (user key) ≡ Some known)
+pub member_known : {ours : Names} (w : World) → CalmAmong ours w → (row : Row) → Has w.history row → (i : ℕ) (key : List ℕ) → IsAt (members_of row) i key → (known : Known) × (w.book (user key) ≡ Some known)
 member_known w c row has i key at =
     let users = all_at (AllAreUsers w.history) w.history has.0 row c.members has.1 in
     last_known (w.book (user key)) (last_row w.history (user key)) (c.quiet.inv.follows (user key)) (each_passes (is_user w.history) (members_of row) i key users at)
@@ -130,7 +156,7 @@ some_known None row is = absurd (cc)
 some_known (Some known) row is = (known, refl)
 
 -- each record of the source is in the book
-pub name_known : (w : World) → Calm w → (q : RecordName) → Has (names_of w.history) q → (known : Known) × (w.book q ≡ Some known)
+pub name_known : {ours : Names} (w : World) → CalmAmong ours w → (q : RecordName) → Has (names_of w.history) q → (known : Known) × (w.book q ≡ Some known)
 name_known w c q has = elim (named_row [] w.history q has) [
   | inl none ↦ absurd (cc none.1)
   | inr there ↦

@@ -1,5 +1,6 @@
 -- How many records there are: the names of the source, each once, and no more entries than names.
-use Rattle.std.proofs.Common.{◌≡◌, ℕ, zero, suc, ◌+◌, ◌<◌, ◌≤◌, Bool, true, false, cond, List, [], ◌∷◌, ◌++◌, length, Some, ◌⊎◌, inl, inr, refl, ap, sym, ◌∙◌, subst, arith}
+use Rattle.std.proofs.Common.{◌≡◌, ℕ, zero, suc, ◌+◌, ◌<◌, ◌≤◌, Bool, true, false, cond, not, List, [], ◌∷◌, ◌++◌, length, Some, ◌⊎◌, inl, inr, refl, ap, sym, ◌∙◌, subst, arith}
+use Rattle.std.proofs.lemmas.Bool.{cases_Bool}
 use Rattle.std.proofs.lemmas.Bool.Decides.{nat_tests}
 use Rattle.std.specs.BTreeSet.{insert_key}
 use Rattle.std.proofs.lemmas.List.Sums.{length-filter}
@@ -18,7 +19,7 @@ use Rattle.provider_core.proofs.TableLaws.{at_push}
 use Rattle.source_csv.specs.Records.{row_name}
 use Rattle.source_csv.specs.declared.rows.Row.{Row}
 use Rattle.journal_core.specs.Entries.{count_of, most_records}
-use Rattle.connector_core.specs.History.{History, same_kind}
+use Rattle.connector_core.specs.History.{History, same_kind, same_name}
 use Rattle.connector_core.specs.Changing.{is_full, names_of, names_with}
 use Rattle.world_model.specs.Safe.{IsAt, Has}
 use Rattle.world_model.specs.Untroubled.{most_entries}
@@ -35,7 +36,7 @@ abbrev pub InOrder : List RecordName → Type 0
 InOrder [] = Unit {0}
 InOrder (name ∷ names) = AllByRecursion (Comes name) names × InOrder names
 
-abbrev with_name : List RecordName → RecordName → List RecordName
+abbrev pub with_name : List RecordName → RecordName → List RecordName
 with_name names name = insert_key name_cmp names name
 
 abbrev placed : Ordering → RecordName → RecordName → List RecordName → List RecordName → List RecordName
@@ -113,8 +114,12 @@ has_new (x ∷ xs) name = go (name_cmp name x) refl (has_new xs name)
 abbrev one_if : Bool → ℕ
 one_if b = cond b 1 0
 
+one_if_small : (b : Bool) → one_if b ≤ 1
+one_if_small true = omega arith
+one_if_small false = omega arith
+
 -- how many names pass a test
-abbrev many : (RecordName → Bool) → List RecordName → ℕ
+abbrev pub many : (RecordName → Bool) → List RecordName → ℕ
 many p names = length (filter p names)
 
 cond_length : (b : Bool) (x : RecordName) (rest : List RecordName) → length (cond b (x ∷ rest) rest) ≡ one_if b + length rest
@@ -133,11 +138,101 @@ many_with p (x ∷ xs) name = go (name_cmp name x) (many_with p xs name)
     go Equal more = omega arith
     go Greater more = omega (arith, more, many_cons p x (with_name xs name), many_cons p x xs)
 
+-- a name more doesn't make them fewer
+pub more_with : (p : RecordName → Bool) (names : List RecordName) (name : RecordName) → many p names ≤ many p (with_name names name)
+more_with p [] name = omega arith
+more_with p (x ∷ xs) name = go (name_cmp name x) (more_with p xs name)
+  where
+    go : (r : Ordering) → many p xs ≤ many p (with_name xs name) → many p (x ∷ xs) ≤ many p (placed r name x xs (with_name xs name))
+    go Less more = omega (arith, many_cons p name (x ∷ xs))
+    go Equal more = omega arith
+    go Greater more = omega (arith, more, many_cons p x (with_name xs name), many_cons p x xs)
+
+one_not : (b : Bool) → one_if b + one_if (not b) ≡ 1
+one_not true = refl
+one_not false = refl
+
+-- each name passes a test, or it doesn't
+pub many_both : (p : RecordName → Bool) (names : List RecordName) → many p names + many (λ n. not (p n)) names ≡ length names
+many_both p [] = refl
+many_both p (x ∷ xs) = omega (arith, many_both p xs, many_cons p x xs, many_cons (λ n. not (p n)) x xs, one_not (p x))
+
+-- where each name that passes one test passes the other, no more pass it
+fewer : (p q : RecordName → Bool) (names : List RecordName) → ((n : RecordName) → one_if (q n) ≤ one_if (p n)) → many q names ≤ many p names
+fewer p q [] below = omega arith
+fewer p q (x ∷ xs) below = omega (arith, fewer p q xs below, below x, many_cons p x xs, many_cons q x xs)
+
+-- a name doesn't come after itself
+apart_from : (x : RecordName) (names : List RecordName) (i : ℕ) (n : RecordName) → AllByRecursion (Comes x) names → IsAt names i n → n ≡ x → ⊥
+apart_from x names i n order at same =
+    let less : name_cmp x n ≡ Less = all_has (Comes x) names i n order at in
+    let tie : name_cmp x n ≡ Equal = ap (name_cmp x) same ∙ itself x in
+    let clash : Less ≡ Equal = sym less ∙ tie in
+    cc
+
+pub same_many : (p q : RecordName → Bool) (names : List RecordName) → ((i : ℕ) (n : RecordName) → IsAt names i n → p n ≡ q n) → many p names ≡ many q names
+same_many p q [] same = refl
+same_many p q (x ∷ xs) same =
+    omega (arith, many_cons p x xs, many_cons q x xs, ap one_if (same 0 x refl), same_many p q xs (λ i n at. same (suc i) n at))
+
+-- two tests that differ on one name at most
+module _ (p q : RecordName → Bool) (x : RecordName) (same : (n : RecordName) → (n ≡ x → ⊥) → p n ≡ q n) where
+  differs_once : (y : RecordName) (names : List RecordName) → y ≡ x → AllByRecursion (Comes y) names → many p names ≡ many q names
+  differs_once y names is order = same_many p q names (λ i n at. same n (λ its. apart_from y names i n order at (its ∙ sym is)))
+
+  pub one_more_at_most : (names : List RecordName) → InOrder names → many p names ≤ many q names + 1
+  one_more_at_most [] order = omega arith
+  one_more_at_most (y ∷ ys) order = elim (cases_Bool (same_name y x)) [
+    | inl is ↦
+        let rest = differs_once y ys ((same_names y x).0 is) order.0 in
+        omega (arith, rest, many_cons p y ys, many_cons q y ys, one_if_small (p y))
+    | inr other ↦
+        let here : p y ≡ q y = same y (λ is. let clash : false ≡ true = sym other ∙ (same_names y x).1 is in absurd (cc)) in
+        omega (arith, one_more_at_most ys order.1, many_cons p y ys, many_cons q y ys, ap one_if here)
+  ]
+
+  module _ (passes : p x ≡ true) (fails : q x ≡ false) where
+    below : (n : RecordName) → one_if (q n) ≤ one_if (p n)
+    below n = elim (cases_Bool (same_name n x)) [
+      | inl is ↦
+          let none : one_if (q n) ≡ 0 = ap (λ m. one_if (q m)) ((same_names n x).0 is) ∙ ap one_if fails in
+          omega (arith, none)
+      | inr other ↦
+          let here : p n ≡ q n = same n (λ is. let clash : false ≡ true = sym other ∙ (same_names n x).1 is in absurd (cc)) in
+          omega (arith, ap one_if here)
+    ]
+
+    pub one_more_at_least : (names : List RecordName) (i : ℕ) → IsAt names i x → many q names + 1 ≤ many p names
+    one_more_at_least [] i at = absurd (cc)
+    one_more_at_least (y ∷ ys) zero at =
+        let is : y ≡ x = cc in
+        let none : one_if (q y) ≡ 0 = ap (λ m. one_if (q m)) is ∙ ap one_if fails in
+        let one : one_if (p y) ≡ 1 = ap (λ m. one_if (p m)) is ∙ ap one_if passes in
+        omega (arith, none, one, fewer p q ys below, many_cons p y ys, many_cons q y ys)
+    one_more_at_least (y ∷ ys) (suc i) at =
+        omega (arith, one_more_at_least ys i at, below y, many_cons p y ys, many_cons q y ys)
+
+-- a name that passes is one
+pub some_many : (p : RecordName → Bool) (names : List RecordName) (i : ℕ) (x : RecordName) → IsAt names i x → p x ≡ true → 1 ≤ many p names
+some_many p [] i x at passes = absurd (cc)
+some_many p (y ∷ ys) zero x at passes =
+    let is : y ≡ x = cc in
+    let one : one_if (p y) ≡ 1 = ap (λ m. one_if (p m)) is ∙ ap one_if passes in
+    omega (arith, one, many_cons p y ys)
+some_many p (y ∷ ys) (suc i) x at passes = omega (arith, some_many p ys i x at passes, many_cons p y ys)
+
 -- ---- the names of a history
 
-names_push : (names : List RecordName) (history : History) (row : Row) → names_with names (history ++ row ∷ []) ≡ with_name (names_with names history) (row_name row)
+pub names_push : (names : List RecordName) (history : History) (row : Row) → names_with names (history ++ row ∷ []) ≡ with_name (names_with names history) (row_name row)
 names_push names [] row = refl
 names_push names (r ∷ history) row = names_push (with_name names (row_name r)) history row
+
+order_from : (names : List RecordName) (history : History) → InOrder names → InOrder (names_with names history)
+order_from names [] order = order
+order_from names (row ∷ history) order = order_from (with_name names (row_name row)) history (order_with names (row_name row) order)
+
+pub names_ordered : (history : History) → InOrder (names_of history)
+names_ordered history = order_from [] history tt
 
 -- the names are in order, every row's is there, and there are no more of a type than there may be
 pub record Counted (history : History) : Type 0 where
@@ -153,10 +248,6 @@ of_no_other_kind User User = inr refl
 of_no_other_kind User Group = inl refl
 of_no_other_kind Group User = inl refl
 of_no_other_kind Group Group = inr refl
-
-one_if_small : (b : Bool) → one_if b ≤ 1
-one_if_small true = omega arith
-one_if_small false = omega arith
 
 none_few : (kind : Kind) → 0 ≤ most_records kind
 none_few User = omega arith

@@ -1,5 +1,5 @@
 -- A record whose wanted revision is confirmed is settled.
-use Rattle.std.proofs.Common.{◌≡◌, ◌≢◌, ℕ, zero, suc, true, List, [], ◌∷◌, length, Some, None, ◌⊎◌, inl, inr, refl, ap, sym, ◌∙◌, subst}
+use Rattle.std.proofs.Common.{◌≡◌, ◌≢◌, ℕ, zero, suc, true, List, [], ◌∷◌, length, Some, None, ◌⊎◌, inl, inr, ap, sym, ◌∙◌, subst}
 use Rattle.std.specs.List.{AllByRecursion, last_or}
 use Rattle.scim_key.proofs.RevisionLaws.{irreflexive, none_before}
 use Rattle.scim_key.specs.Revisions.{RevisionValue, no_revision, before, ◌≺◌}
@@ -16,9 +16,9 @@ use Rattle.world_model.specs.World.{World}
 use Rattle.world_model.proofs.Asked.{IsDone, if_done}
 use Rattle.world_model.proofs.Keeping.{none_above_held}
 use Rattle.world_model.proofs.Lists.{last_has}
-use Rattle.world_model.specs.Invariant.{HasVersion}
-use Rattle.world_model.proofs.Phases.{is_last, its_law}
-use Rattle.world_model.proofs.Quiet.{Quiet}
+use Rattle.world_model.specs.Invariant.{Names, HasVersion}
+use Rattle.world_model.proofs.Phases.{is_last, its_law, its_ours}
+use Rattle.world_model.proofs.Quiet.{QuietAmong}
 use Rattle.world_model.proofs.Ranking.{lawful_revision}
 
 above_all : (r : RevisionValue) (rows : List Row) (i : ℕ) (row : Row) → AllByRecursion (λ later. r ≺ row_revision later) rows → IsAt rows i row → r ≺ row_revision row
@@ -37,7 +37,7 @@ last_or_below (r ∷ s ∷ rows) zero row last rises at is =
     inr (subst (λ (x : Row). row_revision x ≺ row_revision last) same (above_all (row_revision r) (s ∷ rows) there.0 last rises.0 there.1))
 last_or_below (r ∷ s ∷ rows) (suc i) row last rises at is = last_or_below (s ∷ rows) i row last rises.1 at is
 
-module _ (w : World) (q : Quiet w) (name : RecordName) (known : Known) (in_book : w.book name ≡ Some known) (done : IsDone known) where
+module _ {ours : Names} (w : World) (q : QuietAmong ours w) (name : RecordName) (known : Known) (in_book : w.book name ≡ Some known) (done : IsDone known) where
   confirmed : known.confirmed ≡ row_revision known.wanted
   confirmed = if_done known done
 
@@ -53,8 +53,9 @@ module _ (w : World) (q : Quiet w) (name : RecordName) (known : Known) (in_book 
   its_image : image (id_in w.entries) known.wanted ≡ Some has_version.version.entry.held
   its_image =
       let v = has_version.version in
-      let is = q.inv.kept.imaged v.place (length v.entry.earlier) v.entry v.entry.held v.here refl (held_at v.entry) in
-      let reached = none_above_held v.entry (q.inv.kept.rises v.place v.entry v.here refl) v.turn v.content known.confirmed (row_revision is.row) v.held v.at_revision is.revision in
+      let mine : ours v.entry.name ≡ true = ap ours v.of_record ∙ its_ours w q name known in_book in
+      let is = q.inv.kept.imaged v.place (length v.entry.earlier) v.entry v.entry.held v.here mine (held_at v.entry) in
+      let reached = none_above_held v.entry (q.inv.kept.rises v.place v.entry v.here mine) v.turn v.content known.confirmed (row_revision is.row) v.held v.at_revision is.revision in
       let there : Has (rows_of w.history name) is.row = subst (λ (n : RecordName). Has (rows_of w.history n) is.row) v.of_record is.accepted in
       elim (last_or_below (rows_of w.history name) there.0 is.row known.wanted (q.inv.rising name) there.1 (is_last w q name known in_book)) [
         | inl same ↦ ap (image (id_in w.entries)) (sym same) ∙ is.image

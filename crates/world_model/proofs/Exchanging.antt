@@ -2,7 +2,10 @@
 use Rattle.std.proofs.Common.{◌≡◌, ℕ, suc, [], ◌∷◌, length, Option, Some, ap, sym, ◌∙◌, subst, arith, length-append}
 use Rattle.std.specs.List.{slice_get}
 use Rattle.scim_key.specs.declared.records.RecordName.{RecordName}
+use Rattle.scim_resource.specs.Contents.{content_name}
+use Rattle.scim_resource.specs.declared.contents.Content.{Content}
 use Rattle.scim_message.specs.declared.messages.Request.{Request}
+use Rattle.scim_message.specs.declared.messages.Request.TheVariants.{Create}
 use Rattle.scim_message.specs.declared.messages.Answer.{Answer}
 use Rattle.provider_core.specs.Stories.{step}
 use Rattle.provider_core.proofs.TableLaws.{at_end}
@@ -10,10 +13,14 @@ use Rattle.connector_core.specs.Asking.{asking}
 use Rattle.connector_core.specs.Learning.{learn, after_learning}
 use Rattle.connector_core.specs.declared.asking.Ask.{Ask}
 use Rattle.connector_core.specs.declared.asking.Ask.TheVariants.{Send}
-use Rattle.world_model.specs.World.{World, Message, Asked, Answered, Sends, Delivers, with_message, sends, replies, delivers, message_at, happens, run}
-use Rattle.world_model.specs.Safe.{IsAt}
+use Rattle.world_model.specs.World.{World, Message, Asked, Answered, Sends, Delivers, names, with_message, sends, replies, delivers, message_at, happens, run}
+use Rattle.world_model.specs.Safe.{IsAt, Has}
 use Rattle.world_model.specs.Settled.{exchange}
-use Rattle.world_model.proofs.Quiet.{Quiet, run_quiet}
+use Rattle.world_model.specs.Invariant.{Names, AskedTruly}
+use Rattle.world_model.specs.Room.{HasRoom}
+use Rattle.world_model.proofs.Quiet.{QuietAmong, row_counted, event_quiet}
+use Rattle.world_model.proofs.Room.{own_room}
+use Rattle.world_model.proofs.Sending.{what_is_asked}
 
 -- the answer of the provider in its current state
 abbrev pub answer_to : World → Request → Answer
@@ -48,9 +55,28 @@ module _ (w : World) (name : RecordName) (request : Request) (asks : asking w.bo
   pub exchange_is : exchange w name ≡ exchanged w request
   exchange_is = ap (λ (u : World). happens u (Delivers (suc first))) sent_is ∙ ap (λ (o : Option Message). delivers (replied w request) o) at_reply
 
-  pub replied_quiet : Quiet w → Quiet (replied w request)
-  replied_quiet q = subst (λ (u : World). Quiet u) sent_is (run_quiet w (Sends name ∷ Delivers first ∷ []) (tt, (tt, tt)) q)
+  -- ---- while there is room
 
--- whatever is asked for, an exchange leaves no reply that is refused
-pub exchange_quiet : (w : World) (name : RecordName) → Quiet w → Quiet (exchange w name)
-exchange_quiet w name q = run_quiet w (Sends name ∷ Delivers (suc (length w.messages)) ∷ Delivers (suc (suc (length w.messages))) ∷ []) (tt, (tt, (tt, tt))) q
+  module _ {ours : Names} (room : HasRoom w) (q : QuietAmong ours w) where
+    sent_quiet : QuietAmong ours sent
+    sent_quiet = subst (λ (o : Option Ask). QuietAmong ours (sends w o)) asks (event_quiet w (Sends name) tt tt room q)
+
+    pub replied_quiet : QuietAmong ours (replied w request)
+    replied_quiet = subst (λ (o : Option Message). QuietAmong ours (delivers sent o)) at_request (event_quiet sent (Delivers first) tt tt room sent_quiet)
+
+    its_names : (content : Content) → request ≡ Create content → Has (names w) (content_name content)
+    its_names content is =
+        let asked : AskedTruly w.history w.entries (Create content) =
+        subst (λ (r : Request). AskedTruly w.history w.entries r) is (what_is_asked w.history w.entries w.book q.inv.follows q.inv.noted name request asks) in
+        row_counted w.history q.counted (content_name content) asked.row asked.accepted
+
+    replied_room : HasRoom (replied w request)
+    replied_room = own_room (with_message w (Asked request)) request its_names room
+
+    pub exchange_room : HasRoom (exchange w name)
+    exchange_room = subst (λ (u : World). HasRoom u) (sym exchange_is) replied_room
+
+    -- an exchange leaves no reply that is refused
+    pub exchange_quiet : QuietAmong ours (exchange w name)
+    exchange_quiet = subst (λ (u : World). QuietAmong ours (happens u (Delivers (suc first)))) (sym sent_is)
+        (event_quiet (replied w request) (Delivers (suc first)) tt tt replied_room replied_quiet)

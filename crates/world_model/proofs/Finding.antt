@@ -1,7 +1,7 @@
 -- What the provider answers, given its current entries: a Search for a row's name finds the record's entry or nothing;
 -- a Create meets the record's entry or makes it; and a Replace with one tag is decided by the current version alone.
 use Rattle.std.proofs.Common.{◌≡◌, ℕ, zero, suc, ◌<◌, ◌≤◌, Bool, true, false, cond, ◌&&◌, List, [], ◌∷◌, map, length, Option, Some, None, Ok, refl, ap, sym, ◌∙◌, subst, arith}
-use Rattle.std.specs.List.{filter, find, slice_get}
+use Rattle.std.specs.List.{find, slice_get}
 use Rattle.std.specs.Prelude.{pos, nat_le}
 use Rattle.std.proofs.lemmas.Bool.{lt-leb}
 use Rattle.scim_key.specs.Identifiers.{id_text}
@@ -29,14 +29,10 @@ use Rattle.source_csv.specs.declared.rows.Row.TheVariants.{User, Group}
 use Rattle.connector_core.specs.Asking.{search_for}
 use Rattle.connector_core.specs.Learning.{Shows, Shows_none, Taken, Stale, finding}
 use Rattle.world_model.specs.Safe.{IsAt, Has}
-use Rattle.world_model.specs.Untroubled.{most_entries}
-use Rattle.world_model.proofs.Answering.{kind_itself, found_by_id, of_its_kind}
-use Rattle.world_model.proofs.Lists.{filter_has}
+use Rattle.world_model.proofs.Answering.{kind_itself, none_found, found_by_id, of_its_kind}
+use Rattle.world_model.proofs.Lists.{filter_has, kept_has}
+use Rattle.world_model.proofs.Room.{Lacks}
 use Rattle.world_model.proofs.Searched.{kind_of, filter_of, hits, names_row, all_hits, only_one, one_hit, answer_to, search_is}
-
--- no entry is of the record
-abbrev pub Lacks : List Entry → RecordName → Type 0
-Lacks es name = (i : ℕ) (e : Entry) → IsAt es i e → e.name ≡ name → ⊥
 
 -- ---- a Search
 
@@ -44,19 +40,6 @@ Lacks es name = (i : ℕ) (e : Entry) → IsAt es i e → e.name ≡ name → �
 pub data Finds (es : List Entry) (name : RecordName) (request : Request) (answer : Answer) : Type 0 where
   finds : (i : ℕ) (e : Entry) → IsAt es i e → e.name ≡ name → finding request answer ≡ Ok (Shows (shown (row_of (suc i) e))) → Finds es name request answer
   lacks : Lacks es name → finding request answer ≡ Ok Shows_none → Finds es name request answer
-
-has_cond : {X : Type 0} (b : Bool) (x : X) (rest : List X) (y : X) → Has rest y → Has (cond b (x ∷ rest) rest) y
-has_cond true x rest y has = (suc has.0, has.1)
-has_cond false x rest y has = has
-
--- a filter keeps what passes it
-pub kept_has : {X : Type 0} (p : X → Bool) (xs : List X) (i : ℕ) (y : X) → IsAt xs i y → p y ≡ true → Has (filter p xs) y
-kept_has p [] i y at test = absurd (cc)
-kept_has {X} p (x ∷ xs) zero y at test =
-    let same : x ≡ y = cc in
-    let passes : p x ≡ true = ap p same ∙ test in
-    subst (λ (b : Bool). Has (cond b (x ∷ filter p xs) (filter p xs)) y) (sym passes) (0, at)
-kept_has p (x ∷ xs) (suc i) y at test = has_cond (p x) x (filter p xs) y (kept_has p xs i y at test)
 
 numbered_at : (m : ℕ) (es : List Entry) (i : ℕ) (e : Entry) → IsAt es i e → (n : Numbered) × IsAt (numbered_from m es) i n × (n.entry ≡ e)
 numbered_at m [] i e at = absurd (cc)
@@ -123,19 +106,19 @@ find_there {X} p (y ∷ ys) x is = go (p y) (find_there p ys x) is
     go true later was = (0, was)
     go false later was = let rest = later was in (suc rest.0, rest.1)
 
-create_gives : (taken : Option Entry) (full : Bool) (es : List Entry) (content : Content) → find (is_entry_of (content_name content)) es ≡ taken → full ≡ false
+create_gives : (taken : Option Entry) (full : Bool) (es : List Entry) (content : Content) → find (is_entry_of (content_name content)) es ≡ taken → (taken ≡ None → full ≡ false)
     → Creates es content (creating_entry taken full es content).answer
 create_gives (Some e) full es content found room =
     let there = find_there (is_entry_of (content_name content)) es e found in
     let named = same_name-eq (content_name content) e.name (find-passes (is_entry_of (content_name content)) es e found) in
     meets there.0 e there.1 (sym named) refl
-create_gives None true es content found room = absurd (cc)
+create_gives None true es content found room = let free : true ≡ false = room refl in absurd (cc)
 create_gives None false es content found room = creates (shown (row_of (suc (length es)) (first_entry content))) refl refl
 
-pub create_answers : (es : List Entry) (content : Content) → length es ≤ most_entries → Creates es content (step es (Create content)).answer
-create_answers es content few =
-    let room : nat_le most_resources (length es) ≡ false = lt-leb most_resources (length es) (omega (arith, few)) in
-    create_gives (find (is_entry_of (content_name content)) es) (nat_le most_resources (length es)) es content refl room
+pub create_answers : (es : List Entry) (content : Content) → (Lacks es (content_name content) → length es < most_resources) → Creates es content (step es (Create content)).answer
+create_answers es content free =
+    create_gives (find (is_entry_of (content_name content)) es) (nat_le most_resources (length es)) es content refl
+    (λ none. lt-leb most_resources (length es) (free (none_found (content_name content) es none)))
 
 -- ---- a Replace
 
@@ -159,7 +142,7 @@ module _ (es : List Entry) (i : ℕ) (e : Entry) (id : List ℕ) (content : Cont
   abbrev replace : Request
   replace = Replace id content if_match Always
 
-  pub replace_answers : length es ≤ most_entries → IsAt es i e → id ≡ id_text (suc i) → e.name ≡ content_name content → length (story e) < last_version
+  pub replace_answers : length es ≤ most_resources → IsAt es i e → id ≡ id_text (suc i) → e.name ≡ content_name content → length (story e) < last_version
       → Replaces replace if_match content e (step es replace).answer
   replace_answers few at is named short =
       let f = found_by_id es i e id few at is in

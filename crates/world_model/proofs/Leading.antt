@@ -19,7 +19,9 @@ use Rattle.world_model.specs.Settled.{exchange, Wants}
 use Rattle.world_model.proofs.Exchanging.{answer_to, replied, exchange_is, at_reply, replied_quiet}
 use Rattle.world_model.proofs.Learned.{Fits, fit_tested, taught, told, told_of}
 use Rattle.world_model.proofs.Learning.{learns}
-use Rattle.world_model.proofs.Quiet.{Quiet}
+use Rattle.world_model.specs.Invariant.{Names}
+use Rattle.world_model.specs.Room.{HasRoom}
+use Rattle.world_model.proofs.Quiet.{QuietAmong}
 
 -- what is said about a record is learnt about it
 pub learn_is : (book : Book) (request : Request) (answer : Answer) (name : RecordName) (known : Known) (said : Finding) → subject request ≡ Some name → book name ≡ Some known
@@ -40,8 +42,8 @@ pub record Leads (w : World) (name : RecordName) (request : Request) (now : Know
   pub history : (exchange w name).history ≡ w.history
   pub entries : (exchange w name).entries ≡ (step w.entries request).entries
 
-module _ (w : World) (q : Quiet w) (name : RecordName) (known : Known) (request : Request) (said : Finding) (asks : asking w.book name ≡ Some (Send request))
-    (about : subject request ≡ Some name) (in_book : w.book name ≡ Some known) (says : finding request (answer_to w request) ≡ Ok said) where
+module _ {ours : Names} (w : World) (room : HasRoom w) (q : QuietAmong ours w) (name : RecordName) (known : Known) (request : Request) (said : Finding)
+    (asks : asking w.book name ≡ Some (Send request)) (about : subject request ≡ Some name) (in_book : w.book name ≡ Some known) (says : finding request (answer_to w request) ≡ Ok said) where
   learnt : learn w.book request (answer_to w request) ≡ taught w.book name known said
   learnt = learn_is w.book request (answer_to w request) name known said about in_book says
 
@@ -56,7 +58,7 @@ module _ (w : World) (q : Quiet w) (name : RecordName) (known : Known) (request 
   is_learnt : IsOk (taught w.book name known said)
   is_learnt =
       let u = replied w request in
-      let r = replied_quiet w name request asks q in
+      let r = replied_quiet w name request asks room q in
       let place = suc (length w.messages) in
       let there = at_reply w name request asks in
       let ok = learns u request (answer_to w request) r.inv (r.inv.told place (Answered request (answer_to w request)) there) (r.answered place request (answer_to w request) there) in
@@ -68,15 +70,15 @@ pub record Sees (w : World) (name : RecordName) (known : Known) (request : Reque
   pub fits : Fits name known s sight
   pub leads : Leads w name request (sighted known sight).known
 
-module _ (w : World) (q : Quiet w) (name : RecordName) (known : Known) (request : Request) (s : ShownRecord) (asks : asking w.book name ≡ Some (Send request))
-    (about : subject request ≡ Some name) (in_book : w.book name ≡ Some known) (says : finding request (answer_to w request) ≡ Ok (Shows s)) where
+module _ {ours : Names} (w : World) (room : HasRoom w) (q : QuietAmong ours w) (name : RecordName) (known : Known) (request : Request) (s : ShownRecord)
+    (asks : asking w.book name ≡ Some (Send request)) (about : subject request ≡ Some name) (in_book : w.book name ≡ Some known) (says : finding request (answer_to w request) ≡ Ok (Shows s)) where
   pub sees : Sees w name known request s
   sees =
-      let ok = is_learnt w q name known request (Shows s) asks about in_book says in
+      let ok = is_learnt w room q name known request (Shows s) asks about in_book says in
       let (sight, is) = first_ok (fit name known s) (λ x. Ok (sighted known x)) (λ l. Ok (noted w.book name l)) ok in
       record {
         sight = sight;
         fits = fit_tested name known s sight is;
-        leads = leads_to w q name known request (Shows s) asks about in_book says (sighted known sight).known
+        leads = leads_to w room q name known request (Shows s) asks about in_book says (sighted known sight).known
             (ap (λ (r : Result Sight LearnFault). after_learning w.book ((r >>= λ x. Ok (sighted known x)) >>= λ l. Ok (noted w.book name l))) is);
       }

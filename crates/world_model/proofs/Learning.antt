@@ -24,11 +24,12 @@ use Rattle.connector_core.specs.declared.learning.LearnFault.{LearnFault}
 use Rattle.connector_core.specs.declared.learning.LearnFault.TheVariants.{Unfit, Unversioned, NoSuchRecord}
 use Rattle.world_model.specs.World.{World}
 use Rattle.world_model.specs.Safe.{IsAt, Has}
-use Rattle.world_model.proofs.Lists.{has_last}
+use Rattle.world_model.proofs.Lists.{last_has, has_last}
 use Rattle.world_model.proofs.Growing.{id_at}
 use Rattle.world_model.proofs.Learned.{at_tag, at_within, at_revision, at_id, at_name, taught, told, told_of, shows_first}
 use Rattle.world_model.proofs.Answering.{Answers}
-use Rattle.world_model.specs.Invariant.{Invariant, ShowsTruly}
+use Rattle.world_model.proofs.Ranking.{record_ours}
+use Rattle.world_model.specs.Invariant.{Names, InvariantOf, ShowsTruly}
 
 -- ---- steps that all come to an end
 
@@ -86,12 +87,13 @@ wanted_last : (o : Option Known) (last : Row) → option_map (λ k. k.wanted) o 
 wanted_last None last is = absurd (cc)
 wanted_last (Some known) last is = (known, refl, cc)
 
-module _ (w : World) (inv : Invariant w) (name : RecordName) (known : Known) (in_book : w.book name ≡ Some known) (last : last_or None (rows_of w.history name) ≡ Some known.wanted) where
+module _ {ours : Names} (w : World) (inv : InvariantOf ours w) (name : RecordName) (known : Known) (in_book : w.book name ≡ Some known) (last : last_or None (rows_of w.history name) ≡ Some known.wanted) where
   -- a fact about the record fits what is known about it
   fact_fits : (s : ShownRecord) → IsFact w.entries s → content_name s.content ≡ name → IsOk (fit name known s)
   fact_fits s fact named =
       let of_record : fact.entry.name ≡ name = sym (inv.kept.whole.named fact.place fact.turn fact.entry s.content fact.here fact.held) ∙ named in
-      let image = inv.kept.imaged fact.place fact.turn fact.entry s.content fact.here refl fact.held in
+      let mine : ours fact.entry.name ≡ true = ap ours of_record ∙ record_ours ours w.history inv.mine name known.wanted (last_has (rows_of w.history name) known.wanted last) in
+      let image = inv.kept.imaged fact.place fact.turn fact.entry s.content fact.here mine fact.held in
       let accepted : Has (rows_of w.history name) image.row = subst (λ (n : RecordName). Has (rows_of w.history n) image.row) of_record image.accepted in
       let up = each_up_to (rows_of w.history name) accepted.0 image.row known.wanted (inv.rising name) accepted.1 last in
       let its = id_at w.entries name fact.place fact.entry inv.kept.whole fact.here of_record in
@@ -104,7 +106,7 @@ module _ (w : World) (inv : Invariant w) (name : RecordName) (known : Known) (in
   lesson_ok Taken shown = refl
   lesson_ok (Stale if_match) shown = refl
 
-pub learns : (w : World) (request : Request) (answer : Answer) → Invariant w → ShowsTruly w.entries answer → Answers w.history request answer → IsOk (learn w.book request answer)
+pub learns : {ours : Names} (w : World) (request : Request) (answer : Answer) → InvariantOf ours w → ShowsTruly w.entries answer → Answers w.history request answer → IsOk (learn w.book request answer)
 learns w request answer inv shows a =
     let (last, is_last) = has_last (rows_of w.history a.name) a.row a.accepted in
     let (known, in_book, wanted) = wanted_last (w.book a.name) last (inv.follows a.name ∙ is_last) in

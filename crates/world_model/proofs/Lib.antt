@@ -18,6 +18,7 @@ pub mod Several
 pub mod Counting
 pub mod Ranking
 pub mod Searched
+pub mod Room
 pub mod Answering
 pub mod Learning
 pub mod Sizes
@@ -28,6 +29,8 @@ pub mod Asked
 pub mod Leading
 pub mod Phases
 pub mod Calm
+pub mod Meanwhile
 pub mod Done
 pub mod Settling
 pub mod OneWay
+pub mod Alone

@@ -1,5 +1,5 @@
 -- What is in a list: filtered, at its end, and with more elements after it.
-use Rattle.std.proofs.Common.{length, ◌<◌, arith, ◌≡◌, ℕ, zero, suc, Bool, true, false, cond, List, [], ◌∷◌, Some, None, refl, ap, sym, ◌∙◌}
+use Rattle.std.proofs.Common.{length, ◌<◌, arith, ◌≡◌, ℕ, zero, suc, Bool, true, false, cond, List, [], ◌∷◌, Some, None, refl, ap, sym, ◌∙◌, subst}
 use Rattle.std.specs.List.{filter, last_or, slice_get}
 use Rattle.world_model.specs.Safe.{IsAt, Has}
 
@@ -41,6 +41,19 @@ cond_has false x xs rest i y later at = let found = later i at in (suc found.0, 
 pub filter_has : {X : Type 0} (p : X → Bool) (xs : List X) (i : ℕ) (y : X) → IsAt (filter p xs) i y → Has xs y
 filter_has p [] i y at = absurd (cc)
 filter_has p (x ∷ xs) i y at = cond_has (p x) x xs (filter p xs) i y (λ k. filter_has p xs k y) at
+
+has_cond : {X : Type 0} (b : Bool) (x : X) (rest : List X) (y : X) → Has rest y → Has (cond b (x ∷ rest) rest) y
+has_cond true x rest y has = (suc has.0, has.1)
+has_cond false x rest y has = has
+
+-- a filter keeps what passes it
+pub kept_has : {X : Type 0} (p : X → Bool) (xs : List X) (i : ℕ) (y : X) → IsAt xs i y → p y ≡ true → Has (filter p xs) y
+kept_has p [] i y at test = absurd (cc)
+kept_has {X} p (x ∷ xs) zero y at test =
+    let same : x ≡ y = cc in
+    let passes : p x ≡ true = ap p same ∙ test in
+    subst (λ (b : Bool). Has (cond b (x ∷ filter p xs) (filter p xs)) y) (sym passes) (0, at)
+kept_has p (x ∷ xs) (suc i) y at test = has_cond (p x) x (filter p xs) y (kept_has p xs i y at test)
 
 -- there is an element at each place below the length
 pub at_within : {X : Type 0} (xs : List X) (i : ℕ) → i < length xs → (x : X) × IsAt xs i x

@@ -1,9 +1,9 @@
 -- Without others, the laws of all runs are those among others.
 use Rattle.std.proofs.Common.{◌≡◌, List, [], ◌∷◌, map, refl}
 use Rattle.world_model.specs.World.{World, Event, happens, run}
-use Rattle.world_model.specs.Safe.{Headline}
+use Rattle.world_model.specs.Safe.{Safe, Headline}
 use Rattle.world_model.specs.Invariant.{all_names}
-use Rattle.world_model.specs.Others.{Ours, run_among, KeepsApart, HeadlineAmong, WithoutOthers}
+use Rattle.world_model.specs.Others.{Ours, run_among, KeepsApart, HeadlineAmong, SafeAmong, WithoutOthers}
 use Rattle.world_model.proofs.Invariant.{all_of_ours}
 
 runs : (w : World) (events : List Event) → run_among w (map Ours events) ≡ run w events
@@ -30,5 +30,32 @@ for_all early late h = record {
   reached = h.reached;
 }
 
+safe_of_all : (w : World) → SafeAmong all_names w → Safe w
+safe_of_all w safe = record {
+  rows_rise = safe.rows_rise;
+  one_each = safe.one_each;
+  stories_rise = λ e has. safe.stories_rise e has refl;
+  images = λ e content has in_story. safe.images e content has refl in_story;
+  wanted = safe.wanted;
+  known = safe.known;
+  leavers = safe.leavers;
+}
+
+safe_for_all : (w : World) → Safe w → SafeAmong all_names w
+safe_for_all w safe = record {
+  rows_rise = safe.rows_rise;
+  one_each = safe.one_each;
+  stories_rise = λ e has mine. safe.stories_rise e has;
+  images = λ e content has mine in_story. safe.images e content has in_story;
+  wanted = safe.wanted;
+  known = safe.known;
+  leavers = safe.leavers;
+}
+
 pub without_others : WithoutOthers
-without_others = record { runs = runs; apart = apart; headline = λ early late. (of_all early late, for_all early late) }
+without_others = record {
+  runs = runs;
+  apart = apart;
+  headline = λ early late. (of_all early late, for_all early late);
+  safe = λ w. (safe_of_all w, safe_for_all w);
+}

@@ -27,16 +27,18 @@ use Rattle.connector_core.specs.declared.knowledge.Known.{Known}
 use Rattle.connector_core.specs.declared.knowledge.Seen.{Seen}
 use Rattle.connector_core.specs.declared.knowledge.Seen.TheVariants.{Unknown, Absent, At}
 use Rattle.world_model.specs.Safe.{IsAt, Has, id_in, IsVersion}
-use Rattle.world_model.specs.World.{World}
+use Rattle.world_model.specs.World.{World, names}
+use Rattle.world_model.specs.Room.{HasRoom}
 use Rattle.world_model.proofs.Answering.{below_last}
 use Rattle.world_model.proofs.Asked.{IsDone, done_if, later_top, HasImage, image_named, image_revised, asked}
 use Rattle.world_model.proofs.Exchanging.{answer_to}
-use Rattle.world_model.proofs.Finding.{Lacks, Finds, Finds.finds, Finds.lacks, search_finds, search_keeps, Creates, Creates.creates, Creates.meets, create_answers, Replaces, Replaces.renews, Replaces.misses, replace_answers}
+use Rattle.world_model.proofs.Finding.{Finds, Finds.finds, Finds.lacks, search_finds, search_keeps, Creates, Creates.creates, Creates.meets, create_answers, Replaces, Replaces.renews, Replaces.misses, replace_answers}
 use Rattle.world_model.proofs.Leading.{Leads, leads_to, sees}
 use Rattle.world_model.proofs.Lists.{last_has}
-use Rattle.world_model.specs.Invariant.{Noted}
-use Rattle.world_model.proofs.Quiet.{Quiet, few_entries}
-use Rattle.world_model.proofs.Ranking.{row_lawful, versions_few}
+use Rattle.world_model.specs.Invariant.{Names, Noted}
+use Rattle.world_model.proofs.Quiet.{QuietAmong, row_counted, few_entries}
+use Rattle.world_model.proofs.Ranking.{row_lawful, record_ours, versions_few_of}
+use Rattle.world_model.proofs.Room.{Lacks, free_place}
 use Rattle.world_model.proofs.Searched.{search_subject}
 use Rattle.world_model.proofs.Sending.{row_of_record}
 
@@ -77,7 +79,7 @@ current_holds e tag short is =
     let P : List ℕ → Type 0 = λ t. holds_match (Tags (t ∷ [])) (Some (length (story e))) ≡ true in
     subst P (sym is) ((has_version-alone (suc (length e.earlier)) (length (story e)) (omega (arith, short, count)) (omega (arith, short))).1 count)
 
-module _ (w : World) (q : Quiet w) (name : RecordName) (known : Known) (in_book : w.book name ≡ Some known) where
+module _ {ours : Names} (w : World) (q : QuietAmong ours w) (name : RecordName) (known : Known) (in_book : w.book name ≡ Some known) where
   pub is_last : last_row w.history name ≡ Some known.wanted
   is_last = sym (q.inv.follows name) ∙ ap (option_map (λ k. k.wanted)) in_book
 
@@ -90,6 +92,10 @@ module _ (w : World) (q : Quiet w) (name : RecordName) (known : Known) (in_book 
   pub its_name : row_name known.wanted ≡ name
   its_name = row_of_record w.history name known.wanted accepted
 
+  -- the record is ours
+  pub its_ours : ours name ≡ true
+  its_ours = record_ours ours w.history q.inv.mine name known.wanted accepted
+
   noted : Noted w.entries name known
   noted = q.inv.noted name known in_book
 
@@ -98,6 +104,13 @@ module _ (w : World) (q : Quiet w) (name : RecordName) (known : Known) (in_book 
   sight_ends sight same =
       done_if (sighted known sight).known (ap (later known.confirmed) same ∙ later_top known.confirmed (row_revision known.wanted) noted.within)
 
+module _ {ours : Names} (w : World) (room : HasRoom w) (q : QuietAmong ours w) (name : RecordName) (known : Known) (in_book : w.book name ≡ Some known) where
+  law : IsRow known.wanted
+  law = its_law w q name known in_book
+
+  truth : Noted w.entries name known
+  truth = noted w q name known in_book
+
   -- ---- nothing was seen
 
   found : known.seen ≡ Unknown → asking w.book name ≡ Some (Send (search_for known.wanted))
@@ -105,8 +118,8 @@ module _ (w : World) (q : Quiet w) (name : RecordName) (known : Known) (in_book 
   found unknown asks (finds i e at named says) =
       let request = search_for known.wanted in
       let s = shown (row_of (suc i) e) in
-      let about : subject request ≡ Some name = search_subject known.wanted its_law ∙ ap Some its_name in
-      let seen = sees w q name known request s asks about in_book says in
+      let about : subject request ≡ Some name = search_subject known.wanted law ∙ ap Some (its_name w q name known in_book) in
+      let seen = sees w room q name known request s asks about in_book says in
       let tags : Some (version_tag (suc (length e.earlier))) ≡ Some seen.sight.tag = seen.fits.tag in
       let tag : seen.sight.tag ≡ version_tag (suc (length e.earlier)) = cc in
       let near : Near w.entries name (sighted known seen.sight).known = at_current i e seen.sight.revision at named (ap (λ (t : List ℕ). At t seen.sight.revision) tag) in
@@ -118,8 +131,8 @@ module _ (w : World) (q : Quiet w) (name : RecordName) (known : Known) (in_book 
       }
   found unknown asks (lacks none says) =
       let request = search_for known.wanted in
-      let about : subject request ≡ Some name = search_subject known.wanted its_law ∙ ap Some its_name in
-      let after = leads_to w q name known request Shows_none asks about in_book says (none_sighted known.id known).known refl in
+      let about : subject request ≡ Some name = search_subject known.wanted law ∙ ap Some (its_name w q name known in_book) in
+      let after = leads_to w room q name known request Shows_none asks about in_book says (none_sighted known.id known).known refl in
       go known.id refl after
     where
       go : (id : Option (List ℕ)) → known.id ≡ id → Leads w name (search_for known.wanted) (none_sighted id known).known → Advance w name known
@@ -129,7 +142,7 @@ module _ (w : World) (q : Quiet w) (name : RecordName) (known : Known) (in_book 
         leads = leads;
         goes = nears unknown (subst (λ (es : List Entry). Near es name (none_sighted None known).known) (sym (search_keeps w.entries known.wanted)) (truly_absent refl none));
       }
-      go (Some id) is leads = absurd (id_entry w.entries name id (noted.id id is) none)
+      go (Some id) is leads = absurd (id_entry w.entries name id (truth.id id is) none)
 
   -- ---- the record was seen absent
 
@@ -141,19 +154,19 @@ module _ (w : World) (q : Quiet w) (name : RecordName) (known : Known) (in_book 
 
     made : known.seen ≡ Absent → asking w.book name ≡ Some (Send (Create content)) → Creates w.entries content (answer_to w (Create content)) → Advance w name known
     made absent asks (creates s same says) =
-        let seen = sees w q name known (Create content) s asks (ap Some named) in_book says in
+        let seen = sees w room q name known (Create content) s asks (ap Some named) in_book says in
         record {
           now = (sighted known seen.sight).known;
           request = Create content;
           leads = seen.leads;
-          goes = ends (sight_ends seen.sight (of_revision s seen.sight same seen.fits.revision));
+          goes = ends (sight_ends w q name known in_book seen.sight (of_revision s seen.sight same seen.fits.revision));
         }
     made absent asks (meets i e at e_named says) =
         let now = (forgetting (is_absent known.seen) known).known in
         record {
           now = now;
           request = Create content;
-          leads = leads_to w q name known (Create content) Taken asks (ap Some named) in_book says now refl;
+          leads = leads_to w room q name known (Create content) Taken asks (ap Some named) in_book says now refl;
           goes = forgets (ap (λ (s : Seen). (forgetting (is_absent s) known).known.seen) absent) (λ unknown. absurd (cc)) not_near;
         }
       where
@@ -166,7 +179,7 @@ module _ (w : World) (q : Quiet w) (name : RecordName) (known : Known) (in_book 
     module _ (id tag : List ℕ) (revision : RevisionValue) (is_seen : known.seen ≡ At tag revision) (v : IsVersion w.entries name id tag revision)
         (asks : asking w.book name ≡ Some (Send (replacement id tag content))) where
       short : length (story v.entry) < last_version
-      short = below_last (length (story v.entry)) (versions_few w.history w.entries q.inv.kept q.lawful v.place v.entry v.here)
+      short = below_last (length (story v.entry)) (versions_few_of w.history w.entries q.inv.kept q.lawful v.place v.entry v.here (ap ours v.of_record ∙ its_ours w q name known in_book))
 
       stale_not_near : holds_match (Tags (tag ∷ [])) (Some (length (story v.entry))) ≡ false → Near w.entries name known → ⊥
       stale_not_near fails (truly_absent is none) = absurd (cc)
@@ -182,12 +195,12 @@ module _ (w : World) (q : Quiet w) (name : RecordName) (known : Known) (in_book 
       written : Replaces (replacement id tag content) (Tags (tag ∷ [])) content v.entry (answer_to w (replacement id tag content)) → Advance w name known
       written (renews s same says) =
           let request = replacement id tag content in
-          let seen = sees w q name known request s asks (ap Some named) in_book says in
+          let seen = sees w room q name known request s asks (ap Some named) in_book says in
           record {
             now = (sighted known seen.sight).known;
             request = request;
             leads = seen.leads;
-            goes = ends (sight_ends seen.sight (of_revision s seen.sight same seen.fits.revision));
+            goes = ends (sight_ends w q name known in_book seen.sight (of_revision s seen.sight same seen.fits.revision));
           }
       written (misses fails says) =
           let request = replacement id tag content in
@@ -195,7 +208,7 @@ module _ (w : World) (q : Quiet w) (name : RecordName) (known : Known) (in_book 
           record {
             now = now;
             request = request;
-            leads = leads_to w q name known request (Stale (Tags (tag ∷ []))) asks (ap Some named) in_book says now refl;
+            leads = leads_to w room q name known request (Stale (Tags (tag ∷ []))) asks (ap Some named) in_book says now refl;
             goes = forgets
                 (ap (λ (s : Seen). (forgetting (is_under (Tags (tag ∷ [])) s) known).known.seen) is_seen
                 ∙ ap (λ (b : Bool). (forgetting b known).known.seen) (alone_under tag revision))
@@ -206,26 +219,30 @@ module _ (w : World) (q : Quiet w) (name : RecordName) (known : Known) (in_book 
 
   module _ (undone : is_done known ≡ false) (content : Content) (has : HasImage w.book known content) where
     its_content : content_name content ≡ name
-    its_content = image_named w.book known content has ∙ its_name
+    its_content = image_named w.book known content has ∙ its_name w q name known in_book
 
     its_revision : content_revision content ≡ Some (row_revision known.wanted)
     its_revision = image_revised w.book known content has
 
+    -- one of the source
+    its_place : Has (names w) name
+    its_place = row_counted w.history q.counted name known.wanted (accepted w q name known in_book)
+
     by_seen : (seen : Seen) (id : Option (List ℕ)) → known.seen ≡ seen → known.id ≡ id → asking w.book name ≡ Some (Send (request_for seen id known.wanted content)) → Advance w name known
     by_seen Unknown id is_seen is_id asks =
-        found is_seen asks (subst (λ (n : RecordName). Finds w.entries n (search_for known.wanted) (answer_to w (search_for known.wanted))) its_name
-        (search_finds w.entries known.wanted its_law q.inv.kept.whole))
-    by_seen Absent id is_seen is_id asks = made content its_content its_revision is_seen asks (create_answers w.entries content (few_entries w q))
+        found is_seen asks (subst (λ (n : RecordName). Finds w.entries n (search_for known.wanted) (answer_to w (search_for known.wanted))) (its_name w q name known in_book)
+        (search_finds w.entries known.wanted law q.inv.kept.whole))
+    by_seen Absent id is_seen is_id asks = made content its_content its_revision is_seen asks (create_answers w.entries content (λ lacks. free_place w room (content_name content) (subst (λ (n : RecordName). Has (names w) n) (sym its_content) its_place) lacks))
     by_seen (At tag revision) (Some id) is_seen is_id asks =
-        let sight = noted.seen tag revision is_seen in
+        let sight = truth.seen tag revision is_seen in
         let ids_same : Some sight.id ≡ Some id = sym sight.has_id ∙ is_id in
         let same : sight.id ≡ id = cc in
         let v : IsVersion w.entries name id tag revision = subst (λ (i : List ℕ). IsVersion w.entries name i tag revision) same sight.version in
         written content its_content its_revision id tag revision is_seen v asks
-        (replace_answers w.entries v.place v.entry id content (Tags (tag ∷ [])) (few_entries w q) v.here v.has_id (v.of_record ∙ sym its_content)
+        (replace_answers w.entries v.place v.entry id content (Tags (tag ∷ [])) (few_entries w room) v.here v.has_id (v.of_record ∙ sym its_content)
         (short content its_content its_revision id tag revision is_seen v asks))
     by_seen (At tag revision) None is_seen is_id asks =
-        let sight = noted.seen tag revision is_seen in
+        let sight = truth.seen tag revision is_seen in
         let clash : None ≡ Some sight.id = sym is_id ∙ sight.has_id in
         absurd (cc)
 

@@ -1,5 +1,5 @@
 -- A story has no more versions than there are revisions.
-use Rattle.std.proofs.Common.{◌≡◌, ℕ, zero, suc, ◌<◌, ◌≤◌, List, [], ◌∷◌, length, Some, refl, inl, inr, arith, length-append}
+use Rattle.std.proofs.Common.{◌≡◌, ℕ, zero, suc, ◌<◌, ◌≤◌, true, List, [], ◌∷◌, length, Some, refl, inl, inr, ap, sym, ◌∙◌, arith, length-append}
 use Rattle.std.proofs.lemmas.Bool.{ltb-true, leb-true}
 use Rattle.std.proofs.lemmas.Option.{slice_get_within}
 use Rattle.scim_key.proofs.RevisionLaws.{none_before, rank_rises, rank_bounded}
@@ -15,8 +15,9 @@ use Rattle.source_csv.specs.Records.{row_name}
 use Rattle.connector_core.specs.History.{History, same_name, rows_of}
 use Rattle.connector_core.specs.Learning.{content_revision}
 use Rattle.world_model.specs.Safe.{IsAt, Has, StoryRises}
-use Rattle.world_model.specs.Invariant.{all_names, Kept}
+use Rattle.world_model.specs.Invariant.{Names, all_names, AllOurs, Kept}
 use Rattle.world_model.proofs.Lists.{at_within, filter_has}
+use Rattle.world_model.proofs.Sending.{row_of_record}
 
 -- a content with a valid revision
 pub record IsOfRevision (c : Content) : Type 0 where
@@ -61,7 +62,15 @@ row_there history name row has = filter_has (λ r. same_name (row_name r) name) 
 pub row_lawful : (history : History) → AllLawful history → (name : RecordName) (row : Row) → Has (rows_of history name) row → IsRow row
 row_lawful history lawful name row has = let there = row_there history name row has in lawful there.0 row there.1
 
-pub versions_few : (history : History) (es : List Entry) → Kept all_names history es → AllLawful history → (i : ℕ) (e : Entry) → IsAt es i e → length (story e) ≤ most_revisions
-versions_few history es kept lawful i e at = few_versions e (kept.rises i e at refl) (λ j c in_story.
-    let image = kept.imaged i j e c at refl in_story in
+-- the record of an accepted row is ours
+pub record_ours : (ours : Names) (history : History) → AllOurs ours history → (name : RecordName) (row : Row) → Has (rows_of history name) row → ours name ≡ true
+record_ours ours history mine name row has = ap ours (sym (row_of_record history name row has)) ∙ mine row (row_there history name row has)
+
+pub versions_few_of : {ours : Names} (history : History) (es : List Entry) → Kept ours history es → AllLawful history → (i : ℕ) (e : Entry) → IsAt es i e → ours e.name ≡ true
+    → length (story e) ≤ most_revisions
+versions_few_of history es kept lawful i e at mine = few_versions e (kept.rises i e at mine) (λ j c in_story.
+    let image = kept.imaged i j e c at mine in_story in
     record { revision = row_revision image.row; has = image.revision; lawful = lawful_revision image.row (row_lawful history lawful e.name image.row image.accepted) })
+
+pub versions_few : (history : History) (es : List Entry) → Kept all_names history es → AllLawful history → (i : ℕ) (e : Entry) → IsAt es i e → length (story e) ≤ most_revisions
+versions_few history es kept lawful i e at = versions_few_of history es kept lawful i e at refl

@@ -15,13 +15,12 @@ use Rattle.world_model.specs.World.{World, Message, Asked, Answered, Event, Chan
 use Rattle.world_model.specs.Safe.{IsImage, Onward}
 use Rattle.world_model.specs.Invariant.{Names, AllOurs, AskedTruly, InvariantOf}
 use Rattle.world_model.specs.Others.{Act, Ours, Theirs, run_among, LeavesAlone, OfOurs, KeepsApart, HeadlineAmong, SafeAmong}
-use Rattle.world_model.specs.Several.{Side, Shared, nobody, world_of, world_at, side_of, with_world, Turn, happens_at, run_several, NoneShared, EachItsOwn, LeadsAmong, EachIsAmongOthers, HeadlineHoldsForEach, AlwaysSafeForEach, AlwaysOnwardForEach}
+use Rattle.world_model.specs.Several.{Side, Shared, nobody, world_of, world_at, side_of, with_world, Turn, On, Elsewhere, happens_at, run_several, NoneShared, IsItsOwn, EachItsOwn, LeadsAmong, EachIsAmongOthers, HeadlineHoldsForEach, AlwaysSafeForEach, AlwaysOnwardForEach}
 use Rattle.world_model.proofs.Headlines.{headline_holds_among}
 use Rattle.world_model.proofs.Invariant.{message_there, among_inv, none_inv}
 use Rattle.world_model.proofs.Onwards.{among-append, always_onward_among}
-use Rattle.world_model.proofs.Ranking.{row_there}
+use Rattle.world_model.proofs.Ranking.{record_ours}
 use Rattle.world_model.proofs.Safety.{always_safe_among}
-use Rattle.world_model.proofs.Sending.{row_of_record}
 
 -- ---- acts that lead on
 
@@ -42,8 +41,7 @@ further {ours} {u} {v} {w} p q = record {
 -- ---- what a connector asks for is of its own records
 
 image_ours : (ours : Names) (history : History) (es : List Entry) (name : RecordName) (content : Content) → AllOurs ours history → IsImage history es name content → ours name ≡ true
-image_ours ours history es name content mine image =
-    ap ours (sym (row_of_record history name image.row image.accepted)) ∙ mine image.row (row_there history name image.row image.accepted)
+image_ours ours history es name content mine image = record_ours ours history mine name image.row image.accepted
 
 -- the names that are theirs aren't ours
 abbrev IsApartFrom : Names → Names → Type 0
@@ -101,32 +99,36 @@ abbrev AllHold : (ours : ℕ → Names) → Shared → Type 0
 AllHold ours s = (place : ℕ) → InvariantOf (ours place) (world_at s place)
 
 module _ (ours : ℕ → Names) (none_shared : NoneShared ours) where
-  its_turn : (s : Shared) (turn : Turn) → OfOurs (ours turn.place) turn.event → LeadsAmong (ours turn.place) (world_at s turn.place) (world_at (happens_at s turn) turn.place)
-  its_turn s turn own = record {
-    acts = Ours turn.event ∷ [];
+  -- from the world of a side before a turn to its world after it
+  abbrev OneTurn : Shared → Turn → (place : ℕ) → Type 0
+  OneTurn s turn place = LeadsAmong (ours place) (world_at s place) (world_at (happens_at s turn) place)
+
+  its_turn : (s : Shared) (place : ℕ) (event : Event) → OfOurs (ours place) event → OneTurn s (On place event) place
+  its_turn s place event own = record {
+    acts = Ours event ∷ [];
     apart = (own, tt);
-    leads = sym (at_same s turn.place (happens (world_at s turn.place) turn.event));
+    leads = sym (at_same s place (happens (world_at s place) event));
   }
 
-  others_turn : (s : Shared) (turn : Turn) (place : ℕ) → (turn.place == place) ≡ false → AllHold ours s → LeadsAmong (ours place) (world_at s place) (world_at (happens_at s turn) place)
-  others_turn s turn place apart inv =
-      let w = world_at s turn.place in
-      let others : IsApartFrom (ours turn.place) (ours place) = λ name theirs.
-      false_from_ne_true _ (λ mine. eqb-false turn.place place apart (none_shared turn.place place name theirs mine)) in
-      subst (LeadsAmong (ours place) (world_at s place)) (sym (at_other s turn.place place (happens w turn.event) apart))
-      (happening (ours turn.place) (ours place) others w (inv turn.place) (s.sides place) turn.event)
+  others_turn : (s : Shared) (other : ℕ) (event : Event) (place : ℕ) → (other == place) ≡ false → AllHold ours s → OneTurn s (On other event) place
+  others_turn s other event place apart inv =
+      let w = world_at s other in
+      let others : IsApartFrom (ours other) (ours place) = λ name theirs.
+      false_from_ne_true _ (λ mine. eqb-false other place apart (none_shared other place name theirs mine)) in
+      subst (LeadsAmong (ours place) (world_at s place)) (sym (at_other s other place (happens w event) apart))
+      (happening (ours other) (ours place) others w (inv other) (s.sides place) event)
 
-  one_turn : (s : Shared) (turn : Turn) → OfOurs (ours turn.place) turn.event → AllHold ours s → (place : ℕ) → LeadsAmong (ours place) (world_at s place) (world_at (happens_at s turn) place)
-  one_turn s turn own inv place = elim (cases_Bool (turn.place == place)) [
-    | inl same ↦
-        subst (λ (q : ℕ). LeadsAmong (ours q) (world_at s q) (world_at (happens_at s turn) q)) (eqb-true turn.place place same) (its_turn s turn own)
-    | inr apart ↦ others_turn s turn place apart inv
+  one_turn : (s : Shared) (turn : Turn) → IsItsOwn ours turn → AllHold ours s → (place : ℕ) → OneTurn s turn place
+  one_turn s (On other event) own inv place = elim (cases_Bool (other == place)) [
+    | inl same ↦ subst (λ (q : ℕ). OneTurn s (On other event) q) (eqb-true other place same) (its_turn s other event own)
+    | inr apart ↦ others_turn s other event place apart inv
   ]
+  one_turn s (Elsewhere request) own inv place = record { acts = Theirs request ∷ []; apart = (own place, tt); leads = refl }
 
   led : {names : Names} {w v : World} → InvariantOf names w → LeadsAmong names w v → InvariantOf names v
   led {names} {w} {v} inv leads = subst (InvariantOf names) leads.leads (among_inv w leads.acts leads.apart inv)
 
-  all_hold : (s : Shared) (turn : Turn) → OfOurs (ours turn.place) turn.event → AllHold ours s → AllHold ours (happens_at s turn)
+  all_hold : (s : Shared) (turn : Turn) → IsItsOwn ours turn → AllHold ours s → AllHold ours (happens_at s turn)
   all_hold s turn own inv place = led (inv place) (one_turn s turn own inv place)
 
   -- ---- all runs

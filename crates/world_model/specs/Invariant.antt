@@ -1,6 +1,7 @@
 -- What every event keeps, and so what is true after every run: the reason why the promise holds. What was true of a
 -- message when it was sent stays true.
--- It is true of the records that are ours, whatever others wrote of other records. Without others, every record is ours.
+-- It is true of the records that are ours, whatever others wrote of other records. Without others, every record is
+-- ours.
 use Rattle.std.specs.Prelude.{◌≡◌, ◌≢◌, ℕ, ◌≤◌, Bool, true, List, [], ◌∷◌, length, Option, Some}
 use Rattle.scim_key.specs.Revisions.{RevisionValue, no_revision, ◌≺◌, ◌≼◌}
 use Rattle.scim_key.specs.declared.records.RecordName.{RecordName}
@@ -41,11 +42,13 @@ AllOurs ours history = (row : Row) → Has history row → ours (row_name row) �
 
 -- ---- the provider
 
--- no two entries are of the same record; along each story of ours revisions rise, and each content is the image of its row
+-- no two entries are of the same record; along each story of ours revisions rise, and each content is the image of its
+-- row
 pub record Kept (ours : Names) (history : History) (es : List Entry) : Type 0 where
   pub whole : IsWholeTable es
   pub rises : (i : ℕ) (e : Entry) → IsAt es i e → ours e.name ≡ true → StoryRises (story e)
-  pub imaged : (i j : ℕ) (e : Entry) (c : Content) → IsAt es i e → ours e.name ≡ true → IsAt (story e) j c → IsImage history es e.name c
+  pub imaged : (i j : ℕ) (e : Entry) (c : Content) → IsAt es i e → ours e.name ≡ true → IsAt (story e) j c
+      → IsImage history es e.name c
   pub short : (i : ℕ) (e : Entry) → IsAt es i e → length (story e) ≤ last_version
 
 -- ---- the connector

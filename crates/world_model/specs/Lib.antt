@@ -6,3 +6,4 @@ pub mod Untroubled
 pub mod Settled
 pub mod Others
 pub mod Several
+pub mod Room

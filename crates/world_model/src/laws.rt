@@ -8,9 +8,21 @@ ghost use Rattle.world_model.specs.Others.{
   JudgesBySourceAmong,
   WithoutOthers,
 };
+ghost use Rattle.world_model.specs.Room.{
+  ActsAnyTime,
+  NeverRefusedAmong,
+  RoomWasThere,
+  RoomWithoutOthers,
+  SettlesAmong,
+};
 ghost use Rattle.world_model.specs.Safe.{AlwaysOnward, AlwaysSafe, HeadlineHolds, JudgesBySource};
 ghost use Rattle.world_model.specs.Settled.{LeadsOn, OneWay, Settles};
-ghost use Rattle.world_model.specs.Several.{AlwaysOnwardForEach, AlwaysSafeForEach, EachIsAmongOthers, HeadlineHoldsForEach};
+ghost use Rattle.world_model.specs.Several.{
+  AlwaysOnwardForEach,
+  AlwaysSafeForEach,
+  EachIsAmongOthers,
+  HeadlineHoldsForEach,
+};
 ghost use Rattle.world_model.specs.Untroubled.{NeverRefused};
 
 /// After every run, the connector judges each row as the history of the source alone does.
@@ -80,12 +92,33 @@ pub fn holds_among_others()
     ensures without { WithoutOthers }
 {}
 
-/// Several connectors share the provider, each with a source of its own. If no two of them have a record in
-/// common, then for each one the others are others who leave its records alone (`among`), so the headline
-/// holds for each (`headline`), the world of each is safe (`safe`) and goes on (`onward`).
+/// Several connectors share the provider, each with a source of its own, and others write there too. If no
+/// two connectors have a record in common, and the others leave the records of all alone, then to each
+/// connector all others are others who leave its records alone (`among`). So the headline holds for each
+/// (`headline`), the world of each is safe (`safe`) and goes on (`onward`).
 pub fn holds_for_each()
     ensures among { EachIsAmongOthers }
     ensures headline { HeadlineHoldsForEach }
     ensures safe { AlwaysSafeForEach }
     ensures onward { AlwaysOnwardForEach }
+{}
+
+/// Others can fill the provider. If it still has a free place for each record of the source without a
+/// resource, it had one at each earlier moment (`earlier`). Then, if each row that is offered is within the
+/// limits of the source, the connector learns from every reply that was ever given to it, and no request of
+/// ours that was ever sent meets a limit of the provider (`untroubled`). Without others there is always
+/// room, and these are the laws above (`without`).
+pub fn never_refused_among()
+    ensures earlier { RoomWasThere }
+    ensures untroubled { NeverRefusedAmong }
+    ensures without { RoomWithoutOthers }
+{}
+
+/// From every world with room that a run among others reaches, at most three exchanges for each record, in
+/// the order of names, settle the record, if each row that is offered is within the limits of the source.
+/// Before each exchange others may do whatever leaves our records alone and leaves room (`by_three`), and
+/// they may as well do it within the exchange (`any_time`).
+pub fn settles_among()
+    ensures by_three { SettlesAmong }
+    ensures any_time { ActsAnyTime }
 {}
