@@ -76,7 +76,6 @@ class ManyClientsTest(ProgramTest):
                 last.settimeout(PROMPTLY)
                 last.sendall(CREATE_BOB[100:])
                 self.assertEqual(read_all(last), BOB_CREATED)
-            stack.pop_all().close()
 
     def test_answers_that_many_read_late(self):
         with self.serving(200 + 1 + MANY) as provider:
@@ -88,8 +87,8 @@ class ManyClientsTest(ProgramTest):
                 for stream in streams:
                     stream.sendall(LIST)
                 # the last ones read, while the others don't yet
-                for half in streams[MANY // 2:], streams[:MANY // 2]:
-                    self.assertTrue(all(answer == whole for answer in read_side_by_side(half)))
+                for some in streams[-MANY // 5:], streams[:-MANY // 5]:
+                    self.assertTrue(all(answer == whole for answer in read_side_by_side(some)))
 
     def test_a_newcomer_waits_for_a_place(self):
         """While as many wait as may, and none of them is silent, a newcomer waits too, and isn't dropped."""
