@@ -51,8 +51,8 @@ class ManyClientsTest(ProgramTest):
         with self.serving(2 * MANY + 1) as provider, contextlib.ExitStack() as stack:
             streams = [stack.enter_context(provider.connect()) for _ in names]
             requests = [create_user(user(name)) for name in names]
-            # each has sent a part of its request, up to a place in its name, and waits
-            cut = requests[0].index(b"user-") + 6
+            # each has sent its request up to the end of its name, and waits
+            cut = requests[0].index(b"user-") + len(names[0])
             for stream, request in zip(streams, requests):
                 stream.sendall(request[:cut])
             self.assert_prompt(provider, FIND_BOB, b"404")
