@@ -126,8 +126,8 @@ class Source:
         if not block or block.is_body():
             last = block and block.last_before(place)
             return f"after {last.head}" if last else ""
-        last = block.parent.last_before(block.start)
-        return f"{last.head} else" if block.head == "else" else block.head
+        last = block.parent.last_before(block.start) if block.head == "else" else None
+        return f"{last.head} else" if last else block.head
 
 
 def type_of(head):

@@ -101,7 +101,7 @@ def is_declared(source, found):
     part, block = source.part_before(found.start()), source.block_at(found.start())
     if re.search(r"\buse\b", part):
         return "Fault::" not in part and not re.match(r"\s*as\b", source.part_after(found.end()))
-    return re.search(r"\b(?:fn|impl)\b", part) or (block and block.within("enum"))
+    return re.search(r"\b(?:fn|impl|type)\b", part) or (block and block.within("enum"))
 
 
 def made_by_hand(source, sort):
