@@ -15,7 +15,7 @@ REVISIONS = [("1", 0, 1), ("3", 0, 3), ("2:1", 2, 1)]
 
 
 def kind_of(place, turn):
-    """The kind of a user in a file: each is another than the one before, and the second one is the opposite."""
+    """The kind of a user in a file. That in the second one is the opposite of that in the first one."""
     return KINDS[(place, -1 - place, (place + 1) % len(KINDS))[turn]]
 
 
@@ -26,17 +26,22 @@ def row_of(place, turn):
     return ",".join([NAMES[place], REVISIONS[turn][0], *values[:4], status, values[4]])
 
 
+def source_of(turn):
+    """The source extension of what the rows of a file ask for."""
+    _, epoch, revision = REVISIONS[turn]
+    return {**({"epoch": epoch} if epoch else {}), "revision": revision}
+
+
 def content_of(place, turn):
     """What the row of a user asks for."""
     *has, is_active = kind_of(place, turn)
     number, given, family, mail, department = (f"{field}-{place}" if it else None for field, it in zip(FIELDS, has))
-    _, epoch, revision = REVISIONS[turn]
     parts = {
         "externalId": number,
         "name": {part: value for part, value in (("givenName", given), ("familyName", family)) if value},
         "emails": mail and [{"primary": True, "type": "work", "value": mail}],
         ENTERPRISE: department and {"department": department},
-        SOURCE: {**({"epoch": epoch} if epoch else {}), "revision": revision},
+        SOURCE: source_of(turn),
     }
     schemas = [USER, *([ENTERPRISE] if department else []), SOURCE]
     kept = {name: value for name, value in parts.items() if value}
@@ -46,6 +51,13 @@ def content_of(place, turn):
 def members_of(size, turn):
     """The members of a group: with each file others, if not all are in it."""
     return sorted((NAMES[turn:] + NAMES[:turn])[:size])
+
+
+def group_content_of(size, turn):
+    """What the row of a group asks for, if the users were created in the order of their names."""
+    members = [{"value": resource_id(1 + NAMES.index(name))} for name in members_of(size, turn)]
+    kept = {"members": members} if members else {}
+    return {"schemas": [GROUP, SOURCE], "displayName": f"g{size}", SOURCE: source_of(turn), **kept}
 
 
 class KindsTest(ProgramTest):
@@ -62,19 +74,15 @@ class KindsTest(ProgramTest):
         # a new record takes a search and a creation, and a changed one a search and a replacement
         requests = len(REVISIONS) * (2 * (len(NAMES) + len(SIZES)) + 2)
         with self.serving(requests) as provider:
-            for turn, (revision, epoch, number) in enumerate(REVISIONS):
+            for turn, (revision, *_) in enumerate(REVISIONS):
                 self.write(turn)
-                lines = [*(f"user {name} confirmed {revision}" for name in NAMES),
-                         *(f"group g{size} confirmed {revision}" for size in sorted(SIZES, key=str))]
-                self.assert_prints(self.site.push(provider.address), *lines)
-                self.assertEqual(self.shown(provider, "/v2/Users"), [content_of(place, turn) for place in range(len(NAMES))])
-                source = {**({"epoch": epoch} if epoch else {}), "revision": number}
-                ids = {name: resource_id(place) for place, name in enumerate(NAMES, 1)}
-                self.assertEqual(
-                    {it["displayName"]: [member["value"] for member in it.get("members", [])]
-                     for it in self.shown(provider, "/v2/Groups") if it[SOURCE] == source and it["schemas"] == [GROUP, SOURCE]},
-                    {f"g{size}": [ids[name] for name in members_of(size, turn)] for size in SIZES},
-                )
+                users = [f"user {name} confirmed {revision}" for name in NAMES]
+                groups = [f"group g{size} confirmed {revision}" for size in sorted(SIZES, key=str)]
+                self.assert_prints(self.site.push(provider.address), *users, *groups)
+                wanted = [content_of(place, turn) for place in range(len(NAMES))]
+                self.assertEqual(self.shown(provider, "/v2/Users"), wanted)
+                wanted = [group_content_of(size, turn) for size in sorted(SIZES, key=str)]
+                self.assertEqual(self.shown(provider, "/v2/Groups"), wanted)
 
     def test_each_kind_settles(self):
         rows = [f"user {row_of(place, turn)}" for turn in range(len(REVISIONS)) for place in range(len(NAMES))]
