@@ -112,6 +112,14 @@ class PushPeersTest(PeerTest):
         self.assertIn('If-Match: "v1"', lines)
         self.assertEqual(json.loads(body)["active"], False)
 
+    def test_a_provider_that_does_not_show_what_it_changed(self):
+        """The push that changes it doesn't confirm it, and the next one does."""
+        self.meets([NO_HITS, answer(200, user("bob", 1)), TAKEN], "user bob unconfirmed K3", status=1)
+        self.confirm_bob()
+        changed = hits(user("bob", 1)), answer(204), answer(412)
+        self.assertEqual(asked(self.meets(changed, "user bob unconfirmed K2", status=1)), [FIND_BOB] + 2 * [REPLACE_BOB])
+        self.meets([hits(user("bob", 2, '"v2"'))], "user bob confirmed 2")
+
     def test_a_line_is_printed_before_the_next_exchange_ends(self):
         self.site.write_users("ann,1,,,,,active", "bob,1,,,,,active")
         is_read = threading.Event()

@@ -1,0 +1,236 @@
+"""No fault is made up: out of memory, a fault of a store and one of a stream each come from a call that had it.
+
+No contract can say when memory, a disk or a socket fails, so the prover accepts a body that returns such a fault
+though nothing failed. This test reads the sources instead. A fault comes
+
+- by `?` from the call that had it;
+- in an arm whose pattern is another type's fault of that sort (`JournalFault::Memory => ChangeFault::Memory`);
+- out of memory also by a `From` of the allocator's errors;
+- at a place of made_up_faults.txt, which has a reason for each.
+
+If a place, its condition or its statement changes, it is another place, and somebody looks at it again.
+"""
+import collections
+import functools
+import pathlib
+import re
+import unittest
+
+from rattle_text import Source
+
+TESTS = pathlib.Path(__file__).resolve().parent
+LIST = TESTS / "made_up_faults.txt"
+CRATES = TESTS.parent / "crates"
+# The end of the names of crates of tests, whose faults are expected values, and those of stores that fail on purpose
+SCENARIOS = "scenarios"
+
+# How the code writes each sort of fault
+SORTS = {
+    "memory": re.compile(r"\b(?:Memory|OutOfMemory|AllocError|AllocFailed)\b"),
+    "store": re.compile(
+        r"\b(?:\w*Fault|Self)::Store\b(?!\()|\bRunFault::Journal\b|\bError::[A-Z]\w*"
+        r"|\b[a-z]\w*\((?:[^()]*, )?\w+Fault::(?:Damaged|Newer)\b"
+    ),
+    "stream": re.compile(
+        r"\b(?:ReadFailed|WriteFailed|EndedEarly|TurnsExhausted)\b"
+        r"|\bError::(?:from|new|other)\b(?!\(ErrorKind::OutOfMemory)|\bErrorKind::\w+\.into\b"
+    ),
+    # room for more than a length, a constant or a small number: a call for too much fails, though memory is there
+    "room": re.compile(
+        r"\b(?:with_capacity|reserve)\("
+        r"(?!(?:alloc, )?(?:\d{1,4}|[A-Z_]+|(?:[\w.]|\(\))+\.len\(\)(?:\.(?:min|saturating_add)\([A-Z_]+\))?)\))"
+    ),
+}
+ANY = re.compile("|".join(sort.pattern for sort in SORTS.values()))
+# What is between an arm's arrow, or the beginning of a body, and a fault that is returned as it is
+WRAPPED = re.compile(r"(?:return )?(?:[\w:]+\(|\()*(?:[\w:]+::)?")
+# The allocator's errors, which a From may make to out of memory
+OF_ALLOCATOR = re.compile(r"\bFrom<Alloc(?:Error|Failed<\w+>)> for\b")
+
+ADVICE = f"""
+
+If the fault comes from a call, let it come by `?`, or in an arm whose pattern is another type's fault of its sort.
+Otherwise say in {LIST.name} why it isn't made up, above the place as it is shown here:
+
+"""
+STALE = f"""
+
+{LIST.name} has places where the code makes no fault (any more). Remove them, or mend them if the code moved:
+
+"""
+
+source_of = functools.cache(Source)
+
+
+class Sort:
+    """A sort of fault, and the functions of a crate that return nothing else."""
+
+    def __init__(self, name, makers=()):
+        self.is_memory, self.fault = name == "memory", SORTS[name]
+        calls = rf"|(?<!\bfn )\b(?:{'|'.join(makers)})\b" if makers else ""
+        self.written = re.compile(self.fault.pattern + calls)
+
+    def is_another(self, pattern):
+        """Whether all that a pattern matches is a fault of this sort."""
+        pattern, _, guard = pattern.partition(" if ")
+        if self.is_memory and re.search(r"== ErrorKind::OutOfMemory\s*$", guard):
+            return True
+        return all(self.fault.search(each) for each in pattern.split("|"))
+
+
+def is_compared(source, found):
+    """Whether a fault is part of a pattern, or follows `==`."""
+    before, after = source.part_before(found.start()), source.part_after(found.end())
+    return "=>" in after or re.search(r"\blet\b[^=]*$|[!=]= [\w:]*$|\bmatches!\([^;]*$", before)
+
+
+def is_passed_on(source, found, sort):
+    """Whether a fault is what an arm makes of another type's fault of its sort, or a From of the allocator's."""
+    block, (pattern, arrow, rest) = source.block_at(found.start()), source.part_before(found.start()).rpartition("=>")
+    if not WRAPPED.fullmatch(rest.strip()):
+        return False
+    if arrow or block.head.endswith("=>"):
+        return sort.is_another(pattern or block.head.removesuffix("=>"))
+    home = block.within("impl")
+    return sort.is_memory and home and OF_ALLOCATOR.search(home.head) and block.head.startswith("fn from(")
+
+
+def is_declared(source, found):
+    """Whether a fault outside of functions is the name of a type or of a variant. An import may give it no other
+    name, and may not import the variants of a type."""
+    part, block = source.part_before(found.start()), source.block_at(found.start())
+    if re.search(r"\buse\b", part):
+        return "Fault::" not in part and not re.match(r"\s*as\b", source.part_after(found.end()))
+    return re.search(r"\b(?:fn|impl|type)\b", part) or (block and block.within("enum"))
+
+
+def made_by_hand(source, sort):
+    """Where a file makes a fault of a sort by hand."""
+    for found in sort.written.finditer(source.code):
+        if source.function_at(found.start()):
+            comes = is_compared(source, found) or is_passed_on(source, found, sort)
+        else:
+            comes = is_declared(source, found)
+        if not comes:
+            yield found.start()
+
+
+def makers_in(source, sort):
+    """The functions of a file that do nothing but make a fault."""
+    for start in made_by_hand(source, sort):
+        block = source.block_at(start)
+        if block and block.is_body() and not re.search(r"[;{.?]", source.code[block.start : block.end]):
+            yield source.function_at(start).rpartition("::")[2]
+
+
+def place(file, source, start):
+    """A place as the list shows it."""
+    lines = [source.condition_at(start), source.part_at(start)]
+    return "\n    ".join([f"{file} {source.function_at(start)}", *filter(None, lines)])
+
+
+def places_in(files):
+    """The places where the files of a crate, given with their texts, make faults by hand; each with its count."""
+    sources = {file: source_of(text) for file, text in files.items() if ANY.search(text)}
+    places = collections.Counter()
+    for name in SORTS:
+        makers = {it for source in sources.values() for it in makers_in(source, Sort(name))}
+        sort = Sort(name, sorted(makers))
+        for file, source in sources.items():
+            places.update(place(file, source, start) for start in made_by_hand(source, sort))
+    return places
+
+
+@functools.cache
+def crates():
+    """The crates of the program: for each the texts of its files."""
+    found = collections.defaultdict(dict)
+    for path in sorted(CRATES.glob("*/src/**/*.rt")):
+        file = path.relative_to(CRATES)
+        if not file.parts[0].endswith(SCENARIOS):
+            found[file.parts[0]][str(file)] = path.read_text(encoding="utf-8")
+    return found
+
+
+def listed():
+    """The places of the list, each with its count."""
+    lines = [line for line in LIST.read_text(encoding="utf-8").split("\n") if line and not line.startswith("#")]
+    return collections.Counter(re.split(r"\n(?! )", "\n".join(lines)))
+
+
+def shown(places):
+    return "\n".join(sorted(places.elements()))
+
+
+class MadeUpFaults(unittest.TestCase):
+    longMessage = False
+
+    def test_each_fault_comes_from_a_call_or_is_listed(self):
+        found = collections.Counter()
+        for files in crates().values():
+            found.update(places_in(files))
+        self.assertFalse(found - listed(), ADVICE + shown(found - listed()))
+        self.assertFalse(listed() - found, STALE + shown(listed() - found))
+
+    def test_the_allocators_errors_become_faults_of_known_names(self):
+        """So no other variant means that memory is out."""
+        count = 0
+        for file, text in (it for files in crates().values() for it in files.items()):
+            source = source_of(text) if OF_ALLOCATOR.search(text) else None
+            for block in source.blocks if source else ():
+                home = block.parent and block.parent.within("impl")
+                if home and OF_ALLOCATOR.search(home.head) and block.head.startswith("fn from("):
+                    body = source.code[block.start : block.end].strip()
+                    self.assertRegex(body, r"^\w+::(?:Memory|OutOfMemory)$", f"{file}: a name for {home.head}")
+                    count += 1
+        self.assertGreater(count, 0)
+
+
+# Wrong bodies that the prover accepts: a file, a function, a line of it or None, and the line in its place, or the
+# line that the body begins with
+WRONG = [
+    ("world_sim/src/runs.rt", "run", None, "return Err(WorldFault::Memory);"),
+    ("world_sim/src/settling.rt", "settle", None, "if names.len() > 4 { return Err(WorldFault::Memory); }"),
+    ("connector_core/src/asking.rt", "Connector::ask", None, "return Err(AskFault::Memory);"),
+    ("connector_core/src/learning.rt", "judge", None, "return Err(LearnFault::Memory);"),
+    ("scim_client/src/exchange.rt", "ScimService::exchange", None,
+     "if let Request::Replace { .. } = request { return Err(ExchangeFault::NoAnswer(AnswerFault::OutOfMemory)); }"),
+    ("source_csv/src/files.rt", "rows_left", "for _ in 0..u64::MAX {", "for _ in 0..150_000 {"),
+    ("commands/src/images.rt", "print_images", "for _ in 0..u64::MAX {", "for _ in 0..150_000 {"),
+    ("world_sim/src/schedules.rt", "read_schedule", None, "if text.len() > 4_096 { return Err(AllocError)?; }"),
+    ("provisioning/src/exchanging.rt", "exchange_on", None,
+     "return (Err(ExchangeFault::ReadFailed), reader, writer);"),
+    ("journal_store/src/journal.rt", "SqlJournal::reopen", None, "return Err(refusal(&mut self.faults));"),
+    ("journal_store/src/journal.rt", "SqlJournal::put_row", None, "return Err(refusal(&mut self.faults));"),
+    ("journal_store/src/journal.rt", "SqlJournal::put_learnt", "if !self.is_usable {", "if true {"),
+    ("journal_store/src/opening.rt", "open_older", None, "return Err(JournalOpenFault::Store);"),
+    ("mapping/src/lines.rt", "WriteFault::from", "if error.kind() == ErrorKind::OutOfMemory {",
+     "if error.kind() != ErrorKind::BrokenPipe {"),
+    ("world_sim/src/schedules.rt", "lines_of", None, "let _: Vec<u8> = Vec::with_capacity(alloc, usize::MAX)?;"),
+    ("provider_core/src/provider.rt", "ProviderFault::from", "RegistryFault::Memory => ProviderFault::Memory,",
+     "_ => ProviderFault::Memory,"),
+]
+
+
+class WrongBodies(unittest.TestCase):
+    def test_each_is_found(self):
+        for file, function, old, new in WRONG:
+            with self.subTest(file=file, function=function, new=new):
+                crate = crates()[file.partition("/")[0]]
+                changed = {**crate, file: with_line(crate[file], function, old, new)}
+                more = places_in(changed) - places_in(crate)
+                self.assertEqual([it.split("\n")[0] for it in more.elements()], [f"{file} {function}"])
+
+
+def with_line(text, function, old, new):
+    """A file with another line in a function; without an old line, at the beginning of its body."""
+    source = source_of(text)
+    bodies = [block for block in source.blocks if block.is_body() and source.function_at(block.start) == function]
+    if old is None:
+        return text[: bodies[0].start] + f"\n{new}\n" + text[bodies[0].start :]
+    start = min(at for at in (text.find(old, body.start, body.end) for body in bodies) if at >= 0)
+    return text[:start] + new + text[start + len(old) :]
+
+
+if __name__ == "__main__":
+    unittest.main()

@@ -1,0 +1,117 @@
+"""`serve`: many clients at once. Each is answered with what it asked for, and none is forgotten."""
+import contextlib
+import json
+import random
+import selectors
+import socket
+import threading
+import time
+
+from exchanges import create_user, user
+from support import BOB_CREATED, CREATE_BOB, PATIENCE, ProgramTest, Provider, read_all, resource_id
+from test_slow_clients import LIST, MOST_HELD, PROMPTLY, SILENCE, narrow_connection
+
+# More clients than any part of the program looks at by accident
+MANY = 100
+FIND_BOB = f"GET /v2/Users/{resource_id(1)} HTTP/1.1\r\nHost: h\r\n\r\n".encode()
+
+
+def body_of(answer):
+    head, _, body = answer.partition(b"\r\n\r\n")
+    return head.split(b" ")[1], json.loads(body)
+
+
+def read_side_by_side(streams):
+    """What each of these streams has to its end, read as it comes."""
+    parts = {stream: [] for stream in streams}
+    end = time.monotonic() + PATIENCE
+    with selectors.DefaultSelector() as selector:
+        for stream in streams:
+            selector.register(stream, selectors.EVENT_READ)
+        while selector.get_map():
+            if time.monotonic() > end:
+                raise AssertionError(f"{len(selector.get_map())} of {len(streams)} answers didn't come")
+            for key, _ in selector.select(1):
+                parts[key.fileobj].append(key.fileobj.recv(65536))
+                if not parts[key.fileobj][-1]:
+                    selector.unregister(key.fileobj)
+    return [b"".join(parts[stream]) for stream in streams]
+
+
+class ManyClientsTest(ProgramTest):
+    def assert_prompt(self, provider, request, status):
+        began = time.monotonic()
+        answer = provider.exchange(request)
+        self.assertLess(time.monotonic() - began, PROMPTLY)
+        self.assertTrue(answer.startswith(b"HTTP/1.1 " + status), answer[:100])
+
+    def test_each_is_answered_with_its_own(self):
+        names = [f"user-{number:03}" for number in range(MANY)]
+        order = random.Random(1).sample(range(MANY), MANY)
+        with self.serving(2 * MANY + 1) as provider, contextlib.ExitStack() as stack:
+            streams = [stack.enter_context(provider.connect()) for _ in names]
+            requests = [create_user(user(name)) for name in names]
+            # each has sent its request up to the end of its name, and waits
+            cut = requests[0].index(b"user-") + len(names[0])
+            for stream, request in zip(streams, requests):
+                stream.sendall(request[:cut])
+            self.assert_prompt(provider, FIND_BOB, b"404")
+            for place in order:
+                streams[place].sendall(requests[place][cut:])
+            for name, answer in zip(names, read_side_by_side(streams)):
+                status, shown = body_of(answer)
+                self.assertEqual((status, shown["userName"]), (b"201", name))
+            # and so was each that reads
+            for name in names:
+                answer = provider.ask("GET", f"/v2/Users?filter=userName%20eq%20%22{name}%22")
+                self.assertEqual([user["userName"] for user in answer.content["Resources"]], [name])
+
+    def test_one_that_waits_behind_many(self):
+        with self.serving(MANY + 2, connection_faults=MANY) as provider, contextlib.ExitStack() as stack:
+            for _ in range(MANY):
+                stack.enter_context(provider.connect())
+            with provider.connect() as last:
+                last.sendall(CREATE_BOB[:100])
+                self.assert_prompt(provider, FIND_BOB, b"404")
+                last.settimeout(PROMPTLY)
+                last.sendall(CREATE_BOB[100:])
+                self.assertEqual(read_all(last), BOB_CREATED)
+
+    def test_answers_that_many_read_late(self):
+        with self.serving(200 + 1 + MANY) as provider:
+            for number in range(200):
+                self.assertTrue(provider.exchange(create_user(user(f"user-{number:03}"))).startswith(b"HTTP/1.1 201"))
+            whole = provider.exchange(LIST)
+            with contextlib.ExitStack() as stack:
+                streams = [stack.enter_context(narrow_connection(provider.port)) for _ in range(MANY)]
+                for stream in streams:
+                    stream.sendall(LIST)
+                # the last ones read, while the others don't yet
+                for some in streams[-MANY // 5:], streams[:-MANY // 5]:
+                    self.assertTrue(all(answer == whole for answer in read_side_by_side(some)))
+
+    def test_a_newcomer_waits_for_a_place(self):
+        """While as many wait as may, and none of them is silent, a newcomer waits too, and isn't dropped."""
+        with Provider(MOST_HELD + 1) as provider, contextlib.ExitStack() as stack:
+            streams = [stack.enter_context(provider.connect()) for _ in range(MOST_HELD)]
+            for stream in streams:
+                stream.sendall(b"GET /v2/Users HTTP/1.1\r\nA: ")
+            stop = threading.Event()
+            talking = threading.Thread(target=keep_talking, args=(streams[1:], stop))
+            talking.start()
+            stack.callback(talking.join)
+            stack.callback(stop.set)
+            time.sleep(3 * SILENCE)
+            newcomer = stack.enter_context(provider.connect())
+            time.sleep(3 * SILENCE)
+            streams[0].close()
+            newcomer.sendall(CREATE_BOB)
+            self.assertEqual(read_all(newcomer), BOB_CREATED)
+
+
+def keep_talking(streams, stop):
+    """Sends a byte of a field line to each of these, more often than they may be silent."""
+    while not stop.wait(SILENCE / 2):
+        for stream in streams:
+            with contextlib.suppress(OSError):
+                stream.sendall(b"a")
