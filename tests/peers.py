@@ -137,12 +137,11 @@ class Peer:
     of them have ended.
     """
 
-    def __init__(self, steps, address=("127.0.0.1", 0)):
+    def __init__(self, steps):
         self.steps, self.requests, self.answered = steps, [], 0
-        self.listener = narrow_listener() if take_no_request in steps else socket.create_server(address)
+        self.listener = narrow_listener() if take_no_request in steps else socket.create_server(("127.0.0.1", 0))
         self.listener.settimeout(PATIENCE)
-        host, self.port = self.listener.getsockname()
-        self.address = f"{host}:{self.port}"
+        self.address = f"127.0.0.1:{self.listener.getsockname()[1]}"
         self.pool = concurrent.futures.ThreadPoolExecutor(1)
 
     def __enter__(self):

@@ -90,9 +90,11 @@ class KindsTest(ProgramTest):
         schedule = self.folder / "schedule"
         schedule.write_text(text(*rows))
         last = len(REVISIONS) - 1
-        users = [f"user {name} wanted=2:1 confirmed=2:1 held=2:1 version=1 active={str(kind_of(place, last)[-1]).lower()}"
-                 for place, name in enumerate(NAMES)]
-        groups = [f"group g{size} wanted=1 confirmed=1 held=1 version=1 members={size}" for size in sorted(SIZES, key=str)]
+        are_on = [str(kind_of(place, last)[-1]).lower() for place in range(len(NAMES))]
+        users = [f"user {name} wanted=2:1 confirmed=2:1 held=2:1 version=1 active={is_on}"
+                 for name, is_on in zip(NAMES, are_on)]
+        groups = [f"group g{size} wanted=1 confirmed=1 held=1 version=1 members={size}"
+                  for size in sorted(SIZES, key=str)]
         reports = [f"{number} new" for number in range(1, len(rows) + 1)]
         settled = f"settled in {2 * (len(users) + len(groups))} exchanges"
         self.assert_prints(scimlink("simulate", schedule, "--settle"), *reports, settled, *users, *groups)
