@@ -34,3 +34,4 @@ pub mod Done
 pub mod Settling
 pub mod OneWay
 pub mod Alone
+pub mod Sharing

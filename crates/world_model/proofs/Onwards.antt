@@ -115,10 +115,10 @@ change_adds history row (Ok verdicts.Known) name = stays (rows_of history name)
 change_adds history row (Ok verdicts.Older) name = stays (rows_of history name)
 change_adds history row (Err fault) name = stays (rows_of history name)
 
-here_still : (w : World) → Onward w w
+pub here_still : (w : World) → Onward w w
 here_still w = record { rows = λ name. stays (rows_of w.history name); stories = go_on_staying w.entries; messages = stays w.messages; confirmed = none_falls w.book }
 
-and_on : (u v w : World) → Onward u v → Onward v w → Onward u w
+pub and_on : (u v w : World) → Onward u v → Onward v w → Onward u w
 and_on u v w p q = record {
   rows = λ name. further (rows_of u.history name) (rows_of v.history name) (rows_of w.history name) (p.rows name) (q.rows name);
   stories = go_on_further u.entries v.entries w.entries p.stories q.stories;
@@ -152,7 +152,7 @@ delivers_on w (Some (Answered request answer)) = record {
   confirmed = learn_raises w.book request answer;
 }
 
-event_on : (w : World) (event : Event) → Onward w (happens w event)
+pub event_on : (w : World) (event : Event) → Onward w (happens w event)
 event_on w (Changes row) = record {
   rows = change_adds w.history row (judged w row);
   stories = go_on_staying w.entries;
@@ -183,7 +183,7 @@ always_onward early late = subst (Onward (run empty early)) (sym (run-append emp
 
 -- ---- every act
 
-act_on : (w : World) (act : Act) → Onward w (acts w act)
+pub act_on : (w : World) (act : Act) → Onward w (acts w act)
 act_on w (Ours event) = event_on w event
 act_on w (Theirs request) = record {
   rows = λ name. stays (rows_of w.history name);

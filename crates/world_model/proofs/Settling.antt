@@ -18,10 +18,10 @@ use Rattle.connector_core.specs.Changing.{names_of}
 use Rattle.connector_core.specs.declared.knowledge.Known.{Known}
 use Rattle.connector_core.specs.declared.knowledge.Seen.TheVariants.{Unknown}
 use Rattle.world_model.specs.Safe.{IsAt, Has}
-use Rattle.world_model.specs.Settled.{exchange, Exchanges, Turns, IsSettled, Settles}
+use Rattle.world_model.specs.Settled.{exchange, Exchanges, Turns, Settles}
 use Rattle.world_model.specs.Invariant.{Names, all_names}
 use Rattle.world_model.specs.Others.{run_among}
-use Rattle.world_model.specs.Room.{Meanwhile, after_them, LeavesRoom, ExchangesAmong, TurnsAmong, SettlesAmong}
+use Rattle.world_model.specs.Room.{Meanwhile, after_them, LeavesRoom, ExchangesAmong, TurnsAmong, SettlesFrom, SettlesAmong}
 use Rattle.world_model.specs.World.{World, empty, run}
 use Rattle.world_model.proofs.Asked.{IsDone, HasImage, user_imaged, members_imaged, asks_nothing}
 use Rattle.world_model.proofs.Calm.{CalmAmong, always_calm, calm_among, member_known, name_known}
@@ -319,8 +319,7 @@ known_named : {ours : Names} (w : World) → CalmAmong ours w → Rest w (names_
 known_named w c q known in_book =
     inr (row_counted w.history c.quiet.counted q known.wanted (accepted w c.quiet q known in_book))
 
-settles_from : {ours : Names} (theirs : Meanwhile) → LeavesRoom ours theirs → (w : World) → CalmAmong ours w
-    → (count : ℕ) × (v : World) × TurnsAmong theirs w (names_of w.history) count v × IsSettled v
+pub settles_from : {ours : Names} (theirs : Meanwhile) → LeavesRoom ours theirs → (w : World) → CalmAmong ours w → SettlesFrom theirs w
 settles_from theirs leave w c =
     let r = all_records theirs leave (names_of w.history) w c c.quiet.counted.order (λ i q at. name_known w c q (i, at)) (known_named w c) in (
       r.count,

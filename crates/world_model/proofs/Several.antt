@@ -18,7 +18,7 @@ use Rattle.world_model.specs.Others.{Act, Ours, Theirs, run_among, LeavesAlone, 
 use Rattle.world_model.specs.Several.{Side, Shared, nobody, world_of, world_at, side_of, with_world, Turn, On, Elsewhere, happens_at, run_several, NoneShared, IsItsOwn, EachItsOwn, LeadsAmong, EachIsAmongOthers, HeadlineHoldsForEach, AlwaysSafeForEach, AlwaysOnwardForEach}
 use Rattle.world_model.proofs.Headlines.{headline_holds_among}
 use Rattle.world_model.proofs.Invariant.{message_there, among_inv, none_inv}
-use Rattle.world_model.proofs.Onwards.{among-append, always_onward_among}
+use Rattle.world_model.proofs.Onwards.{among-append, here_still, and_on, event_on, act_on}
 use Rattle.world_model.proofs.Ranking.{record_ours}
 use Rattle.world_model.proofs.Safety.{always_safe_among}
 
@@ -88,14 +88,14 @@ module _ (theirs ours : Names) (others : IsApartFrom theirs ours) (w : World) (i
 abbrev seen : Shared → (place other : ℕ) → World → Bool → World
 seen s place other w same = world_of w.entries (cond same (side_of w) (s.sides other))
 
-at_same : (s : Shared) (place : ℕ) (w : World) → world_at (with_world s place w) place ≡ w
+pub at_same : (s : Shared) (place : ℕ) (w : World) → world_at (with_world s place w) place ≡ w
 at_same s place w = ap (seen s place place w) (eq-eqb place place refl)
 
-at_other : (s : Shared) (place other : ℕ) (w : World) → (place == other) ≡ false → world_at (with_world s place w) other ≡ world_of w.entries (s.sides other)
+pub at_other : (s : Shared) (place other : ℕ) (w : World) → (place == other) ≡ false → world_at (with_world s place w) other ≡ world_of w.entries (s.sides other)
 at_other s place other w apart = ap (seen s place other w) apart
 
 -- the invariant of every side
-abbrev AllHold : (ours : ℕ → Names) → Shared → Type 0
+abbrev pub AllHold : (ours : ℕ → Names) → Shared → Type 0
 AllHold ours s = (place : ℕ) → InvariantOf (ours place) (world_at s place)
 
 module _ (ours : ℕ → Names) (none_shared : NoneShared ours) where
@@ -128,12 +128,12 @@ module _ (ours : ℕ → Names) (none_shared : NoneShared ours) where
   led : {names : Names} {w v : World} → InvariantOf names w → LeadsAmong names w v → InvariantOf names v
   led {names} {w} {v} inv leads = subst (InvariantOf names) leads.leads (among_inv w leads.acts leads.apart inv)
 
-  all_hold : (s : Shared) (turn : Turn) → IsItsOwn ours turn → AllHold ours s → AllHold ours (happens_at s turn)
+  pub all_hold : (s : Shared) (turn : Turn) → IsItsOwn ours turn → AllHold ours s → AllHold ours (happens_at s turn)
   all_hold s turn own inv place = led (inv place) (one_turn s turn own inv place)
 
   -- ---- all runs
 
-  turns_lead : (s : Shared) (turns : List Turn) → EachItsOwn ours turns → AllHold ours s → (place : ℕ) → LeadsAmong (ours place) (world_at s place) (world_at (run_several s turns) place)
+  pub turns_lead : (s : Shared) (turns : List Turn) → EachItsOwn ours turns → AllHold ours s → (place : ℕ) → LeadsAmong (ours place) (world_at s place) (world_at (run_several s turns) place)
   turns_lead s [] own inv place = stays (ours place) (world_at s place)
   turns_lead s (turn ∷ turns) own inv place =
       further (one_turn s turn own.0 inv place) (turns_lead (happens_at s turn) turns own.1 (all_hold s turn own.0 inv) place)
@@ -141,7 +141,7 @@ module _ (ours : ℕ → Names) (none_shared : NoneShared ours) where
   turns_hold : (s : Shared) (turns : List Turn) → EachItsOwn ours turns → AllHold ours s → AllHold ours (run_several s turns)
   turns_hold s turns own inv place = led (inv place) (turns_lead s turns own inv place)
 
-  none_hold : AllHold ours nobody
+  pub none_hold : AllHold ours nobody
   none_hold place = none_inv (ours place)
 
 several-append : (s : Shared) (early late : List Turn) → run_several s (early ++ late) ≡ run_several (run_several s early) late
@@ -198,17 +198,36 @@ module _ (ours : ℕ → Names) (early late : List Turn) (none_shared : NoneShar
       (subst (λ (v : World). HeadlineAmong (ours place) (run_among empty p.early) v) p.leads_late
       (headline_holds_among (ours place) p.early p.late p.apart))
 
-  onward_for : Onward (world_at then place) (world_at now place)
-  onward_for =
-      let p = parts in
-      subst (λ (w : World). Onward w (world_at now place)) p.leads_early
-      (subst (λ (v : World). Onward (run_among empty p.early) v) p.leads_late (always_onward_among p.early p.late))
-
 pub headline_holds_for_each : HeadlineHoldsForEach
 headline_holds_for_each = headline_for
 
+-- whatever happens on another side, nothing of this one is lost
+other_on : (s : Shared) (other : ℕ) (event : Event) (place : ℕ) → Onward (world_at s place) (world_of (happens (world_at s other) event).entries (s.sides place))
+other_on s other event place =
+    let still = here_still (world_at s place) in
+    record { rows = still.rows; stories = (event_on (world_at s other) event).stories; messages = still.messages; confirmed = still.confirmed }
+
+one_on : (s : Shared) (turn : Turn) (place : ℕ) → Onward (world_at s place) (world_at (happens_at s turn) place)
+one_on s (On other event) place =
+    let v = happens (world_at s other) event in
+    elim (cases_Bool (other == place)) [
+      | inl same ↦
+          subst (λ (q : ℕ). Onward (world_at s q) (world_at (happens_at s (On other event)) q)) (eqb-true other place same)
+          (subst (λ (w : World). Onward (world_at s other) w) (sym (at_same s other v)) (event_on (world_at s other) event))
+      | inr apart ↦ subst (λ (w : World). Onward (world_at s place) w) (sym (at_other s other place v apart)) (other_on s other event place)
+    ]
+one_on s (Elsewhere request) place = act_on (world_at s place) (Theirs request)
+
+turns_on : (s : Shared) (turns : List Turn) (place : ℕ) → Onward (world_at s place) (world_at (run_several s turns) place)
+turns_on s [] place = here_still (world_at s place)
+turns_on s (turn ∷ turns) place =
+    let then = happens_at s turn in
+    and_on (world_at s place) (world_at then place) (world_at (run_several then turns) place) (one_on s turn place) (turns_on then turns place)
+
 pub always_onward_for_each : AlwaysOnwardForEach
-always_onward_for_each = onward_for
+always_onward_for_each early late place =
+    let then = run_several nobody early in
+    subst (λ (s : Shared). Onward (world_at then place) (world_at s place)) (sym (several-append nobody early late)) (turns_on then late place)
 
 pub always_safe_for_each : AlwaysSafeForEach
 always_safe_for_each ours turns none_shared own place =

@@ -73,7 +73,7 @@ NeverRefusedAmong = (ours : Names) (acts : List Act) → KeepsApart ours acts �
 
 -- ---- exchanges, while others act too
 
--- what others ask for before the next exchange, whatever they know
+-- what others ask for before the next exchange; it may depend on all that happened
 abbrev pub Meanwhile : Type 0
 Meanwhile = World → List Request
 
@@ -100,13 +100,17 @@ TurnsAmong theirs w (name ∷ names) count v =
     (here there : ℕ) × (u : World) × (here ≤ 3) × ExchangesAmong theirs w name here u × Rests u name
     × TurnsAmong theirs u names there v × (count ≡ here + there)
 
--- from each world with room that acts lead to, at most three exchanges for each record, in the order of names (users
--- before groups), settle all records, whatever others do before each of them
+-- at most three exchanges for each record, in the order of names (users before groups), settle all records, with what
+-- others do before each of them
+abbrev pub SettlesFrom : Meanwhile → World → Type 0
+SettlesFrom theirs w = (count : ℕ) × (v : World) × TurnsAmong theirs w (names w) count v × IsSettled v
+
+-- so it is in each world with room that acts lead to, whatever others do meanwhile, if they leave our records alone and
+-- leave room for them
 abbrev pub SettlesAmong : Type 0
 SettlesAmong = (ours : Names) (acts : List Act) (theirs : Meanwhile) → KeepsApart ours acts
     → AllByRecursion IsLawfulAct acts → HasRoom (run_among empty acts) → LeavesRoom ours theirs
-    → (count : ℕ) × (v : World) × TurnsAmong theirs (run_among empty acts) (names (run_among empty acts)) count v
-    × IsSettled v
+    → SettlesFrom theirs (run_among empty acts)
 
 -- Others may as well act within an exchange: it is the same whether their request comes before or after a request of
 -- ours is sent, and before or after a reply comes to the connector
@@ -119,7 +123,8 @@ pub record ActsAnyTime : Type 0 where
 
 -- ---- without others
 
--- there is always room, and the laws are those that hold without others
+-- there is always room, nothing refused among others is nothing refused, and the exchanges among others who do nothing
+-- are those without others
 pub record RoomWithoutOthers : Type 0 where
   pub room : (events : List Event) → AllByRecursion IsLawful events → HasRoom (run empty events)
   pub lawful : (events : List Event) → AllByRecursion IsLawful events → AllByRecursion IsLawfulAct (map Ours events)

@@ -22,6 +22,8 @@ ghost use Rattle.world_model.specs.Several.{
   AlwaysSafeForEach,
   EachIsAmongOthers,
   HeadlineHoldsForEach,
+  NeverRefusedForEach,
+  SettlesForEach,
 };
 ghost use Rattle.world_model.specs.Untroubled.{NeverRefused};
 
@@ -95,12 +97,17 @@ pub fn holds_among_others()
 /// Several connectors share the provider, each with a source of its own, and others write there too. If no
 /// two connectors have a record in common, and the others leave the records of all alone, then to each
 /// connector all others are others who leave its records alone (`among`). So the headline holds for each
-/// (`headline`), the world of each is safe (`safe`) and goes on (`onward`).
+/// (`headline`), and the world of each is safe (`safe`). Whatever anybody writes, nothing of any is lost or
+/// changed, and no confirmed revision falls (`onward`). While the provider has room for the records of one,
+/// it refuses no request of that one (`untroubled`), and exchanges settle its records, whatever the others do
+/// (`settles`).
 pub fn holds_for_each()
     ensures among { EachIsAmongOthers }
     ensures headline { HeadlineHoldsForEach }
     ensures safe { AlwaysSafeForEach }
     ensures onward { AlwaysOnwardForEach }
+    ensures untroubled { NeverRefusedForEach }
+    ensures settles { SettlesForEach }
 {}
 
 /// Others can fill the provider. If it still has a free place for each record of the source without a

@@ -1,4 +1,5 @@
 use Rattle.world_model.proofs.Several as laws
+use Rattle.world_model.proofs.Sharing as sharing
 use Rattle.world_model.proofs.laws.holds_for_each.Goals as goal
 
 pub returns-clause-among : goal.returns-clause-among
@@ -12,3 +13,9 @@ returns-clause-safe c = laws.always_safe_for_each
 
 pub returns-clause-onward : goal.returns-clause-onward
 returns-clause-onward c = laws.always_onward_for_each
+
+pub returns-clause-untroubled : goal.returns-clause-untroubled
+returns-clause-untroubled c = sharing.never_refused_for_each
+
+pub returns-clause-settles : goal.returns-clause-settles
+returns-clause-settles c = sharing.settles_for_each
