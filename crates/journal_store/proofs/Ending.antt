@@ -1,15 +1,14 @@
 -- What a commit leaves of a journal that was made or carried over.
-use Rattle.std.proofs.Common.{◌≡◌, ℕ, [], false, map, refl, sym, ap, ◌∙◌, subst}
+use Rattle.std.proofs.Common.{◌≡◌, false, map, refl, sym, ap, ◌∙◌, subst}
 use Rattle.sqlite_value.specs.Order.{Row, column}
 use Rattle.sqlite_trees.specs.Tree.{Trees}
 use Rattle.sqlite.specs.Effect.{Database}
 use Rattle.sqlite.specs.State.{State, Shows}
-use Rattle.scim_key.specs.declared.records.Kind.{Kind}
 use Rattle.journal_core.specs.Entries.{EntryMap}
 use Rattle.journal_store.specs.Batches.{settled}
 use Rattle.journal_store.specs.Connections.{HasNumbers}
 use Rattle.journal_store.specs.Formats.{FormatData}
-use Rattle.journal_store.specs.Opening.{HoldsEntries, IsStore, IsStoreBy}
+use Rattle.journal_store.specs.Opening.{AreEmptied, HoldsEntries, IsStore, IsStoreBy, LeavesCarriedBy}
 use Rattle.journal_store.specs.Rows.{entries_in}
 
 -- at the beginning of a transaction
@@ -37,6 +36,16 @@ store_kept last end entries it shows = record {
   are = ap (λ (d : Database). entries_in d.trees) shows.now_is ∙ it.are;
 }
 
+-- the tables of a format are empty after a commit too
+pub emptied_kept : (f : FormatData) (last end : State) → AreEmptied f last.now.trees → Shows last end last.now last.now false → AreEmptied f end.now.trees
+emptied_kept f last end none shows = subst (λ (d : Database). AreEmptied f d.trees) (sym shows.now_is) none
+
 -- a stop at the commit leaves the entries in the tables of the current format, and none in those of the older one
-pub stop_leaves : (last : State) (tree : Kind → ℕ) (entries : EntryMap) (db : Trees) → IsStore (settled last) entries → ((kind : Kind) → last.now.trees (tree kind) ≡ []) → db ≡ last.now.trees → (entries_in db ≡ entries) × ((kind : Kind) → db (tree kind) ≡ [])
-stop_leaves last tree entries db it none is = (ap (λ (t : Trees). entries_in t) is ∙ it.are, λ kind. ap (λ (t : Trees). t (tree kind)) is ∙ none kind)
+pub stop_leaves : (f : FormatData) (old last : State) (entries : EntryMap) (db : Trees) → IsStoreBy f old entries → IsStore (settled last) entries → AreEmptied f last.now.trees → db ≡ last.now.trees → LeavesCarriedBy f old db
+stop_leaves f old last entries db stood it none is = record {
+  entries = entries;
+  stood = stood;
+  are = ap (λ (t : Trees). entries_in t) is ∙ it.are;
+  format = ap (λ (t : Trees). map (λ (r : Row). column r 2) (t 0)) is ∙ it.format;
+  emptied = subst (AreEmptied f) (sym is) none;
+}

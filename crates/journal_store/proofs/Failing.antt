@@ -7,7 +7,9 @@ use Rattle.journal_core.specs.declared.journals.JournalFault.{JournalFault}
 use Rattle.journal_core.specs.declared.journals.JournalFault.TheVariants as journal
 use Rattle.journal_store.specs.Faults.{FailsFor, HasCause, IsOfRow, table_of}
 use Rattle.journal_store.specs.Kept.{CallFailsFor}
-use Rattle.journal_store.specs.Opening.{table_fault}
+use Rattle.journal_store.specs.Opening.{IsFor, OpenFailsFor, journal_fault, table_fault}
+use Rattle.journal_store.specs.declared.opening.JournalOpenFault.{JournalOpenFault}
+use Rattle.journal_store.specs.declared.opening.JournalOpenFault.TheVariants as opening
 use Rattle.journal_store.specs.declared.statements.TableFault.{TableFault}
 use Rattle.journal_store.specs.declared.statements.TableFault.TheVariants as table
 
@@ -47,3 +49,10 @@ pub call_fails : (P D : Type 0) (fault : TableFault) → FailsFor P fault → Ha
 call_fails P D table.Store it damage = inl it
 call_fails P D table.Damaged it damage = inr damage
 call_fails P D table.Memory it damage = tt
+
+-- a fault of an opening, for a journal that is opened again
+pub reopening_fails : (P N D : Type 0) (fault : JournalOpenFault) → OpenFailsFor P fault → IsFor N D fault → CallFailsFor (P ⊎ (N ⊎ D)) (journal_fault fault)
+reopening_fails P N D opening.Store it cause = inl it
+reopening_fails P N D opening.Damaged it cause = inr (inr cause)
+reopening_fails P N D opening.Newer it cause = inr (inl cause)
+reopening_fails P N D opening.Memory it cause = tt

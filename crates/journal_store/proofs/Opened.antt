@@ -5,17 +5,16 @@ use Rattle.sqlite_value.specs.declared.value.Value.TheVariants.{Int}
 use Rattle.sqlite_trees.specs.Tree.{Trees}
 use Rattle.sqlite.specs.State.{State, HasCleanDisk, Survives}
 use Rattle.sqlite.proofs.StateLemmas.{survives_then}
-use Rattle.scim_key.specs.declared.records.Kind.{Kind}
+use Rattle.std.specs.FinMap.{empty}
 use Rattle.journal_core.specs.Entries.{EntryMap}
-use Rattle.sql_tables.specs.Layouts.{IsFormat, IsMark, IsOne}
+use Rattle.sql_tables.specs.Layouts.{IsBlank, IsFormat, IsMark, IsOne}
 use Rattle.sql_tables.specs.declared.marks.Mark.{Mark}
 use Rattle.sql_tables.specs.declared.marks.Mark.TheVariants.{Own, Newer, Unmarked}
 use Rattle.sql_tables.proofs.Results.{if_err}
 use Rattle.sql_tables.specs.Statements.{Looks}
 use Rattle.journal_store.specs.Format.{format_number}
-use Rattle.journal_store.specs.Formats.{FormatData, current_format}
-use Rattle.journal_store.specs.Opening.{IsCause, IsFor, IsJournal, IsNewer, IsNotLaid, IsNotLaidBy, IsSpoilt, IsSpoiltBy, IsStoreBy, LeavesCarried, LeavesCarriedBy, LeavesStanding}
-use Rattle.journal_store.specs.Rows.{entries_in}
+use Rattle.journal_store.specs.Formats.{FormatData, current_format, first_format, second_format}
+use Rattle.journal_store.specs.Opening.{IsCarriedBy, IsCause, IsFor, IsJournal, IsNewer, IsNotLaid, IsNotLaidBy, IsSpoilt, IsSpoiltBy, IsStore, IsStoreBy, LeavesCarried, LeavesCarriedBy, LeavesStanding, Stands}
 use Rattle.journal_store.specs.declared.opening.JournalOpenFault.{JournalOpenFault}
 use Rattle.journal_store.proofs.Checking.{is_for}
 use Rattle.journal_store.proofs.Reopening.{store_on}
@@ -24,12 +23,12 @@ use Rattle.journal_store.proofs.Reopening.{store_on}
 module _ (f : FormatData) where
   -- what a stop leaves of a journal that was checked and is then carried over
   pub stop_carried : (old mid new : State) → Looks old mid → (HasCleanDisk mid → (entries : EntryMap) × IsStoreBy f old entries) → (HasCleanDisk mid → IsTrue mid.is_open)
-      → Survives mid new (λ db. (entries : EntryMap) × IsStoreBy f mid entries × (entries_in db ≡ entries) × ((kind : Kind) → db (f.tree kind) ≡ [])) → Survives old new (LeavesCarriedBy f old)
+      → Survives mid new (LeavesCarriedBy f mid) → Survives old new (LeavesCarriedBy f old)
   stop_carried old mid new looks stands still carries = survives_then old mid new (λ _. ⊥) _ (LeavesCarriedBy f old) (λ late db it. absurd it) (λ late db it.
       let clean : HasCleanDisk mid = omega (arith, late, carries.clean) in
       let was = stands clean in
       let is = store_on old mid was.0 looks was.1 clean (still clean) in
-      (was.0, was.1, it.2 ∙ sym it.1.are ∙ is.are)) looks.quiet carries
+      record { entries = was.0; stood = was.1; are = it.are ∙ sym it.stood.are ∙ is.are; format = it.format; emptied = it.emptied }) looks.quiet carries
 
   -- if the tables are those of the format and no transaction is open, something in them is invalid
   pub older_spoilt : (s : State) → IsOne f.layout s.now.schema → s.in_transaction ≡ false → IsNotLaidBy f.layout s ⊎ IsSpoiltBy f s → IsSpoiltBy f s
@@ -53,3 +52,12 @@ not_newer s Own other own newer =
     omega (arith, number, newer.1)
 not_newer s Newer other above newer = other refl
 not_newer s Unmarked other none newer = none newer.0 (omega (arith, newer.1)) newer.2
+
+-- what stood before an opening, without what it made of it
+pub stood : (old new : State) (entries : EntryMap)
+    → IsStore old entries ⊎ ((IsCarriedBy second_format old new entries ⊎ IsCarriedBy first_format old new entries) ⊎ (IsBlank old × (entries ≡ empty)))
+    → Stands old entries
+stood old new entries (inl store) = inl store
+stood old new entries (inr (inl (inl second))) = inr (inl (inl second.0))
+stood old new entries (inr (inl (inr first))) = inr (inl (inr first.0))
+stood old new entries (inr (inr blank)) = inr (inr blank)

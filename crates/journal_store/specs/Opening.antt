@@ -1,5 +1,5 @@
 -- What an opening looks for, what it finds, and what it leaves if it refuses.
-use Rattle.std.specs.Prelude.{◌≡◌, ◌≢◌, ◌⊎◌, ◌≤◌, ℕ, ◌<◌, ℤ, Bool, true, ◌||◌, List, [], ◌∷◌, None, IsTrue, length, map}
+use Rattle.std.specs.Prelude.{◌≡◌, ◌≢◌, ◌⊎◌, ◌≤◌, ℕ, ◌<◌, ℤ, pos, Bool, true, ◌||◌, List, [], ◌∷◌, None, IsTrue, length, map}
 use Rattle.std.specs.Prelude.{is_some}
 use Rattle.std.specs.FinMap.{empty}
 use Rattle.std.specs.List.{AllByRecursion, list_all}
@@ -16,15 +16,16 @@ use Rattle.sqlite_schema.specs.declared.schema.Table.{Table}
 use Rattle.sqlite_schema.specs.declared.schema.Schema.{Schema}
 use Rattle.sqlite.specs.State.{State}
 use Rattle.scim_key.specs.Revisions.{no_revision, same_revision}
+use Rattle.scim_key.specs.declared.records.Kind.{Kind}
 use Rattle.scim_key.specs.declared.records.Kind.TheVariants.{User, Group}
 use Rattle.source_csv.specs.Records.{row_name, members_of}
 use Rattle.journal_core.specs.Entries.{EntryMap, most_records}
 use Rattle.journal_core.specs.declared.entries.Entry.{Entry}
 use Rattle.journal_core.specs.declared.journals.JournalFault.{JournalFault}
 use Rattle.journal_core.specs.declared.journals.JournalFault.TheVariants as journal
-use Rattle.journal_store.specs.Format.{EntryTable, first_schema, format_number, index_of, journal_schema, key_places, marked_schema, second_schema, table_of}
+use Rattle.journal_store.specs.Format.{EntryTable, first_schema, format_number, index_of, journal_schema, key_places, marked_schema, second_schema, second_tree, table_of}
 use Rattle.journal_store.specs.Formats.{FormatData, current_format, first_format, second_format}
-use Rattle.sql_tables.specs.Layouts.{IsBlank, IsFormat, IsLaid as IsLaidBy, IsOne, IsPlainTable, no_schema}
+use Rattle.sql_tables.specs.Layouts.{IsBlank, IsFormat, format_tree, IsLaid as IsLaidBy, IsOne, IsPlainTable, no_schema}
 use Rattle.sql_tables.specs.Faults.{HasFailed}
 use Rattle.journal_store.specs.Rows.{entries_by, entries_in}
 use Rattle.journal_store.specs.Connections.{FailsToRise, HasNumbersBy, ListsAllBy, Shows}
@@ -188,6 +189,23 @@ IsOlderStore s entries = IsSecondStore s entries ⊎ IsFirstStore s entries
 abbrev pub Stands : State → EntryMap → Type 0
 Stands s entries = IsStore s entries ⊎ (IsOlderStore s entries ⊎ (IsBlank s × (entries ≡ empty)))
 
+-- ---- what is carried over
+
+-- the tables of this format have no rows, nor have those of the second one
+abbrev pub AreEmptied : FormatData → Trees → Type 0
+AreEmptied f db = (kind : Kind) → (db (f.tree kind) ≡ []) × (db (second_tree kind) ≡ [])
+
+-- the tables were of this format, with these entries, and are emptied
+abbrev pub IsCarriedBy : FormatData → (old new : State) → EntryMap → Type 0
+IsCarriedBy f old new entries = IsStoreBy f old entries × AreEmptied f new.now.trees
+
+-- what an opening makes of what is in a store: the tables are of the current format, with its number, and hold these
+-- entries. They did so before, or an older format was carried over and its tables are emptied, or there were no tables
+pub record Becomes (old new : State) (entries : EntryMap) : Type 0 where
+  pub stands : IsStore old entries
+      ⊎ ((IsCarriedBy second_format old new entries ⊎ IsCarriedBy first_format old new entries) ⊎ (IsBlank old × (entries ≡ empty)))
+  pub store : IsStore new entries
+
 -- ---- what is refused
 
 -- the table of the format has a number that is newer than the current format's
@@ -264,17 +282,27 @@ IsCause s = IsFor (IsNewer s) (IsDamaged s)
 abbrev pub OpeningFails : (old new : State) → Type 0
 OpeningFails old new = IsTrue old.in_transaction ⊎ ((old.now.schema ≡ no_schema) ⊎ ((IsSecond old.now.schema ⊎ IsFirst old.now.schema) ⊎ HasFailed old new))
 
+-- why a reopening refuses the tables: they have the number of a newer format, or they aren't those of the current one, or
+-- something in them is invalid
+abbrev pub IsUnfit : State → Type 0
+IsUnfit s = IsNewer s ⊎ (IsNotLaid s ⊎ IsSpoilt s)
+
 -- a stop leaves no entry
 abbrev pub LeavesNone : Trees → Type 0
 LeavesNone db = entries_in db ≡ empty
 
--- a stop leaves the entries of the tables of this format, carried over
-abbrev pub LeavesCarriedBy : FormatData → State → Trees → Type 0
-LeavesCarriedBy f s db = (entries : EntryMap) × IsStoreBy f s entries × (entries_in db ≡ entries)
+-- a stop leaves the entries of the tables of this format, carried over: they are in the tables of the current format, which
+-- have its number, and those of this format are emptied
+pub record LeavesCarriedBy (f : FormatData) (s : State) (db : Trees) : Type 0 where
+  pub entries : EntryMap
+  pub stood : IsStoreBy f s entries
+  pub are : entries_in db ≡ entries
+  pub format : map (λ (r : Row). column r 2) (db format_tree) ≡ Int (pos format_number) ∷ []
+  pub emptied : AreEmptied f db
 
 -- a stop leaves the entries of the tables of an older format, carried over
 abbrev pub LeavesCarried : State → Trees → Type 0
-LeavesCarried s db = (entries : EntryMap) × IsOlderStore s entries × (entries_in db ≡ entries)
+LeavesCarried s db = LeavesCarriedBy second_format s db ⊎ LeavesCarriedBy first_format s db
 
 -- a stop leaves what stood: no entry if there were no tables, or else the entries of the older format
 abbrev pub LeavesStanding : State → Trees → Type 0

@@ -12,7 +12,7 @@ ghost use Rattle.journal_store.specs.Connections.{ListsAll, ListsNone};
 ghost use Rattle.sql_tables.specs.Faults.{HasFailed};
 ghost use Rattle.sql_tables.specs.Statements.{LeavesStore};
 ghost use Rattle.journal_store.specs.Kept.{CallFailsFor, IsFaithful, IsHonest, IsRefused, MayHold, kept_entries};
-ghost use Rattle.journal_store.specs.Opening.{IsCause, LeavesStanding, OpenFailsFor, OpeningFails, Stands, journal_fault, table_fault};
+ghost use Rattle.journal_store.specs.Opening.{Becomes, IsCause, IsUnfit, LeavesStanding, OpenFailsFor, OpeningFails, Stands, journal_fault, table_fault};
 ghost use Rattle.journal_store.specs.Resets.{AreListed};
 
 use crate::batches::put_all;
@@ -295,7 +295,7 @@ fn journal_fault(fault: JournalOpenFault) -> JournalFault
 
 impl<S: Alter> SqlJournal<S> {
     /// Opens the journal of a connection. If there are no tables, it makes them; otherwise it checks them,
-    /// their format and each row. It carries a journal of the first format over to the current one, all of
+    /// their format and each row. It carries a journal of an older format over to the current one, all of
     /// it or none. If it refuses the tables, it hands the connection back.
     pub fn open(
         alloc: Global,
@@ -304,6 +304,8 @@ impl<S: Alter> SqlJournal<S> {
         ensures faithful { IfOk result (λ j. IsHonest S.Store j → IsFaithful S.Store j) }
         ensures entries { IfOk result (λ j. IsHonest S.Store j
             → Stands (state S.Store conn) (kept_entries S.Store j)) }
+        ensures becomes { IfOk result (λ j. IsHonest S.Store j
+            → Becomes (state S.Store conn) (state S.Store j.conn) (kept_entries S.Store j)) }
         ensures counts { IfOk result (λ j. (j.faults ≡ 0) × (j.writes ≡ 0)) }
         ensures stop { IfOk result
             (λ j. Survives (state S.Store conn) (state S.Store j.conn)
@@ -350,6 +352,10 @@ impl<S: Alter> ReopenJournal for SqlJournal<S> {
     /// call except this one and `close` returns a store fault.
     fn reopen(&mut self) -> Result<(), JournalFault>
         ensures reopens { OpensAgain S.Store self.old self.new result }
+        ensures failed { IsHonest S.Store self.new
+            → IfErr result
+            (CallFailsFor (HasFailed (state S.Store self.old.conn) (state S.Store self.new.conn)
+            ⊎ IsUnfit (state S.Store self.old.conn))) }
         ensures usable { self.new.is_usable ≡ is_ok result }
     {
         match check_tables::<S, Tables>(self.alloc, &mut self.conn) {

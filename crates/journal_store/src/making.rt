@@ -11,8 +11,7 @@ ghost use Rattle.sql_tables.specs.Statements.{LeavesStore};
 ghost use Rattle.journal_store.specs.Batches.{settled};
 ghost use Rattle.journal_store.specs.Carrying.{CanMove, MakesTables, Moves, MovesAll};
 ghost use Rattle.journal_store.specs.Format.{copy_part_text, copy_text, empty_part_text, empty_text, first_tree, second_tree};
-ghost use Rattle.journal_store.specs.Opening.{IsFirstStore, IsSecond, IsSecondStore, IsStore, IsStoreBy, LeavesNone};
-ghost use Rattle.journal_store.specs.Rows.{entries_in};
+ghost use Rattle.journal_store.specs.Opening.{AreEmptied, IsFirstStore, IsSecond, IsSecondStore, IsStore, IsStoreBy, LeavesCarriedBy, LeavesNone};
 
 use crate::format::{FIRST_FORMAT, FORMAT, First, SECOND_FORMAT, Second};
 use crate::formats::Format;
@@ -364,7 +363,7 @@ fn carry_second<S: Alter>(tables: &mut Transaction<'_, S>) -> Result<(), Error>
 
 /// A format from which a journal is carried over to the current one.
 pub(crate) trait Older: Format {
-    /// Carries the tables over, and leaves those of the format empty.
+    /// Carries the tables over, and leaves those of the format and of the second one empty.
     fn carry_over<S: Alter>(tables: &mut Transaction<'_, S>) -> Result<(), Error>
         requires inside { HasCleanDisk (state S.Store tables.old.conn.now)
             → IsTrue (state S.Store tables.old.conn.now).in_transaction }
@@ -377,8 +376,8 @@ pub(crate) trait Older: Format {
             → IsStoreBy Self.Format (settled (state S.Store tables.old.conn.now)) entries
             → IsStore (settled (state S.Store tables.new.conn.now)) entries) }
         ensures emptied { HasCleanDisk (state S.Store tables.new.conn.now)
-            → OnOk result ((kind : KindData)
-            → (state S.Store tables.new.conn.now).now.trees (Self.tree kind) ≡ []) }
+            → OnOk result
+            (AreEmptied Self.Format (state S.Store tables.new.conn.now).now.trees) }
         ensures open { HasCleanDisk (state S.Store tables.new.conn.now)
             → OnOk result (IsTrue (state S.Store tables.new.conn.now).is_open) }
         ensures inside { HasCleanDisk (state S.Store tables.new.conn.now)
@@ -430,12 +429,12 @@ pub(crate) fn carry<S: Alter, F: Older>(conn: &mut Connection<S>) -> Result<(), 
     ensures made { HasCleanDisk (state S.Store conn.new)
         → OnOk result (IsTrue (state S.Store conn.new).is_open
         × ((entries : EntryMap) → IsStoreBy F.Format (state S.Store conn.old) entries
-        → IsStore (state S.Store conn.new) entries)) }
+        → IsStore (state S.Store conn.new) entries)
+        × AreEmptied F.Format (state S.Store conn.new).now.trees) }
     ensures left { HasCleanDisk (state S.Store conn.new)
         → OnErr result (LeavesStore (state S.Store conn.old) (state S.Store conn.new)) }
     ensures stop { Survives (state S.Store conn.old) (state S.Store conn.new)
-        (λ db. (entries : EntryMap) × IsStoreBy F.Format (state S.Store conn.old) entries
-        × (entries_in db ≡ entries) × ((kind : KindData) → db (F.tree kind) ≡ [])) }
+        (LeavesCarriedBy F.Format (state S.Store conn.old)) }
 {
     let mut journal = conn.transaction();
     F::carry_over(&mut journal)?;

@@ -9,7 +9,7 @@ ghost use Rattle.journal_store.specs.Connections.{AreNumbered, HasNumbersBy};
 ghost use Rattle.sql_tables.specs.Faults.{HasFailed};
 ghost use Rattle.sql_tables.specs.Layouts.{IsFormat, IsLaid as IsLaidBy, IsMark, IsOne};
 ghost use Rattle.sql_tables.specs.Statements.{LeavesStore, Looks};
-ghost use Rattle.journal_store.specs.Opening.{AreRising, HasFormatTable, HoldsEntriesBy, IsCause, IsFor, IsNewer, IsNotLaidBy, IsOfRows, IsOlder, IsSpoiltBy, IsStore, IsStoreBy, IsUnmarkedBy, IsUnnumbered, LeavesCarriedBy, LeavesStanding, OpenFailsFor, OpeningFails, ShowsDamageBy, Stands};
+ghost use Rattle.journal_store.specs.Opening.{AreRising, Becomes, HasFormatTable, HoldsEntriesBy, IsCarriedBy, IsCause, IsFor, IsNewer, IsNotLaidBy, IsOfRows, IsOlder, IsSpoiltBy, IsStore, IsStoreBy, IsUnmarkedBy, IsUnnumbered, LeavesCarriedBy, LeavesStanding, OpenFailsFor, OpeningFails, ShowsDamageBy};
 
 use crate::format::{FORMAT, First, Journal, Second, Unknown, is_first, is_journal, is_second};
 use crate::formats::{Format, Marked};
@@ -321,7 +321,8 @@ fn open_older<S: Alter, F: Older>(
     requires outside { (state S.Store conn.old).in_transaction ≡ false }
     requires older { IsOne F.layout (state S.Store conn.old).now.schema }
     ensures stands { HasCleanDisk (state S.Store conn.new)
-        → OnOk result ((entries : EntryMap) × IsStoreBy F.Format (state S.Store conn.old) entries
+        → OnOk result ((entries : EntryMap)
+        × IsCarriedBy F.Format (state S.Store conn.old) (state S.Store conn.new) entries
         × IsStore (state S.Store conn.new) entries) }
     ensures cause { HasCleanDisk (state S.Store conn.new)
         → IfErr result
@@ -383,8 +384,8 @@ pub(crate) fn open_tables<S: Alter>(
     conn: &mut Connection<S>,
 ) -> Result<(), JournalOpenFault>
     ensures stands { HasCleanDisk (state S.Store conn.new)
-        → OnOk result ((entries : EntryMap) × Stands (state S.Store conn.old) entries
-        × IsStore (state S.Store conn.new) entries) }
+        → OnOk result ((entries : EntryMap)
+        × Becomes (state S.Store conn.old) (state S.Store conn.new) entries) }
     ensures cause { HasCleanDisk (state S.Store conn.new)
         → IfErr result (IsCause (state S.Store conn.old)) }
     ensures failed { HasCleanDisk (state S.Store conn.new)

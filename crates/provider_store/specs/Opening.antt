@@ -122,6 +122,10 @@ IsCause s = IsFor (IsNewer s) (IsDamaged s)
 abbrev pub OpeningFails : (old new : State) → Type 0
 OpeningFails old new = IsTrue old.in_transaction ⊎ ((old.now.schema ≡ no_schema) ⊎ HasFailed old new)
 
+-- why a reopening refuses the tables: they have the number of a newer format, or they aren't a valid store
+abbrev pub IsUnfit : State → Type 0
+IsUnfit s = IsNewer s ⊎ ((number : ℕ) × (((number ≡ 0) × IsNotLaid s) ⊎ IsSpoilt s number))
+
 -- a stop leaves no row
 abbrev pub LeavesNone : Trees → Type 0
 LeavesNone db = db resource_tree ≡ []

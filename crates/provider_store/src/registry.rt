@@ -11,7 +11,7 @@ ghost use Rattle.provider_store.specs.Connections.{FindsName, FindsNumber, resou
 ghost use Rattle.provider_store.specs.Faults.{FailsFor};
 ghost use Rattle.provider_store.specs.declared.tables.Found.TheVariants.{Damaged};
 ghost use Rattle.provider_store.specs.Lookups.{IsFaultOf, IsPageFault, found_of};
-ghost use Rattle.provider_store.specs.Opening.{IsCause, IsDamaged, LeavesNone, OpenFailsFor, OpeningFails, Stands, registry_fault};
+ghost use Rattle.provider_store.specs.Opening.{IsCause, IsDamaged, IsUnfit, LeavesNone, OpenFailsFor, OpeningFails, Stands, registry_fault};
 ghost use Rattle.sqlite.specs.Held.{state};
 ghost use Rattle.sqlite.specs.State.{HasCleanDisk, Survives};
 ghost use Rattle.sql_tables.specs.Faults.{HasFailed};
@@ -387,6 +387,10 @@ impl<S: Alter> Reopen for SqlRegistry<S> {
     /// call except this one and `close` returns a store fault.
     fn reopen(&mut self) -> Result<(), RegistryFault>
         ensures reopens { OpensAgain S.Store self.old self.new result }
+        ensures failed { IsHonest S.Store self.new
+            → IfErr result
+            (FailsFor (HasFailed (state S.Store self.old.conn) (state S.Store self.new.conn)
+            ⊎ IsUnfit (state S.Store self.old.conn))) }
         ensures usable { self.new.is_usable ≡ is_ok result }
     {
         match check_tables(self.alloc, &mut self.conn) {

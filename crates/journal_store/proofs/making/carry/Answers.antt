@@ -1,16 +1,13 @@
-use Rattle.std.proofs.Common.{◌≡◌, [], OnOk, IsTrue, subst, arith, rules}
-use Rattle.sqlite_trees.specs.Tree.{Trees}
+use Rattle.std.proofs.Common.{◌≡◌, OnOk, IsTrue, subst, arith, rules}
 use Rattle.sqlite.specs.Held.{state}
 use Rattle.sqlite.specs.State.{HasCleanDisk, Survives}
 use Rattle.sqlite.proofs.StateLemmas.{survives_then}
 use Rattle.sqlite.proofs.Callers.{survives_begin}
-use Rattle.scim_key.specs.declared.records.Kind.{Kind}
 use Rattle.journal_core.specs.Entries.{EntryMap}
 use Rattle.sql_tables.proofs.Results.{on_ok}
 use Rattle.journal_store.specs.Batches.{settled}
-use Rattle.journal_store.specs.Opening.{IsStore, IsStoreBy}
-use Rattle.journal_store.specs.Rows.{entries_in}
-use Rattle.journal_store.proofs.Ending.{begun_store, stop_leaves, store_kept}
+use Rattle.journal_store.specs.Opening.{AreEmptied, IsStore, IsStoreBy, LeavesCarriedBy}
+use Rattle.journal_store.proofs.Ending.{begun_store, emptied_kept, stop_leaves, store_kept}
 use Rattle.journal_store.proofs.Generic.{format_of}
 use Rattle.journal_store.proofs.making.carry.Goals as goal
 
@@ -37,8 +34,10 @@ returns-clause-made g c clean =
     let before : (held : EntryMap) → Before (state g.S.Store old) held → Before (settled (state g.S.Store c.transaction-journal.result.conn.now)) held =
     rw begun (λ held it. begun_store (state g.S.Store old) held it) in
     let carried = c.in_ok-carry_over.ensures.carried at_last in
-    subst (λ h. OnOk c.commit.result (IsTrue (state g.S.Store h).is_open × ((held : EntryMap) → Before (state g.S.Store old) held → IsStore (state g.S.Store h) held))) same
-    (on_ok c.commit.result (λ ok. (ok.1.is_open, λ held it. store_kept (state g.S.Store last) (state g.S.Store end) held (carried held (before held it)) ok.1)) (c.commit.ensures.ok late))
+    let f = format_of g.F.Layout g.F.Format in
+    let none = c.in_ok-carry_over.ensures.emptied at_last in
+    subst (λ h. OnOk c.commit.result (IsTrue (state g.S.Store h).is_open × ((held : EntryMap) → Before (state g.S.Store old) held → IsStore (state g.S.Store h) held) × AreEmptied f (state g.S.Store h).now.trees)) same
+    (on_ok c.commit.result (λ ok. (ok.1.is_open, λ held it. store_kept (state g.S.Store last) (state g.S.Store end) held (carried held (before held it)) ok.1, emptied_kept f (state g.S.Store last) (state g.S.Store end) none ok.1)) (c.commit.ensures.ok late))
 
 pub returns-clause-stop : goal.returns-clause-stop
 returns-clause-stop g c =
@@ -51,7 +50,7 @@ returns-clause-stop g c =
     let inside = c.in_ok-carry_over.ensures.quiet in
     let before : (held : EntryMap) → Before (state g.S.Store old) held → Before (settled (state g.S.Store c.transaction-journal.result.conn.now)) held =
     rw begun (λ held it. begun_store (state g.S.Store old) held it) in
-    let leaves = λ (db : Trees). (held : EntryMap) × Before (state g.S.Store old) held × (entries_in db ≡ held) × ((kind : Kind) → db (g.F.Format.tree kind) ≡ []) in
+    let leaves = LeavesCarriedBy (format_of g.F.Layout g.F.Format) (state g.S.Store old) in
     let whole = survives_then (state g.S.Store old) (state g.S.Store last) (state g.S.Store end) _ _ leaves (λ _ db it. absurd it)
     (λ late db is.
     let at_last : HasCleanDisk (state g.S.Store last) = omega (arith, late, c.commit.ensures.survives.clean) in
@@ -60,7 +59,6 @@ returns-clause-stop g c =
     let was_open : IsTrue (state g.S.Store old).is_open = rw begun at ((c.in_ok-carry_over.ensures.left at_last).was_open (c.in_ok-carry_over.ensures.open at_last)) in
     let held = c.requires.older first was_open in
     let kept = c.in_ok-carry_over.ensures.carried at_last held.0 (before held.0 held.1) in
-    let left = stop_leaves (state g.S.Store last) g.F.Format.tree held.0 db kept (c.in_ok-carry_over.ensures.emptied at_last) is in
-    (held.0, held.1, left.0, left.1))
+    stop_leaves (format_of g.F.Layout g.F.Format) (state g.S.Store old) (state g.S.Store last) held.0 db held.1 kept (c.in_ok-carry_over.ensures.emptied at_last) is)
     (survives_begin g.S.Store old (state g.S.Store last) _ (rw begun at inside)) c.commit.ensures.survives in
     subst (λ h. Survives (state g.S.Store old) (state g.S.Store h) leaves) same whole

@@ -24,7 +24,8 @@ returns-in-Ok-clause-stands g c clean =
     let mid = state g.S.Store c.check_tables.new.conn in
     let early : HasCleanDisk mid = omega (arith, clean, c.in-Ok.ensures.stop.clean) in
     let was = c.in_ok-check_tables.ensures.store early in
-    (was.0, was.1, (c.in-Ok.ensures.made clean).1 was.0 (store_on (state g.S.Store c.args.conn.now) mid was.0 c.in_ok-check_tables.ensures.looks was.1 early (c.in_ok-check_tables.ensures.open early)))
+    let made = c.in-Ok.ensures.made clean in
+    (was.0, (was.1, made.2), made.1 was.0 (store_on (state g.S.Store c.args.conn.now) mid was.0 c.in_ok-check_tables.ensures.looks was.1 early (c.in_ok-check_tables.ensures.open early)))
 
 pub returns-in-Ok-clause-stop : goal.returns-in-Ok-clause-stop
 returns-in-Ok-clause-stop g c =

@@ -2,7 +2,8 @@ use Rattle.std.proofs.Common.{◌≡◌, false, refl, subst, sym, ◌∙◌, inl
 use Rattle.std.specs.FinMap.{empty}
 use Rattle.sqlite.specs.Held.{state}
 use Rattle.journal_core.specs.Entries.{EntryMap}
-use Rattle.journal_store.specs.Opening.{IsDamaged, IsFirst, IsFirstSpoilt, IsFirstStore, IsJournal, IsNewer, IsSecond, IsSecondSpoilt, IsSecondStore, IsStore}
+use Rattle.journal_store.specs.Opening.{IsCarriedBy, IsDamaged, IsFirst, IsFirstSpoilt, IsJournal, IsNewer, IsSecond, IsSecondSpoilt, IsStore}
+use Rattle.journal_store.specs.Formats.{first_format, second_format}
 use Rattle.sql_tables.proofs.Results.{on_both, on_ok, if_err}
 use Rattle.sql_tables.specs.Faults.{HasFailed}
 use Rattle.journal_store.proofs.Checking.{foreign_cause, is_for, no_damage}
@@ -17,11 +18,11 @@ returns-then-is_journal-clause-stands g c clean =
     let old = state g.S.Store c.args.conn.now in
     let new = state g.S.Store c.check_tables.new.conn in
     on_both c.check_tables.result
-    (λ (found : (entries : EntryMap) × IsStore old entries) (still : IsTrue new.is_open). (found.0, inl found.1, store_on old new found.0 c.check_tables.ensures.looks found.1 clean still))
+    (λ (found : (entries : EntryMap) × IsStore old entries) (still : IsTrue new.is_open). (found.0, record { stands = inl found.1; store = store_on old new found.0 c.check_tables.ensures.looks found.1 clean still }))
     (c.check_tables.ensures.store clean) (c.check_tables.ensures.open clean)
 
 pub returns-in-Ok-clause-stands : goal.returns-in-Ok-clause-stands
-returns-in-Ok-clause-stands g c clean = let it = c.in-Ok.ensures.made clean in (empty, inr (inr (it.1, refl)), it.2)
+returns-in-Ok-clause-stands g c clean = let it = c.in-Ok.ensures.made clean in (empty, record { stands = inr (inr (it.1, refl)); store = it.2 })
 
 pub returns-then-is_journal-clause-cause : goal.returns-then-is_journal-clause-cause
 returns-then-is_journal-clause-cause g c clean =
@@ -74,7 +75,7 @@ pub returns-then-is_first-clause-stands : goal.returns-then-is_first-clause-stan
 returns-then-is_first-clause-stands g c clean =
     let old = state g.S.Store c.args.conn.now in
     let new = state g.S.Store c.open_older.new.conn in
-    on_ok c.open_older.result (λ (it : (entries : EntryMap) × IsFirstStore old entries × IsStore new entries). (it.0, inr (inl (inr it.1)), it.2)) (c.open_older.ensures.stands clean)
+    on_ok c.open_older.result (λ (it : (entries : EntryMap) × IsCarriedBy first_format old new entries × IsStore new entries). (it.0, record { stands = inr (inl (inr it.1)); store = it.2 })) (c.open_older.ensures.stands clean)
 
 pub returns-then-is_first-clause-cause : goal.returns-then-is_first-clause-cause
 returns-then-is_first-clause-cause g c clean =
@@ -82,13 +83,13 @@ returns-then-is_first-clause-cause g c clean =
     if_err c.open_older.result (λ fault it. is_for {P = IsNewer old} {Q = IsNewer old} {D = IsFirstSpoilt old} {E = IsDamaged old} (λ newer. newer) (λ spoilt. inr (inr (inr spoilt))) fault it) (c.open_older.ensures.cause clean)
 
 pub returns-then-is_first-clause-stop : goal.returns-then-is_first-clause-stop
-returns-then-is_first-clause-stop g c = stop_stands (state g.S.Store c.args.conn.now) (state g.S.Store c.open_older.new.conn) (λ db it. (it.0, inr it.1, it.2)) c.open_older.ensures.stop
+returns-then-is_first-clause-stop g c = stop_stands (state g.S.Store c.args.conn.now) (state g.S.Store c.open_older.new.conn) (λ db it. inr it) c.open_older.ensures.stop
 
 pub returns-then-is_second-clause-stands : goal.returns-then-is_second-clause-stands
 returns-then-is_second-clause-stands g c clean =
     let old = state g.S.Store c.args.conn.now in
     let new = state g.S.Store c.open_older-then-is_second.new.conn in
-    on_ok c.open_older-then-is_second.result (λ (it : (entries : EntryMap) × IsSecondStore old entries × IsStore new entries). (it.0, inr (inl (inl it.1)), it.2)) (c.open_older-then-is_second.ensures.stands clean)
+    on_ok c.open_older-then-is_second.result (λ (it : (entries : EntryMap) × IsCarriedBy second_format old new entries × IsStore new entries). (it.0, record { stands = inr (inl (inl it.1)); store = it.2 })) (c.open_older-then-is_second.ensures.stands clean)
 
 pub returns-then-is_second-clause-cause : goal.returns-then-is_second-clause-cause
 returns-then-is_second-clause-cause g c clean =
@@ -96,4 +97,4 @@ returns-then-is_second-clause-cause g c clean =
     if_err c.open_older-then-is_second.result (λ fault it. is_for {P = IsNewer old} {Q = IsNewer old} {D = IsSecondSpoilt old} {E = IsDamaged old} (λ newer. newer) (λ spoilt. inr (inr (inl spoilt))) fault it) (c.open_older-then-is_second.ensures.cause clean)
 
 pub returns-then-is_second-clause-stop : goal.returns-then-is_second-clause-stop
-returns-then-is_second-clause-stop g c = stop_stands (state g.S.Store c.args.conn.now) (state g.S.Store c.open_older-then-is_second.new.conn) (λ db it. (it.0, inl it.1, it.2)) c.open_older-then-is_second.ensures.stop
+returns-then-is_second-clause-stop g c = stop_stands (state g.S.Store c.args.conn.now) (state g.S.Store c.open_older-then-is_second.new.conn) (λ db it. inl it) c.open_older-then-is_second.ensures.stop

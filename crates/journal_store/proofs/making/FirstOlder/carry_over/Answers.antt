@@ -1,9 +1,10 @@
 use Rattle.std.proofs.Common.{◌≡◌, [], ◌∙◌, arith}
 use Rattle.sqlite.specs.Held.{state}
 use Rattle.sqlite.specs.State.{HasCleanDisk}
-use Rattle.scim_key.specs.declared.records.Kind.TheVariants.{Group}
+use Rattle.scim_key.specs.declared.records.Kind.{Kind}
+use Rattle.scim_key.specs.declared.records.Kind.TheVariants.{User, Group}
 use Rattle.sql_tables.proofs.Results.{on_both, on_ok}
-use Rattle.journal_store.specs.Format.{first_tree}
+use Rattle.journal_store.specs.Format.{first_tree, second_tree}
 use Rattle.journal_store.proofs.Carried.{by_kind}
 use Rattle.journal_store.proofs.making.FirstOlder.carry_over.Goals as goal
 
@@ -25,4 +26,4 @@ returns-clause-emptied g c clean =
     let mid = state g.S.Store c.carry_first.new.tables.conn.now in
     let new = state g.S.Store c.carry_second.new.tables.conn.now in
     let at_mid : HasCleanDisk mid = omega (arith, clean, c.carry_second.ensures.quiet.clean) in
-    on_both c.carry_second.result (λ none same. by_kind (λ kind. new.now.trees (first_tree kind) ≡ []) (same ∙ c.in_ok-carry_first.ensures.emptied at_mid) (none Group)) (c.carry_second.ensures.emptied clean) (c.carry_second.ensures.firsts clean)
+    on_both c.carry_second.result (λ none same. by_kind (λ (kind : Kind). (new.now.trees (first_tree kind) ≡ []) × (new.now.trees (second_tree kind) ≡ [])) (same ∙ c.in_ok-carry_first.ensures.emptied at_mid, none User) (none Group, none Group)) (c.carry_second.ensures.emptied clean) (c.carry_second.ensures.firsts clean)

@@ -1,7 +1,11 @@
-use Rattle.std.proofs.Common.{true, refl, subst}
+use Rattle.std.proofs.Common.{◌≡◌, ◌⊎◌, true, refl, subst, sym, ◌∙◌}
 use Rattle.sqlite.specs.Held.{state}
 use Rattle.provider_store.specs.Calls.{OpensAgain}
+use Rattle.provider_store.specs.Faults.{FailsFor}
 use Rattle.provider_store.specs.Kept.{Kept}
+use Rattle.provider_store.specs.Opening.{IsNewer, IsNotLaid, IsSpoilt, IsUnfit}
+use Rattle.provider_store.proofs.Failing.{reopening_fails}
+use Rattle.sql_tables.specs.Faults.{HasFailed}
 use Rattle.provider_store.specs.Lookups.{answered}
 use Rattle.provider_store.proofs.Reopening.{reopened, store_on, whole_of}
 use Rattle.provider_store.proofs.registry.SqlRegistryReopen.reopen.Goals as goal
@@ -18,3 +22,11 @@ returns-in-Ok-clause-reopens g c =
     let new : Kept g.row.S.Denot = record { conn = c.check_tables.new.conn; is_usable = true; count = c.in-Ok.count; faults = c.self.inside.faults; writes = c.self.inside.writes } in
     subst (λ (k : Kept g.row.S.Denot). OpensAgain g.S.Store k new answered) c.self.view_is
     (reopened g.S.Store old new c.in-Ok.ensures.looks g.met.S.Store.stays refl c.in-Ok.ensures.store c.in-Ok.ensures.open refl refl)
+
+pub returns-in-Err-clause-failed : goal.returns-in-Err-clause-failed
+returns-in-Err-clause-failed g c clean =
+    let old = state g.S.Store c.self.inside.conn in
+    let new = state g.S.Store c.check_tables.new.conn in
+    subst (λ (k : Kept g.row.S.Denot). FailsFor (HasFailed (state g.S.Store k.conn) new ⊎ IsUnfit (state g.S.Store k.conn)) c.counted.result) c.self.view_is
+    (subst (FailsFor (HasFailed old new ⊎ IsUnfit old)) (sym (c.counted.ensures.same ∙ c.registry_fault.ensures))
+    (reopening_fails (HasFailed old new) (IsNewer old) (λ number. ((number ≡ 0) × IsNotLaid old) ⊎ IsSpoilt old number) c.in-Err.fault (c.in-Err.ensures.failed clean) (c.in-Err.ensures.cause clean)))
