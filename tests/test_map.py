@@ -44,7 +44,7 @@ class MapTest(ProgramTest):
                 self.assert_reports(run, 3, "users record 3: S5", "file fault")
 
     def test_each_row_of_a_large_file_has_its_line(self):
-        numbers = range(1, 100_001)
+        numbers = range(1, 150_002)
         path = self.write(text(USERS_HEADER, *(f"user{number},{number},,,,,active" for number in numbers)))
         images = text(*(user_text(f"user{number}", number) for number in numbers))
         run = scimlink("map", path)

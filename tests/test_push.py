@@ -130,6 +130,10 @@ class RejectedTest(PushTest):
         self.site.groups.write_text(text(USERS_HEADER))
         self.pushes(0, status=1, errors=["users: S1", "groups: S1"])
 
+    def test_a_file_of_many_records(self):
+        self.site.write_users(*["bob,1,,,,,active"] * 150_001, "ann,1,,,,,gone")
+        self.pushes(2, BOB_CONFIRMED, status=1, errors=["users record 150002: S6"])
+
     def test_records_beyond_a_full_journal(self):
         names, group_names = [f"u{n:06}" for n in range(100_000)], [f"g{n:05}" for n in range(10_000)]
         users = (user_entry(name, login=name.upper(), confirmed=1, id=name[1:]) for name in names)

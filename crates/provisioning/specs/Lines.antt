@@ -2,9 +2,13 @@
 use Rattle.std.specs.Prelude.{ℕ, List, ◌++◌, Some, None, codes}
 use Rattle.std.specs.Fmt.{decimal}
 use Rattle.scim_key.specs.Revisions.{revision_text}
+use Rattle.scim_key.specs.declared.records.Kind.{Kind}
 use Rattle.scim_key.specs.declared.records.RecordName.{RecordName}
 use Rattle.journal_core.specs.Words.{kind_word}
 use Rattle.scim_client.specs.Codes.{exchange_fault_text}
+use Rattle.connector_core.specs.Codes.{change_fault_text}
+use Rattle.connector_core.specs.declared.changing.ChangeFault.{ChangeFault}
+use Rattle.provisioning.specs.Sources.{label}
 use Rattle.provisioning.specs.declared.faults.RecordFault.{RecordFault}
 use Rattle.provisioning.specs.declared.faults.RecordFault.TheVariants as faults
 use Rattle.provisioning.specs.declared.records.Standing.{Standing}
@@ -32,3 +36,7 @@ record_line name standing = kind_word name.kind ++ (codes " " ++ (name.key ++ (c
 -- the line of the row with this number: what is said about it
 abbrev pub row_line : (number : ℕ) → (said : List ℕ) → List ℕ
 row_line number said = decimal number ++ (codes " " ++ (said ++ codes "\n"))
+
+-- what is said of a row that the connector refuses: its file, the place of its record, and the code
+abbrev pub refused_text : Kind → (place : ℕ) → ChangeFault → List ℕ
+refused_text kind place fault = label kind ++ (codes " record " ++ (decimal place ++ (codes ": " ++ change_fault_text fault)))

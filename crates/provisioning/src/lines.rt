@@ -11,11 +11,37 @@ use crate::offering::{Hear, Judged};
 use crate::records::Pushed;
 use crate::sources::label;
 use crate::telling::Tell;
+use connector_core::ChangeFault;
 use journal_core::kind_word;
-use scim_key::RecordName;
-use std::io;
+use scim_key::{Kind, RecordName};
 use std::io::{Eprint, Write};
+use std::{fmt, io};
 use world_sim::Report;
+
+/// A row that the connector refuses. Its text is the line on standard error: `users record 2: S7`.
+#[derive(Clone, Copy)]
+struct RefusedRow<'a> {
+    kind: Kind,
+    place: usize,
+    fault: &'a ChangeFault,
+}
+
+impl<'a> fmt::Display for RefusedRow<'a> {
+    ghost use Rattle.std.specs.Prelude.{Some};
+    ghost use Rattle.provisioning.specs.Lines.{refused_text};
+
+    ghost output = { λ row. Some (refused_text row.kind row.place row.fault.now) };
+
+    fn fmt<W: fmt::Write>(&self, f: &mut fmt::Formatter<W>) -> fmt::Result {
+        write!(
+            f,
+            "{} record {}: {}",
+            label(self.kind),
+            self.place,
+            self.fault
+        )
+    }
+}
 
 /// Prints a line for each record as soon as the record is done: `user bob confirmed 1`. It reports rows
 /// that the connector refuses on standard error.
@@ -26,16 +52,31 @@ pub struct Lines<'a, W: Drop, E> {
 }
 
 impl<'a, W: Write + Drop, E: Eprint> Hear for Lines<'a, W, E> {
+    /// No contract says what standard error took.
+    ghost heard = { λ _. None };
+
     fn hear(&mut self, judged: Judged) -> io::Result<()> {
-        if let Err(fault) = &judged.verdict {
-            let (label, place) = (label(judged.kind), judged.place);
-            let _ = eprintln!(self.stderr; "{label} record {place}: {fault}");
+        let Judged {
+            kind,
+            place,
+            verdict,
+        } = &judged;
+        if let Err(fault) = verdict {
+            let row = RefusedRow {
+                kind: *kind,
+                place: *place,
+                fault,
+            };
+            let _ = eprintln!(self.stderr; "{row}");
         }
         Ok(())
     }
 }
 
 impl<'a, W: Write + Drop, E: Eprint> Tell for Lines<'a, W, E> {
+    /// Which records the bytes of `out` are of isn't said; each line that is added is, below.
+    ghost told = { λ _. None };
+
     fn tell(&mut self, name: &RecordName, pushed: &Pushed) -> io::Result<()>
         ensures tells { OnOk result (Tells None None ((name.now, pushed.now) ∷ [])) }
         ensures line { OnOk result (Appends (W.contents self.old.out) (W.contents self.new.out)
@@ -56,6 +97,9 @@ pub(crate) struct Reports<W: Drop> {
 }
 
 impl<W: Write + Drop> Hear for Reports<W> {
+    /// Which rows the bytes of `out` are of isn't said; each line that is added is, below.
+    ghost heard = { λ _. None };
+
     fn hear(&mut self, judged: Judged) -> io::Result<()>
         ensures hears { OnOk result (Hears None None (judged ∷ [])) }
         ensures line { OnOk result (Appends (W.contents self.old.out) (W.contents self.new.out)
@@ -78,6 +122,9 @@ fn print_row<W: Write>(out: &mut W, number: usize, report: &Report) -> io::Resul
 }
 
 impl<W: Write + Drop> Tell for Reports<W> {
+    /// Nothing is printed.
+    ghost told = { λ _. None };
+
     fn tell(&mut self, _: &RecordName, _: &Pushed) -> io::Result<()> {
         Ok(())
     }

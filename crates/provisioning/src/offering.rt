@@ -1,5 +1,5 @@
 //! Offers the rows of files to the connector.
-ghost use Rattle.std.specs.Prelude.{◌≡◌, ◌∷◌, [], List, Option, None, IfOk, OnOk};
+ghost use Rattle.std.specs.Prelude.{◌≡◌, ◌∷◌, [], List, Option, IfOk, OnOk};
 ghost use Rattle.provisioning.specs.Offering.{Hears, Tells, OffersFile, OffersGroups, OffersAll, judged_of, rows_in, stop_of};
 ghost use Rattle.provisioning.specs.declared.offering.Judged.{Judged as JudgedRow};
 
@@ -24,8 +24,8 @@ pub struct Judged {
 
 /// What reports each row of a file, as soon as the connector has taken the file.
 pub trait Hear {
-    /// What was reported so far, if it is known.
-    ghost heard: { Self → Option (List JudgedRow) } = { λ _. None };
+    /// What was reported so far, if it is known. There is no default, so that each teller says it.
+    ghost heard: { Self → Option (List JudgedRow) };
 
     fn hear(&mut self, judged: Judged) -> io::Result<()>
         ensures { OnOk result (Hears (heard self.old) (heard self.new) (judged ∷ [])) };

@@ -1,16 +1,15 @@
 //! The files of a run.
-ghost use Rattle.std.specs.Prelude.{◌≡◌, IfOk, List, is_ok};
+ghost use Rattle.std.specs.Prelude.{◌≡◌, IfOk, MatchResult, is_ok};
 ghost use Rattle.std.specs.List.{list_all};
-ghost use Rattle.source_csv.specs.Fields.{Record};
-ghost use Rattle.source_csv.specs.Files.{AreRecordsOf, rows_of};
-ghost use Rattle.provisioning.specs.Sources.{are_whole, is_whole, label, read_as, records_of};
+ghost use Rattle.scim_key.specs.declared.records.Kind.TheVariants.{Group};
+ghost use Rattle.provisioning.specs.Sources.{FailsAt, FailsBy, FailsIfNamed, IsReadFrom, IsReadIfNamed, ReadsSources, Says, are_whole, is_whole, label, path_in, records_of};
 
+use crate::files::ReadFiles;
 use scim_key::Kind;
 use source_csv::{Row, RowFault, SourceFault, SourceRows, multiline_records, read_rows};
 use std::alloc::{AllocError, Global};
-use std::fs::Files;
+use std::io;
 use std::io::Eprint;
-use std::{fs, io};
 
 /// What a file says about the records of a type.
 #[derive(Drop)]
@@ -77,8 +76,7 @@ impl Sources {
 
 /// Reads a file of this type from these bytes.
 pub fn read_source(alloc: Global, kind: Kind, bytes: &[u8]) -> Result<Source, AllocError>
-    ensures { (records : List Record) → AreRecordsOf bytes.now records →
-        IfOk result (λ source. read_as source ≡ rows_of kind records) }
+    ensures { IfOk result (Says kind bytes.now) }
 {
     match read_rows(alloc, kind, bytes) {
         Ok(rows) => Ok(Source {
@@ -92,37 +90,60 @@ pub fn read_source(alloc: Global, kind: Kind, bytes: &[u8]) -> Result<Source, Al
 
 /// Reads the files, the one of users first. It reports on standard error which records are rejected,
 /// and which have a field over several lines.
-pub fn read_sources<R: Files + Eprint + AllocGlobal>(
+pub fn read_sources<R: ReadFiles + Eprint + AllocGlobal>(
     rt: &R,
     users: &str,
     groups: Option<&str>,
-) -> Result<Sources, UnreadFile> {
+) -> Result<Sources, UnreadFile>
+    ensures { ReadsSources R.gives rt.now users.now (path_in groups.entry) result }
+{
     let users = source_in(rt, Kind::User, users)?;
-    let groups = match groups {
-        Some(file) => Some(source_in(rt, Kind::Group, file)?),
-        None => None,
-    };
+    let groups = groups_in(rt, groups)?;
     Ok(Sources { users, groups })
 }
 
+/// Reads the file of groups, if there is one.
+fn groups_in<R: ReadFiles + Eprint + AllocGlobal>(
+    rt: &R,
+    groups: Option<&str>,
+) -> Result<Option<Source>, UnreadFile>
+    ensures { MatchResult result (IsReadIfNamed R.gives rt.now Group (path_in groups.entry))
+        (FailsIfNamed R.gives rt.now Group (path_in groups.entry)) }
+{
+    let Some(path) = groups else {
+        return Ok(None);
+    };
+    match source_in(rt, Kind::Group, path) {
+        Ok(source) => Ok(Some(source)),
+        Err(unread) => Err(unread),
+    }
+}
+
 /// Reads a file.
-fn source_in<R: Files + Eprint + AllocGlobal>(
+fn source_in<R: ReadFiles + Eprint + AllocGlobal>(
     rt: &R,
     kind: Kind,
-    file: &str,
-) -> Result<Source, UnreadFile> {
-    match told_source(rt, kind, file) {
+    path: &str,
+) -> Result<Source, UnreadFile>
+    ensures { MatchResult result (IsReadFrom R.gives rt.now kind path.now)
+        (FailsAt R.gives rt.now kind path.now) }
+{
+    match told_source(rt, kind, path) {
         Ok(source) => Ok(source),
         Err(error) => Err(UnreadFile { kind, error }),
     }
 }
 
-fn told_source<R: Files + Eprint + AllocGlobal>(
+/// Reads a file, and reports what it rejects.
+fn told_source<R: ReadFiles + Eprint + AllocGlobal>(
     rt: &R,
     kind: Kind,
-    file: &str,
-) -> io::Result<Source> {
-    let bytes = fs::read(rt, file)?;
+    path: &str,
+) -> io::Result<Source>
+    ensures { MatchResult result (IsReadFrom R.gives rt.now kind path.now)
+        (FailsBy R.gives rt.now path.now) }
+{
+    let bytes = rt.bytes_at(path)?;
     let source = read_source(rt.alloc(), kind, bytes.as_slice())?;
     tell_refused(rt, &source);
     if source.rows.is_some() {

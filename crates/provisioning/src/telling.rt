@@ -1,5 +1,5 @@
 //! What reports each record.
-ghost use Rattle.std.specs.Prelude.{◌∷◌, [], List, Option, None, OnOk};
+ghost use Rattle.std.specs.Prelude.{◌∷◌, [], List, Option, OnOk};
 ghost use Rattle.provisioning.specs.Runs.{Done, Tells};
 
 use crate::records::Pushed;
@@ -8,8 +8,8 @@ use std::io;
 
 /// What reports each record as soon as its exchanges are done.
 pub trait Tell {
-    /// What was reported so far, if it is known.
-    ghost told: { Self → Option (List Done) } = { λ _. None };
+    /// What was reported so far, if it is known. There is no default, so that each teller says it.
+    ghost told: { Self → Option (List Done) };
 
     fn tell(&mut self, name: &RecordName, pushed: &Pushed) -> io::Result<()>
         ensures { OnOk result
