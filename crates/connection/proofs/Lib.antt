@@ -1,4 +1,5 @@
 pub mod ServedLemmas
+pub mod ReplyLemmas
 mod RequestLemmas
 mod StreamLemmas
 mod TurnLemmas

@@ -12,6 +12,7 @@ use Rattle.http_text.specs.Judging.{is_head}
 use Rattle.scim_http.specs.Replies.{ReplyRecord}
 use Rattle.connection.specs.declared.answering.Served.{Served}
 use Rattle.connection.specs.Serving.{AnswersMeaning, AnswersMessage, GivesUp, Serves}
+use Rattle.connection.proofs.ReplyLemmas.{sent_so}
 use Rattle.connection.specs.Turns.{Turn, taken, unopened, fresh_writing, IsTurn, AreTurns}
 use Rattle.connection.specs.Requests.{rows_after, FollowRequests}
 
@@ -36,7 +37,9 @@ module _ (faithful : Type 0) (base : List ℕ) (old new : List StoredRecord) whe
 
 module _ {I O R : Type 0} (remaining : I → Option (List ℕ)) (contents : O → Option (List ℕ)) (g : Ghosts R) (base : List ℕ) where
   turn_changes : (turn : Turn I O) (old new : R) → IsTurn remaining contents g base turn old new → g.is_faithful new → Changes (g.rows old) (g.rows new)
-  turn_changes (taken reader writer served) old new is f = serves_changes (g.is_faithful new) base (g.rows old) (g.rows new) (fresh_writing (contents writer)) is.written is.read served is.serves f
+  turn_changes (taken reader writer served) old new is f =
+      serves_changes (g.is_faithful new) base (g.rows old) (g.rows new) (fresh_writing (contents writer)) is.written is.replied.read served
+      (sent_so g base old new (fresh_writing (contents writer)) is.written served is.replied.read is.replied.reply is.replied.replies is.replied.sends) f
   turn_changes unopened old new is f = inl (ap g.rows is)
 
   turn_was : (turn : Turn I O) (old new : R) → IsTurn remaining contents g base turn old new → g.is_faithful new → g.is_faithful old

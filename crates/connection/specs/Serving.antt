@@ -1,5 +1,5 @@
 -- What one connection does: what it writes, and how the rows change.
-use Rattle.std.specs.Prelude.{◌≡◌, ℕ, ◌⊎◌, Bool, List, Result, Ok, Err, IfOk, IfErr, OnOk}
+use Rattle.std.specs.Prelude.{◌≡◌, ℕ, ◌⊎◌, Bool, List, [], Option, Some, None, Result, Ok, Err, IfOk, IfErr, OnOk}
 use Rattle.std.specs.Io.KnownBytes.{Appends}
 use Rattle.std.specs.Str.{IsUtf8}
 use Rattle.scim_resource.specs.Rows.{StoredRecord}
@@ -132,3 +132,45 @@ pub record HasRead (old new : Reading) (r : Result Message ReadFault) : Type 0 w
   pub counts : CountsTurns old.calls new.calls
   pub clean : OnOk r (new.failures ≡ old.failures)
   pub fault : IfErr r (EndsReading old new)
+
+-- ---- the reply of a connection
+
+-- there is a reply, of this kind
+abbrev pub HasReply : Option ReplyRecord → (ReplyRecord → Type 0) → Type 0
+HasReply reply IsReply = (sent : ReplyRecord) × (reply ≡ Some sent) × IsReply sent
+
+-- the reply to a fault of reading, or none
+abbrev pub RepliesTo : List ℕ → Reaction → Option ReplyRecord → Type 0
+RepliesTo base (Refuse refusal leaves_body_out) reply = HasReply reply (AnswersFault base leaves_body_out refusal)
+RepliesTo base GiveUp reply = HasReply reply (λ sent. sent ≡ fixed_reply)
+RepliesTo base StaySilent reply = reply ≡ None
+
+-- The reply to what was read, and what the store did. A message gets its answer, and the store had no fault; or the
+-- message gets the fixed text. A fault of reading leaves the store as it is
+abbrev pub Replies : {R : Type 0} → Ghosts R → List ℕ → (old new : R) → Result Message ReadFault
+    → Option ReplyRecord → Type 0
+Replies g base old new (Ok m) reply =
+    HasReply reply (λ sent. (AnswersMessage (g.is_faithful new) base (g.rows old) (g.rows new) m sent × IsUnharmed g old new)
+    ⊎ GivesUp (g.is_faithful new) (g.rows old) (g.rows new) sent)
+Replies g base old new (Err fault) reply = RepliesTo base (reaction_to fault) reply × (new ≡ old)
+
+-- the reply was sent, or lost in agreement with the writer's counts; without a reply nothing was written
+abbrev pub SendsReply : (before after : Writing) → Option ReplyRecord → Result Message ReadFault → Served → Type 0
+SendsReply before after (Some reply) read served = IsSent before after reply served
+SendsReply before after None (Ok m) served = ⊥
+SendsReply before after None (Err fault) served = IsSilent before after fault served
+
+-- the text of the reply
+abbrev pub reply_text : Option ReplyRecord → List ℕ
+reply_text (Some reply) = reply.text
+reply_text None = []
+
+-- One connection: what was read, the one reply to it, and what of the reply was written
+pub record IsReplied {R : Type 0} (g : Ghosts R) (base : List ℕ) (old new : R) (first left : Reading)
+    (before after : Writing) (served : Served) : Type 0 where
+  pub read : Result Message ReadFault
+  pub reply : Option ReplyRecord
+  pub has_read : HasRead first left read
+  pub replies : Replies g base old new read reply
+  pub sends : SendsReply before after reply read served
+  pub leaves : LeavesRows g old new read

@@ -3,12 +3,10 @@ use Rattle.std.specs.Prelude.{◌≡◌, ◌≤◌, ◌+◌, ℕ, List, [], ◌�
 use Rattle.std.specs.Result.{result_and}
 use Rattle.provider_core.specs.declared.registry.Registry.{Ghosts}
 use Rattle.provider_core.specs.Stores.{IsQuiet}
-use Rattle.http_text.specs.declared.fault.ReadFault.{ReadFault}
 use Rattle.http_text.specs.Counts.{Reading, Writing}
-use Rattle.http_text.specs.Message.{Message}
 use Rattle.connection.specs.declared.answering.Served.{Served}
 use Rattle.connection.specs.declared.answering.Served.TheVariants.{Answered, NoRequest, Lost}
-use Rattle.connection.specs.Serving.{AnswersFaults, HasRead, LeavesRows, Serves}
+use Rattle.connection.specs.Serving.{IsReplied}
 use Rattle.connection.specs.declared.serving.ConnectionFault.{ConnectionFault}
 use Rattle.connection.specs.Listening.{Takes}
 
@@ -53,15 +51,14 @@ fresh_reading remaining = record { remaining = remaining; ahead = []; calls = 0;
 abbrev pub fresh_writing : Option (List ℕ) → Writing
 fresh_writing contents = record { contents = contents; calls = 0; failures = 0; flushes = 0 }
 
--- What a peer sent was read from the connection's start, and led to this; the provider went from one state to the other
-pub record IsServed {I O R : Type 0} (remaining : I → Option (List ℕ)) (contents : O → Option (List ℕ)) (g : Ghosts R) (base : List ℕ) (old new : R) (reader : I) (writer : O) (served : Served) : Type 0 where
+-- What a peer sent was read from the connection's start, and got this reply; the provider went from one state to the
+-- other
+pub record IsServed {I O R : Type 0} (remaining : I → Option (List ℕ)) (contents : O → Option (List ℕ)) (g : Ghosts R)
+    (base : List ℕ) (old new : R) (reader : I) (writer : O) (served : Served) : Type 0 where
   pub left : Reading
   pub written : Writing
-  pub read : Result Message ReadFault
-  pub has_read : HasRead (fresh_reading (remaining reader)) left read
-  pub serves : Serves (g.is_faithful new) base (g.rows old) (g.rows new) (fresh_writing (contents writer)) written read served
-  pub leaves : LeavesRows g old new read
-  pub faults : AnswersFaults g old new (fresh_writing (contents writer)) written served
+  pub replied : IsReplied g base old new (fresh_reading (remaining reader)) left
+      (fresh_writing (contents writer)) written served
   pub quiet : IsQuiet g.is_faithful g.faults old new
   pub writes : g.writes new ≤ g.writes old + 1
 

@@ -1,5 +1,5 @@
 //! One connection.
-ghost use Rattle.std.specs.Prelude.{◌≡◌, ◌≤◌, ◌+◌, Result, IfOk, OnErr, OnOk};
+ghost use Rattle.std.specs.Prelude.{◌≡◌, ◌≤◌, ◌+◌, Result, IfOk, OnErr, OnOk, Some};
 ghost use Rattle.provider_core.specs.Stores.{IsQuiet, CountsFaults, CountsProviderFault};
 ghost use Rattle.provider_core.specs.Outcomes.{outcome, changed_rows};
 ghost use Rattle.provider_core.specs.Calls.{Writes};
@@ -7,7 +7,7 @@ ghost use Rattle.http_text.specs.Counts.{CountsTurns};
 ghost use Rattle.http_text.specs.Judging as judging;
 ghost use Rattle.http_text.specs.Message.{Message};
 ghost use Rattle.http_text.specs.declared.fault.ReadFault.{ReadFault};
-ghost use Rattle.scim_http.specs.Replies.{fixed_reply};
+ghost use Rattle.scim_http.specs.Replies.{ReplyRecord, fixed_reply};
 ghost use Rattle.connection.specs.Reactions.{reaction_to};
 ghost use Rattle.connection.specs.Serving as spec;
 ghost use Rattle.connection.specs.Known.{ServesKnown};
@@ -48,6 +48,10 @@ pub fn serve<R: Registry, I: Read, O: Write>(
         (R.rows provider.new) writer.old writer.new r result
         × spec.LeavesRows R.Registry provider.old provider.new r }
 
+    // The same of one reply, which says what the store did.
+    ensures replied { spec.IsReplied R.Registry base.now provider.old provider.new
+        reader.old reader.new writer.old writer.new result }
+
     // The same, if the bytes at the reader's front are known.
     ensures known { ServesKnown (R.is_faithful provider.new) base.now (R.rows provider.old)
         (R.rows provider.new) writer.old writer.new result
@@ -76,6 +80,9 @@ fn serve_message<R: Registry, O: Write>(
 ) -> Served
     ensures served { spec.Serves (R.is_faithful provider.new) base.now (R.rows provider.old)
         (R.rows provider.new) writer.old writer.new (Ok incoming.now) result }
+    ensures replied { (reply : ReplyRecord) × spec.Replies R.Registry base.now provider.old
+        provider.new (Ok incoming.now) (Some reply)
+        × spec.IsSent writer.old writer.new reply result }
     ensures leaves { spec.LeavesRows R.Registry provider.old provider.new (Ok incoming.now) }
     ensures faults { spec.AnswersFaults R.Registry provider.old provider.new writer.old writer.new
         result }

@@ -46,7 +46,8 @@ Sends text old new (Err (NoAnswer answers.OutOfMemory)) = IsSent old new text �
 
 -- nothing was written, or the request's text spells it, if it is within the limits
 abbrev pub SpellsSent : (base : List ℕ) → Request → (old new : Writing) → Type 0
-SpellsSent base request old new = (new ≡ old) ⊎ (IsWritable request → KeepsLimits base request → SpellsRequest (text_of base request) request)
+SpellsSent base request old new =
+    (new ≡ old) ⊎ (IsWritable request → KeepsLimits base request → SpellsRequest (text_of base request) request)
 
 -- ---- what is read
 

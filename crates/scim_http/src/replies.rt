@@ -43,7 +43,8 @@ impl Reply {
         base: &Base,
         leaves_body_out: bool,
     ) -> Result<Reply, AllocError>
-        ensures reply { IfOk result (λ reply. reply ≡ spec.reply_of base.now leaves_body_out answer.now) }
+        ensures reply { IfOk result
+            (λ reply. reply ≡ spec.reply_of base.now leaves_body_out answer.now) }
         // What the types of the answer's parts guarantee.
         ensures lawful { OnOk result (ShowsLawfully answer.now) }
         ensures utf8 { OnOk result (IsUtf8 (body_text base.now answer.now)) }

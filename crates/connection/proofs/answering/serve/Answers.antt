@@ -1,4 +1,5 @@
-use Rattle.std.proofs.Common.{Ok, Err, refl, inl}
+use Rattle.std.proofs.Common.{Ok, Err, Some, refl, inl}
+use Rattle.connection.proofs.ReplyLemmas.{named_reply}
 use Rattle.connection.proofs.ServedLemmas.{leaves_all, serves_known}
 use Rattle.connection.proofs.answering.serve.Goals as goal
 
@@ -27,3 +28,29 @@ returns-in-Err-clause-served g c =
 
 pub returns-in-Err-clause-faults : goal.returns-in-Err-clause-faults
 returns-in-Err-clause-faults g c = inl (record { counts = refl; stays_open = λ honest faithful. faithful })
+
+pub returns-in-Ok-clause-replied : goal.returns-in-Ok-clause-replied
+returns-in-Ok-clause-replied g c =
+    let read = c.in-Ok.ensures in
+    let replied = c.serve_message.ensures.replied in
+    record {
+      read = Ok c.in-Ok.incoming;
+      reply = Some replied.0;
+      has_read = record { message = read.message; refused = tt; found = read.found; refused_head = read.refused_head; ended = read.ended; long = read.long; malformed = read.malformed; counts = read.counts; clean = read.clean; fault = tt };
+      replies = replied.1;
+      sends = replied.2;
+      leaves = c.serve_message.ensures.leaves;
+    }
+
+pub returns-in-Err-clause-replied : goal.returns-in-Err-clause-replied
+returns-in-Err-clause-replied g c =
+    let read = c.in-Err.ensures in
+    let named = named_reply c.args.base.now c.args.writer.now c.serve_fault.new.writer c.in-Err.fault c.serve_fault.result c.serve_fault.ensures.served in
+    record {
+      read = Err c.in-Err.fault;
+      reply = named.0;
+      has_read = record { message = tt; refused = read.refused; found = read.found; refused_head = read.refused_head; ended = read.ended; long = read.long; malformed = read.malformed; counts = read.counts; clean = tt; fault = read.fault };
+      replies = (named.1, refl);
+      sends = named.2;
+      leaves = leaves_all g.R.Registry _ _;
+    }
