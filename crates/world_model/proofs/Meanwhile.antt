@@ -1,4 +1,4 @@
--- What others do before an exchange: the entries of our records stay as they are.
+-- What others do before an exchange, and after all: the entries of our records stay as they are.
 use Rattle.std.proofs.Common.{◌≡◌, ℕ, true, false, List, [], ◌∷◌, ◌++◌, map, Some, inl, inr, refl, ap, sym, ◌∙◌, subst}
 use Rattle.std.specs.List.{AllByRecursion, slice_get}
 use Rattle.scim_key.specs.declared.records.RecordName.{RecordName}
@@ -9,13 +9,24 @@ use Rattle.provider_core.specs.Stories.{Entry, first_entry, renew_at, step, AllG
 use Rattle.provider_core.specs.Tables.{Writes, Writes.nothing, Writes.created, Writes.replaced}
 use Rattle.provider_core.proofs.StoryLaws.{stories_only_grow}
 use Rattle.provider_core.proofs.TableLaws.{at_push, at_more, at_renew, go_on_at, steps_write}
+use Rattle.mapping.specs.Readiness.{GoesOn}
+use Rattle.connector_core.specs.Book.{Book}
+use Rattle.connector_core.specs.Changing.{names_of}
+use Rattle.connector_core.specs.History.{History, rows_of, last_row}
 use Rattle.connector_core.specs.declared.knowledge.Known.{Known}
-use Rattle.world_model.specs.World.{World}
-use Rattle.world_model.specs.Safe.{IsAt}
-use Rattle.world_model.specs.Invariant.{Names}
-use Rattle.world_model.specs.Others.{Theirs, acts, LeavesAlone, KeepsApart}
-use Rattle.world_model.specs.Room.{HasRoom, IsLawfulAct, after_them}
+use Rattle.world_model.specs.World.{World, empty}
+use Rattle.world_model.specs.Safe.{IsAt, Has, id_in}
+use Rattle.world_model.specs.Settled.{IsSettledOf, IsSettled}
+use Rattle.world_model.specs.Invariant.{Names, InvariantOf}
+use Rattle.world_model.specs.Others.{Theirs, acts, LeavesAlone, KeepsApart, run_among}
+use Rattle.world_model.specs.Room.{HasRoom, IsLawfulAct, after_them, StaysSettled}
 use Rattle.world_model.proofs.Calm.{CalmAmong, among_calm}
+use Rattle.world_model.proofs.Growing.{ids_grow}
+use Rattle.world_model.proofs.Imaging.{image_more}
+use Rattle.world_model.proofs.Invariant.{among_inv, always_inv_among}
+use Rattle.world_model.proofs.Lists.{last_has}
+use Rattle.world_model.proofs.Onwards.{among_on}
+use Rattle.world_model.proofs.Ranking.{record_ours}
 use Rattle.world_model.proofs.Phases.{Near, Near.truly_absent, Near.at_current}
 
 -- ---- one request
@@ -77,10 +88,18 @@ module _ (ours : Names) (name : RecordName) (mine : ours name ≡ true) where
 
   -- ---- all their requests
 
+  all_alone : (w : World) (requests : List Request) → AllByRecursion (LeavesAlone ours) requests → SameOf name w.entries (after_them w requests).entries
+  all_alone w [] alone = record { onward = λ i e named at. at; back = λ i e named at. at }
+  all_alone w (request ∷ requests) alone =
+      let first = step_alone w.entries request alone.0 in
+      let rest = all_alone (acts w (Theirs request)) requests alone.1 in
+      record {
+        onward = λ i e named at. rest.onward i e named (first.onward i e named at);
+        back = λ i e named at. first.back i e named (rest.back i e named at);
+      }
+
   pub near_stays : (w : World) (requests : List Request) (known : Known) → AllByRecursion (LeavesAlone ours) requests → Near w.entries name known → Near (after_them w requests).entries name known
-  near_stays w [] known alone near = near
-  near_stays w (request ∷ requests) known alone near =
-      near_stays (acts w (Theirs request)) requests known alone.1 (near_on w.entries (step w.entries request).entries known (step_alone w.entries request alone.0) near)
+  near_stays w requests known alone near = near_on w.entries (after_them w requests).entries known (all_alone w requests alone) near
 
 pub same_history : (w : World) (requests : List Request) → (after_them w requests).history ≡ w.history
 same_history w [] = refl
@@ -101,3 +120,36 @@ all_lawful (request ∷ requests) = (tt, all_lawful requests)
 pub still_calm : {ours : Names} (w : World) (requests : List Request) → AllByRecursion (LeavesAlone ours) requests → HasRoom (after_them w requests) → CalmAmong ours w
     → CalmAmong ours (after_them w requests)
 still_calm {ours} w requests alone room c = among_calm w (map Theirs requests) (all_apart ours requests alone) (all_lawful requests) room c
+
+-- ---- what is settled
+
+module _ {ours : Names} (w : World) (inv : InvariantOf ours w) (requests : List Request) (alone : AllByRecursion (LeavesAlone ours) requests) where
+  abbrev then : World
+  then = after_them w requests
+
+  same_ids : GoesOn (id_in w.entries) (id_in then.entries)
+  same_ids =
+      let theirs = map Theirs requests in
+      ids_grow w.entries then.entries (among_on w theirs).stories (among_inv w theirs (all_apart ours requests alone) inv).kept.whole
+
+  still_settled : (name : RecordName) → IsSettledOf w name → IsSettledOf then name
+  still_settled name s =
+      let mine = record_ours ours w.history inv.mine name s.known.wanted (last_has (rows_of w.history name) s.known.wanted s.wanted) in
+      let same = all_alone ours name mine w requests alone in
+      let (has, named) = s.of_record in
+      record {
+        known = s.known;
+        entry = s.entry;
+        in_book = ap (λ (b : Book). b name) (same_book w requests) ∙ s.in_book;
+        wanted = ap (λ (h : History). last_row h name) (same_history w requests) ∙ s.wanted;
+        confirmed = s.confirmed;
+        of_record = ((has.0, same.onward has.0 s.entry named has.1), named);
+        held = image_more (id_in w.entries) (id_in then.entries) same_ids s.known.wanted s.entry.held s.held;
+      }
+
+  all_settled : IsSettled w → IsSettled then
+  all_settled settled name has =
+      still_settled name (settled name (subst (λ (h : History). Has (names_of h) name) (same_history w requests) has))
+
+pub stays_settled : StaysSettled
+stays_settled ours acts requests apart alone settled = all_settled (run_among empty acts) (always_inv_among ours acts apart) requests alone settled

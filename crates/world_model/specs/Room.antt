@@ -112,6 +112,12 @@ SettlesAmong = (ours : Names) (acts : List Act) (theirs : Meanwhile) → KeepsAp
     → AllByRecursion IsLawfulAct acts → HasRoom (run_among empty acts) → LeavesRoom ours theirs
     → SettlesFrom theirs (run_among empty acts)
 
+-- what is settled stays settled, whatever others do, if they leave our records alone
+abbrev pub StaysSettled : Type 0
+StaysSettled = (ours : Names) (acts : List Act) (requests : List Request) → KeepsApart ours acts
+    → AllByRecursion (LeavesAlone ours) requests → IsSettled (run_among empty acts)
+    → IsSettled (after_them (run_among empty acts) requests)
+
 -- Others may as well act within an exchange: it is the same whether their request comes before or after a request of
 -- ours is sent, and before or after a reply comes to the connector
 pub record ActsAnyTime : Type 0 where

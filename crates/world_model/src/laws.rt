@@ -14,6 +14,7 @@ ghost use Rattle.world_model.specs.Room.{
   RoomWasThere,
   RoomWithoutOthers,
   SettlesAmong,
+  StaysSettled,
 };
 ghost use Rattle.world_model.specs.Safe.{AlwaysOnward, AlwaysSafe, HeadlineHolds, JudgesBySource};
 ghost use Rattle.world_model.specs.Settled.{LeadsOn, OneWay, Settles};
@@ -124,8 +125,10 @@ pub fn never_refused_among()
 /// From every world with room that a run among others reaches, at most three exchanges for each record, in
 /// the order of names, settle the record, if each row that is offered is within the limits of the source.
 /// Before each exchange others may do whatever leaves our records alone and leaves room (`by_three`), and
-/// they may as well do it within the exchange (`any_time`).
+/// they may as well do it within the exchange (`any_time`). What is settled stays settled while they go on
+/// (`stays`).
 pub fn settles_among()
     ensures by_three { SettlesAmong }
+    ensures stays { StaysSettled }
     ensures any_time { ActsAnyTime }
 {}
