@@ -1,5 +1,5 @@
 -- What is read of a first part of a message, and what was written of a reply.
-use Rattle.std.proofs.Common.{◌≡◌, ℕ, Bool, true, false, List, [], ◌∷◌, ◌++◌, Option, Some, None, refl, ap, sym, subst, ◌∙◌, append_assoc}
+use Rattle.std.proofs.Common.{◌≡◌, ℕ, Bool, true, false, List, [], ◌∷◌, ◌++◌, Option, Some, None, Result, Ok, Err, refl, ap, sym, subst, ◌∙◌, append_assoc}
 use Rattle.std.proofs.lemmas.List.{append-nil, append_cancel_left}
 use Rattle.std.specs.Io.KnownBytes.{Appends, Consumes}
 use Rattle.scim_message.specs.Bodies.{body_text}
@@ -7,6 +7,7 @@ use Rattle.scim_message.specs.declared.messages.Answer.{Answer}
 use Rattle.http_text.specs.Counts.{Writing}
 use Rattle.http_text.specs.Forms.{IsMessage, request_form, response_form}
 use Rattle.http_text.specs.Message.{Message}
+use Rattle.http_text.specs.declared.fault.ReadFault.{ReadFault}
 use Rattle.http_text.specs.Requests.{TakesMessage}
 use Rattle.http_text.specs.Responses.{TakesResponse}
 use Rattle.http_text.proofs.FormLaws.{request_laws, response_laws}
@@ -14,7 +15,7 @@ use Rattle.http_text.proofs.MessageLemmas.{messages_same}
 use Rattle.scim_http.specs.Replies.{ReplyRecord, answer_text}
 use Rattle.connection.specs.declared.answering.Served.{Served}
 use Rattle.connection.specs.declared.answering.Served.TheVariants.{Answered, NoRequest, Lost}
-use Rattle.connection.specs.Serving.{IsSent}
+use Rattle.connection.specs.Serving.{IsSent, SendsReply, reply_text}
 use Rattle.world_model.specs.Safe.{IsPrefixOf}
 use Rattle.promise.specs.Traces.{IsAtFront}
 
@@ -81,6 +82,21 @@ sent_part held out before after reply (Lost status) b a is =
     let lost = is.1.1 in
     let same = appended held out lost.front before.contents after.contents b a lost.appends in
     (lost.left, lost.split ∙ ap (λ (l : List ℕ). l ++ lost.left) (sym same))
+
+-- without a reply nothing was written
+reply_part_none : (held out : List ℕ) (before after : Writing) → before.contents ≡ Some held → after.contents ≡ Some (held ++ out) → after ≡ before → IsPrefixOf out []
+reply_part_none held out before after b a same =
+    let known : Appends (Some held) (Some held) [] = sym (append-nil held) in
+    let at_old : Appends before.contents before.contents [] = subst (λ (o : Option (List ℕ)). Appends o o []) (sym b) known in
+    let at_new : Appends before.contents after.contents [] = subst (λ (n : Option (List ℕ)). Appends before.contents n []) (sym (ap (λ (w : Writing). w.contents) same)) at_old in
+    let none : out ≡ [] = appended held out [] before.contents after.contents b a at_new in
+    ([], sym none ∙ sym (append-nil out))
+
+pub reply_part : (held out : List ℕ) (before after : Writing) (reply : Option ReplyRecord) (read : Result Message ReadFault) (served : Served) → before.contents ≡ Some held
+    → after.contents ≡ Some (held ++ out) → SendsReply before after reply read served → IsPrefixOf out (reply_text reply)
+reply_part held out before after (Some reply) read served b a sends = sent_part held out before after reply served b a sends
+reply_part held out before after None (Ok m) served b a sends = absurd sends
+reply_part held out before after None (Err fault) served b a sends = reply_part_none held out before after b a sends.written
 
 -- without its body, a reply is a first part of the whole
 pub without_body : (base : List ℕ) (leaves_out : Bool) (answer : Answer) → IsPrefixOf (answer_text base leaves_out answer) (answer_text base false answer)

@@ -5,3 +5,5 @@ pub mod Errors
 pub mod Bytes
 pub mod Traces
 pub mod Calls
+pub mod Pushes
+pub mod Moves

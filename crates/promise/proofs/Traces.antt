@@ -1,5 +1,5 @@
 -- Each step of a trace over bytes is at most one step of a trace of requests and answers.
-use Rattle.std.proofs.Common.{arith, ◌≡◌, ℕ, Bool, false, List, [], ◌∷◌, ◌++◌, Option, Result, Ok, Err, refl, ap, sym, subst, ◌∙◌, inl, inr}
+use Rattle.std.proofs.Common.{arith, ◌≡◌, ℕ, Bool, false, List, [], ◌∷◌, ◌++◌, Option, Some, None, Result, Ok, Err, refl, ap, sym, subst, ◌∙◌, inl, inr}
 use Rattle.std.specs.FinMap.{keys}
 use Rattle.std.specs.Prelude.{◌⊎◌, IfOk}
 use Rattle.scim_key.specs.Bases.{IsBase}
@@ -15,7 +15,6 @@ use Rattle.provider_core.specs.Outcomes.{outcome, changed_rows}
 use Rattle.provider_core.specs.declared.registry.Registry.{Ghosts as Registries}
 use Rattle.http_text.specs.declared.fault.ReadFault.{ReadFault}
 use Rattle.http_text.specs.declared.fault.ReadFault.TheVariants as reads
-use Rattle.http_text.specs.Counts.{Writing}
 use Rattle.http_text.specs.Forms.{request_form, response_form}
 use Rattle.http_text.specs.Judging.{is_head}
 use Rattle.http_text.specs.Message.{Message}
@@ -29,9 +28,8 @@ use Rattle.scim_client.specs.Exchanges.{Reads}
 use Rattle.scim_client.specs.Requests.{text_of}
 use Rattle.scim_client.specs.Spelling.{SpellsRequest}
 use Rattle.connection.specs.Reactions.{reaction_to}
-use Rattle.connection.specs.declared.answering.Served.{Served}
-use Rattle.connection.specs.Serving.{AnswersFault, AnswersMeaning, AnswersRequest, IsAfter, Reacts, Sends, Serves as ServesSo}
-use Rattle.connection.specs.Turns.{fresh_reading, fresh_writing}
+use Rattle.connection.specs.Serving.{AnswersFault, AnswersMeaning, AnswersMessage, AnswersRequest, GivesUp, HasReply, IsAfter, IsUnharmed, LeavesRows, Replies, RepliesTo, reply_text}
+use Rattle.connection.specs.Turns.{fresh_reading}
 use Rattle.journal_core.specs.Entries.{EntryMap}
 use Rattle.journal_core.specs.declared.journals.Journal.{Ghosts as Journals}
 use Rattle.connector_core.specs.Asking.{asking}
@@ -48,7 +46,7 @@ use Rattle.world_model.proofs.Invariant.{always_inv}
 use Rattle.world_model.specs.Safe.{Has, IsPrefixOf}
 use Rattle.world_sim.specs.Fitting.{IsFormed}
 use Rattle.world_sim.proofs.Fitting.{messages_are_read}
-use Rattle.promise.specs.Traces.{CameFrom, Hears, IsAt, IsAtFront, IsShutOut, LeavesBook, Serves, State, Step, Step.offers, Step.asks, Step.serves, Step.hears, Step.reopens, Step.rests, Trace, Trace.here, Trace.next, TracesAreRuns, Written, reacted_text, reply_text, start}
+use Rattle.promise.specs.Traces.{CameFrom, Hears, IsAt, IsAtFront, LeavesBook, Serves, State, Step, Step.offers, Step.asks, Step.serves, Step.hears, Step.reopens, Step.rests, Trace, Trace.here, Trace.next, TracesAreRuns, Written, start}
 use Rattle.promise.specs.Typed as typed
 use Rattle.promise.proofs.Bytes.{one_request_message, one_response_message, part_of_part, without_body}
 use Rattle.promise.proofs.Errors.{IsReadable, error_is_read, fixed_readable, refusal_readable}
@@ -81,6 +79,10 @@ says_fixed base replies request bytes part = by_error fixed_error fixed_other fi
 says_nothing : (base : List ℕ) (replies : List typed.Reply) (request : Request) → Says base replies request []
 says_nothing base replies request = says_fixed base replies request [] (fixed_text, refl)
 
+-- a stop leaves nothing but the rows of a faithful store
+abbrev pub Settles : {R : Type 0} → Registries R → Type 0
+Settles {R} g = (s : R) (found : List StoredRecord) → g.is_faithful s → g.may_hold s found → found ≡ g.rows s
+
 -- ---- the two states
 
 -- the trace of requests and answers that a trace over bytes makes
@@ -104,19 +106,16 @@ refusal_says : (base : List ℕ) (replies : List typed.Reply) (request : Request
     → Says base replies request (answer_text base leaves_out (Error (error_of refusal)))
 refusal_says base replies request leaves_out refusal other = by_error (error_of refusal) other (refusal_readable refusal) (without_body base leaves_out (Error (error_of refusal)))
 
-module _ (base : List ℕ) (replies : List typed.Reply) (request : Request) (out : List ℕ) (before after : Writing) (served : Served) where
-  fixed_text_sent : (text : List ℕ) → text ≡ fixed_text → IsPrefixOf out text → Says base replies request out
-  fixed_text_sent text same part = says_fixed base replies request out (subst (IsPrefixOf out) same part)
+module _ (base : List ℕ) (replies : List typed.Reply) (request : Request) (out : List ℕ) where
+  fixed_sent : (reply : ReplyRecord) → reply ≡ fixed_reply → IsPrefixOf out reply.text → Says base replies request out
+  fixed_sent reply is part = says_fixed base replies request out (subst (IsPrefixOf out) (ap (λ (r : ReplyRecord). r.text) is) part)
 
-  fixed_sent : (sends : Sends before after (λ reply. reply ≡ fixed_reply) served) → IsPrefixOf out sends.0.text → Says base replies request out
-  fixed_sent sends part = fixed_text_sent sends.0.text (ap (λ (r : ReplyRecord). r.text) sends.1) part
-
-  refusal_sent : (leaves_out : Bool) (refusal : Refusal) → typed.IsOtherError (error_of refusal) → (sends : Sends before after (AnswersFault base leaves_out refusal) served) → IsPrefixOf out sends.0.text
+  refusal_sent : (leaves_out : Bool) (refusal : Refusal) → typed.IsOtherError (error_of refusal) → (reply : ReplyRecord) → AnswersFault base leaves_out refusal reply → IsPrefixOf out reply.text
       → Says base replies request out
-  refusal_sent leaves_out refusal other sends part = elim (sends.1) [
+  refusal_sent leaves_out refusal other reply is part = elim is [
     | inl refuses ↦ says_part base replies request out (answer_text base leaves_out (Error (error_of refusal))) (subst (IsPrefixOf out) (ap (λ (r : ReplyRecord). r.text) refuses) part)
         (refusal_says base replies request leaves_out refusal other)
-    | inr fixed ↦ fixed_text_sent sends.0.text (ap (λ (r : ReplyRecord). r.text) fixed) part
+    | inr fixed ↦ fixed_sent reply fixed part
   ]
 
   silence : IsPrefixOf out [] → Says base replies request out
@@ -125,18 +124,28 @@ module _ (base : List ℕ) (replies : List typed.Reply) (request : Request) (out
   other_by : (refusal : Refusal) → ((error_of refusal).status ≡ 409 → ⊥) → ((error_of refusal).status ≡ 412 → ⊥) → typed.IsOtherError (error_of refusal)
   other_by refusal taken stale = record { taken = taken; stale = stale }
 
-  reacted : (fault : ReadFault) (r : Reacts base before after fault (reaction_to fault) served) → IsPrefixOf out (reacted_text base before after served fault r) → Says base replies request out
-  reacted reads.Malformed r part = refusal_sent false refusals.Malformed (other_by refusals.Malformed (λ e. absurd (omega (arith, e))) (λ e. absurd (omega (arith, e)))) r part
-  reacted (reads.HostMissingOrRepeated x) r part = refusal_sent x refusals.Host (other_by refusals.Host (λ e. absurd (omega (arith, e))) (λ e. absurd (omega (arith, e)))) r part
-  reacted (reads.LengthMissing x) r part = refusal_sent x refusals.LengthMissing (other_by refusals.LengthMissing (λ e. absurd (omega (arith, e))) (λ e. absurd (omega (arith, e)))) r part
-  reacted (reads.BodyTooLong x) r part = refusal_sent x refusals.BodyTooLong (other_by refusals.BodyTooLong (λ e. absurd (omega (arith, e))) (λ e. absurd (omega (arith, e)))) r part
-  reacted reads.HeadTooLong r part = refusal_sent false refusals.HeadTooLong (other_by refusals.HeadTooLong (λ e. absurd (omega (arith, e))) (λ e. absurd (omega (arith, e)))) r part
-  reacted (reads.TransferCoding x) r part = refusal_sent x refusals.TransferCoding (other_by refusals.TransferCoding (λ e. absurd (omega (arith, e))) (λ e. absurd (omega (arith, e)))) r part
-  reacted (reads.Expectation x) r part = refusal_sent x refusals.Expectation (other_by refusals.Expectation (λ e. absurd (omega (arith, e))) (λ e. absurd (omega (arith, e)))) r part
-  reacted reads.EndedEarly r part = silence part
-  reacted reads.ReadFailed r part = silence part
-  reacted reads.OutOfMemory r part = fixed_sent r part
-  reacted reads.TurnsExhausted r part = silence part
+  module _ (reply : Option ReplyRecord) (part : IsPrefixOf out (reply_text reply)) where
+    sent_part_of : (sent : ReplyRecord) → reply ≡ Some sent → IsPrefixOf out sent.text
+    sent_part_of sent is = subst (λ (r : Option ReplyRecord). IsPrefixOf out (reply_text r)) is part
+
+    refuses : (leaves_out : Bool) (refusal : Refusal) → typed.IsOtherError (error_of refusal) → HasReply reply (AnswersFault base leaves_out refusal) → Says base replies request out
+    refuses leaves_out refusal other is = refusal_sent leaves_out refusal other is.0 is.2 (sent_part_of is.0 is.1)
+
+    silent : reply ≡ None → Says base replies request out
+    silent none = silence (subst (λ (r : Option ReplyRecord). IsPrefixOf out (reply_text r)) none part)
+
+    reacted : (fault : ReadFault) → RepliesTo base (reaction_to fault) reply → Says base replies request out
+    reacted reads.Malformed is = refuses false refusals.Malformed (other_by refusals.Malformed (λ e. absurd (omega (arith, e))) (λ e. absurd (omega (arith, e)))) is
+    reacted (reads.HostMissingOrRepeated x) is = refuses x refusals.Host (other_by refusals.Host (λ e. absurd (omega (arith, e))) (λ e. absurd (omega (arith, e)))) is
+    reacted (reads.LengthMissing x) is = refuses x refusals.LengthMissing (other_by refusals.LengthMissing (λ e. absurd (omega (arith, e))) (λ e. absurd (omega (arith, e)))) is
+    reacted (reads.BodyTooLong x) is = refuses x refusals.BodyTooLong (other_by refusals.BodyTooLong (λ e. absurd (omega (arith, e))) (λ e. absurd (omega (arith, e)))) is
+    reacted reads.HeadTooLong is = refuses false refusals.HeadTooLong (other_by refusals.HeadTooLong (λ e. absurd (omega (arith, e))) (λ e. absurd (omega (arith, e)))) is
+    reacted (reads.TransferCoding x) is = refuses x refusals.TransferCoding (other_by refusals.TransferCoding (λ e. absurd (omega (arith, e))) (λ e. absurd (omega (arith, e)))) is
+    reacted (reads.Expectation x) is = refuses x refusals.Expectation (other_by refusals.Expectation (λ e. absurd (omega (arith, e))) (λ e. absurd (omega (arith, e)))) is
+    reacted reads.EndedEarly is = silent is
+    reacted reads.ReadFailed is = silent is
+    reacted reads.OutOfMemory is = fixed_sent is.0 is.2 (sent_part_of is.0 is.1)
+    reacted reads.TurnsExhausted is = silent is
 
 -- what a message means that is at the front of the text of a request
 meant : (m : Message) (text : List ℕ) (request : Request) → IsAtFront request_form text m → SpellsRequest text request → Asks m (Ok request)
@@ -220,14 +229,10 @@ module _ (base : List ℕ) (is_base : IsBase base) (u : typed.State) (trace : ty
       };
     }
 
-    module _ {R J I O P Q : Type 0} (g : Registries R) (h : Journals J) (received : I → Option (List ℕ)) (posted : O → Option (List ℕ)) (remaining : P → Option (List ℕ)) (contents : Q → Option (List ℕ)) where
+    module _ {R J I O P Q : Type 0} (g : Registries R) (h : Journals J) (received : I → Option (List ℕ)) (posted : O → Option (List ℕ)) (remaining : P → Option (List ℕ)) (contents : Q → Option (List ℕ)) (settled : Settles g) where
       module _ (request : Request) (rows : List StoredRecord) (out : List ℕ) (s : Serves g h received posted remaining contents base old request rows out) where
         abbrev after_serving : State
         after_serving = record old { rows = rows; written = old.written ++ (request, out) ∷ [] }
-
-        -- the text of the reply, by what was read
-        abbrev text_by : (read : Result Message ReadFault) → ServesSo (g.is_faithful s.after) base (g.rows s.before) (g.rows s.after) (fresh_writing (contents s.writer)) s.is.written read s.served → List ℕ
-        text_by = reply_text base (fresh_writing (contents s.writer)) s.is.written s.served (g.is_faithful s.after) (g.rows s.before) (g.rows s.after)
 
         -- the message that was read asks for the request
         asks_for : (m : Message) → IsAtFront request_form (text_of base request) m → Asks m (Ok request)
@@ -248,44 +253,68 @@ module _ (base : List ℕ) (is_base : IsBase base) (u : typed.State) (trace : ty
             (part_of_part out reply.text (answer_text base false (outcome u.rows request).answer) part
             (subst (λ (t : List ℕ). IsPrefixOf t (answer_text base false (outcome u.rows request).answer)) (sym text) (without_body base (is_head m.head) (outcome u.rows request).answer))))
 
-        open_message : (m : Message) → IsAtFront request_form (text_of base request) m → g.is_faithful s.after → rows ≡ g.rows s.after
-            → (so : ServesSo (g.is_faithful s.after) base (g.rows s.before) (g.rows s.after) (fresh_writing (contents s.writer)) s.is.written (Ok m) s.served) → IsPrefixOf out so.0.text → Goes base u after_serving
-        open_message m front faithful kept so part = elim (so.1) [
-          | inl message ↦
-              let same : message.asked ≡ Ok request = one_meaning m message.asked (Ok request) message.asked_is (asks_for m front) in
-              answered_so m so.0 faithful kept
-              (subst (λ (x : Result Request Refusal). AnswersMeaning (g.is_faithful s.after) base (g.rows s.before) (g.rows s.after) (is_head m.head) x so.0) same message.answer) part
-          | inr gives_up ↦ quiet request rows out (kept ∙ gives_up.rows faithful ∙ s.was)
-              (fixed_text_sent base u.replies request out (fresh_writing (contents s.writer)) s.is.written s.served so.0.text (ap (λ (r : ReplyRecord). r.text) gives_up.reply_is) part)
+        -- the reply gives up, and the rows are as they were
+        gave_up : (reply : ReplyRecord) → reply ≡ fixed_reply → rows ≡ g.rows s.before → IsPrefixOf out reply.text → Goes base u after_serving
+        gave_up reply fixed same part = quiet request rows out (same ∙ s.was) (fixed_sent base u.replies request out reply fixed part)
+
+        abbrev Answers : Message → ReplyRecord → Type 0
+        Answers m reply = AnswersMessage (g.is_faithful s.after) base (g.rows s.before) (g.rows s.after) m reply
+
+        answered_open : (m : Message) (reply : ReplyRecord) → IsAtFront request_form (text_of base request) m → g.is_faithful s.after → rows ≡ g.rows s.after → Answers m reply → IsPrefixOf out reply.text
+            → Goes base u after_serving
+        answered_open m reply front faithful kept message part =
+            let same : message.asked ≡ Ok request = one_meaning m message.asked (Ok request) message.asked_is (asks_for m front) in
+            answered_so m reply faithful kept
+            (subst (λ (x : Result Request Refusal). AnswersMeaning (g.is_faithful s.after) base (g.rows s.before) (g.rows s.after) (is_head m.head) x reply) same message.answer) part
+
+        -- what the next opening finds of a store that a fault may have shut: the rows as they were, or as the request
+        -- makes them
+        shut_rows : (m : Message) (reply : ReplyRecord) → IsAtFront request_form (text_of base request) m → LeavesRows g s.before s.after (Ok m) → g.is_faithful s.before → g.is_honest s.after → g.may_hold s.after rows
+            → reply ≡ fixed_reply → IsPrefixOf out reply.text → Goes base u after_serving
+        shut_rows m reply front leaves was_faithful honest may fixed part = elim (leaves.stop honest rows may) [
+          | inl held ↦ gave_up reply fixed (settled s.before rows was_faithful held) part
+          | inr after_it ↦ shut_after m reply front after_it.1 fixed part
+        ]
+          where
+            shut_after : (m : Message) (reply : ReplyRecord) → IsAtFront request_form (text_of base request) m → IsAfter (g.rows s.before) (Ok m) rows → reply ≡ fixed_reply → IsPrefixOf out reply.text → Goes base u after_serving
+            shut_after m reply front after fixed part =
+                let e : ◌≡◌ {A = Result Request Refusal} (Ok after.0) (Ok request) = one_meaning m (Ok after.0) (Ok request) after.1 (asks_for m front) in
+                let same : after.0 ≡ request = cc in
+                let done : rows ≡ changed_rows (g.rows s.before) (outcome (g.rows s.before) request).change = subst (λ (r : Request). rows ≡ changed_rows (g.rows s.before) (outcome (g.rows s.before) r).change) same after.2 in
+                carried_out request rows out s.sent (done ∙ ap (λ r. changed_rows r (outcome r request).change) s.was)
+                (says_more base u.replies ((request, (outcome u.rows request).answer) ∷ []) request out (fixed_sent base u.replies request out reply fixed part))
+
+        served_message : (m : Message) (reply : ReplyRecord) → IsAtFront request_form (text_of base request) m → LeavesRows g s.before s.after (Ok m)
+            → (Answers m reply × IsUnharmed g s.before s.after) ⊎ GivesUp (g.is_faithful s.after) (g.rows s.before) (g.rows s.after) reply → IsPrefixOf out reply.text → Goes base u after_serving
+        served_message m reply front leaves says part = elim (s.finds) [
+          | inl kept ↦ elim says [
+            | inl answers ↦ answered_open m reply front kept.0 kept.1 answers.0 part
+            | inr gives_up ↦ gave_up reply gives_up.reply_is (kept.1 ∙ gives_up.rows kept.0) part
+          ]
+          | inr found ↦ elim says [
+            | inl answers ↦
+                let still = answers.1.stays_open found.1 found.0 in
+                answered_open m reply front still (settled s.after rows still found.2) answers.0 part
+            | inr gives_up ↦ shut_rows m reply front leaves found.0 found.1 found.2 gives_up.reply_is part
+          ]
         ]
 
-        open_read : (read : Result Message ReadFault) → IfOk read (IsAtFront request_form (text_of base request)) → g.is_faithful s.after → rows ≡ g.rows s.after
-            → (so : ServesSo (g.is_faithful s.after) base (g.rows s.before) (g.rows s.after) (fresh_writing (contents s.writer)) s.is.written read s.served) → IsPrefixOf out (text_by read so) → Goes base u after_serving
-        open_read (Ok m) front faithful kept so part = open_message m front faithful kept so part
-        open_read (Err fault) front faithful kept so part =
-            quiet request rows out (kept ∙ so.1 ∙ s.was) (reacted base u.replies request out (fresh_writing (contents s.writer)) s.is.written s.served fault so.0 part)
+        -- a fault of reading left the store as it was
+        unread : (reply : Option ReplyRecord) (fault : ReadFault) → RepliesTo base (reaction_to fault) reply × (s.after ≡ s.before) → IsPrefixOf out (reply_text reply) → Goes base u after_serving
+        unread reply fault replies part =
+            let same : rows ≡ g.rows s.before = elim (s.finds) [
+              | inl kept ↦ kept.1 ∙ ap g.rows replies.1
+              | inr found ↦ settled s.before rows found.0 (subst (λ (r : R). g.may_hold r rows) replies.1 found.2)
+            ] in
+            quiet request rows out (same ∙ s.was) (reacted base u.replies request out reply part fault replies.0)
 
-        -- a fault has shut the store
-        shut_after : (read : Result Message ReadFault) → IfOk read (IsAtFront request_form (text_of base request)) → IsAfter (g.rows s.before) read rows → Says base u.replies request out → Goes base u after_serving
-        shut_after (Err fault) front after says = absurd after
-        shut_after (Ok m) front after says =
-            let e : ◌≡◌ {A = Result Request Refusal} (Ok after.0) (Ok request) = one_meaning m (Ok after.0) (Ok request) after.1 (asks_for m front) in
-            let same : after.0 ≡ request = cc in
-            let done : rows ≡ changed_rows (g.rows s.before) (outcome (g.rows s.before) request).change = subst (λ (r : Request). rows ≡ changed_rows (g.rows s.before) (outcome (g.rows s.before) r).change) same after.2 in
-            carried_out request rows out s.sent (done ∙ ap (λ r. changed_rows r (outcome r request).change) s.was)
-            (says_more base u.replies ((request, (outcome u.rows request).answer) ∷ []) request out says)
-
-        shut_out : IsShutOut (g.rows s.before) rows s.is.read out → Goes base u after_serving
-        shut_out shut = elim (shut.0) [
-          | inl same ↦ quiet request rows out (same ∙ s.was) (says_fixed base u.replies request out shut.1)
-          | inr after ↦ shut_after s.is.read s.came after (says_fixed base u.replies request out shut.1)
-        ]
+        by_read : (read : Result Message ReadFault) (reply : Option ReplyRecord) → IfOk read (IsAtFront request_form (text_of base request)) → Replies g base s.before s.after read reply → LeavesRows g s.before s.after read
+            → IsPrefixOf out (reply_text reply) → Goes base u after_serving
+        by_read (Ok m) reply front replies leaves part = served_message m replies.0 front leaves replies.2 (sent_part_of base u.replies request out reply part replies.0 replies.1)
+        by_read (Err fault) reply front replies leaves part = unread reply fault replies part
 
         served_step : Goes base u after_serving
-        served_step = elim (s.leaves) [
-          | inl leaves ↦ open_read s.is.read s.came leaves.faithful leaves.kept s.is.serves leaves.wrote
-          | inr shut ↦ shut_out shut
-        ]
+        served_step = by_read s.is.replied.read s.is.replied.reply s.came s.is.replied.replies s.is.replied.leaves s.wrote
 
       -- ---- an exchange is over
 
@@ -416,12 +445,12 @@ and_then : (a b c : typed.State) → typed.Trace a b → typed.Trace b c → typ
 and_then a b c first typed.here = first
 and_then a b c first (typed.next {mid = mid} more step) = typed.next (and_then a b mid first more) step
 
-module _ {R J I O P Q : Type 0} (g : Registries R) (h : Journals J) (received : I → Option (List ℕ)) (posted : O → Option (List ℕ)) (remaining : P → Option (List ℕ)) (contents : Q → Option (List ℕ)) where
+module _ {R J I O P Q : Type 0} (g : Registries R) (h : Journals J) (received : I → Option (List ℕ)) (posted : O → Option (List ℕ)) (remaining : P → Option (List ℕ)) (contents : Q → Option (List ℕ)) (settled : Settles g) where
   along : (base : List ℕ) (old new : State) (u : typed.State) → IsBase base → typed.Trace typed.start u → Spoken base old u → Trace g h received posted remaining contents base old new → Goes base u new
   along base old new u is_base trace spoken here = record { later = u; trace = typed.here; spoken = spoken }
   along base old new u is_base trace spoken (next {mid = mid} more step) =
       let first = along base old mid u is_base trace spoken more in
-      let last = goes base is_base first.later (and_then typed.start u first.later trace first.trace) mid first.spoken g h received posted remaining contents new step in
+      let last = goes base is_base first.later (and_then typed.start u first.later trace first.trace) mid first.spoken g h received posted remaining contents settled new step in
       record { later = last.later; trace = and_then u first.later last.later first.trace last.trace; spoken = last.spoken }
 
   spoken_start : (base : List ℕ) → Spoken base start typed.start

@@ -1,3 +1,4 @@
 pub mod Typed
 pub mod Traces
 pub mod Calls
+pub mod Moves

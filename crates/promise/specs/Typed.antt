@@ -48,23 +48,34 @@ pub record IsOtherError (error : ErrorRecord) : Type 0 where
 -- One step
 pub data Step (old : State) : State → Type 0 where
   -- the source offers a row
-  offers : (row : Row) → IsRow row → Step old (record old { history = history_after old.history row (judged old.book row); book = taking old.book row })
+  offers : (row : Row) → IsRow row
+      → Step old
+      (record old { history = history_after old.history row (judged old.book row); book = taking old.book row })
   -- the connector sends what it asks for next
-  asks : (name : RecordName) (request : Request) → asking (book_of old.book) name ≡ Some (Send request) → Step old (record old { sent = old.sent ++ request ∷ [] })
+  asks : (name : RecordName) (request : Request) → asking (book_of old.book) name ≡ Some (Send request)
+      → Step old (record old { sent = old.sent ++ request ∷ [] })
   -- the provider answers a request that was ever sent
   answers : (request : Request) → Has old.sent request
-      → Step old (record old { rows = changed_rows old.rows (outcome old.rows request).change; replies = old.replies ++ (request, (outcome old.rows request).answer) ∷ [] })
+      → Step old (record old {
+        rows = changed_rows old.rows (outcome old.rows request).change;
+        replies = old.replies ++ (request, (outcome old.rows request).answer) ∷ [];
+      })
   -- the connector learns from an answer that was ever given
   learns : (request : Request) (answer : Answer) (book : BookMap) → Has old.replies (request, answer)
-      → book_of book ≡ after_learning (book_of old.book) (learn (book_of old.book) request answer) → keys book ≡ keys old.book → Step old (record old { book = book })
+      → book_of book ≡ after_learning (book_of old.book) (learn (book_of old.book) request answer)
+      → keys book ≡ keys old.book → Step old (record old { book = book })
   -- the connector learns from another error
   refused : (request : Request) (error : ErrorRecord) (book : BookMap) → IsOtherError error
-      → book_of book ≡ after_learning (book_of old.book) (learn (book_of old.book) request (Error error)) → keys book ≡ keys old.book → Step old (record old { book = book })
+      → book_of book ≡ after_learning (book_of old.book) (learn (book_of old.book) request (Error error))
+      → keys book ≡ keys old.book → Step old (record old { book = book })
   -- the connector is opened again, from the entries that its journal has of its book
-  reopens : (found : EntryMap) (book : BookMap) → AreOf found (book_of old.book) (keys old.book) → IsOpened found book → Step old (record old { book = book })
+  reopens : (found : EntryMap) (book : BookMap) → AreOf found (book_of old.book) (keys old.book)
+      → IsOpened found book → Step old (record old { book = book })
   -- it learnt from an answer, but a fault shut the journal, which is opened again with what was learnt
-  relearns : (request : Request) (answer : Answer) (found : EntryMap) (book : BookMap) → Has old.replies (request, answer)
-      → AreOf found (after_learning (book_of old.book) (learn (book_of old.book) request answer)) (keys old.book) → IsOpened found book → Step old (record old { book = book })
+  relearns : (request : Request) (answer : Answer) (found : EntryMap) (book : BookMap)
+      → Has old.replies (request, answer)
+      → AreOf found (after_learning (book_of old.book) (learn (book_of old.book) request answer)) (keys old.book)
+      → IsOpened found book → Step old (record old { book = book })
   -- nothing changes: something came cut off, or the provider was opened again
   rests : Step old old
 

@@ -1,15 +1,16 @@
 -- A whole run of the connector: the rows of its files, then its records.
-use Rattle.std.specs.Prelude.{◌≡◌, ◌⊎◌, ◌&&◌, ℕ, Bool, List, [], Option, None, Result, Ok, Err, IfOk}
+use Rattle.std.specs.Prelude.{◌≡◌, ◌⊎◌, ◌&&◌, ℕ, Bool, List, [], Option, None, Result, Ok, Err, ⊤}
 use Rattle.journal_core.specs.declared.journals.Journal.{Ghosts}
 use Rattle.connector_core.specs.State.{State}
 use Rattle.provisioning.specs.Openings.{Opening}
-use Rattle.provisioning.specs.Runs.{Done, PushesAll}
+use Rattle.provisioning.specs.Runs.{Done, IsUntold, PushesAll}
 use Rattle.provisioning.specs.declared.faults.RunFault.{RunFault}
 use Rattle.provisioning.specs.declared.pushing.Tally.{Tally}
 use Rattle.provisioning.specs.Offering.{OffersAll}
 use Rattle.provisioning.specs.Sources.{are_whole}
 use Rattle.provisioning.specs.declared.carrying.Outcome.{Outcome}
 use Rattle.provisioning.specs.declared.faults.LoopFault.{LoopFault}
+use Rattle.provisioning.specs.declared.faults.LoopFault.TheVariants.{Ended, Store}
 use Rattle.provisioning.specs.declared.offering.Judged.{Judged}
 use Rattle.provisioning.specs.declared.sources.Sources.{Sources}
 
@@ -42,11 +43,26 @@ CarriesHere remaining contents g base sources old new result =
     CarriesSilently remaining contents g base sources old new result
     ⊎ ((fault : RunFault) × (result ≡ Err fault) × (new ≡ old))
 
--- the result of a run is its outcome, if no fault came after it
-abbrev pub IsOutcome : Result Outcome RunFault → Result Outcome LoopFault → Type 0
-IsOutcome carried result = IfOk result (λ outcome. carried ≡ Ok outcome)
+-- why the records weren't printed after a run: the provider's store failed, a line can't be written, or memory ran out
+abbrev pub IsUnprinted : LoopFault → Type 0
+IsUnprinted Store = ⊤
+IsUnprinted (Ended fault) = IsUntold fault
 
--- However it ends, nothing but such a run changed the connector
-abbrev pub Loops : {I O J : Type 0} → (I → Option (List ℕ)) → (O → Option (List ℕ)) → Ghosts J → List ℕ → Sources → (old new : State J) → Result Outcome LoopFault → Type 0
-Loops remaining contents g base sources old new result =
-    (carried : Result Outcome RunFault) × CarriesHere remaining contents g base sources old new carried × IsOutcome carried result
+-- the fault after a run: that of the provider's store, if one was counted, or that of the run; after a run without a
+-- fault, why its records weren't printed
+abbrev pub EndsWith : (has_failed : Type 0) → Result Outcome RunFault → LoopFault → Type 0
+EndsWith has_failed (Ok outcome) fault = IsUnprinted fault
+EndsWith has_failed (Err cause) fault = (has_failed × (fault ≡ Store)) ⊎ (fault ≡ Ended cause)
+
+-- the result of a run is its outcome, if no fault came after it; else that fault
+abbrev pub IsOutcome : (has_failed : Type 0) → Result Outcome RunFault → Result Outcome LoopFault → Type 0
+IsOutcome has_failed carried (Ok outcome) = carried ≡ Ok outcome
+IsOutcome has_failed carried (Err fault) = EndsWith has_failed carried fault
+
+-- However it ends, nothing but such a run changed the connector; `has_failed` says that a fault of the provider's store
+-- was counted
+abbrev pub Loops : {I O J : Type 0} → (I → Option (List ℕ)) → (O → Option (List ℕ)) → Ghosts J → List ℕ → Sources
+    → (old new : State J) → (has_failed : Type 0) → Result Outcome LoopFault → Type 0
+Loops remaining contents g base sources old new has_failed result =
+    (carried : Result Outcome RunFault) × CarriesHere remaining contents g base sources old new carried
+    × IsOutcome has_failed carried result

@@ -63,14 +63,25 @@ Becomes g request (lost fault) old new = new ≡ old
 
 -- ---- on its stream
 
--- The request's text, which spells it, was written to the writer, and the result is what the bytes of the reader say, from the first on
-pub record IsAsked {I O : Type 0} (remaining : I → Option (List ℕ)) (contents : O → Option (List ℕ)) (base : List ℕ) (request : Request) (reader : I) (writer : O) (came : Result Answer ExchangeFault) : Type 0 where
+-- The request's text, which spells it, was written to the writer, and the result is what the bytes of the reader say,
+-- from the first on
+pub record IsAsked {I O : Type 0} (remaining : I → Option (List ℕ)) (contents : O → Option (List ℕ)) (base : List ℕ)
+    (request : Request) (reader : I) (writer : O) (came : Result Answer ExchangeFault) : Type 0 where
   pub left : Reading
   pub written : Writing
   pub sent : Sends (text_of base request) (fresh_writing (contents writer)) written came
   pub spelled : SpellsSent base request (fresh_writing (contents writer)) written
   pub read : Reads request (fresh_reading (remaining reader)) left came
   pub known : ExchangesKnown request (remaining reader) left.remaining came
+
+-- The streams that are given back are those that the exchange used: what is left in the reader, what the writer holds,
+-- and how many calls of each were made and failed
+pub record GivesBack {I O : Type 0} (remaining : I → Option (List ℕ)) (contents : O → Option (List ℕ)) (base : List ℕ)
+    (request : Request) (reader : I) (writer : O) (came : Result Answer ExchangeFault) (input : Reading)
+    (output : Writing) : Type 0 where
+  pub asked : IsAsked remaining contents base request reader writer came
+  pub input_is : input ≡ asked.left
+  pub output_is : output ≡ asked.written
 
 pub record Exchange (I O : Type 0) : Type 0 where
   pub request : Request

@@ -1,6 +1,6 @@
 //! One exchange for a record, on its own stream.
 ghost use Rattle.std.specs.Prelude.{Ok};
-ghost use Rattle.provisioning.specs.Exchanges.{IsAsked, IsTaken, MakesExchange};
+ghost use Rattle.provisioning.specs.Exchanges.{GivesBack, IsTaken, MakesExchange};
 ghost use Rattle.provisioning.specs.Openings.{Opens};
 
 use crate::dialing::Dial;
@@ -30,25 +30,26 @@ pub(crate) fn exchange<J: Journal, D: Dial>(
         Ok(stream) => stream,
         Err(error) => return Err(open_fault(error)),
     };
-    let (came, reader, writer) = exchange_on(alloc, service, request, reader, writer);
-    dial.end(reader, writer);
+    let (came, input, output) = exchange_on(alloc, service, request, reader, writer);
+    dial.end(input.into_inner(), output.into_inner());
     take(connector, request, came)
 }
 
-/// Sends a request on a stream and reads its answer. It returns the stream too.
+/// Sends a request on a stream and reads its answer. It returns the stream too, with what was counted.
 fn exchange_on<I: Read, O: Write>(
     alloc: Global,
     service: &ScimService,
     request: &Request,
     reader: I,
     writer: O,
-) -> (Result<Answer, ExchangeFault>, I, O)
-    ensures { IsAsked I.remaining O.contents service.now request.now reader writer result.0 }
+) -> (Result<Answer, ExchangeFault>, Input<I>, Output<O>)
+    ensures { GivesBack I.remaining O.contents service.now request.now reader writer result.0
+        result.1 result.2 }
 {
     let mut input = Input::new(reader);
     let mut output = Output::new(writer);
     let came = service.exchange(alloc, request, &mut input, &mut output);
-    (came, input.into_inner(), output.into_inner())
+    (came, input, output)
 }
 
 /// Takes the result of an exchange.

@@ -1,5 +1,5 @@
 //! Connector and provider in turn: the connector against a provider in the same program, over TCP.
-ghost use Rattle.std.specs.Prelude.{Ok};
+ghost use Rattle.std.specs.Prelude.{◌<◌, Ok};
 ghost use Rattle.provisioning.specs.Carrying.{CarriesHere, CarriesSilently, IsOutcome, Loops};
 
 use crate::carrying::{Outcome, carry};
@@ -39,7 +39,7 @@ pub fn run_loop<'a, N: Net + Clock, R: StoredRows + 'a, J: Journal, W: Write>(
 ) -> Result<Outcome, LoopFault>
     ensures { Loops ⟦<OwnReader<'a, 'a, 'a, N, Sockets<'a, N::Listener, N>, R> as Read>⟧.remaining
         ⟦<TimedHandle<'a, N::Stream, N> as Write>⟧.contents J.Journal service.now sources.now
-        connector.old connector.new result }
+        connector.old connector.new (0 < R.faults provider.new) result }
 {
     let carried = carry_here(rt, alloc, service, connector, provider, sources, out);
     finish(carried, connector, provider, out)
@@ -53,7 +53,7 @@ fn finish<R: StoredRows, J: Journal, W: Write>(
     provider: &mut Provider<R>,
     out: &mut W,
 ) -> Result<Outcome, LoopFault>
-    ensures { IsOutcome carried result }
+    ensures { IsOutcome (0 < R.faults provider.new) carried result }
 {
     if provider.registry().has_failed() {
         return Err(LoopFault::Store);
@@ -71,7 +71,7 @@ fn print_end<R: StoredRows, J: Journal, W: Write>(
     provider: &mut Provider<R>,
     out: &mut W,
 ) -> Result<Outcome, LoopFault>
-    ensures { IsOutcome (Ok outcome) result }
+    ensures { IsOutcome (0 < R.faults provider.new) (Ok outcome) result }
 {
     if outcome.tally.is_settled {
         let exchanges = outcome.tally.exchanges;

@@ -1,8 +1,9 @@
 //! The state of the records at the end of a run.
-ghost use Rattle.std.specs.Prelude.{◌≡◌, IfOk};
+ghost use Rattle.std.specs.Prelude.{◌≡◌, IfErr, IfOk};
 ghost use Rattle.provider_core.specs.Rows.{row_named};
 ghost use Rattle.connector_core.specs.Book.{confirmed_of, wanted_of};
 ghost use Rattle.connector_core.specs.Maps.{book_of};
+ghost use Rattle.provisioning.specs.Carrying.{IsUnprinted};
 ghost use Rattle.world_sim.specs.Views.{viewed};
 
 use crate::faults::{LoopFault, RunFault, unwritten};
@@ -34,11 +35,12 @@ fn view<R: Registry, J: Journal>(
     provider: &mut Provider<R>,
     name: RecordName,
 ) -> Result<View, LoopFault>
-    ensures { R.is_faithful provider.new
+    ensures row { R.is_faithful provider.new
         → IfOk result (λ view. view
         ≡ viewed name (wanted_of (book_of connector.now.book) name)
         (confirmed_of (book_of connector.now.book) name)
         (row_named name (R.rows provider.old))) }
+    ensures fault { IfErr result IsUnprinted }
 {
     let wanted = connector.wanted(&name);
     let confirmed = connector.confirmed(&name);
@@ -53,7 +55,9 @@ pub(crate) fn print_views<R: Registry, J: Journal, W: Write>(
     connector: &Connector<J>,
     provider: &mut Provider<R>,
     out: &mut W,
-) -> Result<(), LoopFault> {
+) -> Result<(), LoopFault>
+    ensures { IfErr result IsUnprinted }
+{
     for name in connector.names().map_err(RunFault::from)? {
         let view = view(connector, provider, name)?;
         writeln!(out, "{view}").map_err(unwritten)?;

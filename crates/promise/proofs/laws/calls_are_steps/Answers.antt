@@ -4,20 +4,11 @@ use Rattle.promise.proofs.laws.calls_are_steps.Goals as goal
 pub returns-clause-serving : goal.returns-clause-serving
 returns-clause-serving g c = laws.serving_is_a_step g.R.Registry g.J.Journal g.I.Read.remaining g.O.Write.contents g.P.Read.remaining g.Q.Write.contents
 
-pub returns-clause-turns : goal.returns-clause-turns
-returns-clause-turns g c = laws.turns_are_steps g.R.Registry g.J.Journal g.I.Read.remaining g.O.Write.contents g.P.Read.remaining g.Q.Write.contents
-
 pub returns-clause-exchanges : goal.returns-clause-exchanges
 returns-clause-exchanges g c = laws.exchanges_are_steps g.R.Registry g.J.Journal g.I.Read.remaining g.O.Write.contents g.P.Read.remaining g.Q.Write.contents
 
 pub returns-clause-offers : goal.returns-clause-offers
 returns-clause-offers g c = laws.offers_are_steps g.R.Registry g.J.Journal g.I.Read.remaining g.O.Write.contents g.P.Read.remaining g.Q.Write.contents
-
-pub returns-clause-shutting : goal.returns-clause-shutting
-returns-clause-shutting g c = laws.shutting_is_a_step g.R.Registry g.J.Journal g.I.Read.remaining g.O.Write.contents g.P.Read.remaining g.Q.Write.contents g.met.R.Registry.settled
-
-pub returns-clause-runs : goal.returns-clause-runs
-returns-clause-runs g c = laws.runs_are_traces g.R.Registry g.J.Journal g.I.Read.remaining g.O.Write.contents g.P.Read.remaining g.Q.Write.contents
 
 pub returns-clause-reopening : goal.returns-clause-reopening
 returns-clause-reopening g c = laws.reopening_is_a_step g.R.Registry g.J.Journal g.I.Read.remaining g.O.Write.contents g.P.Read.remaining g.Q.Write.contents

@@ -18,7 +18,7 @@ returns g c =
         record {
           came = taken.came;
           sent = subst (λ (said : Result Answer ExchangeFault). IsAsked g.D.Reader.Read.remaining g.D.Writer.Write.contents c.args.service.now c.args.request.now c.in-Ok.stream.0 c.in-Ok.stream.1 said)
-              (sym taken.answer_is) c.exchange_on-came.ensures;
+              (sym taken.answer_is) c.exchange_on-came.ensures.asked;
           becomes = taken.becomes;
           result_is = taken.result_is;
         },
