@@ -31,6 +31,7 @@ use std::marker::Model;
 use std::slice;
 
 /// A journal with its entries in the tables of a connection.
+#[derive(Drop)]
 pub struct SqlJournal<S: Alter> {
     conn: Connection<S>,
     alloc: Global,

@@ -27,6 +27,7 @@ use std::alloc::Global;
 use std::marker::Model;
 
 /// A registry with its rows in the tables of a connection.
+#[derive(Drop)]
 pub struct SqlRegistry<S: Alter> {
     conn: Connection<S>,
     alloc: Global,

@@ -6,7 +6,10 @@ pub mod Fitting
 pub mod Answering
 pub mod Running
 pub mod GoingOn
+pub mod Following
 pub mod Settling
 pub mod Schedules
 pub mod Views
 pub mod Lines
+pub mod Printing
+pub mod Random

@@ -1,6 +1,6 @@
 -- What the world shows of a record.
-use Rattle.std.specs.Prelude.{◌≡◌, ◌⊎◌, false, length, Option, Some, None}
-use Rattle.std.specs.Option.{unwrap_or}
+use Rattle.std.specs.Prelude.{◌≡◌, ◌⊎◌, ℕ, List, false, length, Option, Some, None}
+use Rattle.std.specs.Option.{option_map, unwrap_or}
 use Rattle.scim_key.specs.Revisions.{RevisionValue, no_revision}
 use Rattle.scim_key.specs.Stores.{HasRisen}
 use Rattle.scim_key.specs.declared.records.RecordName.{RecordName}
@@ -10,8 +10,9 @@ use Rattle.provider_core.specs.Rows.{row_named}
 use Rattle.provider_core.specs.declared.registry.Registry.{Ghosts as Registries}
 use Rattle.journal_core.specs.declared.journals.Journal.{Ghosts as Journals}
 use Rattle.connector_core.specs.Book.{confirmed_of, wanted_of}
-use Rattle.world_model.specs.World.{World}
+use Rattle.world_model.specs.World.{World, message_at}
 use Rattle.world_model.specs.Safe.{rows}
+use Rattle.world_sim.specs.Messages.{message_text}
 use Rattle.world_sim.specs.Running.{Is, IsSound, is_open, opens_of}
 use Rattle.world_sim.specs.declared.reports.WorldFault.{WorldFault}
 use Rattle.world_sim.specs.declared.reports.WorldFault.TheVariants.{Memory, Store}
@@ -47,6 +48,12 @@ view w name = viewed name (wanted_of w.book name) (confirmed_of w.book name) (ro
 -- this is the view of each world that runs
 abbrev pub Shows : {R J : Type 0} → Registries R → Journals J → (old new : Running R J) → RecordName → View → Type 0
 Shows g h old new name shown = IsSound g h new → (w : World) → Is g h old w → shown ≡ view w name
+
+-- these are the bytes of the message with this number, counted from 1, in each world that runs
+abbrev pub ShowsMessage : {R J : Type 0} → Registries R → Journals J → Running R J → (number : ℕ) → Option (List ℕ)
+    → Type 0
+ShowsMessage g h r number shown = (w : World) → Is g h r w
+    → shown ≡ option_map (message_text r.service) (message_at w.messages number)
 
 -- ---- faults
 

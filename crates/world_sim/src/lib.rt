@@ -2,8 +2,10 @@
 #![tactic(auto)]
 
 mod events;
+mod following;
 mod laws;
 mod messages;
+mod printing;
 mod random;
 mod reading;
 mod reports;
@@ -15,7 +17,9 @@ mod views;
 mod worlds;
 
 pub use events::Event;
+pub use following::{Follow, TellingFault, run_telling};
 pub use laws::{answers_fit, messages_are_read};
+pub use printing::{Printed, ReportLines, print_run};
 pub use random::random_schedule;
 pub use reports::{Report, WorldFault};
 pub use runs::run;

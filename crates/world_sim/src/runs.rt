@@ -1,15 +1,46 @@
 //! Whole runs.
-ghost use Rattle.std.specs.Prelude.{IfErr, IfOk};
+ghost use Rattle.std.specs.Prelude.{◌≡◌, IfErr, IfOk};
 ghost use Rattle.world_sim.specs.Events.{events_of};
+ghost use Rattle.world_sim.specs.Following.{run_fault};
 ghost use Rattle.world_sim.specs.Running.{EndsRun, RunsFromEmpty};
 
 use crate::events::Event;
+use crate::following::{Follow, TellingFault, run_telling};
 use crate::reports::{Report, WorldFault};
 use crate::worlds::World;
 use journal_core::ReopenJournal;
 use provider_core::Reopen;
 use scim_key::Base;
-use std::alloc::Global;
+use std::alloc::{AllocError, Global};
+
+/// Keeps the reports of a run.
+#[derive(Drop)]
+struct Reports {
+    kept: Vec<Report>,
+}
+
+impl Follow for Reports {
+    type Fault = AllocError;
+
+    ghost told = { λ r. r.kept.items };
+
+    ghost does = { λ _ _ _. Unit {0} };
+
+    fn tell(&mut self, report: Report) -> Result<(), AllocError> {
+        self.kept.push(report)?;
+        Ok(())
+    }
+}
+
+/// A report that couldn't be kept is out of memory.
+fn run_fault(fault: TellingFault<AllocError>) -> WorldFault
+    ensures { result ≡ run_fault fault }
+{
+    match fault {
+        TellingFault::World(fault) => fault,
+        TellingFault::Untold(error) => WorldFault::from(error),
+    }
+}
 
 /// The world after these events, one after the other, over a registry without rows and a journal without
 /// entries, and the report of each event. The headline holds: whatever is lost, repeated, late or
@@ -29,14 +60,11 @@ pub fn run<R: Reopen + Drop, J: ReopenJournal + Drop>(
     ensures fault { IfErr result
         (EndsRun R.Registry J.Journal registry journal base (events_of events.now)) }
 {
-    let mut world = match World::new(alloc, registry, journal, base) {
-        Ok(world) => world,
-        Err((fault, _registry, _journal)) => return Err(fault),
+    let mut reports = Reports {
+        kept: Vec::new(alloc),
     };
-    let mut reports = Vec::new(alloc);
-    for event in events {
-        let report = world.step(event)?;
-        reports.push(report)?;
+    match run_telling(alloc, registry, journal, base, events, &mut reports) {
+        Ok(world) => Ok((world, reports.kept)),
+        Err(fault) => Err(run_fault(fault)),
     }
-    Ok((world, reports))
 }

@@ -1,12 +1,14 @@
-//! What a world shows of its records.
+//! What a world shows of its messages and records.
 ghost use Rattle.std.specs.Prelude.{◌≡◌, IfErr, IfOk, OnOk, true};
-ghost use Rattle.std.specs.Option.{option_copied};
+ghost use Rattle.std.specs.Option.{option_copied, option_map};
 ghost use Rattle.provider_core.specs.Calls.{Reads};
 ghost use Rattle.provider_core.specs.Rows.{row_named};
+ghost use Rattle.world_sim.specs.Messages.{text_at, texts_of};
 ghost use Rattle.world_sim.specs.Running.{is_open, names_in};
 ghost use Rattle.world_sim.specs.Sides.{CountsWorldFault};
-ghost use Rattle.world_sim.specs.Views.{IsBlind, IsNoName, Looks, Shows, viewed};
+ghost use Rattle.world_sim.specs.Views.{IsBlind, IsNoName, Looks, Shows, ShowsMessage, viewed};
 
+use crate::messages::sent_at;
 use crate::reports::WorldFault;
 use crate::sides::Side;
 use crate::worlds::World;
@@ -126,6 +128,20 @@ fn row_of<R: Registry>(
 }
 
 impl<R: Registry + Drop, J: Journal + Drop> World<R, J> {
+    /// The bytes of the message with this number. Requests and answers are counted from 1 in the order in
+    /// which they were sent.
+    pub fn message(&self, number: usize) -> Option<&[u8]>
+        ensures bytes { option_map (λ bytes. bytes.now) result
+            ≡ text_at (texts_of self.now.sent.items) number }
+        ensures shows { ShowsMessage R.Registry J.Journal self.now number
+            (option_map (λ bytes. bytes.now) result) }
+    {
+        match sent_at(&self.sent, number) {
+            Some(sent) => Some(sent.bytes.as_slice()),
+            None => None,
+        }
+    }
+
     /// The names of the connector's records: users by key, then groups by key.
     pub fn names(&self) -> Result<Vec<RecordName>, WorldFault>
         ensures names { IfOk result (λ names. names.items ≡ names_in J.Journal self.now.connector) }

@@ -1,5 +1,6 @@
 use Rattle.std.proofs.Common.{◌≡◌, length}
+use Rattle.world_sim.proofs.RandomLemmas.{AreDrawnSoFar}
 use Rattle.world_sim.proofs.random.random_schedule.Given as goal
 
 abbrev pub invariant-loop : goal.invariant-loop
-invariant-loop l = length l.events.items ≡ l.counter
+invariant-loop l = (length l.events.items ≡ l.counter) × AreDrawnSoFar l.draws.generator l.draws.revisions l.seed l.count l.counter l.events.items

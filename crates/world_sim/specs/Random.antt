@@ -1,0 +1,82 @@
+-- The events that a seed draws.
+use Rattle.std.specs.Prelude.{ℕ, zero, suc, ◌+◌, ◌/◌, ◌%◌, ◌==◌, List, [], ◌∷◌, ◌++◌, Option, Some}
+use Rattle.std.specs.Prelude.{codes, if◌then◌else◌, min, nat_lt, slice_index, slice_set}
+use Rattle.std.specs.Fmt.{decimal}
+use Rattle.std.specs.Option.{option_map}
+use Rattle.rand_core.specs.Pcg32Seed.{pcg32_seed}
+use Rattle.rand_pcg.specs.Lcg.{Lcg}
+use Rattle.rand_pcg.specs.Pcg.{pcg32, pcg32_of_seed}
+use Rattle.scim_key.specs.declared.revisions.TheConstants.{LAST_REVISION}
+use Rattle.scim_key.specs.declared.records.Kind.{Kind}
+use Rattle.scim_key.specs.declared.records.Kind.TheVariants.{User, Group}
+use Rattle.scim_filter.specs.Names.{record_named}
+use Rattle.source_csv.specs.Fields.{Record}
+use Rattle.world_sim.specs.Schedules.{change_in}
+use Rattle.world_sim.specs.declared.events.Event.{Event}
+use Rattle.world_sim.specs.declared.events.Event.TheVariants as events
+
+-- ---- the records: the users a, b and c, and the group g
+
+abbrev pub kind_at : (place : ℕ) → Kind
+kind_at place = if nat_lt place 3 then User else Group
+
+abbrev pub name_at : (place : ℕ) → List ℕ
+name_at place =
+    if place == 0 then codes "a" else if place == 1 then codes "b" else if place == 2 then codes "c" else codes "g"
+
+-- a user has left at each third revision, and has no other fields; the group has one member at odd revisions and two at
+-- even ones
+abbrev pub fields_at : (place revision : ℕ) → List ℕ
+fields_at place revision =
+    if nat_lt place 3 then (if revision % 3 == 0 then codes ",,,,left" else codes ",,,,active")
+    else (if revision % 2 == 0 then codes "a b" else codes "a")
+
+-- the record at a revision, as a line of a file
+abbrev pub record_at : (place revision : ℕ) → List ℕ
+record_at place revision = name_at place ++ (codes "," ++ (decimal revision ++ (codes "," ++ fields_at place revision)))
+
+-- ---- one event
+
+-- a counter rises by one, and isn't above the last revision
+abbrev pub risen : (counter : ℕ) → ℕ
+risen counter = min (counter + 1) LAST_REVISION
+
+abbrev pub message_drawn : (rest : ℕ) → ℕ
+message_drawn rest = 1 + rest % 64
+
+-- a side is opened again, or a message arrives in part
+abbrev pub trouble_drawn : (rest : ℕ) → Event
+trouble_drawn rest =
+    if rest % 3 == 0 then events.RestartProvider
+    else if rest % 3 == 1 then events.RestartConnector
+    else events.Cut (message_drawn rest) (rest % 50)
+
+-- The event of a word, given the counters of the records: by its remainder modulo 8 a change, a request, a message that
+-- arrives, or a trouble; its other bits say of which record, or which message
+unfoldable pub event_drawn : (List ℕ → List Record) → (counters : List ℕ) → (word : ℕ) → Option Event
+event_drawn records_in counters word =
+    if nat_lt (word % 8) 2 then change_in records_in (kind_at (word / 8 % 4))
+    (record_at (word / 8 % 4) (risen (slice_index counters (word / 8 % 4))))
+    else if nat_lt (word % 8) 4 then option_map events.Send
+    (record_named (name_at (word / 8 % 4)) (kind_at (word / 8 % 4)))
+    else if nat_lt (word % 8) 7 then Some (events.Deliver (message_drawn (word / 8)))
+    else Some (trouble_drawn (word / 8))
+
+-- the counters after that: a change raises the record's
+unfoldable pub counters_after : (counters : List ℕ) → (word : ℕ) → List ℕ
+counters_after counters word =
+    if nat_lt (word % 8) 2 then slice_set counters (word / 8 % 4)
+    (risen (slice_index counters (word / 8 % 4))) else counters
+
+-- ---- all events
+
+-- the next events of a generator, each by its next word
+abbrev pub drawn : (List ℕ → List Record) → Lcg → (counters : List ℕ) → (count : ℕ) → List (Option Event)
+drawn records_in generator counters zero = []
+drawn records_in generator counters (suc count) =
+    event_drawn records_in counters (pcg32 generator).0 ∷ drawn records_in (pcg32 generator).1
+    (counters_after counters (pcg32 generator).0) count
+
+-- The events of a seed: all counters begin at 0
+abbrev pub seed_draws : (List ℕ → List Record) → (seed count : ℕ) → List (Option Event)
+seed_draws records_in seed count = drawn records_in (pcg32_of_seed (pcg32_seed 16 seed)) (0 ∷ 0 ∷ 0 ∷ 0 ∷ []) count
