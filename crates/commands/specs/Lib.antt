@@ -5,3 +5,5 @@ pub mod Statuses
 pub mod Images
 pub mod Words
 pub mod Simulating
+pub mod Running
+pub mod Listening

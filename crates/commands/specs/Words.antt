@@ -1,7 +1,7 @@
 -- The values of arguments: the value of a required one, or the fault that it is missing.
-use Rattle.std.specs.Prelude.{List, ℕ, Option, None, Some, Result, Ok, Err}
+use Rattle.std.specs.Prelude.{◌≡◌, ◌^◌, ◌<◌, ◌≤◌, List, ℕ, Option, None, Some, Result, Ok, Err}
 use denote.Ref.{Bor}
-use Rattle.std.specs.Str.Parse.{digits_value, without_leading_plus}
+use Rattle.std.specs.Str.Parse.{IsNumeral, digits_value, without_leading_plus}
 use Rattle.scim_key.specs.Bases.{base_fault}
 use Rattle.scim_key.specs.declared.names.NameFault.{NameFault}
 use Rattle.commands.specs.Statuses.{base_fault as fault_of_base}
@@ -30,3 +30,23 @@ wanted_base (Some text) = as_base (base_fault text) text
 -- the number that a text of digits spells
 abbrev pub number_in : (text : List ℕ) → ℕ
 number_in text = digits_value 10 (without_leading_plus text)
+
+-- digits that spell a number of at most so many bits
+abbrev pub IsNumber : (bits : ℕ) → (text : List ℕ) → Type 0
+IsNumber bits text = IsNumeral 10 (without_leading_plus text) × (number_in text < 2 ^ bits)
+
+-- the number that the text of an argument spells; none exactly if there is no text, or if it spells no such number
+abbrev pub GivesNumber : (bits : ℕ) → (given : Option (List ℕ)) → (result : Option ℕ) → Type 0
+GivesNumber bits None result = result ≡ None
+GivesNumber bits (Some text) (Some number) = IsNumber bits text × (number ≡ number_in text)
+GivesNumber bits (Some text) None = IsNumber bits text → ⊥
+
+-- digits that spell a number from 1 to this one
+abbrev pub IsCount : (most : ℕ) → (text : List ℕ) → Type 0
+IsCount most text = IsNumber 32 text × (0 < number_in text) × (number_in text ≤ most)
+
+-- the count that the text of an argument spells; this fault exactly if there is no text, or if it spells none
+abbrev pub GivesCount : (most : ℕ) → (wrong : CommandFault) → (given : Option (List ℕ)) → Result ℕ CommandFault → Type 0
+GivesCount most wrong None result = result ≡ Err wrong
+GivesCount most wrong (Some text) (Ok count) = IsCount most text × (count ≡ number_in text)
+GivesCount most wrong (Some text) (Err why) = (IsCount most text → ⊥) × (why ≡ wrong)

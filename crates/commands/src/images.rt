@@ -1,14 +1,46 @@
-//! The images of the rows of a users file, and the exit status after them.
+//! `map`: prints the image of each row of a users file, one line each. It reads the file once, and holds one
+//! record.
 ghost use Rattle.std.specs.Prelude.{◌≡◌, IfErr, IfOk};
 ghost use Rattle.std.specs.Io.KnownBytes.{Keeps};
-ghost use Rattle.commands.specs.Images.{IsMapFault, Prints, PrintsNext};
+ghost use Rattle.commands.specs.Images.{EndsPrinting, IsMapFault, IsMapped, Prints, PrintsNext};
 ghost use Rattle.commands.specs.Statuses.{status_of_rows};
 
-use crate::status::{CommandFault, Status};
+use crate::output::{NotedWriter, standard_output};
+use crate::status::{CommandFault, Part, Status, unread_fault};
+use crate::words::file;
+use clap::ArgMatches;
 use mapping::{WriteFault, write_record};
+use scim_key::Kind;
 use source_csv::{Multiline, Row, RowFault, RowReader, multiline_at};
 use std::alloc::Global;
+use std::fs::File;
 use std::io::{Eprint, Read, Write};
+use std::rt::Runtime;
+
+/// Prints the images of the rows of a file. It reports the rejected records, and those with a field over several
+/// lines, on standard error.
+pub fn map<R: Runtime + AllocGlobal>(rt: &R, words: &ArgMatches<'_>) -> Result<Status, CommandFault>
+    ensures { IfOk result IsMapped }
+{
+    let file = File::open(rt, file(words)?).map_err(|error| unread_fault(Part::File, error))?;
+    let mut rows = RowReader::open(rt.alloc(), Kind::User, file)?;
+    let mut out = standard_output(rt)?;
+    map_rows(rt, rt.alloc(), &mut rows, &mut out)
+}
+
+/// Prints the images of the rows of a file that was opened.
+fn map_rows<E: Eprint, R: Read + Drop, W: Write + Drop>(
+    stderr: &E,
+    alloc: Global,
+    rows: &mut RowReader<R>,
+    out: &mut NotedWriter<W>,
+) -> Result<Status, CommandFault>
+    ensures { EndsPrinting rows.old (W.contents out.old.inner) (W.contents out.new.inner)
+        out.new.last result }
+{
+    let ended = print_images(stderr, alloc, rows, out);
+    out.concluded(ended)
+}
 
 /// Prints the images of all records that are left, a line each, and returns the exit status. It reports on
 /// standard error each record that is rejected or has a field over several lines. It holds one record and one

@@ -6,15 +6,27 @@ mod addresses;
 mod answering;
 mod endings;
 mod images;
+mod jobs;
+mod looping;
 mod output;
+mod pushing;
+mod resetting;
+mod serving;
+mod showing;
 pub mod simulating;
 mod status;
 pub mod words;
 
-pub use answering::{answer_one, answer_stored};
+pub use answering::{answer, answer_one, answer_stored};
 pub use endings::{outcome_status, pushed_status, run_status, shown_status, simulated_status};
-pub use images::print_images;
-pub use output::NotedWriter;
+pub use images::{map, print_images};
+pub use jobs::Job;
+pub use looping::carry;
+pub use output::{NotedWriter, StandardOutput, standard_output};
+pub use pushing::{push, push_over};
+pub use resetting::reset;
+pub use serving::serve;
+pub use showing::show;
 pub use status::{
     Cause, CommandFault, Part, Reason, Status, listen_fault, told, unread_fault, words_fault,
 };

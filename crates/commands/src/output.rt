@@ -1,4 +1,4 @@
-//! A writer that keeps the system's error if a write failed.
+//! Standard output, and a writer that keeps the system's error if a write failed.
 ghost use Rattle.std.specs.Prelude.{◌≡◌, None};
 ghost use Rattle.std.specs.Io.{WritesAtMost};
 ghost use Rattle.std.specs.Io.KnownBytes.{Keeps, WriteAppends};
@@ -7,7 +7,18 @@ ghost use Rattle.commands.specs.Causes.{concluded, explained, last_error};
 use crate::status::{CommandFault, Status};
 use provisioning::RunFault;
 use std::io;
-use std::io::Write;
+use std::io::{BufWriter, Printer, Write};
+use std::rt::Runtime;
+
+/// Standard output, which is written in blocks. It keeps the system's error if a write failed.
+pub type StandardOutput<'a, R> = NotedWriter<BufWriter<Printer<'a, R>>>;
+
+/// Standard output. Nothing is in its block yet.
+pub fn standard_output<R: Runtime + AllocGlobal>(
+    rt: &R,
+) -> Result<StandardOutput<'_, R>, CommandFault> {
+    Ok(NotedWriter::new(BufWriter::new(rt.alloc(), io::writer(rt))?))
+}
 
 /// A writer, and the system's error of its last call that failed.
 #[derive(Drop)]

@@ -1,12 +1,11 @@
 //! The values of the arguments.
-ghost use Rattle.std.specs.Prelude.{◌≡◌, ◌<◌, ◌≤◌, IfOk, Some, codes};
-ghost use Rattle.std.specs.Option.{option_map};
+ghost use Rattle.std.specs.Prelude.{◌≡◌, codes};
 ghost use Rattle.clap.specs.Matches.{first_value, found_of, one_text};
 ghost use Rattle.scim_key.specs.Outcome.{Gives};
 ghost use Rattle.commands.specs.Addresses.{GivesAddress, text_in};
 ghost use Rattle.commands.specs.Statuses.{base_fault, words_status};
-ghost use Rattle.commands.specs.Words.{given_text, number_in, wanted, wanted_base};
-ghost use Rattle.commands.specs.declared.status.CommandFault.TheVariants.{File, Listen, Memory, To};
+ghost use Rattle.commands.specs.Words.{GivesCount, given_text, wanted, wanted_base};
+ghost use Rattle.commands.specs.declared.status.CommandFault.TheVariants.{File, Listen, Memory, Requests, To};
 
 use crate::addresses::is_address;
 use crate::status::{CommandFault, Status};
@@ -102,10 +101,8 @@ fn address_in(given: Option<&str>, least: u16, wrong: CommandFault) -> Result<&s
 
 /// The number of connections in the arguments.
 pub fn requests(matches: &ArgMatches<'_>) -> Result<u32, CommandFault>
-    ensures range { IfOk result (λ count. (0 < count) × (count ≤ MOST_REQUESTS)) }
-    ensures value { IfOk result
-        (λ count. option_map number_in (one_text (found_of matches.now) (codes "requests"))
-        ≡ Some count) }
+    ensures { GivesCount MOST_REQUESTS Requests
+        (one_text (found_of matches.now) (codes "requests")) result }
 {
     match matches.get_one("requests") {
         Some(count) if (1..=MOST_REQUESTS).contains(&count) => Ok(count),

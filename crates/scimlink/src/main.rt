@@ -1,19 +1,10 @@
 //! `scimlink`: a SCIM 2.0 provider, and a connector from files of personnel records.
 #![tactic(auto)]
 
-mod answering;
 mod arguments;
 mod causes;
-mod looping;
-mod map_users;
 mod options;
-mod output;
-mod pushing;
-mod resetting;
-mod serving;
-mod showing;
 mod simulating;
-mod sources;
 
 use arguments::{arguments, tell};
 use causes::report;
@@ -85,13 +76,13 @@ fn carry_out<R: Runtime + Net + AllocGlobal, K: RowStorage, J: EntryStorage>(
     journal: Option<&J>,
 ) -> Result<Status, CommandFault> {
     match command {
-        "answer" => answering::answer(rt, words, store),
-        "loop" => looping::run(rt, words, store, journal),
-        "map" => map_users::map(rt, words),
-        "serve" => serving::serve(rt, words, store),
-        "push" => pushing::push(rt, words, journal),
-        "reset" => resetting::reset(rt, journal),
-        "show" => showing::show(rt, store, journal),
+        "answer" => commands::answer(rt, words, store),
+        "loop" => commands::carry(rt, words, store, journal),
+        "map" => commands::map(rt, words),
+        "serve" => commands::serve(rt, words, store),
+        "push" => commands::push(rt, words, journal),
+        "reset" => commands::reset(rt, journal),
+        "show" => commands::show(rt, store, journal),
         "simulate" => simulating::simulate(rt, words),
         _ => Err(CommandFault::Subcommand),
     }

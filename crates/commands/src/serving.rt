@@ -1,7 +1,8 @@
 //! `serve`: connections to a socket, answered by one provider, as their requests are whole.
+use crate::endings::outcome_status;
+use crate::status::{CommandFault, Status, listen_fault};
+use crate::words::{address, base, requests};
 use clap::ArgMatches;
-use commands::words::{address, base, requests};
-use commands::{CommandFault, Status, listen_fault, outcome_status};
 use connection::{Sockets, serve_from_memory};
 use provisioning::CONNECTION_SECONDS;
 use scim_key::Base;
@@ -13,8 +14,8 @@ use storage::{RowStorage, StoredRows, serve_stored};
 
 /// Serves some connections to an address from the rows of a file, which it opens first, or from a provider in
 /// memory that starts empty.
-pub fn serve<R: Runtime + Net + AllocGlobal, K: RowStorage>(
-    rt: &R,
+pub fn serve<'a, R: Runtime + Net + AllocGlobal, K: RowStorage>(
+    rt: &'a R,
     words: &ArgMatches<'_>,
     store: Option<&K>,
 ) -> Result<Status, CommandFault> {
@@ -28,8 +29,8 @@ pub fn serve<R: Runtime + Net + AllocGlobal, K: RowStorage>(
 }
 
 /// Listens, and serves `requests` connections from a provider in memory that starts empty.
-fn serve_empty<R: Runtime + Net + AllocGlobal>(
-    rt: &R,
+fn serve_empty<'a, R: Runtime + Net + AllocGlobal>(
+    rt: &'a R,
     address: &str,
     requests: u32,
     base: &Base,
@@ -40,8 +41,8 @@ fn serve_empty<R: Runtime + Net + AllocGlobal>(
 }
 
 /// Opens the rows, listens, and serves `requests` connections.
-fn serve_from_file<R: Runtime + Net + AllocGlobal, K: RowStorage>(
-    rt: &R,
+fn serve_from_file<'a, R: Runtime + Net + AllocGlobal, K: RowStorage>(
+    rt: &'a R,
     address: &str,
     requests: u32,
     base: &Base,
@@ -49,23 +50,25 @@ fn serve_from_file<R: Runtime + Net + AllocGlobal, K: RowStorage>(
 ) -> Result<Status, CommandFault> {
     let rows = storage.open()?;
     match sockets(rt, address) {
-        Ok(mut sockets) => {
-            let outcome = serve_stored(
-                rt,
-                rt.alloc(),
-                storage,
-                rows,
-                &mut sockets,
-                requests,
-                base,
-            )?;
-            Ok(outcome_status(outcome.and(sockets.finish(rt))))
-        }
+        Ok(mut sockets) => serve_rows(rt, storage, rows, &mut sockets, requests, base),
         Err(fault) => {
             rows.close();
             Err(fault)
         }
     }
+}
+
+/// Serves `requests` connections from rows that were opened.
+fn serve_rows<'a, R: Runtime + Net + AllocGlobal, K: RowStorage>(
+    rt: &'a R,
+    storage: &K,
+    rows: K::Rows,
+    sockets: &mut Sockets<'a, R::Listener, R>,
+    requests: u32,
+    base: &Base,
+) -> Result<Status, CommandFault> {
+    let outcome = serve_stored(rt, rt.alloc(), storage, rows, sockets, requests, base)?;
+    Ok(outcome_status(outcome.and(sockets.finish(rt))))
 }
 
 /// The connections of an address, each with a deadline.

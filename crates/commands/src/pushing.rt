@@ -1,12 +1,15 @@
 //! `push`: the connector against the provider at an address.
-use crate::output::standard_output;
-use crate::sources::Job;
+use crate::endings::pushed_status;
+use crate::jobs::Job;
+use crate::output::{NotedWriter, standard_output};
+use crate::status::{CommandFault, Status};
+use crate::words::to;
 use clap::ArgMatches;
-use commands::words::to;
-use commands::{CommandFault, Status, pushed_status};
 use connector_core::Connector;
 use journal_core::Journal;
 use provisioning::{RunFault, Sources};
+use std::alloc::Global;
+use std::io::Write;
 use std::net::Net;
 use std::rt::Runtime;
 use storage::{EntryStorage, StoredEntries};
@@ -25,24 +28,24 @@ pub fn push<R: Runtime + Net + AllocGlobal, J: EntryStorage>(
 }
 
 /// Carries the records from a journal that it opens first, and closes.
-fn push_over<R: Runtime + Net + AllocGlobal, J: EntryStorage>(
+pub fn push_over<R: Runtime + Net + AllocGlobal, J: EntryStorage>(
     rt: &R,
     storage: &J,
     job: &Job<'_>,
     to: &str,
 ) -> Result<Status, CommandFault> {
-    let mut connector = open_connector(rt, storage)?;
+    let mut connector = open_connector(rt.alloc(), storage)?;
     let ended = push_from(rt, &mut connector, job, to);
     connector.close().close();
     ended
 }
 
 /// The connector over a journal. If the connector refuses the journal, it is closed.
-pub fn open_connector<R: Runtime + AllocGlobal, J: EntryStorage>(
-    rt: &R,
+pub(crate) fn open_connector<J: EntryStorage>(
+    alloc: Global,
     storage: &J,
 ) -> Result<Connector<J::Entries>, CommandFault> {
-    match Connector::open(rt.alloc(), storage.open()?) {
+    match Connector::open(alloc, storage.open()?) {
         Ok(connector) => Ok(connector),
         Err((fault, entries)) => {
             entries.close();
@@ -59,26 +62,19 @@ fn push_from<R: Runtime + Net + AllocGlobal, J: Journal>(
     to: &str,
 ) -> Result<Status, CommandFault> {
     let sources = job.read(rt)?;
-    push_of(rt, connector, job, &sources, to)
+    let mut out = standard_output(rt)?;
+    push_to(rt, connector, job, &sources, to, &mut out)
 }
 
-/// Carries the records of files.
-fn push_of<R: Runtime + Net + AllocGlobal, J: Journal>(
+/// Carries the records of files, and prints a line for each.
+fn push_to<R: Runtime + Net + AllocGlobal, J: Journal, W: Write + Drop>(
     rt: &R,
     connector: &mut Connector<J>,
     job: &Job<'_>,
     sources: &Sources,
     to: &str,
+    out: &mut NotedWriter<W>,
 ) -> Result<Status, CommandFault> {
-    let mut out = standard_output(rt)?;
-    let ended = provisioning::push(
-        rt,
-        rt.alloc(),
-        &job.service,
-        connector,
-        sources,
-        to,
-        &mut out,
-    );
+    let ended = provisioning::push(rt, rt.alloc(), &job.service, connector, sources, to, out);
     out.concluded(pushed_status(ended))
 }

@@ -1,0 +1,59 @@
+-- What `serve` does, and its exit status.
+use Rattle.std.specs.Prelude.{◌≡◌, ℕ, List, [], Option, Some, None, Result, Ok, codes}
+use Rattle.std.specs.Result.{result_and}
+use Rattle.clap.specs.Matches.{first_value, one_text}
+use Rattle.clap.specs.declared.parser.matches.Found.{Found}
+use Rattle.provider_core.specs.Memory.{MemoryRecord}
+use Rattle.provider_core.specs.declared.registry.Registry.{Ghosts}
+use Rattle.connection.specs.Requests.{FollowRequests}
+use Rattle.connection.specs.Turns.{ServesTurns}
+use Rattle.connection.specs.declared.serving.ConnectionFault.{ConnectionFault}
+use Rattle.storage.specs.Serving.{ServesFrom}
+use Rattle.storage.specs.StoreOpened.{IsOpened}
+use Rattle.commands.specs.Statuses.{outcome_status}
+use Rattle.commands.specs.Words.{IsCount, number_in, wanted_base}
+use Rattle.commands.specs.declared.status.Status.{Status}
+
+-- the status of connections with this outcome: some answers were still being sent, and this is what came of them
+pub record IsStatusOf (outcome : Result (Unit {0}) ConnectionFault) (status : Status) : Type 0 where
+  pub finished : Result (Unit {0}) ConnectionFault
+  pub status_is : status ≡ outcome_status (result_and outcome finished)
+
+module _ {L I O : Type 0} (waiting : L → Option (List (I × O))) (remaining : I → Option (List ℕ)) (contents : O → Option (List ℕ)) where
+  module _ {R : Type 0} (g : Ghosts R) (base : List ℕ) where
+    -- so many connections were served from these rows
+    pub record ServesRows (rows : R) (count : ℕ) (status : Status) : Type 0 where
+      pub before : L
+      pub after : L
+      pub last : R
+      pub outcome : Result (Unit {0}) ConnectionFault
+      pub serves : ServesFrom waiting remaining contents g base before after rows last count outcome
+      pub status_is : IsStatusOf outcome status
+
+    -- the same from rows that were opened
+    abbrev pub ServesStored : (count : ℕ) → Status → Type 0
+    ServesStored count status = (first : R) × IsOpened g first × ServesRows first count status
+
+  -- so many connections were served by a provider in memory that started empty
+  pub record ServesEmpty (g : Ghosts MemoryRecord) (base : List ℕ) (count : ℕ) (status : Status) : Type 0 where
+    pub before : L
+    pub after : L
+    pub held : MemoryRecord
+    pub outcome : Result (Unit {0}) ConnectionFault
+    pub follows : FollowRequests [] held.rows count
+    pub serves : ServesTurns waiting remaining contents g base before after (record { rows = []; writes = 0 }) held count outcome
+    pub status_is : IsStatusOf outcome status
+
+  -- from the rows of a store, if one is named
+  abbrev pub ServesNamed : {R K : Type 0} → Ghosts R → Ghosts MemoryRecord → (base : List ℕ) → (count : ℕ) → (store : Option K) → Status → Type 0
+  ServesNamed rows memory base count (Some store) status = ServesStored rows base count status
+  ServesNamed rows memory base count None status = ServesEmpty memory base count status
+
+  -- at the base, and as often, as the arguments say
+  pub record IsServed {R K : Type 0} (rows : Ghosts R) (memory : Ghosts MemoryRecord) (found : Found) (store : Option K) (status : Status) : Type 0 where
+    pub base : List ℕ
+    pub base_is : wanted_base (first_value found (codes "base")) ≡ Ok base
+    pub text : List ℕ
+    pub text_is : one_text found (codes "requests") ≡ Some text
+    pub count : IsCount 1_000_000 text
+    pub serves : ServesNamed rows memory base (number_in text) store status

@@ -1,0 +1,140 @@
+-- What the commands do over the files that they open, and the exit status after that.
+use Rattle.std.specs.Prelude.{◌≡◌, ◌⊎◌, ⊤, ℕ, List, Option, Some, None, Result, Ok, Err, OnOk, codes}
+use denote.Ref.{Bor}
+use Rattle.std.specs.IoError.{error_kind}
+use Rattle.std.specs.declared.io.Error.{Error}
+use Rattle.clap.specs.Matches.{first_value}
+use Rattle.clap.specs.declared.parser.matches.Found.{Found}
+use Rattle.scim_key.specs.Outcome.{Gives}
+use Rattle.journal_core.specs.Calls.{Reads}
+use Rattle.journal_core.specs.declared.journals.Journal.{Ghosts as Journals}
+use Rattle.journal_store.specs.declared.opening.JournalOpenFault.{JournalOpenFault}
+use Rattle.provider_core.specs.declared.registry.Registry.{Ghosts as Registries}
+use Rattle.connector_core.specs.State.{CountsOpenFault, IsKept, IsOpened as IsBookOf, LeavesBook, State}
+use Rattle.connector_core.specs.declared.opening.ConnectorOpenFault.{ConnectorOpenFault}
+use Rattle.storage.specs.JournalOpened.{IsOpened}
+use Rattle.storage.specs.JournalShowing.{ShowsFrom as ShowsEntries}
+use Rattle.storage.specs.Resetting.{ResetsFrom}
+use Rattle.storage.specs.StoreShowing.{ShowsFrom as ShowsRows}
+use Rattle.storage.specs.declared.show_fault.ShowFault.{ShowFault}
+use Rattle.provisioning.specs.Carrying.{CarriesSilently, Loops}
+use Rattle.provisioning.specs.Faults.{unopened}
+use Rattle.provisioning.specs.Sources.{ReadsSources}
+use Rattle.provisioning.specs.declared.carrying.Outcome.{Outcome}
+use Rattle.provisioning.specs.declared.faults.LoopFault.{LoopFault}
+use Rattle.provisioning.specs.declared.faults.RunFault.{RunFault}
+use Rattle.provisioning.specs.declared.sources.Sources.{Sources}
+use Rattle.provisioning.specs.declared.sources.UnreadFile.{UnreadFile}
+use Rattle.commands.specs.Addresses.{IsAddress, text_in}
+use Rattle.commands.specs.Causes.{concluded, source_part}
+use Rattle.commands.specs.Statuses.{journal_fault, pushed_status, run_status, shown_status, unless_memory, unread_fault}
+use Rattle.commands.specs.Words.{wanted, wanted_base}
+use Rattle.commands.specs.declared.jobs.Job.{Job}
+use Rattle.commands.specs.declared.status.CommandFault.{CommandFault}
+use Rattle.commands.specs.declared.status.CommandFault.TheVariants as fault
+use Rattle.commands.specs.declared.status.Status.{Status}
+use Rattle.commands.specs.declared.status.Status.TheVariants.{Done}
+
+-- ---- `show` and `reset`
+
+-- if the lines were written, this is true; the status, or the fault with the system's error, is that of the lines
+abbrev pub EndsShowing : Type 0 → (last : Option Error) → Result Status CommandFault → Type 0
+EndsShowing holds last ended = (shown : Result (Unit {0}) ShowFault) × OnOk shown holds × (ended ≡ concluded last (shown_status shown))
+
+-- a journal was opened, and has forgotten what was learnt
+abbrev pub IsReset : {J : Type 0} → Journals J → Status → Type 0
+IsReset g status = (status ≡ Done) × ((count : ℕ) × ResetsFrom g count)
+
+-- a line was written for each row of a store that was opened
+abbrev pub AreRowsShown : {R : Type 0} → Registries R → Status → Type 0
+AreRowsShown g status = (status ≡ Done) × ((before after : Option (List ℕ)) × ShowsRows g before after)
+
+-- a line was written for each entry of a journal that was opened
+abbrev pub AreEntriesShown : {J : Type 0} → Journals J → Status → Type 0
+AreEntriesShown g status = (status ≡ Done) × ((before after : Option (List ℕ)) × ShowsEntries g before after)
+
+-- the one that was named is shown
+abbrev pub IsShown : {R J K H : Type 0} → Registries R → Journals J → (store : Option K) → (journal : Option H) → Status → Type 0
+IsShown rows entries (Some store) None status = AreRowsShown rows status
+IsShown rows entries None (Some journal) status = AreEntriesShown entries status
+IsShown rows entries _ _ status = ⊥
+
+-- ---- what `push` and `loop` carry
+
+-- what these arguments name: the file of users, that of groups if there is one, and the base of the service
+pub record IsJob (found : Found) (job : Job) : Type 0 where
+  pub users : first_value found (codes "users") ≡ Some job.users.now
+  pub groups : first_value found (codes "groups") ≡ text_in job.groups
+  pub base : wanted_base (first_value found (codes "base")) ≡ Ok job.service
+
+-- that; or the file of users isn't named, or the base is none, or memory ran out
+abbrev pub GivesJob : Found → Result Job CommandFault → Type 0
+GivesJob found (Ok job) = IsJob found job
+GivesJob found (Err why) =
+    (wanted fault.File (first_value found (codes "users")) ≡ Err why) ⊎ Gives fault.Memory (Err why) (wanted_base (first_value found (codes "base")))
+
+-- each source is of its own file; or one of the files couldn't be read, and this is the fault
+abbrev pub ReadsJob : {R : Type 0} → (gives : R → (path : List ℕ) → Result (List ℕ) Error → Type 0) → (place : R) → Job → Result Sources CommandFault → Type 0
+ReadsJob gives place job (Ok sources) = ReadsSources gives place job.users.now (text_in job.groups) (Ok sources)
+ReadsJob gives place job (Err why) = (unread : UnreadFile) × ReadsSources gives place job.users.now (text_in job.groups) (Err unread) × (why ≡ unread_fault (source_part unread.kind) unread.error)
+
+-- the same of files of which no contract says what they have
+abbrev pub ReadsFiles : Job → Result Sources CommandFault → Type 0
+ReadsFiles job result = ReadsJob {R = Unit {0}} (λ _ _ _. ⊤) tt job result
+
+-- ---- the connector
+
+-- a connector over a journal that was just opened
+pub record IsStart {J : Type 0} (g : Journals J) (start : State J) : Type 0 where
+  pub first : J
+  pub opened : IsOpened g first
+  pub reads : Reads {T = State J} {F = ConnectorOpenFault × J} g CountsOpenFault first start.journal (Ok start)
+  pub book : g.is_faithful start.journal → IsBookOf (g.entries first) start.book
+  pub kept : g.is_faithful start.journal → IsKept (g.entries start.journal) start.book
+  pub leaves : g.is_honest start.journal → LeavesBook g start
+
+-- the journal couldn't be opened, or read
+abbrev pub IsUnopened : CommandFault → Type 0
+IsUnopened why = ((cause : JournalOpenFault) × (why ≡ journal_fault cause)) ⊎ ((cause : ConnectorOpenFault) × (why ≡ fault.Run (unopened cause)))
+
+abbrev pub GivesConnector : {J : Type 0} → Journals J → Result (State J) CommandFault → Type 0
+GivesConnector g (Ok start) = IsStart g start
+GivesConnector g (Err why) = IsUnopened why
+
+-- ---- `push`
+
+module _ {I O J : Type 0} (remaining : I → Option (List ℕ)) (contents : O → Option (List ℕ)) (g : Journals J) where
+  -- The records of these sources were carried; the status is that of this run, or its fault with the system's error
+  abbrev pub Pushes : (base : List ℕ) → Sources → (old new : State J) → (last : Option Error) → Result Status CommandFault → Type 0
+  Pushes base sources old new last ended =
+      (carried : Result Outcome RunFault) × CarriesSilently remaining contents g base sources old new carried × (ended ≡ concluded last (pushed_status carried))
+
+  -- The files of a job were read, and their records carried; or a file couldn't be read, or memory ran out, and the
+  -- connector is as it was
+  abbrev pub PushesFrom : Job → (old new : State J) → Result Status CommandFault → Type 0
+  PushesFrom job old new ended =
+      ((sources : Sources) × (last : Option Error) × ReadsFiles job (Ok sources) × Pushes job.service sources old new last ended)
+      ⊎ ((why : CommandFault) × (ended ≡ Err why) × (new ≡ old))
+
+  -- A journal was opened, a connector over it carried the records, and the journal was closed; or it couldn't be opened
+  abbrev pub PushesOver : {L : Type 0} → (is_closed : J → L → Type 0) → Job → Result Status CommandFault → Type 0
+  PushesOver {L} is_closed job ended =
+      ((start end : State J) × (left : L) × IsStart g start × PushesFrom job start end ended × is_closed end.journal left)
+      ⊎ ((why : CommandFault) × IsUnopened why × (ended ≡ Err why))
+
+  -- the same of what the arguments name
+  abbrev pub IsPushed : {L : Type 0} → (is_closed : J → L → Type 0) → Found → Status → Type 0
+  IsPushed is_closed found status = (job : Job) × IsJob found job × PushesOver is_closed job (Ok status)
+
+-- ---- `loop`
+
+module _ {I O J : Type 0} (remaining : I → Option (List ℕ)) (contents : O → Option (List ℕ)) (g : Journals J) where
+  -- the same with a provider in this program
+  abbrev pub RunsLoop : (base : List ℕ) → Sources → (old new : State J) → (last : Option Error) → Result Status CommandFault → Type 0
+  RunsLoop base sources old new last ended =
+      (carried : Result Outcome LoopFault) × Loops remaining contents g base sources old new carried × (ended ≡ concluded last (run_status carried))
+
+  abbrev pub LoopsFrom : Job → (old new : State J) → Result Status CommandFault → Type 0
+  LoopsFrom job old new ended =
+      ((sources : Sources) × (last : Option Error) × ReadsFiles job (Ok sources) × RunsLoop job.service sources old new last ended)
+      ⊎ ((why : CommandFault) × (ended ≡ Err why) × (new ≡ old))

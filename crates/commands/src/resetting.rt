@@ -1,0 +1,52 @@
+//! `reset`: has a journal forget what the provider has shown.
+ghost use Rattle.std.specs.Prelude.{IfOk};
+ghost use Rattle.storage.specs.Resetting.{PrintsReset};
+ghost use Rattle.commands.specs.Running.{EndsShowing, IsReset};
+
+use crate::endings::shown_status;
+use crate::output::{NotedWriter, standard_output};
+use crate::status::{CommandFault, Part, Status, unread_fault};
+use std::alloc::Global;
+use std::fs;
+use std::io::Write;
+use std::rt::Runtime;
+use storage::{EntryStorage, reset_entries};
+
+/// Forgets the confirmed revision and the id of each record of a journal, and prints how many records this
+/// changed. If there is no such file, it makes none.
+pub fn reset<R: Runtime + AllocGlobal, J: EntryStorage>(
+    rt: &R,
+    journal: Option<&J>,
+) -> Result<Status, CommandFault>
+    ensures { IfOk result (IsReset J.Entries.Journal) }
+{
+    let journal = journal.ok_or(CommandFault::File)?;
+    match fs::metadata(rt, journal.name()) {
+        Ok(_metadata) => reset_there(rt, journal),
+        Err(error) => Err(unread_fault(Part::File, error)),
+    }
+}
+
+/// The same for a journal whose file is there.
+fn reset_there<R: Runtime + AllocGlobal, J: EntryStorage>(
+    rt: &R,
+    journal: &J,
+) -> Result<Status, CommandFault>
+    ensures { IfOk result (IsReset J.Entries.Journal) }
+{
+    let mut out = standard_output(rt)?;
+    print_reset(rt.alloc(), journal, &mut out)
+}
+
+/// Resets a journal and prints how many records this changed.
+fn print_reset<J: EntryStorage, W: Write + Drop>(
+    alloc: Global,
+    journal: &J,
+    out: &mut NotedWriter<W>,
+) -> Result<Status, CommandFault>
+    ensures { EndsShowing (PrintsReset J.Entries.Journal (W.contents out.old.inner)
+        (W.contents out.new.inner)) out.new.last result }
+{
+    let shown = reset_entries(alloc, journal, out);
+    out.concluded(shown_status(shown))
+}
