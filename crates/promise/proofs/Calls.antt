@@ -1,10 +1,8 @@
 -- The calls of the programs are steps of a trace.
-use Rattle.std.proofs.Common.{◌⊎◌, IfOk, arith, ◌≡◌, ℕ, List, [], ◌∷◌, ◌++◌, Option, Some, None, Result, Ok, Err, refl, ap, sym, subst, ◌∙◌, append_assoc, inl, inr}
+use Rattle.std.proofs.Common.{IfOk, arith, ◌≡◌, ℕ, List, [], ◌∷◌, ◌++◌, Option, Some, None, Result, Ok, Err, refl, ap, sym, subst, ◌∙◌, inl, inr}
 use Rattle.std.proofs.lemmas.List.{append-nil}
 use Rattle.std.specs.Io.KnownBytes.{Appends}
-use Rattle.scim_key.specs.declared.records.RecordName.{RecordName}
 use Rattle.scim_message.specs.declared.messages.Answer.{Answer}
-use Rattle.scim_resource.specs.Rows.{StoredRecord}
 use Rattle.scim_message.specs.declared.messages.Request.{Request}
 use Rattle.provider_core.specs.declared.registry.Registry.{Ghosts as Registries}
 use Rattle.http_text.specs.Counts.{Reading, Writing}
@@ -33,9 +31,9 @@ use Rattle.connector_core.proofs.LawProofs.{maps_accept}
 use Rattle.journal_core.specs.Entries.{EntryMap}
 use Rattle.std.specs.FinMap.{keys}
 use Rattle.connector_core.specs.declared.asking.Ask.TheVariants.{Send}
-use Rattle.provisioning.specs.Exchanges.{Becomes, Came, Exchange, IsAsked, IsExchange, answered, lost, answer_in as answer_of}
-use Rattle.world_model.specs.Safe.{Has, IsPrefixOf}
-use Rattle.promise.specs.Traces.{CameFrom, IsAtFront, LeavesBook as LeavesTaught, State, Step, Step.offers, Step.asks, Step.serves, Step.hears, Step.reopens, Step.rests, Trace, Trace.here, Trace.next, Written}
+use Rattle.provisioning.specs.Exchanges.{Becomes, Came, IsAsked, answered, lost, answer_in as answer_of}
+use Rattle.world_model.specs.Safe.{IsPrefixOf}
+use Rattle.promise.specs.Traces.{CameFrom, IsAtFront, LeavesBook as LeavesTaught, State, Step, Step.offers, Step.asks, Step.serves, Step.hears, Step.reopens, Trace, Trace.here, Trace.next, Written}
 use Rattle.promise.proofs.Bytes.{none_taken, taken_request, taken_response}
 use Rattle.promise.specs.Calls.{BringsReply, ExchangesAreSteps, OffersAreSteps, ReopeningAfterChanges, ReopeningAfterExchanges, ReopeningIsAStep, ServingIsAStep}
 

@@ -1,5 +1,5 @@
 -- The moves of a listener, and the trace that they make with those of a push.
-use Rattle.std.proofs.Common.{◌≡◌, ◌⊎◌, ℕ, List, [], ◌∷◌, ◌++◌, Option, Some, None, Result, Ok, Err, refl, ap, sym, subst, ◌∙◌, inl, inr}
+use Rattle.std.proofs.Common.{ℕ, List, [], ◌∷◌, ◌++◌, Option, Some, None, refl, ap, sym, subst, inl, inr}
 use Rattle.std.specs.Prelude.{⊤}
 use Rattle.scim_resource.specs.Rows.{StoredRecord}
 use Rattle.scim_message.specs.declared.messages.Request.{Request}
@@ -13,7 +13,7 @@ use Rattle.world_model.specs.Safe.{Has}
 use Rattle.provisioning.specs.Runs.{Done}
 use Rattle.provisioning.specs.declared.offering.Judged.{Judged}
 use Rattle.promise.specs.Moves.{AreKnown, Asking, Connection, Delivers, Interleaves, IsListener, ListenersAreMoves, Move, Move.offers, Move.asks, Move.hears, Move.serves, MovesAreTraces, PushAndServeAreATrace, PushDoes, PushesAreMoves, Reaches, ServeDoes}
-use Rattle.promise.specs.Traces.{State, Step, Step.offers as offers_step, Step.asks as asks_step, Step.serves as serves_step, Step.hears as hears_step, Trace.here, Trace.next, Written}
+use Rattle.promise.specs.Traces.{State, Step, Step.offers as offers_step, Step.asks as asks_step, Step.serves as serves_step, Step.hears as hears_step, Trace.here, Trace.next}
 use Rattle.promise.proofs.Bytes.{reply_part}
 use Rattle.promise.proofs.Calls.{and_then, brought, carried, reply_grows}
 use Rattle.promise.proofs.Lists.{has_last}

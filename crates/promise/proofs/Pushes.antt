@@ -1,5 +1,5 @@
 -- The moves of a push.
-use Rattle.std.proofs.Common.{◌≡◌, ◌⊎◌, ℕ, Bool, List, [], ◌∷◌, ◌++◌, map, Option, Some, None, Result, Ok, Err, refl, ap, sym, subst, ◌∙◌, append_assoc, inl, inr}
+use Rattle.std.proofs.Common.{◌≡◌, ℕ, Bool, List, [], ◌∷◌, ◌++◌, map, Option, Some, None, Result, Ok, Err, refl, ap, sym, subst, ◌∙◌, append_assoc, inl, inr}
 use Rattle.std.specs.List.{AllByRecursion}
 use Rattle.scim_key.specs.declared.records.RecordName.{RecordName}
 use Rattle.scim_key.specs.declared.records.Kind.{Kind}
