@@ -7,6 +7,7 @@ import shutil
 import time
 
 from databases import CURRENT, FORMS, OLDER_FORMS, TABLES, group_entry, make_journal, sql, user_entry
+from faults import Fault, build_shim
 from support import (
     DEPARTMENTS_HEADER, NOWHERE, ROOT, ProgramTest, Running, contents, journal_commands, limited_files, resource_id,
     scimlink, silent_provider, wait_until,
@@ -349,6 +350,14 @@ class OlderFormatTest(JournalTest):
                 self.assert_reports(self.site.show_journal(), 0)
                 self.assert_carried(users, self.GROUPS[1:])
                 self.remove_journal()
+
+    def test_a_few_rows_are_one_part(self):
+        # a part of no rows is the last one: beyond it there would be 100,000 parts of two statements each, which allocate
+        for form, users in self.each_form():
+            make_journal(self.site.journal, users, self.GROUPS, form)
+            fault = Fault(build_shim(self.folder), self.folder, "ALLOCATION", 0)
+            self.assert_prints(scimlink("show", "--journal", self.site.journal, **fault.options), *self.LINES)
+            self.assertIn(fault.count(), range(1, 100_000))
 
     def test_rows_with_other_numbers(self):
         users = [user_entry(f"u{place:05}", confirmed=1, id=resource_id(place)) for place in range(1, 1_501)]

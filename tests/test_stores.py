@@ -195,6 +195,15 @@ class RunTest(StoreTest):
                 self.assertEqual(rows, list(held.items()))
             self.assert_shows(*(f"user {name} held={last} version={last} active=true" for name, last in held.items()))
 
+    def test_the_log_stays_short(self):
+        # each new user is a commit of two pages or more, that of its row and that of its name. Once the log has 1,000 pages
+        # it is copied into the file, and the next commit begins it anew; up to 512 kB behind its end are zeros
+        count, page = 1_000, 4_096 + 24
+        self.site.write_users(*(f"u{place:04},1,,,,,active" for place in range(count)))
+        with Provider(10 * count, "--store", self.site.store) as provider:
+            self.assert_reports(self.site.push(provider.address), 0)
+            self.assertLess(self.site.store.with_name("store-wal").stat().st_size, 1_200 * page)
+
     def test_a_kill_while_a_request_is_sent(self):
         with Provider(1000, "--store", self.site.store) as provider:
             self.creates(provider, "bob")

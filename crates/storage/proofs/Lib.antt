@@ -1,3 +1,4 @@
 mod ServingLemmas
 mod StoreShowingLemmas
 mod JournalShowingLemmas
+mod RenewalLemmas

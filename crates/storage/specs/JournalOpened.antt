@@ -1,9 +1,52 @@
 -- A journal that was just opened.
-use Rattle.std.specs.Prelude.{◌≡◌}
+use Rattle.std.specs.Prelude.{◌≡◌, Result, Ok, Err}
+use Rattle.sqlite_disk.specs.declared.Disk as disk
+use Rattle.sqlite_disk.specs.declared.Files.{Files}
+use Rattle.sqlite_store.specs.declared.store.FileStore.{FileStore}
+use Rattle.sqlite.specs.declared.file.Leftover.{Leftover}
+use Rattle.sqlite.specs.Files.{Finds, IsCleanLeft, IsOpened as IsConnected, LeavesFiles, file_state}
+use Rattle.sqlite.specs.Held.{Held}
+use Rattle.sqlite.specs.State.{HasCleanDisk, Survives}
+use Rattle.journal_core.specs.Entries.{EntryMap}
 use Rattle.journal_core.specs.declared.journals.Journal.{Ghosts}
+use Rattle.journal_store.specs.Opening.{LeavesStanding, Stands}
+use Rattle.sql_tables.specs.Statements.{LeavesStore}
 
 -- no call has been made on it yet
 pub record IsOpened {J : Type 0} (g : Ghosts J) (j : J) : Type 0 where
   pub faithful : g.is_honest j → g.is_faithful j
   pub faults : g.faults j ≡ 0
   pub writes : g.writes j ≡ 0
+
+-- the same, and it has entries that an opening of its place finds
+pub record IsOpenedAt {J : Type 0} (g : Ghosts J) (finds : EntryMap → Type 0) (j : J) : Type 0 where
+  pub opened : IsOpened g j
+  pub found : g.is_honest j → finds (g.entries j)
+
+-- a journal was opened again, and has the entries of the one before
+pub record IsOpenedAgain {J : Type 0} (g : Ghosts J) (old new : J) : Type 0 where
+  pub opened : IsOpened g new
+  pub was : g.is_honest new → g.is_honest old
+  pub same : g.is_honest new → g.entries new ≡ g.entries old
+
+-- ---- files
+
+-- these files were connected to, and the tables of that connection have these entries; without tables there are none
+pub record FindsEntries {D : Type 0} (g : disk.Ghosts D) (files : Files D) (entries : EntryMap) : Type 0 where
+  pub conn : Held (FileStore D g)
+  pub connected : IsConnected conn
+  pub found : Finds files conn
+  pub stands : Stands (file_state conn) entries
+
+-- a connection to these files was refused, and its last commit is what they held
+pub record KeepsEntries {D : Type 0} {g : disk.Ghosts D} (files : Files D) (left : Held (FileStore D g)) : Type 0 where
+  pub conn : Held (FileStore D g)
+  pub found : Finds files conn
+  pub kept : LeavesStore (file_state conn) (file_state left)
+  pub stop : Survives (file_state conn) (file_state left) (LeavesStanding (file_state conn))
+
+-- what is left of files that were refused: a connection, or files that weren't connected to
+abbrev pub LeavesEntries : {D : Type 0} {g : disk.Ghosts D}
+    → Files D → Result (Held (FileStore D g)) (Leftover D g) → Type 0
+LeavesEntries files (Ok left) = HasCleanDisk (file_state left) → KeepsEntries files left
+LeavesEntries files (Err left) = IsCleanLeft left → LeavesFiles files left

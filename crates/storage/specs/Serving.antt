@@ -1,6 +1,7 @@
 -- Connections that were served from stored rows.
 use Rattle.std.specs.Prelude.{◌≡◌, ◌<◌, ℕ, List, [], ◌∷◌, length, Option, Result, Ok}
 use Rattle.std.specs.Result.{result_and}
+use Rattle.scim_resource.specs.Rows.{StoredRecord}
 use Rattle.provider_core.specs.declared.registry.Registry.{Ghosts}
 use Rattle.http_text.specs.declared.fault.ReadFault.{ReadFault}
 use Rattle.http_text.specs.Counts.{Reading, Writing}
@@ -24,6 +25,12 @@ pub record AnswersFrom {R : Type 0} (g : Ghosts R) (base : List ℕ) (old new : 
   pub serves : Serves (g.is_faithful last) base (g.rows first) (g.rows last) before after read served
   pub leaves : LeavesRows g first last read
 
+-- the same, and the rows are such that an opening of their place finds
+pub record AnswersFound {R : Type 0} (g : Ghosts R) (finds : List StoredRecord → Type 0) (base : List ℕ)
+    (old new : Reading) (before after : Writing) (served : Served) : Type 0 where
+  pub answers : AnswersFrom g base old new before after served
+  pub found : g.is_honest answers.first → finds (g.rows answers.first)
+
 -- ---- many connections
 
 -- each had no fault; the list has the last first
@@ -31,12 +38,12 @@ abbrev pub all_of : List (Result (Unit {0}) ConnectionFault) → Result (Unit {0
 all_of [] = Ok tt
 all_of (result ∷ earlier) = result_and (all_of earlier) result
 
-module _ {L I O R : Type 0} (waiting : L → Option (List (I × O))) (remaining : I → Option (List ℕ)) (contents : O → Option (List ℕ)) (g : Ghosts R) (base : List ℕ) where
+module _ {L I O R : Type 0} (waiting : L → Option (List (I × O))) (remaining : I → Option (List ℕ)) (contents : O → Option (List ℕ)) (g : Ghosts R) (finds : List StoredRecord → Type 0) (base : List ℕ) where
   -- one more connection: it is served from the rows that the one before left, which are opened again after a fault of
   -- their store
   pub record ServesNext (before after : L) (old new : R) (result : Result (Unit {0}) ConnectionFault) : Type 0 where
     pub start : R
-    pub mended : IsMended g old start
+    pub mended : IsMended g finds old start
     pub turn : ServesTurns waiting remaining contents g base before after start new 1 result
     pub follows : g.is_faithful new → FollowRequests (g.rows start) (g.rows new) 1
 

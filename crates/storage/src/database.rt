@@ -1,8 +1,14 @@
 //! A database file of the host.
-ghost use Rattle.std.specs.Prelude.{IfOk, IsTrue};
+ghost use Rattle.std.specs.Prelude.{◌≡◌, true, false, IfErr, IfOk, IsTrue};
+ghost use Rattle.sqlite_std_file.specs.File.{IsFresh};
+ghost use Rattle.sqlite.specs.Closing.{IsCopied};
+ghost use Rattle.sqlite.specs.Files.{Finds, IsCleanLeft, IsOpened as IsConnected, LeavesFiles, file_state};
+ghost use Rattle.sqlite.specs.State.{HasCleanDisk};
+ghost use Rattle.sqlite_wal.specs.Reads.{AreClean};
+ghost use Rattle.storage.specs.Closed.{IsRenewed};
 
 use crate::reason::{DatabaseReason, code_of, failure_of};
-use sqlite::{Connection, Error, ErrorCode, File, FileStore, Files, Options, Unknown};
+use sqlite::{Connection, Error, ErrorCode, File, FileStore, Files, Leftover, Options, Unknown};
 use sqlite_disk::{Disk, Tally};
 use std::fs::OpenOptions;
 use std::hash::{BuildHasher, RandomState};
@@ -20,10 +26,15 @@ pub struct DatabaseFile<'a> {
 }
 
 impl<'a> DatabaseFile<'a> {
-    /// Opens the file with its log, and makes them if they aren't there. Nothing is known of their contents.
-    pub fn open(&self) -> Result<Connection<FileStore<File>>, Error> {
+    /// Opens the file with its log, and makes them if they aren't there. That these are the files at the path, and
+    /// that no other call touches them, is no clause: this call is trusted for it.
+    pub(crate) fn open(&self) -> Result<Files<File>, Error>
+        ensures log { IfOk result (λ files. IsTrue (⟦<File as Disk>⟧.is_usable files.log)) }
+        ensures db { IfOk result (λ files. IsTrue (⟦<File as Disk>⟧.is_usable files.db)) }
+        ensures fresh { IfOk result (λ files. IsFresh true files.log × IsFresh false files.db) }
+    {
         match self.files() {
-            Ok(files) => connected(self.rt, files),
+            Ok(files) => Ok(files),
             Err(reason) => Err(Error::SqliteFailure(code_of(reason))),
         }
     }
@@ -40,7 +51,7 @@ impl<'a> DatabaseFile<'a> {
         };
         match connected(self.rt, files) {
             Ok(conn) => Ok(conn),
-            Err(error) => Err(failure_of(error)),
+            Err(refused) => Err(failure_of(fault_of(refused))),
         }
     }
 
@@ -48,6 +59,7 @@ impl<'a> DatabaseFile<'a> {
     fn files(&self) -> Result<Files<File>, DatabaseReason>
         ensures log { IfOk result (λ files. IsTrue (⟦<File as Disk>⟧.is_usable files.log)) }
         ensures db { IfOk result (λ files. IsTrue (⟦<File as Disk>⟧.is_usable files.db)) }
+        ensures fresh { IfOk result (λ files. IsFresh true files.log × IsFresh false files.db) }
     {
         if self.path == ":memory:" || self.path.starts_with("file:") {
             return Err(DatabaseReason::Failed(ErrorCode::CannotOpen));
@@ -74,14 +86,30 @@ impl<'a> DatabaseFile<'a> {
     }
 }
 
+/// What is left of files that were refused: a connection to them, or what became of them before there was one.
+pub(crate) type Remains<D> = Result<Connection<FileStore<D>>, Leftover<D>>;
+
+/// The fault of a refusal. What it leaves is dropped.
+pub(crate) fn fault_of<F, L: Drop>(refused: (F, L)) -> F
+    ensures { result ≡ refused.0 }
+{
+    let (fault, _left) = refused;
+    fault
+}
+
 /// Closes a connection, and connects to its files anew, which stay locked meanwhile. A connection keeps the memory
 /// that its largest transaction took; the new one has none of it. If this fails, the files are closed.
 pub(crate) fn renewed<D: Disk + Drop>(
     rt: &HostRuntime,
     conn: Connection<FileStore<D>>,
-) -> Result<Connection<FileStore<D>>, Error> {
+) -> Result<Connection<FileStore<D>>, Error>
+    ensures { IfOk result (λ again. HasCleanDisk (file_state again) → IsRenewed conn again) }
+{
     match closed(conn) {
-        Ok(files) => connected(rt, files),
+        Ok(files) => match connected(rt, files) {
+            Ok(again) => Ok(again),
+            Err(refused) => Err(fault_of(refused)),
+        },
         Err((error, _tally)) => Err(error),
     }
 }
@@ -92,6 +120,8 @@ pub(crate) fn closed<D: Disk + Drop>(
 ) -> Result<Files<D>, (Error, Tally)>
     ensures log { IfOk result (λ files. IsTrue (D.Disk.is_usable files.log)) }
     ensures db { IfOk result (λ files. IsTrue (D.Disk.is_usable files.db)) }
+    ensures copied { IfOk result
+        (λ files. AreClean D.Disk files.log files.db → IsCopied conn files) }
 {
     match conn.close_files() {
         Ok(files) => Ok(files),
@@ -99,27 +129,37 @@ pub(crate) fn closed<D: Disk + Drop>(
     }
 }
 
-/// Connects to files. The connection keeps as much of them in memory as SQLite does.
-fn connected<D: Disk + Drop>(
+/// Connects to files. The connection keeps as much of them in memory as SQLite does. If the files are refused, what is
+/// left of them is handed back.
+pub(crate) fn connected<D: Disk + Drop>(
     rt: &HostRuntime,
     files: Files<D>,
-) -> Result<Connection<FileStore<D>>, Error>
+) -> Result<Connection<FileStore<D>>, (Error, Leftover<D>)>
     requires log { IsTrue (D.Disk.is_usable files.log) }
     requires db { IsTrue (D.Disk.is_usable files.db) }
+    ensures connected { IfOk result (λ conn. HasCleanDisk (file_state conn) → IsConnected conn) }
+    ensures found { IfOk result (λ conn. HasCleanDisk (file_state conn) → Finds files conn) }
+    ensures unharmed { IfErr result (λ e. IsCleanLeft e.1 → LeavesFiles files e.1) }
 {
     let Ok(hasher) = RandomState::new(rt) else {
-        return Err(Error::SqliteFailure(ErrorCode::CannotOpen));
+        let error = Error::SqliteFailure(ErrorCode::CannotOpen);
+        return Err((error, Leftover::Files(files)));
     };
-    let options = Options {
-        cache_pages: CACHE_PAGES,
-        ..Options::new(hasher.hash_one(&0u8))
-    };
-    match Connection::open_files(rt.alloc(), files, options) {
+    match Connection::open_files(rt.alloc(), files, options(hasher.hash_one(&0u8))) {
         Ok(conn) => Ok(conn),
-        Err((error, left)) => {
-            // A drop of files is quick to prove, and one of what holds them isn't.
-            drop(left.into_files());
-            Err(error)
-        }
+        Err(refused) => Err(refused),
+    }
+}
+
+/// How a connection uses its files: as SQLite does, but for its memory. No clause says that a log is cut off at this
+/// length; a test does.
+fn options(seed: u64) -> Options
+    ensures seed { result.seed ≡ seed }
+    ensures memory { (result.cache_pages ≡ CACHE_PAGES) × (result.spill_pages ≡ 2000) }
+    ensures log { result.checkpoint_frames ≡ 1000 }
+{
+    Options {
+        cache_pages: CACHE_PAGES,
+        ..Options::new(seed)
     }
 }

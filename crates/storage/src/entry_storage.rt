@@ -1,9 +1,10 @@
 //! Where the entries of a connector are kept.
 ghost use Rattle.std.specs.Prelude.{◌≡◌, IfOk, OnOk};
 ghost use Rattle.journal_core.specs.Calls.{Writes};
+ghost use Rattle.journal_core.specs.Entries.{EntryMap};
 ghost use Rattle.journal_core.specs.Forgetting.{forgotten, learnt_count};
 ghost use Rattle.journal_core.specs.Stores.{CountsFault};
-ghost use Rattle.storage.specs.JournalOpened.{IsOpened};
+ghost use Rattle.storage.specs.JournalOpened.{IsOpenedAt};
 
 use crate::reason::DatabaseReason;
 use journal_core::{Journal, JournalFault};
@@ -34,9 +35,13 @@ pub trait StoredEntries: Journal {
 pub trait EntryStorage {
     type Entries: StoredEntries;
 
+    /// The entries that an opening finds. A file of the host has no name in a contract: its entries are those of
+    /// the files that the host gave.
+    ghost finds: { Self → EntryMap → Type 0 };
+
     /// Opens the entries.
     fn open(&self) -> Result<Self::Entries, JournalOpenFault>
-        ensures { IfOk result (IsOpened Self.Entries.Journal) };
+        ensures { IfOk result (IsOpenedAt Self.Entries.Journal (finds self.now)) };
 
     /// Why they can't be opened now, if the system or the database says it. They must be closed.
     fn reason(&self) -> Option<DatabaseReason>;

@@ -1,8 +1,8 @@
 //! A file that keeps the entries.
-ghost use Rattle.std.specs.Prelude.{IfOk};
-ghost use Rattle.storage.specs.JournalOpened.{IsOpened};
+ghost use Rattle.std.specs.Prelude.{true, false, IfErr, IfOk, IsTrue};
+ghost use Rattle.storage.specs.JournalOpened.{FindsEntries, IsOpened, IsOpenedAgain, IsOpenedAt, LeavesEntries};
 
-use crate::database::{DatabaseFile, renewed};
+use crate::database::{DatabaseFile, Remains, connected, fault_of, renewed};
 use crate::entry_storage::{EntryStorage, StoredEntries};
 use crate::reason::{DatabaseReason, failure_in, failure_since};
 use journal_core::{Journal, JournalFault};
@@ -22,14 +22,19 @@ pub struct JournalFile<'a> {
 }
 
 impl<'a> EntryStorage for JournalFile<'a> {
+    ghost use Rattle.sqlite_std_file.specs.File.{IsFresh};
+
     type Entries = SqlJournal<FileStore<File>>;
+
+    /// Files that the host gave, and that no call was made on, have these entries.
+    ghost finds = { λ _ entries. (files : _) × IsFresh true files.log × IsFresh false files.db
+        × FindsEntries ⟦<File as Disk>⟧ files entries };
 
     /// If the file is refused, it is closed unchanged.
     fn open(&self) -> Result<Self::Entries, JournalOpenFault> {
-        let rt = self.file.rt;
-        match carried_over(rt.alloc(), self.file.open()?)? {
-            Ok(entries) => Ok(entries),
-            Err(conn) => entries_over(rt.alloc(), renewed(rt, conn)?),
+        match entries_in(self.file.rt, self.file.open()?) {
+            Ok((entries, is_carried)) => reopened_if(self.file.rt, is_carried, entries),
+            Err(refused) => Err(fault_of(refused)),
         }
     }
 
@@ -65,33 +70,46 @@ impl<D: Disk + Drop> StoredEntries for SqlJournal<FileStore<D>> {
     }
 }
 
-/// The journal of a connection; or the connection, to be renewed, if an older format was carried over.
-fn carried_over<S: Alter + Drop>(
-    alloc: Global,
-    conn: Connection<S>,
-) -> Result<Result<SqlJournal<S>, Connection<S>>, JournalOpenFault>
-    ensures opened { IfOk result
-        (λ opened. IfOk opened (IsOpened ⟦<SqlJournal<S> as Journal>⟧)) }
+/// The journal of files, and whether an older format was carried over. If they are refused, what is left of them is
+/// handed back: they have what they held.
+fn entries_in<D: Disk + Drop>(
+    rt: &HostRuntime,
+    files: Files<D>,
+) -> Result<(SqlJournal<FileStore<D>>, bool), (JournalOpenFault, Remains<D>)>
+    requires log { IsTrue (D.Disk.is_usable files.log) }
+    requires db { IsTrue (D.Disk.is_usable files.db) }
+    ensures opened { IfOk result (λ it.
+        IsOpenedAt ⟦<SqlJournal<FileStore<D>> as Journal>⟧ (FindsEntries D.Disk files) it.0) }
+    ensures refused { IfErr result (λ e. LeavesEntries files e.1) }
 {
+    let conn = match connected(rt, files) {
+        Ok(conn) => conn,
+        Err((error, left)) => return Err((JournalOpenFault::from(error), Err(left))),
+    };
     let is_carried = is_older(&conn);
-    let entries = entries_over(alloc, conn)?;
-    Ok(if is_carried {
-        Err(SqlJournal::close(entries))
-    } else {
-        Ok(entries)
-    })
+    match SqlJournal::open(rt.alloc(), conn) {
+        Ok(entries) => Ok((entries, is_carried)),
+        Err((fault, conn)) => Err((fault, Ok(conn))),
+    }
 }
 
-/// The journal of a connection. If it is refused, the connection is dropped without a write.
-fn entries_over<S: Alter + Drop>(
-    alloc: Global,
-    conn: Connection<S>,
-) -> Result<SqlJournal<S>, JournalOpenFault>
-    ensures opened { IfOk result (IsOpened ⟦<SqlJournal<S> as Journal>⟧) }
+/// The journal; if it was carried over, its files are connected to anew.
+fn reopened_if<D: Disk + Drop>(
+    rt: &HostRuntime,
+    is_carried: bool,
+    entries: SqlJournal<FileStore<D>>,
+) -> Result<SqlJournal<FileStore<D>>, JournalOpenFault>
+    requires { IsOpened ⟦<SqlJournal<FileStore<D>> as Journal>⟧ entries }
+    ensures { IfOk result (IsOpenedAgain ⟦<SqlJournal<FileStore<D>> as Journal>⟧ entries) }
 {
-    match SqlJournal::open(alloc, conn) {
-        Ok(entries) => Ok(entries),
-        Err((fault, _conn)) => Err(fault),
+    if !is_carried {
+        return Ok(entries);
+    }
+    let conn = SqlJournal::close(entries);
+    let _schema = conn.schema();
+    match SqlJournal::open(rt.alloc(), renewed(rt, conn)?) {
+        Ok(again) => Ok(again),
+        Err(refused) => Err(fault_of(refused)),
     }
 }
 

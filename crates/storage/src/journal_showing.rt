@@ -17,7 +17,9 @@ pub fn show_entries<K: EntryStorage, W: Write>(
     storage: &K,
     out: &mut W,
 ) -> Result<(), ShowFault>
-    ensures { OnOk result (ShowsFrom K.Entries.Journal (W.contents out.old) (W.contents out.new)) }
+    ensures { OnOk result
+        (ShowsFrom K.Entries.Journal (K.finds storage.now) (W.contents out.old)
+        (W.contents out.new)) }
 {
     let mut entries = storage.open()?;
     let shown = write_entries(alloc, &mut entries, out);

@@ -1,4 +1,6 @@
 //! Memory that keeps the rows.
+ghost use Rattle.std.specs.Prelude.{◌≡◌, []};
+
 use crate::reason::DatabaseReason;
 use crate::row_storage::{RowStorage, StoredRows};
 use provider_core::MemoryRegistry;
@@ -16,6 +18,8 @@ impl RowStorage for InMemory {
 
     /// It refuses nothing.
     ghost refuses = { λ _ _. ⊥ };
+
+    ghost finds = { λ _ rows. rows ≡ [] };
 
     fn open(&self) -> Result<MemoryRegistry, RegistryOpenFault> {
         Ok(MemoryRegistry::new(self.alloc))

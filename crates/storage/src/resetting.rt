@@ -17,7 +17,8 @@ pub fn reset_entries<K: EntryStorage, W: Write>(
     out: &mut W,
 ) -> Result<(), ShowFault>
     ensures { OnOk result
-        (PrintsReset K.Entries.Journal (W.contents out.old) (W.contents out.new)) }
+        (PrintsReset K.Entries.Journal (K.finds storage.now) (W.contents out.old)
+        (W.contents out.new)) }
 {
     let count = reset_stored(storage)?;
     write_count(alloc, count, out)
@@ -26,7 +27,7 @@ pub fn reset_entries<K: EntryStorage, W: Write>(
 /// Opens the entries, forgets what was learnt of each record, and closes them. Returns how many entries this
 /// changed.
 fn reset_stored<K: EntryStorage>(storage: &K) -> Result<usize, ShowFault>
-    ensures { IfOk result (ResetsFrom K.Entries.Journal) }
+    ensures { IfOk result (ResetsFrom K.Entries.Journal (K.finds storage.now)) }
 {
     let mut entries = storage.open()?;
     let reset = entries.reset();

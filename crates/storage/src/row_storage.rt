@@ -1,7 +1,8 @@
 //! Where the rows of a provider are kept.
-ghost use Rattle.std.specs.Prelude.{◌<◌, ◌↔◌, IfErr, IfOk, IsTrue};
+ghost use Rattle.std.specs.Prelude.{◌<◌, ◌↔◌, IfErr, IfOk, IsTrue, List};
+ghost use Rattle.scim_resource.specs.Rows.{StoredRecord};
 ghost use Rattle.provider_store.specs.declared.opening.RegistryOpenFault.{RegistryOpenFault as Refusal};
-ghost use Rattle.storage.specs.StoreOpened.{IsOpened};
+ghost use Rattle.storage.specs.StoreOpened.{IsOpenedAt};
 
 use crate::reason::DatabaseReason;
 use provider_core::Registry;
@@ -30,9 +31,13 @@ pub trait RowStorage {
     /// The refusals with which opening may fail.
     ghost refuses: { Self → Refusal → Type 0 };
 
+    /// The rows that an opening finds. A file of the host has no name in a contract: its rows are those of the
+    /// files that the host gave.
+    ghost finds: { Self → List StoredRecord → Type 0 };
+
     /// Opens the rows.
     fn open(&self) -> Result<Self::Rows, RegistryOpenFault>
-        ensures opened { IfOk result (IsOpened Self.Rows.Registry) }
+        ensures opened { IfOk result (IsOpenedAt Self.Rows.Registry (finds self.now)) }
         ensures refused { IfErr result (refuses self.now) };
 
     /// Why they can't be opened now, if the system or the database says it. They must be closed.

@@ -1,7 +1,7 @@
 //! Serves connections from stored rows.
 ghost use Rattle.std.specs.Prelude.{◌≡◌, ◌<◌, IfErr, IfOk, OnErr};
 ghost use Rattle.storage.specs.StoreOpened.{IsMended};
-ghost use Rattle.storage.specs.Serving.{AnswersFrom, IsRefused, ServesEach, ServesFrom, ServesNext};
+ghost use Rattle.storage.specs.Serving.{AnswersFound, AnswersFrom, IsRefused, ServesEach, ServesFrom, ServesNext};
 
 use crate::row_storage::{RowStorage, StoredRows};
 use connection::{ConnectionFault, Listen, Served, serve, serve_connections};
@@ -22,6 +22,9 @@ pub fn serve_one<K: RowStorage, I: Read, O: Write>(
 ) -> Result<Served, RegistryOpenFault>
     ensures answers { IfOk result
         (AnswersFrom K.Rows.Registry base.now reader.old reader.new writer.old writer.new) }
+    ensures found { IfOk result
+        (AnswersFound K.Rows.Registry (K.finds storage.now) base.now reader.old reader.new
+        writer.old writer.new) }
     ensures refused { OnErr result ((reader.new ≡ reader.old) × (writer.new ≡ writer.old)) }
     ensures cause { IfErr result (K.refuses storage.now) }
 {
@@ -44,10 +47,10 @@ pub fn serve_stored<K: RowStorage, L: Listen>(
     base: &Base,
 ) -> Result<Result<(), ConnectionFault>, RegistryOpenFault>
     ensures served { IfOk result (λ outcome. (last : K.Rows)
-        × ServesFrom L.waiting L.Reader.remaining L.Writer.contents K.Rows.Registry base.now
-        listener.old listener.new rows last count outcome) }
+        × ServesFrom L.waiting L.Reader.remaining L.Writer.contents K.Rows.Registry
+        (K.finds storage.now) base.now listener.old listener.new rows last count outcome) }
     ensures refused { OnErr result (IsRefused L.waiting L.Reader.remaining L.Writer.contents
-        K.Rows.Registry base.now listener.old listener.new rows count) }
+        K.Rows.Registry (K.finds storage.now) base.now listener.old listener.new rows count) }
     ensures cause { IfErr result (K.refuses storage.now) }
 {
     let mut provider = Provider::new(rows);
@@ -66,7 +69,7 @@ fn mended<K: RowStorage>(
     storage: &K,
     provider: Provider<K::Rows>,
 ) -> Result<Provider<K::Rows>, RegistryOpenFault>
-    ensures mended { IfOk result (IsMended K.Rows.Registry provider) }
+    ensures mended { IfOk result (IsMended K.Rows.Registry (K.finds storage.now) provider) }
     ensures refused { OnErr result (0 < K.Rows.faults provider) }
     ensures cause { IfErr result (K.refuses storage.now) }
 {

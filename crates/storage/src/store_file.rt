@@ -1,8 +1,8 @@
 //! A file that keeps the rows.
-ghost use Rattle.std.specs.Prelude.{IfOk};
-ghost use Rattle.storage.specs.StoreOpened.{IsOpened};
+ghost use Rattle.std.specs.Prelude.{true, false, IfErr, IfOk, IsTrue};
+ghost use Rattle.storage.specs.StoreOpened.{FindsRows, IsOpenedAt, LeavesRows};
 
-use crate::database::DatabaseFile;
+use crate::database::{DatabaseFile, Remains, connected, fault_of};
 use crate::reason::{DatabaseReason, failure_in, failure_since};
 use crate::row_storage::{RowStorage, StoredRows};
 use provider_core::Registry;
@@ -10,6 +10,7 @@ use provider_store::{RegistryOpenFault, SqlRegistry};
 use sqlite::{Alter, Connection, Error, File, FileStore};
 use sqlite_disk::{Disk, Files};
 use std::alloc::Global;
+use std::rt::HostRuntime;
 
 /// A statement that leaves the contents of the file as they are.
 const SAME: &str = "UPDATE provider_format SET number = number";
@@ -21,14 +22,23 @@ pub struct StoreFile<'a> {
 }
 
 impl<'a> RowStorage for StoreFile<'a> {
+    ghost use Rattle.sqlite_std_file.specs.File.{IsFresh};
+
     type Rows = SqlRegistry<FileStore<File>>;
 
     /// It isn't known what an existing file contains.
     ghost refuses = { λ _ _. Unit {0} };
 
+    /// Files that the host gave, and that no call was made on, have these rows.
+    ghost finds = { λ _ rows. (files : _) × IsFresh true files.log × IsFresh false files.db
+        × FindsRows ⟦<File as Disk>⟧ files rows };
+
     /// If the file is refused, it is closed unchanged.
     fn open(&self) -> Result<Self::Rows, RegistryOpenFault> {
-        rows_over(self.file.rt.alloc(), self.file.open()?)
+        match rows_in(self.file.rt, self.file.open()?) {
+            Ok(rows) => Ok(rows),
+            Err(refused) => Err(fault_of(refused)),
+        }
     }
 
     fn reason(&self) -> Option<DatabaseReason> {
@@ -63,16 +73,24 @@ impl<D: Disk + Drop> StoredRows for SqlRegistry<FileStore<D>> {
     }
 }
 
-/// The registry of a connection. If it is refused, the connection is dropped without a write.
-fn rows_over<S: Alter + Drop>(
-    alloc: Global,
-    conn: Connection<S>,
-) -> Result<SqlRegistry<S>, RegistryOpenFault>
-    ensures opened { IfOk result (IsOpened ⟦<SqlRegistry<S> as Registry>⟧) }
+/// The registry of files. If they are refused, what is left of them is handed back: they have what they held.
+fn rows_in<D: Disk + Drop>(
+    rt: &HostRuntime,
+    files: Files<D>,
+) -> Result<SqlRegistry<FileStore<D>>, (RegistryOpenFault, Remains<D>)>
+    requires log { IsTrue (D.Disk.is_usable files.log) }
+    requires db { IsTrue (D.Disk.is_usable files.db) }
+    ensures opened { IfOk result
+        (IsOpenedAt ⟦<SqlRegistry<FileStore<D>> as Registry>⟧ (FindsRows D.Disk files)) }
+    ensures refused { IfErr result (λ e. LeavesRows files e.1) }
 {
-    match SqlRegistry::open(alloc, conn) {
+    let conn = match connected(rt, files) {
+        Ok(conn) => conn,
+        Err((error, left)) => return Err((RegistryOpenFault::from(error), Err(left))),
+    };
+    match SqlRegistry::open(rt.alloc(), conn) {
         Ok(rows) => Ok(rows),
-        Err((fault, _conn)) => Err(fault),
+        Err((fault, conn)) => Err((fault, Ok(conn))),
     }
 }
 

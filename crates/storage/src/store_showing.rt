@@ -21,7 +21,8 @@ pub fn show_rows<K: RowStorage, W: Write>(
     storage: &K,
     out: &mut W,
 ) -> Result<(), ShowFault>
-    ensures { OnOk result (ShowsFrom K.Rows.Registry (W.contents out.old) (W.contents out.new)) }
+    ensures { OnOk result
+        (ShowsFrom K.Rows.Registry (K.finds storage.now) (W.contents out.old) (W.contents out.new)) }
 {
     let mut rows = storage.open()?;
     let shown = write_rows(alloc, &mut rows, out);

@@ -14,11 +14,11 @@ returns-in_err-provider-clause-refused g c = at_error c.from_residual.result (re
   served = c.loop-turn._turn;
   fewer = c.loop-turn-test.true;
   outcome = c.loop-turn.outcome;
-  serves = subst (λ old. ServesFrom g.L.Listen.waiting g.L.Reader.Read.remaining g.L.Writer.Write.contents g.K.Rows.Registry c.args.base.now c.args.listener.now c.loop-turn.listener old c.loop-turn.provider c.loop-turn._turn c.loop-turn.outcome) c.new-provider.ensures c.loop-turn.invariant;
+  serves = subst (λ old. ServesFrom g.L.Listen.waiting g.L.Reader.Read.remaining g.L.Writer.Write.contents g.K.Rows.Registry (g.K.RowStorage.finds c.args.storage.now) c.args.base.now c.args.listener.now c.loop-turn.listener old c.loop-turn.provider c.loop-turn._turn c.loop-turn.outcome) c.new-provider.ensures c.loop-turn.invariant;
   failed = c.in_err-provider.ensures.refused;
 })
 
 pub loop-turn-preserved : goal.loop-turn-preserved
 loop-turn-preserved g c =
-    one_more g.L.Listen.waiting g.L.Reader.Read.remaining g.L.Writer.Write.contents g.K.Rows.Registry c.args.base.now
+    one_more g.L.Listen.waiting g.L.Reader.Read.remaining g.L.Writer.Write.contents g.K.Rows.Registry (g.K.RowStorage.finds c.args.storage.now) c.args.base.now
     c.loop-turn.invariant c.in_ok-provider.ensures.mended c.serve_connections-served.ensures.served c.serve_connections-served.ensures.follows c.and-outcome.ensures

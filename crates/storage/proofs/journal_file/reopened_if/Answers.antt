@@ -1,0 +1,22 @@
+use Rattle.std.proofs.Common.{sym, ap, ◌∙◌, subst}
+use Rattle.sqlite.specs.Files.{file_state}
+use Rattle.sqlite.specs.State.{HasCleanDisk}
+use Rattle.journal_store.specs.Connections.{IsLaid}
+use Rattle.journal_store.specs.Rows.{entries_in}
+use Rattle.storage.proofs.RenewalLemmas.{none_left, same_entries}
+use Rattle.storage.proofs.journal_file.reopened_if.Goals as goal
+
+pub returns-in-Ok : goal.returns-in-Ok
+returns-in-Ok g c =
+    let it = c.in-Ok.ensures in
+    let conn = c.close-conn.result in
+    let is = c.close-conn.ensures in
+    record {
+      opened = record { faithful = it.faithful; faults = it.counts.0; writes = it.counts.1 };
+      was = λ honest. subst (λ h. HasCleanDisk (file_state h)) is (c.in_ok-renewed.ensures (none_left it.stop.clean honest)).was_clean;
+      same = λ honest.
+          let renewed = c.in_ok-renewed.ensures (none_left it.stop.clean honest) in
+          let was = subst (λ h. HasCleanDisk (file_state h)) is renewed.was_clean in
+          let laid = subst (λ h. IsLaid (file_state h)) (sym is) (c.requires.faithful was).whole.laid in
+          same_entries conn c.in_ok-renewed.field-0 renewed laid c.schema-schema.ensures.live _ (it.entries honest) ∙ ap (λ h. entries_in (file_state h).committed.trees) is;
+    }
