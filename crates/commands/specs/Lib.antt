@@ -5,3 +5,4 @@ pub mod Statuses
 pub mod Images
 pub mod Words
 pub mod Simulating
+pub mod Simulations
