@@ -7,3 +7,4 @@ pub mod Words
 pub mod Simulating
 pub mod Running
 pub mod Listening
+pub mod Simulations

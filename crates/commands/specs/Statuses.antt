@@ -22,6 +22,8 @@ use Rattle.mapping.specs.declared.lines.WriteFault.{WriteFault}
 use Rattle.mapping.specs.declared.lines.WriteFault.TheVariants as write
 use Rattle.journal_store.specs.declared.opening.JournalOpenFault.{JournalOpenFault}
 use Rattle.journal_store.specs.declared.opening.JournalOpenFault.TheVariants as journal
+use Rattle.world_sim.specs.declared.following.TellingFault.{TellingFault}
+use Rattle.world_sim.specs.declared.following.TellingFault.TheVariants as telling
 use Rattle.world_sim.specs.declared.reports.Report.{Report}
 use Rattle.world_sim.specs.declared.reports.Report.TheVariants as report
 use Rattle.world_sim.specs.declared.reports.WorldFault.{WorldFault}
@@ -168,6 +170,11 @@ schedule_fault schedule.Memory = fault.Memory
 abbrev pub world_fault : WorldFault → CommandFault
 world_fault world.Memory = fault.Memory
 world_fault world.Store = fault.Store
+
+-- the fault of a run whose lines are printed
+abbrev pub telling_fault : TellingFault Error → CommandFault
+telling_fault (telling.World why) = world_fault why
+telling_fault (telling.Untold error) = unless_memory (error_kind error) (fault.Output error)
 
 -- an event that isn't a row which the connector refuses
 abbrev pub is_taken : Report → Bool

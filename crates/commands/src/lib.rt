@@ -14,6 +14,7 @@ mod resetting;
 mod serving;
 mod showing;
 pub mod simulating;
+mod simulation;
 mod status;
 pub mod words;
 
@@ -27,6 +28,7 @@ pub use pushing::{push, push_over};
 pub use resetting::reset;
 pub use serving::serve;
 pub use showing::show;
+pub use simulation::simulate;
 pub use status::{
     Cause, CommandFault, Part, Reason, Status, listen_fault, told, unread_fault, words_fault,
 };

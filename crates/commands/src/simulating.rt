@@ -1,10 +1,8 @@
 //! The events that the arguments of `simulate` ask for.
-ghost use Rattle.std.specs.Prelude.{◌≡◌, IfSome, Some, codes, true};
-ghost use Rattle.std.specs.Option.{option_map};
+ghost use Rattle.std.specs.Prelude.{◌≡◌, ◌^◌, codes};
 ghost use Rattle.clap.specs.Matches.{first_value, found_of, one_text};
 ghost use Rattle.commands.specs.Addresses.{text_in};
-ghost use Rattle.commands.specs.Simulating.{wanted_events};
-ghost use Rattle.commands.specs.Words.{number_in};
+ghost use Rattle.commands.specs.Simulating.{GivesNumber, is_set, wanted_events};
 
 use crate::status::CommandFault;
 use clap::ArgMatches;
@@ -64,28 +62,23 @@ pub fn schedule<'a>(matches: &ArgMatches<'a>) -> Option<&'a str>
     matches.get_str("FILE")
 }
 
-/// The seed in the arguments, if there is one.
+/// The seed in the arguments, if there is one and its text spells a number of 64 bits.
 pub fn seed(matches: &ArgMatches<'_>) -> Option<u64>
-    ensures { IfSome result
-        (λ seed. option_map number_in (one_text (found_of matches.now) (codes "seed"))
-        ≡ Some seed) }
+    ensures { GivesNumber (2 ^ 64) (one_text (found_of matches.now) (codes "seed")) result }
 {
     matches.get_one("seed")
 }
 
-/// The number of events in the arguments, if there is one.
+/// The number of events in the arguments, if there is one and its text spells a number of 32 bits.
 pub fn count(matches: &ArgMatches<'_>) -> Option<u32>
-    ensures { IfSome result
-        (λ count. option_map number_in (one_text (found_of matches.now) (codes "events"))
-        ≡ Some count) }
+    ensures { GivesNumber (2 ^ 32) (one_text (found_of matches.now) (codes "events")) result }
 {
     matches.get_one("events")
 }
 
 /// Whether the arguments ask for every record to be settled after the events.
 pub fn settles(matches: &ArgMatches<'_>) -> bool
-    ensures { one_text (found_of matches.now) (codes "settle") ≡ Some (codes "true")
-        → result ≡ true }
+    ensures { result ≡ is_set (one_text (found_of matches.now) (codes "settle")) }
 {
-    matches.get_flag("settle")
+    matches.get_one("settle").unwrap_or(false)
 }

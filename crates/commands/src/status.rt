@@ -2,7 +2,7 @@
 ghost use Rattle.std.specs.Prelude.{◌≡◌};
 ghost use Rattle.std.specs.IoError.{error_kind};
 ghost use Rattle.commands.specs.Causes.{error_of, part_of, source_part};
-ghost use Rattle.commands.specs.Statuses.{fault_status, file_fault, journal_fault, lines_fault, loop_fault, schedule_fault, show_fault, status_code, store_fault, unless_memory, unread_fault, users_fault, words_fault, world_fault};
+ghost use Rattle.commands.specs.Statuses.{fault_status, file_fault, journal_fault, lines_fault, loop_fault, schedule_fault, show_fault, status_code, store_fault, telling_fault, unless_memory, unread_fault, users_fault, words_fault, world_fault};
 ghost use Rattle.commands.specs.declared.status.CommandFault.TheVariants.{Memory, Output, Unopened};
 
 use crate::simulating::EventsFault;
@@ -19,7 +19,7 @@ use std::io::ErrorKind;
 use std::rt::Runtime;
 use storage::{DatabaseReason, ShowFault};
 use thiserror::Error;
-use world_sim::{ScheduleFault, WorldFault};
+use world_sim::{ScheduleFault, TellingFault, WorldFault};
 
 /// The exit status of the program.
 #[derive(Clone, Copy)]
@@ -304,6 +304,17 @@ impl From<WorldFault> for CommandFault {
         match fault {
             WorldFault::Memory => CommandFault::Memory,
             WorldFault::Store => CommandFault::Store,
+        }
+    }
+}
+
+impl From<TellingFault<io::Error>> for CommandFault {
+    ghost from_gives = { λ told fault. fault ≡ telling_fault told };
+
+    fn from(fault: TellingFault<io::Error>) -> CommandFault {
+        match fault {
+            TellingFault::World(fault) => CommandFault::from(fault),
+            TellingFault::Untold(error) => CommandFault::from(error),
         }
     }
 }

@@ -12,8 +12,12 @@ mod readings;
 #[cfg(test)]
 mod registries;
 #[cfg(test)]
+mod reopening;
+#[cfg(test)]
 mod responses;
 #[cfg(test)]
 mod streams;
 #[cfg(test)]
 mod support;
+#[cfg(test)]
+mod worlds;

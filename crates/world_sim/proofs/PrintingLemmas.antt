@@ -4,16 +4,14 @@ use Rattle.std.proofs.Math.ListN.{get_or}
 use Rattle.std.proofs.Math.Seq.{take-suc}
 use Rattle.std.proofs.lemmas.List.{map_push}
 use Rattle.std.proofs.KnownBytes.{Appends-nil, Appends-trans}
-use Rattle.std.specs.FinMap.{keys}
-use Rattle.std.specs.FinMap as fin
 use Rattle.std.specs.Io.KnownBytes.{Appends}
 use Rattle.std.specs.List.{FoldsTo}
 use Rattle.scim_key.specs.declared.records.RecordName.{RecordName}
 use Rattle.provider_core.specs.declared.registry.Registry.{Ghosts as Registries}
 use Rattle.journal_core.specs.declared.journals.Journal.{Ghosts as Journals}
 use Rattle.world_model.specs.World.{World, Event, empty, names as world_names, run}
-use Rattle.world_sim.specs.Following.{RunsTelling, Tells}
-use Rattle.world_sim.specs.Printing.{Ends, EndsPrinting, IsOf, Prints, PrintsReport, Reaches, SettlesIf, ShowsAll, printed_reports, report_line, report_lines, settled_lines, view_line, view_lines}
+use Rattle.world_sim.specs.Following.{RunsTelling}
+use Rattle.world_sim.specs.Printing.{Ends, EndsPrinting, Prints, PrintsReport, Reaches, SettlesIf, ShowsAll, printed_reports, report_line, report_lines, settled_lines, view_line, view_lines}
 use Rattle.world_sim.specs.Running.{HasBook, Is, IsSound, is_open, names_in}
 use Rattle.world_sim.specs.Views.{Looks, Shows, view}
 use Rattle.world_sim.specs.declared.following.TellingFault.{TellingFault}

@@ -1,12 +1,12 @@
 -- What is told of a run: nothing yet, one report more, and all of them.
-use Rattle.std.proofs.Common.{◌≡◌, ℕ, ◌+◌, ◌<◌, true, List, [], ◌∷◌, ◌++◌, length, map, take, drop, inl, inr, refl, ap, sym, subst, ◌∙◌, append-nil, append_assoc, length-append}
+use Rattle.std.proofs.Common.{◌≡◌, ℕ, ◌+◌, ◌<◌, true, List, [], ◌∷◌, ◌++◌, length, take, drop, inl, inr, refl, ap, sym, subst, ◌∙◌, append-nil, append_assoc, length-append}
 use Rattle.std.proofs.Math.ListN.{get_or}
 use Rattle.std.proofs.lemmas.Fn.{FoldsTo-push}
 use Rattle.provider_core.specs.declared.registry.Registry.{Ghosts as Registries}
 use Rattle.journal_core.specs.declared.journals.Journal.{Ghosts as Journals}
 use Rattle.world_model.specs.World.{Event}
 use Rattle.world_sim.specs.Events.{event_of, events_of}
-use Rattle.world_sim.specs.Following.{EndsAt, EndsTelling, FailsUntold, Follows, HappensUntold, Misses, RunsTelling, Tells, run_fault}
+use Rattle.world_sim.specs.Following.{EndsAt, EndsTelling, Follows, RunsTelling, Tells, run_fault}
 use Rattle.world_sim.specs.Running.{EndsRun, Runs, RunsFromEmpty, Starts, opens_of}
 use Rattle.world_sim.specs.Sides.{CountsWorldFault}
 use Rattle.world_sim.specs.declared.events.Event.{Event as EventOf}

@@ -1,0 +1,29 @@
+-- What a `simulate` does, its exit status, and why it ends early.
+use Rattle.std.specs.Prelude.{◌≡◌, ℕ, Bool, List, Option}
+use Rattle.std.specs.declared.io.Error.{Error}
+use Rattle.provider_core.specs.declared.registry.Registry.{Ghosts as Registries}
+use Rattle.journal_core.specs.declared.journals.Journal.{Ghosts as Journals}
+use Rattle.world_model.specs.World.{Event}
+use Rattle.world_sim.specs.Printing.{EndsPrinting, Prints}
+use Rattle.world_sim.specs.declared.following.TellingFault.{TellingFault}
+use Rattle.world_sim.specs.declared.printing.Printed.{Printed}
+use Rattle.world_sim.specs.declared.printing.ReportLines.{ReportLines}
+use Rattle.commands.specs.Statuses.{simulated_status, telling_fault}
+use Rattle.commands.specs.declared.status.CommandFault.{CommandFault}
+use Rattle.commands.specs.declared.status.Status.{Status}
+
+-- The lines of the reports, of the run to convergence and of the records were printed, and the status is theirs
+pub record Simulates {R J W : Type 0} (g : Registries R) (h : Journals J) (contents : W → Option (List ℕ))
+    (registry : R) (journal : J) (base : List ℕ) (events : List Event) (asked : Bool) (before after : ReportLines W)
+    (status : Status) : Type 0 where
+  pub printed : Printed R J
+  pub prints : Prints g h contents registry journal base events asked before after printed
+  pub status_is : status ≡ simulated_status after.reports.items printed.views.items
+
+-- Why it ended early, and what was printed before that
+pub record EndsSimulation {R J W : Type 0} (g : Registries R) (h : Journals J) (contents : W → Option (List ℕ))
+    (registry : R) (journal : J) (base : List ℕ) (events : List Event) (before after : ReportLines W)
+    (fault : CommandFault) : Type 0 where
+  pub why : TellingFault Error
+  pub ends : EndsPrinting g h contents registry journal base events before after why
+  pub is : fault ≡ telling_fault why
