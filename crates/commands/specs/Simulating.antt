@@ -1,10 +1,8 @@
 -- The events that the arguments of `simulate` ask for.
-use Rattle.std.specs.Prelude.{◌≡◌, ◌<◌, ℕ, Bool, false, List, Option, None, Some, Result, Ok, Err}
+use Rattle.std.specs.Prelude.{ℕ, Bool, false, List, Option, None, Some, Result, Ok, Err}
 use Rattle.std.specs.Prelude.{if◌then◌else◌, ◌&&◌, codes, nat_le}
 use Rattle.std.specs.Str.{bytes_eq}
-use Rattle.std.specs.Str.Parse.{IsNumeral, without_leading_plus}
 use denote.Ref.{Bor}
-use Rattle.commands.specs.Words.{number_in}
 use Rattle.commands.specs.declared.simulating.Events.{Events}
 use Rattle.commands.specs.declared.simulating.Events.TheVariants.{Scheduled, Random}
 use Rattle.commands.specs.declared.simulating.EventsFault.TheVariants.{Source, Count}
@@ -25,14 +23,6 @@ wanted_events (Some file) (Some seed) count = Err (fault.Events Source)
 wanted_events None None count = Err (fault.Events Source)
 
 -- ---- single arguments
-
--- the number that a text of digits spells, with or without a plus, if it is below this limit. There is none if there is
--- no text, or the text spells no such number
-abbrev pub GivesNumber : (limit : ℕ) → (given : Option (List ℕ)) → Option ℕ → Type 0
-GivesNumber limit None found = found ≡ None
-GivesNumber limit (Some text) (Some number) =
-    IsNumeral 10 (without_leading_plus text) × (number_in text < limit) × (number ≡ number_in text)
-GivesNumber limit (Some text) None = IsNumeral 10 (without_leading_plus text) → number_in text < limit → ⊥
 
 -- whether a flag is set
 abbrev pub is_set : Option (List ℕ) → Bool

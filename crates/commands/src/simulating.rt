@@ -1,8 +1,9 @@
 //! The events that the arguments of `simulate` ask for.
-ghost use Rattle.std.specs.Prelude.{◌≡◌, ◌^◌, codes};
+ghost use Rattle.std.specs.Prelude.{◌≡◌, codes};
 ghost use Rattle.clap.specs.Matches.{first_value, found_of, one_text};
 ghost use Rattle.commands.specs.Addresses.{text_in};
-ghost use Rattle.commands.specs.Simulating.{GivesNumber, is_set, wanted_events};
+ghost use Rattle.commands.specs.Simulating.{is_set, wanted_events};
+ghost use Rattle.commands.specs.Words.{GivesNumber};
 
 use crate::status::CommandFault;
 use clap::ArgMatches;
@@ -64,14 +65,14 @@ pub fn schedule<'a>(matches: &ArgMatches<'a>) -> Option<&'a str>
 
 /// The seed in the arguments, if there is one and its text spells a number of 64 bits.
 pub fn seed(matches: &ArgMatches<'_>) -> Option<u64>
-    ensures { GivesNumber (2 ^ 64) (one_text (found_of matches.now) (codes "seed")) result }
+    ensures { GivesNumber 64 (one_text (found_of matches.now) (codes "seed")) result }
 {
     matches.get_one("seed")
 }
 
 /// The number of events in the arguments, if there is one and its text spells a number of 32 bits.
 pub fn count(matches: &ArgMatches<'_>) -> Option<u32>
-    ensures { GivesNumber (2 ^ 32) (one_text (found_of matches.now) (codes "events")) result }
+    ensures { GivesNumber 32 (one_text (found_of matches.now) (codes "events")) result }
 {
     matches.get_one("events")
 }
