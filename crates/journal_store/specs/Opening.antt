@@ -203,7 +203,8 @@ IsCarriedBy f old new entries = IsStoreBy f old entries × AreEmptied f new.now.
 -- entries. They did so before, or an older format was carried over and its tables are emptied, or there were no tables
 pub record Becomes (old new : State) (entries : EntryMap) : Type 0 where
   pub stands : IsStore old entries
-      ⊎ ((IsCarriedBy second_format old new entries ⊎ IsCarriedBy first_format old new entries) ⊎ (IsBlank old × (entries ≡ empty)))
+      ⊎ ((IsCarriedBy second_format old new entries ⊎ IsCarriedBy first_format old new entries)
+      ⊎ (IsBlank old × (entries ≡ empty)))
   pub store : IsStore new entries
 
 -- ---- what is refused
@@ -282,8 +283,8 @@ IsCause s = IsFor (IsNewer s) (IsDamaged s)
 abbrev pub OpeningFails : (old new : State) → Type 0
 OpeningFails old new = IsTrue old.in_transaction ⊎ ((old.now.schema ≡ no_schema) ⊎ ((IsSecond old.now.schema ⊎ IsFirst old.now.schema) ⊎ HasFailed old new))
 
--- why a reopening refuses the tables: they have the number of a newer format, or they aren't those of the current one, or
--- something in them is invalid
+-- why a reopening refuses the tables: they have the number of a newer format, or they aren't those of the current one,
+-- or something in them is invalid
 abbrev pub IsUnfit : State → Type 0
 IsUnfit s = IsNewer s ⊎ (IsNotLaid s ⊎ IsSpoilt s)
 
@@ -291,8 +292,8 @@ IsUnfit s = IsNewer s ⊎ (IsNotLaid s ⊎ IsSpoilt s)
 abbrev pub LeavesNone : Trees → Type 0
 LeavesNone db = entries_in db ≡ empty
 
--- a stop leaves the entries of the tables of this format, carried over: they are in the tables of the current format, which
--- have its number, and those of this format are emptied
+-- a stop leaves the entries of the tables of this format, carried over: they are in the tables of the current format,
+-- which have its number, and those of this format are emptied
 pub record LeavesCarriedBy (f : FormatData) (s : State) (db : Trees) : Type 0 where
   pub entries : EntryMap
   pub stood : IsStoreBy f s entries
