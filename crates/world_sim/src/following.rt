@@ -10,7 +10,7 @@ use crate::worlds::World;
 use journal_core::ReopenJournal;
 use provider_core::Reopen;
 use scim_key::Base;
-use std::alloc::{AllocFailed, Global};
+use std::alloc::Global;
 use std::io;
 
 /// Who follows a run: he is told the report of each event as soon as the event is made.
@@ -46,17 +46,6 @@ impl<E> From<WorldFault> for TellingFault<E> {
 
     fn from(fault: WorldFault) -> TellingFault<E> {
         TellingFault::World(fault)
-    }
-}
-
-impl<T: Drop, E> From<AllocFailed<T>> for TellingFault<E> {
-    ghost use Rattle.world_sim.specs.declared.following.TellingFault.TheVariants as fault;
-    ghost use Rattle.world_sim.specs.declared.reports.WorldFault.TheVariants.{Memory};
-
-    ghost from_gives = { λ _ made. made ≡ fault.World Memory };
-
-    fn from(failed: AllocFailed<T>) -> TellingFault<E> {
-        TellingFault::World(WorldFault::from(failed))
     }
 }
 

@@ -1,5 +1,5 @@
 //! Runs whose reports and records are printed.
-ghost use Rattle.std.specs.Prelude.{◌≡◌, ◌+◌, [], IfErr, IfOk, OnOk, Some, length};
+ghost use Rattle.std.specs.Prelude.{◌≡◌, ◌+◌, ◌++◌, ◌∷◌, [], IfErr, IfOk, OnOk, Some, length};
 ghost use Rattle.std.specs.Io.KnownBytes.{Appends, Keeps};
 ghost use Rattle.world_sim.specs.Events.{events_of};
 ghost use Rattle.world_sim.specs.Printing.{Ends, EndsPrinting, Prints, PrintsReport, SettlesIf, ShowsAll, printed_reports, report_line, settled_lines, view_line, view_lines};
@@ -7,7 +7,7 @@ ghost use Rattle.world_sim.specs.Views.{Looks, Shows};
 
 use crate::events::Event;
 use crate::following::{Follow, TellingFault, run_telling};
-use crate::reports::Report;
+use crate::reports::{Report, WorldFault};
 use crate::settling::{Count, settle};
 use crate::views::View;
 use crate::worlds::World;
@@ -149,9 +149,17 @@ fn print_views<R: Registry + Drop, J: Journal + Drop, W: Write>(
     let mut views = Vec::new(alloc);
     for name in names.as_slice() {
         let view = print_view(world, name, out)?;
-        views.push(view)?;
+        keep(&mut views, view)?;
     }
     Ok(views)
+}
+
+/// Adds a view at the end.
+fn keep(views: &mut Vec<View>, view: View) -> Result<(), WorldFault>
+    ensures { OnOk result (views.new.items ≡ views.old.items ++ view ∷ []) }
+{
+    views.push(view)?;
+    Ok(())
 }
 
 /// Prints the state of a record.

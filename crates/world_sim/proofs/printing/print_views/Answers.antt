@@ -16,7 +16,7 @@ pub loop-name-preserved : goal.loop-name-preserved
 loop-name-preserved g c =
     let names = c.as_slice-name-items.result.now in
     let less : c.loop-name.name-index < length names = search rules in
-    let pushed : c.push.new.self.items ≡ c.loop-name.views.items ++ c.in_ok-view.view ∷ [] = search rules in
+    let pushed : c.keep.new.views.items ≡ c.loop-name.views.items ++ c.in_ok-view.view ∷ [] = search rules in
     let shown = one_shown g.R.Registry g.J.Journal c.args.world.now c.loop-name.world c.print_view.new.world names c.loop-name.name-index c.name-item.result c.loop-name.views.items c.in_ok-view.view
     less c.name-item.is c.loop-name.invariant.0 c.in_ok-view.ensures.shows c.in_ok-view.ensures.looks in
     let lines = Appends-trans (g.W.Write.contents c.args.out.now) (g.W.Write.contents c.loop-name.out) (g.W.Write.contents c.print_view.new.out) (view_lines c.loop-name.views.items) (view_line c.in_ok-view.view)
