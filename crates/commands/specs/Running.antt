@@ -73,7 +73,7 @@ abbrev pub GivesJob : Found → Result Job CommandFault → Type 0
 GivesJob found (Ok job) = IsJob found job
 GivesJob found (Err why) =
     (wanted fault.File (first_value found (codes "users")) ≡ Err why)
-        ⊎ Gives fault.Memory (Err why) (wanted_base (first_value found (codes "base")))
+    ⊎ Gives fault.Memory (Err why) (wanted_base (first_value found (codes "base")))
 
 -- each source is of its own file; or one of the files couldn't be read, and this is the fault
 abbrev pub ReadsJob : {R : Type 0} → (gives : R → (path : List ℕ) → Result (List ℕ) Error → Type 0) → (place : R)
@@ -115,7 +115,7 @@ module _ {I O J : Type 0} (remaining : I → Option (List ℕ)) (contents : O �
       → Result Status CommandFault → Type 0
   Pushes base sources old new last ended =
       (carried : Result Outcome RunFault) × CarriesSilently remaining contents g base sources old new carried
-          × (ended ≡ concluded last (pushed_status carried))
+      × (ended ≡ concluded last (pushed_status carried))
 
   -- The files of a job were read, and their records carried; or a file couldn't be read, or memory ran out, and the
   -- connector is as it was
