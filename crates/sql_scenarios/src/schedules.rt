@@ -9,6 +9,7 @@ use sqlite_trees::memory::MemStore;
 use std::alloc::Global;
 use std::env::temp_dir;
 use std::fs::remove_file;
+use std::hash::{BuildHasher, RandomState};
 use std::process::Abort;
 use std::rt::HostRuntime;
 use storage::{DatabaseFile, EntryStorage, JournalFile, RowStorage, StoreFile};
@@ -145,11 +146,15 @@ fn told_over_files(
     text
 }
 
-/// The path of a file for temporary files.
+/// A path among the temporary files that no other run has.
 fn path(abort: &impl Abort, rt: &HostRuntime, name: &str) -> String {
     let folder = temp_dir(rt).expect(abort, "a folder");
     let folder = folder.to_str().expect(abort, "a text");
-    format!(in rt.alloc(); "{folder}/scimlink-{name}.db").expect(abort, "memory")
+    let run = RandomState::new(rt)
+        .ok()
+        .expect(abort, "a number")
+        .hash_one(&0u8);
+    format!(in rt.alloc(); "{folder}/scimlink-{run}-{name}.db").expect(abort, "memory")
 }
 
 #[test]
