@@ -11,24 +11,23 @@ use Rattle.connection.specs.declared.serving.ConnectionFault.{ConnectionFault}
 use Rattle.storage.specs.Serving.{ServesFrom}
 use Rattle.storage.specs.StoreOpened.{IsOpened}
 use Rattle.commands.specs.Statuses.{outcome_status}
-use Rattle.commands.specs.Words.{IsCount, number_in, wanted_base}
+use Rattle.commands.specs.Words.{GivesCount, wanted_base}
+use Rattle.commands.specs.declared.status.CommandFault.TheVariants as fault
 use Rattle.commands.specs.declared.status.Status.{Status}
 
--- the status of connections with this outcome: some answers were still being sent, and this is what came of them
-pub record IsStatusOf (outcome : Result (Unit {0}) ConnectionFault) (status : Status) : Type 0 where
-  pub finished : Result (Unit {0}) ConnectionFault
-  pub status_is : status ≡ outcome_status (result_and outcome finished)
-
-module _ {L I O : Type 0} (waiting : L → Option (List (I × O))) (remaining : I → Option (List ℕ)) (contents : O → Option (List ℕ)) where
+module _ {L I O : Type 0} (waiting : L → Option (List (I × O))) (remaining : I → Option (List ℕ))
+    (contents : O → Option (List ℕ)) where
   module _ {R : Type 0} (g : Ghosts R) (base : List ℕ) where
     -- so many connections were served from these rows
+    -- (the answers that were still being sent came to `finished`)
     pub record ServesRows (rows : R) (count : ℕ) (status : Status) : Type 0 where
       pub before : L
       pub after : L
       pub last : R
       pub outcome : Result (Unit {0}) ConnectionFault
+      pub finished : Result (Unit {0}) ConnectionFault
       pub serves : ServesFrom waiting remaining contents g base before after rows last count outcome
-      pub status_is : IsStatusOf outcome status
+      pub status_is : status ≡ outcome_status (result_and outcome finished)
 
     -- the same from rows that were opened
     abbrev pub ServesStored : (count : ℕ) → Status → Type 0
@@ -40,20 +39,23 @@ module _ {L I O : Type 0} (waiting : L → Option (List (I × O))) (remaining : 
     pub after : L
     pub held : MemoryRecord
     pub outcome : Result (Unit {0}) ConnectionFault
+    pub finished : Result (Unit {0}) ConnectionFault
     pub follows : FollowRequests [] held.rows count
-    pub serves : ServesTurns waiting remaining contents g base before after (record { rows = []; writes = 0 }) held count outcome
-    pub status_is : IsStatusOf outcome status
+    pub serves : ServesTurns waiting remaining contents g base before after
+        (record { rows = []; writes = 0 }) held count outcome
+    pub status_is : status ≡ outcome_status (result_and outcome finished)
 
   -- from the rows of a store, if one is named
-  abbrev pub ServesNamed : {R K : Type 0} → Ghosts R → Ghosts MemoryRecord → (base : List ℕ) → (count : ℕ) → (store : Option K) → Status → Type 0
+  abbrev pub ServesNamed : {R K : Type 0} → Ghosts R → Ghosts MemoryRecord → (base : List ℕ) → (count : ℕ)
+      → (store : Option K) → Status → Type 0
   ServesNamed rows memory base count (Some store) status = ServesStored rows base count status
   ServesNamed rows memory base count None status = ServesEmpty memory base count status
 
   -- at the base, and as often, as the arguments say
-  pub record IsServed {R K : Type 0} (rows : Ghosts R) (memory : Ghosts MemoryRecord) (found : Found) (store : Option K) (status : Status) : Type 0 where
+  pub record IsServed {R K : Type 0} (rows : Ghosts R) (memory : Ghosts MemoryRecord) (found : Found)
+      (store : Option K) (status : Status) : Type 0 where
     pub base : List ℕ
     pub base_is : wanted_base (first_value found (codes "base")) ≡ Ok base
-    pub text : List ℕ
-    pub text_is : one_text found (codes "requests") ≡ Some text
-    pub count : IsCount 1_000_000 text
-    pub serves : ServesNamed rows memory base (number_in text) store status
+    pub count : ℕ
+    pub count_is : GivesCount 1_000_000 fault.Requests (one_text found (codes "requests")) (Ok count)
+    pub serves : ServesNamed rows memory base count store status

@@ -17,17 +17,16 @@ use Rattle.storage.specs.JournalShowing.{ShowsFrom as ShowsEntries}
 use Rattle.storage.specs.Resetting.{ResetsFrom}
 use Rattle.storage.specs.StoreShowing.{ShowsFrom as ShowsRows}
 use Rattle.storage.specs.declared.show_fault.ShowFault.{ShowFault}
-use Rattle.provisioning.specs.Carrying.{CarriesSilently, Loops}
+use Rattle.provisioning.specs.Carrying.{CarriesSilently}
 use Rattle.provisioning.specs.Faults.{unopened}
 use Rattle.provisioning.specs.Sources.{ReadsSources}
 use Rattle.provisioning.specs.declared.carrying.Outcome.{Outcome}
-use Rattle.provisioning.specs.declared.faults.LoopFault.{LoopFault}
 use Rattle.provisioning.specs.declared.faults.RunFault.{RunFault}
 use Rattle.provisioning.specs.declared.sources.Sources.{Sources}
 use Rattle.provisioning.specs.declared.sources.UnreadFile.{UnreadFile}
 use Rattle.commands.specs.Addresses.{IsAddress, text_in}
 use Rattle.commands.specs.Causes.{concluded, source_part}
-use Rattle.commands.specs.Statuses.{journal_fault, pushed_status, run_status, shown_status, unless_memory, unread_fault}
+use Rattle.commands.specs.Statuses.{journal_fault, pushed_status, shown_status, unless_memory, unread_fault}
 use Rattle.commands.specs.Words.{wanted, wanted_base}
 use Rattle.commands.specs.declared.jobs.Job.{Job}
 use Rattle.commands.specs.declared.status.CommandFault.{CommandFault}
@@ -39,7 +38,8 @@ use Rattle.commands.specs.declared.status.Status.TheVariants.{Done}
 
 -- if the lines were written, this is true; the status, or the fault with the system's error, is that of the lines
 abbrev pub EndsShowing : Type 0 → (last : Option Error) → Result Status CommandFault → Type 0
-EndsShowing holds last ended = (shown : Result (Unit {0}) ShowFault) × OnOk shown holds × (ended ≡ concluded last (shown_status shown))
+EndsShowing holds last ended = (shown : Result (Unit {0}) ShowFault) × OnOk shown holds
+    × (ended ≡ concluded last (shown_status shown))
 
 -- a journal was opened, and has forgotten what was learnt
 abbrev pub IsReset : {J : Type 0} → Journals J → Status → Type 0
@@ -54,7 +54,8 @@ abbrev pub AreEntriesShown : {J : Type 0} → Journals J → Status → Type 0
 AreEntriesShown g status = (status ≡ Done) × ((before after : Option (List ℕ)) × ShowsEntries g before after)
 
 -- the one that was named is shown
-abbrev pub IsShown : {R J K H : Type 0} → Registries R → Journals J → (store : Option K) → (journal : Option H) → Status → Type 0
+abbrev pub IsShown : {R J K H : Type 0} → Registries R → Journals J → (store : Option K) → (journal : Option H)
+    → Status → Type 0
 IsShown rows entries (Some store) None status = AreRowsShown rows status
 IsShown rows entries None (Some journal) status = AreEntriesShown entries status
 IsShown rows entries _ _ status = ⊥
@@ -71,12 +72,16 @@ pub record IsJob (found : Found) (job : Job) : Type 0 where
 abbrev pub GivesJob : Found → Result Job CommandFault → Type 0
 GivesJob found (Ok job) = IsJob found job
 GivesJob found (Err why) =
-    (wanted fault.File (first_value found (codes "users")) ≡ Err why) ⊎ Gives fault.Memory (Err why) (wanted_base (first_value found (codes "base")))
+    (wanted fault.File (first_value found (codes "users")) ≡ Err why)
+    ⊎ Gives fault.Memory (Err why) (wanted_base (first_value found (codes "base")))
 
 -- each source is of its own file; or one of the files couldn't be read, and this is the fault
-abbrev pub ReadsJob : {R : Type 0} → (gives : R → (path : List ℕ) → Result (List ℕ) Error → Type 0) → (place : R) → Job → Result Sources CommandFault → Type 0
+abbrev pub ReadsJob : {R : Type 0} → (gives : R → (path : List ℕ) → Result (List ℕ) Error → Type 0) → (place : R)
+    → Job → Result Sources CommandFault → Type 0
 ReadsJob gives place job (Ok sources) = ReadsSources gives place job.users.now (text_in job.groups) (Ok sources)
-ReadsJob gives place job (Err why) = (unread : UnreadFile) × ReadsSources gives place job.users.now (text_in job.groups) (Err unread) × (why ≡ unread_fault (source_part unread.kind) unread.error)
+ReadsJob gives place job (Err why) = (unread : UnreadFile)
+    × ReadsSources gives place job.users.now (text_in job.groups) (Err unread)
+    × (why ≡ unread_fault (source_part unread.kind) unread.error)
 
 -- the same of files of which no contract says what they have
 abbrev pub ReadsFiles : Job → Result Sources CommandFault → Type 0
@@ -95,7 +100,8 @@ pub record IsStart {J : Type 0} (g : Journals J) (start : State J) : Type 0 wher
 
 -- the journal couldn't be opened, or read
 abbrev pub IsUnopened : CommandFault → Type 0
-IsUnopened why = ((cause : JournalOpenFault) × (why ≡ journal_fault cause)) ⊎ ((cause : ConnectorOpenFault) × (why ≡ fault.Run (unopened cause)))
+IsUnopened why = ((cause : JournalOpenFault) × (why ≡ journal_fault cause))
+    ⊎ ((cause : ConnectorOpenFault) × (why ≡ fault.Run (unopened cause)))
 
 abbrev pub GivesConnector : {J : Type 0} → Journals J → Result (State J) CommandFault → Type 0
 GivesConnector g (Ok start) = IsStart g start
@@ -105,9 +111,11 @@ GivesConnector g (Err why) = IsUnopened why
 
 module _ {I O J : Type 0} (remaining : I → Option (List ℕ)) (contents : O → Option (List ℕ)) (g : Journals J) where
   -- The records of these sources were carried; the status is that of this run, or its fault with the system's error
-  abbrev pub Pushes : (base : List ℕ) → Sources → (old new : State J) → (last : Option Error) → Result Status CommandFault → Type 0
+  abbrev pub Pushes : (base : List ℕ) → Sources → (old new : State J) → (last : Option Error)
+      → Result Status CommandFault → Type 0
   Pushes base sources old new last ended =
-      (carried : Result Outcome RunFault) × CarriesSilently remaining contents g base sources old new carried × (ended ≡ concluded last (pushed_status carried))
+      (carried : Result Outcome RunFault) × CarriesSilently remaining contents g base sources old new carried
+      × (ended ≡ concluded last (pushed_status carried))
 
   -- The files of a job were read, and their records carried; or a file couldn't be read, or memory ran out, and the
   -- connector is as it was
@@ -125,16 +133,3 @@ module _ {I O J : Type 0} (remaining : I → Option (List ℕ)) (contents : O �
   -- the same of what the arguments name
   abbrev pub IsPushed : {L : Type 0} → (is_closed : J → L → Type 0) → Found → Status → Type 0
   IsPushed is_closed found status = (job : Job) × IsJob found job × PushesOver is_closed job (Ok status)
-
--- ---- `loop`
-
-module _ {I O J : Type 0} (remaining : I → Option (List ℕ)) (contents : O → Option (List ℕ)) (g : Journals J) where
-  -- the same with a provider in this program
-  abbrev pub RunsLoop : (base : List ℕ) → Sources → (old new : State J) → (last : Option Error) → Result Status CommandFault → Type 0
-  RunsLoop base sources old new last ended =
-      (carried : Result Outcome LoopFault) × Loops remaining contents g base sources old new carried × (ended ≡ concluded last (run_status carried))
-
-  abbrev pub LoopsFrom : Job → (old new : State J) → Result Status CommandFault → Type 0
-  LoopsFrom job old new ended =
-      ((sources : Sources) × (last : Option Error) × ReadsFiles job (Ok sources) × RunsLoop job.service sources old new last ended)
-      ⊎ ((why : CommandFault) × (ended ≡ Err why) × (new ≡ old))

@@ -1,6 +1,7 @@
 //! `answer`: one connection, and the exit status after it.
 ghost use Rattle.std.specs.Prelude.{◌≡◌};
-ghost use Rattle.commands.specs.Connections.{AnswersOne, AnswersStored};
+ghost use Rattle.clap.specs.Matches.{found_of};
+ghost use Rattle.commands.specs.Connections.{Answers, AnswersNamed, AnswersOne, AnswersStored};
 ghost use Rattle.commands.specs.Statuses.{served_status};
 
 use crate::status::{CommandFault, Status};
@@ -21,7 +22,9 @@ pub fn answer<R: Runtime + AllocGlobal, K: RowStorage>(
     rt: &R,
     words: &ArgMatches<'_>,
     store: Option<&K>,
-) -> Result<Status, CommandFault> {
+) -> Result<Status, CommandFault>
+    ensures { Answers K.Rows.Registry (found_of words.now) store.entry result }
+{
     let base = base(rt.alloc(), words)?;
     let mut reader = Input::new(rt.reader());
     let mut writer = Output::new(io::writer(rt));
@@ -35,7 +38,10 @@ fn answer_named<K: RowStorage, I: Read, O: Write>(
     base: &Base,
     reader: &mut Input<I>,
     writer: &mut Output<O>,
-) -> Result<Status, CommandFault> {
+) -> Result<Status, CommandFault>
+    ensures { AnswersNamed K.Rows.Registry store.entry base.now reader.old reader.new writer.old
+        writer.new result }
+{
     match store {
         Some(storage) => answer_stored(alloc, storage, base, reader, writer),
         None => answer_one(alloc, base, reader, writer),

@@ -1,23 +1,26 @@
 //! `push`: the connector against the provider at an address.
+ghost use Rattle.commands.specs.Running.{GivesConnector, Pushes, PushesFrom};
+
 use crate::endings::pushed_status;
 use crate::jobs::Job;
 use crate::output::{NotedWriter, standard_output};
 use crate::status::{CommandFault, Status};
 use crate::words::to;
 use clap::ArgMatches;
+use connection::TimedHandle;
 use connector_core::Connector;
 use journal_core::Journal;
 use provisioning::{RunFault, Sources};
 use std::alloc::Global;
-use std::io::Write;
+use std::io::{Read, Write};
 use std::net::Net;
 use std::rt::Runtime;
 use storage::{EntryStorage, StoredEntries};
 
 /// Opens the journal, carries the records of files to the provider at an address, and closes the journal. What
 /// was confirmed stays in the journal, however the run ends.
-pub fn push<R: Runtime + Net + AllocGlobal, J: EntryStorage>(
-    rt: &R,
+pub fn push<'a, R: Runtime + Net + AllocGlobal, J: EntryStorage>(
+    rt: &'a R,
     words: &ArgMatches<'_>,
     journal: Option<&J>,
 ) -> Result<Status, CommandFault> {
@@ -28,23 +31,32 @@ pub fn push<R: Runtime + Net + AllocGlobal, J: EntryStorage>(
 }
 
 /// Carries the records from a journal that it opens first, and closes.
-pub fn push_over<R: Runtime + Net + AllocGlobal, J: EntryStorage>(
-    rt: &R,
+pub fn push_over<'a, R: Runtime + Net + AllocGlobal, J: EntryStorage>(
+    rt: &'a R,
     storage: &J,
     job: &Job<'_>,
     to: &str,
 ) -> Result<Status, CommandFault> {
     let mut connector = open_connector(rt.alloc(), storage)?;
     let ended = push_from(rt, &mut connector, job, to);
-    connector.close().close();
+    close(connector);
     ended
+}
+
+/// Closes the journal of a connector.
+fn close<E: StoredEntries>(connector: Connector<E>) -> E::Left
+    ensures { E.is_closed connector.journal result }
+{
+    connector.close().close()
 }
 
 /// The connector over a journal. If the connector refuses the journal, it is closed.
 pub(crate) fn open_connector<J: EntryStorage>(
     alloc: Global,
     storage: &J,
-) -> Result<Connector<J::Entries>, CommandFault> {
+) -> Result<Connector<J::Entries>, CommandFault>
+    ensures { GivesConnector J.Entries.Journal result }
+{
     match Connector::open(alloc, storage.open()?) {
         Ok(connector) => Ok(connector),
         Err((fault, entries)) => {
@@ -55,26 +67,34 @@ pub(crate) fn open_connector<J: EntryStorage>(
 }
 
 /// Reads the files, and carries their records.
-fn push_from<R: Runtime + Net + AllocGlobal, J: Journal>(
-    rt: &R,
+fn push_from<'a, R: Runtime + Net + AllocGlobal, J: Journal>(
+    rt: &'a R,
     connector: &mut Connector<J>,
     job: &Job<'_>,
     to: &str,
-) -> Result<Status, CommandFault> {
+) -> Result<Status, CommandFault>
+    ensures { PushesFrom ⟦<TimedHandle<'a, R::Stream, R> as Read>⟧.remaining
+        ⟦<TimedHandle<'a, R::Stream, R> as Write>⟧.contents J.Journal job.now connector.old
+        connector.new result }
+{
     let sources = job.read(rt)?;
     let mut out = standard_output(rt)?;
     push_to(rt, connector, job, &sources, to, &mut out)
 }
 
 /// Carries the records of files, and prints a line for each.
-fn push_to<R: Runtime + Net + AllocGlobal, J: Journal, W: Write + Drop>(
-    rt: &R,
+fn push_to<'a, R: Runtime + Net + AllocGlobal, J: Journal, W: Write + Drop>(
+    rt: &'a R,
     connector: &mut Connector<J>,
     job: &Job<'_>,
     sources: &Sources,
     to: &str,
     out: &mut NotedWriter<W>,
-) -> Result<Status, CommandFault> {
+) -> Result<Status, CommandFault>
+    ensures { Pushes ⟦<TimedHandle<'a, R::Stream, R> as Read>⟧.remaining
+        ⟦<TimedHandle<'a, R::Stream, R> as Write>⟧.contents J.Journal job.now.service sources.now
+        connector.old connector.new out.new.last result }
+{
     let ended = provisioning::push(rt, rt.alloc(), &job.service, connector, sources, to, out);
     out.concluded(pushed_status(ended))
 }

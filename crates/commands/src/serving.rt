@@ -1,12 +1,23 @@
 //! `serve`: connections to a socket, answered by one provider, as their requests are whole.
+ghost use Rattle.std.specs.Prelude.{◌≡◌, IfOk};
+ghost use Rattle.std.specs.Result.{result_and};
+ghost use Rattle.clap.specs.Matches.{found_of};
+ghost use Rattle.commands.specs.Statuses.{outcome_status};
+ghost use Rattle.commands.specs.Listening.{IsServed, ServesEmpty, ServesRows, ServesStored};
+
 use crate::endings::outcome_status;
 use crate::status::{CommandFault, Status, listen_fault};
 use crate::words::{address, base, requests};
 use clap::ArgMatches;
-use connection::{Sockets, serve_from_memory};
+use connection::{
+    AheadReader, ConnectionFault, LateWriter, Listen, PromptStream, SharedStream, Sockets,
+    serve_from_memory,
+};
+use provider_core::{MemoryRegistry, Registry};
 use provisioning::CONNECTION_SECONDS;
 use scim_key::Base;
 use std::io;
+use std::io::{Read, Write};
 use std::net::{Net, OpenListener, SocketAddr, TcpListener};
 use std::rt::Runtime;
 use std::time::Duration;
@@ -18,7 +29,13 @@ pub fn serve<'a, R: Runtime + Net + AllocGlobal, K: RowStorage>(
     rt: &'a R,
     words: &ArgMatches<'_>,
     store: Option<&K>,
-) -> Result<Status, CommandFault> {
+) -> Result<Status, CommandFault>
+    ensures { IfOk result
+        (IsServed ⟦<Sockets<'a, R::Listener, R> as Listen>⟧.waiting
+        ⟦<AheadReader<PromptStream<'a, SharedStream<R::Stream>, R>> as Read>⟧.remaining
+        ⟦<LateWriter<PromptStream<'a, SharedStream<R::Stream>, R>> as Write>⟧.contents
+        K.Rows.Registry ⟦<MemoryRegistry as Registry>⟧ (found_of words.now) store.entry) }
+{
     let address = address(words)?;
     let requests = requests(words)?;
     let base = base(rt.alloc(), words)?;
@@ -29,15 +46,23 @@ pub fn serve<'a, R: Runtime + Net + AllocGlobal, K: RowStorage>(
 }
 
 /// Listens, and serves `requests` connections from a provider in memory that starts empty.
+#[tactic(auto, using(crate::proofs::RunLemmas::memory_served))]
 fn serve_empty<'a, R: Runtime + Net + AllocGlobal>(
     rt: &'a R,
     address: &str,
     requests: u32,
     base: &Base,
-) -> Result<Status, CommandFault> {
+) -> Result<Status, CommandFault>
+    ensures { IfOk result
+        (ServesEmpty ⟦<Sockets<'a, R::Listener, R> as Listen>⟧.waiting
+        ⟦<AheadReader<PromptStream<'a, SharedStream<R::Stream>, R>> as Read>⟧.remaining
+        ⟦<LateWriter<PromptStream<'a, SharedStream<R::Stream>, R>> as Write>⟧.contents
+        ⟦<MemoryRegistry as Registry>⟧ base.now requests) }
+{
     let mut sockets = sockets(rt, address)?;
     let outcome = serve_from_memory(rt, rt.alloc(), &mut sockets, requests, base);
-    Ok(outcome_status(outcome.and(sockets.finish(rt))))
+    let finished = sockets.finish(rt);
+    Ok(status_after(outcome, finished))
 }
 
 /// Opens the rows, listens, and serves `requests` connections.
@@ -47,7 +72,13 @@ fn serve_from_file<'a, R: Runtime + Net + AllocGlobal, K: RowStorage>(
     requests: u32,
     base: &Base,
     storage: &K,
-) -> Result<Status, CommandFault> {
+) -> Result<Status, CommandFault>
+    ensures { IfOk result
+        (ServesStored ⟦<Sockets<'a, R::Listener, R> as Listen>⟧.waiting
+        ⟦<AheadReader<PromptStream<'a, SharedStream<R::Stream>, R>> as Read>⟧.remaining
+        ⟦<LateWriter<PromptStream<'a, SharedStream<R::Stream>, R>> as Write>⟧.contents
+        K.Rows.Registry base.now requests) }
+{
     let rows = storage.open()?;
     match sockets(rt, address) {
         Ok(mut sockets) => serve_rows(rt, storage, rows, &mut sockets, requests, base),
@@ -59,6 +90,7 @@ fn serve_from_file<'a, R: Runtime + Net + AllocGlobal, K: RowStorage>(
 }
 
 /// Serves `requests` connections from rows that were opened.
+#[tactic(auto, using(crate::proofs::RunLemmas::rows_served))]
 fn serve_rows<'a, R: Runtime + Net + AllocGlobal, K: RowStorage>(
     rt: &'a R,
     storage: &K,
@@ -66,9 +98,26 @@ fn serve_rows<'a, R: Runtime + Net + AllocGlobal, K: RowStorage>(
     sockets: &mut Sockets<'a, R::Listener, R>,
     requests: u32,
     base: &Base,
-) -> Result<Status, CommandFault> {
+) -> Result<Status, CommandFault>
+    ensures { IfOk result
+        (ServesRows ⟦<Sockets<'a, R::Listener, R> as Listen>⟧.waiting
+        ⟦<AheadReader<PromptStream<'a, SharedStream<R::Stream>, R>> as Read>⟧.remaining
+        ⟦<LateWriter<PromptStream<'a, SharedStream<R::Stream>, R>> as Write>⟧.contents
+        K.Rows.Registry base.now rows requests) }
+{
     let outcome = serve_stored(rt, rt.alloc(), storage, rows, sockets, requests, base)?;
-    Ok(outcome_status(outcome.and(sockets.finish(rt))))
+    let finished = sockets.finish(rt);
+    Ok(status_after(outcome, finished))
+}
+
+/// The exit status after connections, and after the answers that were still being sent.
+fn status_after(
+    outcome: Result<(), ConnectionFault>,
+    finished: Result<(), ConnectionFault>,
+) -> Status
+    ensures { result ≡ outcome_status (result_and outcome finished) }
+{
+    outcome_status(outcome.and(finished))
 }
 
 /// The connections of an address, each with a deadline.

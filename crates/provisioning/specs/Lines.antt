@@ -39,4 +39,5 @@ row_line number said = decimal number ++ (codes " " ++ (said ++ codes "\n"))
 
 -- what is said of a row that the connector refuses: its file, the place of its record, and the code
 abbrev pub refused_text : Kind → (place : ℕ) → ChangeFault → List ℕ
-refused_text kind place fault = label kind ++ (codes " record " ++ (decimal place ++ (codes ": " ++ change_fault_text fault)))
+refused_text kind place fault = label kind ++
+    (codes " record " ++ (decimal place ++ (codes ": " ++ change_fault_text fault)))

@@ -86,7 +86,8 @@ module _ {R : Type 0} (gives : R → (path : List ℕ) → Result (List ℕ) Err
 
   -- each source is of its own file; or one of the files couldn't be read
   abbrev pub ReadsSources : (users : List ℕ) → (groups : Option (List ℕ)) → Result Sources UnreadFile → Type 0
-  ReadsSources users groups (Ok sources) = IsReadFrom kinds.User users sources.users × IsReadIfNamed kinds.Group groups sources.groups
+  ReadsSources users groups (Ok sources) = IsReadFrom kinds.User users sources.users
+      × IsReadIfNamed kinds.Group groups sources.groups
   ReadsSources users groups (Err unread) = FailsAt kinds.User users unread ⊎ FailsIfNamed kinds.Group groups unread
 
 -- ---- what files are called

@@ -1,0 +1,38 @@
+-- Runs of `push` and `serve`, put together from their parts.
+use Rattle.std.proofs.Common.{◌≡◌, ℕ, List, [], Option, Result, Ok, Err, IfOk, inl}
+use Rattle.std.specs.Result.{result_and}
+use Rattle.clap.specs.declared.parser.matches.Found.{Found}
+use Rattle.journal_core.specs.declared.journals.Journal.{Ghosts}
+use Rattle.connector_core.specs.State.{State}
+use Rattle.provider_core.specs.Memory.{MemoryRecord}
+use Rattle.provider_core.specs.declared.registry.Registry.{Ghosts as Registries}
+use Rattle.connection.specs.Requests.{FollowRequests}
+use Rattle.connection.specs.Turns.{ServesTurns}
+use Rattle.connection.specs.declared.serving.ConnectionFault.{ConnectionFault}
+use Rattle.storage.specs.Serving.{ServesFrom}
+use Rattle.commands.specs.Listening.{ServesEmpty, ServesRows}
+use Rattle.commands.specs.Statuses.{outcome_status}
+use Rattle.commands.specs.Running.{IsJob, IsPushed, IsStart, PushesFrom, PushesOver}
+use Rattle.commands.specs.declared.jobs.Job.{Job}
+use Rattle.commands.specs.declared.status.CommandFault.{CommandFault}
+use Rattle.commands.specs.declared.status.Status.{Status}
+
+module _ {I O J L : Type 0} (remaining : I → Option (List ℕ)) (contents : O → Option (List ℕ)) (g : Ghosts J) (is_closed : J → L → Type 0) (job : Job) where
+  pub over : (start end : State J) (left : L) (ended : Result Status CommandFault) → IsStart g start → PushesFrom remaining contents g job start end ended → is_closed end.journal left → PushesOver remaining contents g is_closed job ended
+  over start end left ended starts pushes closed = inl (start, end, left, starts, pushes, closed)
+
+  pub named : (found : Found) (ended : Result Status CommandFault) → IsJob found job → PushesOver remaining contents g is_closed job ended → IfOk ended (IsPushed remaining contents g is_closed found)
+  named found (Ok status) is pushes = (job, is, pushes)
+  named found (Err why) is pushes = tt
+
+module _ {L I O : Type 0} (waiting : L → Option (List (I × O))) (remaining : I → Option (List ℕ)) (contents : O → Option (List ℕ)) where
+  pub rows_served : {R : Type 0} (g : Registries R) (base : List ℕ) (rows : R) (count : ℕ) (before after : L) (outcome finished : Result (Unit {0}) ConnectionFault) (status : Status)
+      → (last : R) × ServesFrom waiting remaining contents g base before after rows last count outcome → status ≡ outcome_status (result_and outcome finished) → ServesRows waiting remaining contents g base rows count status
+  rows_served g base rows count before after outcome finished status served is =
+      record { before = before; after = after; last = served.0; outcome = outcome; finished = finished; serves = served.1; status_is = is }
+
+  pub memory_served : (g : Registries MemoryRecord) (base : List ℕ) (count : ℕ) (before after : L) (outcome finished : Result (Unit {0}) ConnectionFault) (status : Status)
+      → (held : MemoryRecord) × FollowRequests [] held.rows count × ServesTurns waiting remaining contents g base before after (record { rows = []; writes = 0 }) held count outcome
+      → status ≡ outcome_status (result_and outcome finished) → ServesEmpty waiting remaining contents g base count status
+  memory_served g base count before after outcome finished status served is =
+      record { before = before; after = after; held = served.0; outcome = outcome; finished = finished; follows = served.1; serves = served.2; status_is = is }
