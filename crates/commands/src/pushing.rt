@@ -1,7 +1,5 @@
 //! `push`: the connector against the provider at an address.
-ghost use Rattle.std.specs.Prelude.{IfOk};
-ghost use Rattle.clap.specs.Matches.{found_of};
-ghost use Rattle.commands.specs.Running.{GivesConnector, IsPushed, PushesFrom, PushesOver, Pushes};
+ghost use Rattle.commands.specs.Running.{GivesConnector, Pushes, PushesFrom};
 
 use crate::endings::pushed_status;
 use crate::jobs::Job;
@@ -21,17 +19,11 @@ use storage::{EntryStorage, StoredEntries};
 
 /// Opens the journal, carries the records of files to the provider at an address, and closes the journal. What
 /// was confirmed stays in the journal, however the run ends.
-#[tactic(auto, using(crate::proofs::RunLemmas::named))]
 pub fn push<'a, R: Runtime + Net + AllocGlobal, J: EntryStorage>(
     rt: &'a R,
     words: &ArgMatches<'_>,
     journal: Option<&J>,
-) -> Result<Status, CommandFault>
-    ensures { IfOk result
-        (IsPushed ⟦<TimedHandle<'a, R::Stream, R> as Read>⟧.remaining
-        ⟦<TimedHandle<'a, R::Stream, R> as Write>⟧.contents J.Entries.Journal J.Entries.is_closed
-        (found_of words.now)) }
-{
+) -> Result<Status, CommandFault> {
     let storage = journal.ok_or(CommandFault::File)?;
     let to = to(words)?;
     let job = Job::of(rt.alloc(), words)?;
@@ -39,17 +31,12 @@ pub fn push<'a, R: Runtime + Net + AllocGlobal, J: EntryStorage>(
 }
 
 /// Carries the records from a journal that it opens first, and closes.
-#[tactic(auto, using(crate::proofs::RunLemmas::over))]
 pub fn push_over<'a, R: Runtime + Net + AllocGlobal, J: EntryStorage>(
     rt: &'a R,
     storage: &J,
     job: &Job<'_>,
     to: &str,
-) -> Result<Status, CommandFault>
-    ensures { PushesOver ⟦<TimedHandle<'a, R::Stream, R> as Read>⟧.remaining
-        ⟦<TimedHandle<'a, R::Stream, R> as Write>⟧.contents J.Entries.Journal J.Entries.is_closed
-        job.now result }
-{
+) -> Result<Status, CommandFault> {
     let mut connector = open_connector(rt.alloc(), storage)?;
     let ended = push_from(rt, &mut connector, job, to);
     close(connector);
