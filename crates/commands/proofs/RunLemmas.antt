@@ -2,8 +2,10 @@
 use Rattle.std.proofs.Common.{◌≡◌, ℕ, List, [], Option, Result, Ok, Err, IfOk, inl}
 use Rattle.std.specs.Result.{result_and}
 use Rattle.clap.specs.declared.parser.matches.Found.{Found}
+use Rattle.journal_core.specs.Entries.{EntryMap}
 use Rattle.journal_core.specs.declared.journals.Journal.{Ghosts}
 use Rattle.connector_core.specs.State.{State}
+use Rattle.scim_resource.specs.Rows.{StoredRecord}
 use Rattle.provider_core.specs.Memory.{MemoryRecord}
 use Rattle.provider_core.specs.declared.registry.Registry.{Ghosts as Registries}
 use Rattle.connection.specs.Requests.{FollowRequests}
@@ -17,18 +19,18 @@ use Rattle.commands.specs.declared.jobs.Job.{Job}
 use Rattle.commands.specs.declared.status.CommandFault.{CommandFault}
 use Rattle.commands.specs.declared.status.Status.{Status}
 
-module _ {I O J L : Type 0} (remaining : I → Option (List ℕ)) (contents : O → Option (List ℕ)) (g : Ghosts J) (is_closed : J → L → Type 0) (job : Job) where
-  pub over : (start end : State J) (left : L) (ended : Result Status CommandFault) → IsStart g start → PushesFrom remaining contents g job start end ended → is_closed end.journal left → PushesOver remaining contents g is_closed job ended
+module _ {I O J L : Type 0} (remaining : I → Option (List ℕ)) (contents : O → Option (List ℕ)) (g : Ghosts J) (finds : EntryMap → Type 0) (is_closed : J → L → Type 0) (job : Job) where
+  pub over : (start end : State J) (left : L) (ended : Result Status CommandFault) → IsStart g finds start → PushesFrom remaining contents g job start end ended → is_closed end.journal left → PushesOver remaining contents g finds is_closed job ended
   over start end left ended starts pushes closed = inl (start, end, left, starts, pushes, closed)
 
-  pub named : (found : Found) (ended : Result Status CommandFault) → IsJob found job → PushesOver remaining contents g is_closed job ended → IfOk ended (IsPushed remaining contents g is_closed found)
+  pub named : (found : Found) (ended : Result Status CommandFault) → IsJob found job → PushesOver remaining contents g finds is_closed job ended → IfOk ended (IsPushed remaining contents g finds is_closed found)
   named found (Ok status) is pushes = (job, is, pushes)
   named found (Err why) is pushes = tt
 
 module _ {L I O : Type 0} (waiting : L → Option (List (I × O))) (remaining : I → Option (List ℕ)) (contents : O → Option (List ℕ)) where
-  pub rows_served : {R : Type 0} (g : Registries R) (base : List ℕ) (rows : R) (count : ℕ) (before after : L) (outcome finished : Result (Unit {0}) ConnectionFault) (status : Status)
-      → (last : R) × ServesFrom waiting remaining contents g base before after rows last count outcome → status ≡ outcome_status (result_and outcome finished) → ServesRows waiting remaining contents g base rows count status
-  rows_served g base rows count before after outcome finished status served is =
+  pub rows_served : {R : Type 0} (g : Registries R) (finds : List StoredRecord → Type 0) (base : List ℕ) (rows : R) (count : ℕ) (before after : L) (outcome finished : Result (Unit {0}) ConnectionFault) (status : Status)
+      → (last : R) × ServesFrom waiting remaining contents g finds base before after rows last count outcome → status ≡ outcome_status (result_and outcome finished) → ServesRows waiting remaining contents g finds base rows count status
+  rows_served g finds base rows count before after outcome finished status served is =
       record { before = before; after = after; last = served.0; outcome = outcome; finished = finished; serves = served.1; status_is = is }
 
   pub memory_served : (g : Registries MemoryRecord) (base : List ℕ) (count : ℕ) (before after : L) (outcome finished : Result (Unit {0}) ConnectionFault) (status : Status)

@@ -9,7 +9,9 @@ use Rattle.connection.specs.Requests.{FollowRequests}
 use Rattle.connection.specs.Turns.{ServesTurns}
 use Rattle.connection.specs.declared.serving.ConnectionFault.{ConnectionFault}
 use Rattle.storage.specs.Serving.{ServesFrom}
-use Rattle.storage.specs.StoreOpened.{IsOpened}
+use Rattle.storage.specs.StoreOpened.{IsOpenedAt}
+use Rattle.scim_resource.specs.Rows.{StoredRecord}
+use denote.Ref.{Bor}
 use Rattle.commands.specs.Statuses.{outcome_status}
 use Rattle.commands.specs.Words.{GivesCount, wanted_base}
 use Rattle.commands.specs.declared.status.CommandFault.TheVariants as fault
@@ -17,7 +19,7 @@ use Rattle.commands.specs.declared.status.Status.{Status}
 
 module _ {L I O : Type 0} (waiting : L → Option (List (I × O))) (remaining : I → Option (List ℕ))
     (contents : O → Option (List ℕ)) where
-  module _ {R : Type 0} (g : Ghosts R) (base : List ℕ) where
+  module _ {R : Type 0} (g : Ghosts R) (finds : List StoredRecord → Type 0) (base : List ℕ) where
     -- so many connections were served from these rows
     -- (the answers that were still being sent came to `finished`)
     pub record ServesRows (rows : R) (count : ℕ) (status : Status) : Type 0 where
@@ -26,12 +28,12 @@ module _ {L I O : Type 0} (waiting : L → Option (List (I × O))) (remaining : 
       pub last : R
       pub outcome : Result (Unit {0}) ConnectionFault
       pub finished : Result (Unit {0}) ConnectionFault
-      pub serves : ServesFrom waiting remaining contents g base before after rows last count outcome
+      pub serves : ServesFrom waiting remaining contents g finds base before after rows last count outcome
       pub status_is : status ≡ outcome_status (result_and outcome finished)
 
     -- the same from rows that were opened
     abbrev pub ServesStored : (count : ℕ) → Status → Type 0
-    ServesStored count status = (first : R) × IsOpened g first × ServesRows first count status
+    ServesStored count status = (first : R) × IsOpenedAt g finds first × ServesRows first count status
 
   -- so many connections were served by a provider in memory that started empty
   pub record ServesEmpty (g : Ghosts MemoryRecord) (base : List ℕ) (count : ℕ) (status : Status) : Type 0 where
@@ -46,16 +48,16 @@ module _ {L I O : Type 0} (waiting : L → Option (List (I × O))) (remaining : 
     pub status_is : status ≡ outcome_status (result_and outcome finished)
 
   -- from the rows of a store, if one is named
-  abbrev pub ServesNamed : {R K : Type 0} → Ghosts R → Ghosts MemoryRecord → (base : List ℕ) → (count : ℕ)
-      → (store : Option K) → Status → Type 0
-  ServesNamed rows memory base count (Some store) status = ServesStored rows base count status
-  ServesNamed rows memory base count None status = ServesEmpty memory base count status
+  abbrev pub ServesNamed : {R K : Type 0} → Ghosts R → (finds : K → List StoredRecord → Type 0) → Ghosts MemoryRecord → (base : List ℕ) → (count : ℕ)
+      → (store : Option (Bor K)) → Status → Type 0
+  ServesNamed rows finds memory base count (Some store) status = ServesStored rows (finds store.now) base count status
+  ServesNamed rows finds memory base count None status = ServesEmpty memory base count status
 
   -- at the base, and as often, as the arguments say
-  pub record IsServed {R K : Type 0} (rows : Ghosts R) (memory : Ghosts MemoryRecord) (found : Found)
-      (store : Option K) (status : Status) : Type 0 where
+  pub record IsServed {R K : Type 0} (rows : Ghosts R) (finds : K → List StoredRecord → Type 0) (memory : Ghosts MemoryRecord) (found : Found)
+      (store : Option (Bor K)) (status : Status) : Type 0 where
     pub base : List ℕ
     pub base_is : wanted_base (first_value found (codes "base")) ≡ Ok base
     pub count : ℕ
     pub count_is : GivesCount 1_000_000 fault.Requests (one_text found (codes "requests")) (Ok count)
-    pub serves : ServesNamed rows memory base count store status
+    pub serves : ServesNamed rows finds memory base count store status

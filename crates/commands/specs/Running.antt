@@ -7,12 +7,14 @@ use Rattle.clap.specs.Matches.{first_value}
 use Rattle.clap.specs.declared.parser.matches.Found.{Found}
 use Rattle.scim_key.specs.Outcome.{Gives}
 use Rattle.journal_core.specs.Calls.{Reads}
+use Rattle.journal_core.specs.Entries.{EntryMap}
 use Rattle.journal_core.specs.declared.journals.Journal.{Ghosts as Journals}
 use Rattle.journal_store.specs.declared.opening.JournalOpenFault.{JournalOpenFault}
+use Rattle.scim_resource.specs.Rows.{StoredRecord}
 use Rattle.provider_core.specs.declared.registry.Registry.{Ghosts as Registries}
 use Rattle.connector_core.specs.State.{CountsOpenFault, IsKept, IsOpened as IsBookOf, LeavesBook, State}
 use Rattle.connector_core.specs.declared.opening.ConnectorOpenFault.{ConnectorOpenFault}
-use Rattle.storage.specs.JournalOpened.{IsOpened}
+use Rattle.storage.specs.JournalOpened.{IsOpenedAt}
 use Rattle.storage.specs.JournalShowing.{ShowsFrom as ShowsEntries}
 use Rattle.storage.specs.Resetting.{ResetsFrom}
 use Rattle.storage.specs.StoreShowing.{ShowsFrom as ShowsRows}
@@ -42,23 +44,29 @@ EndsShowing holds last ended = (shown : Result (Unit {0}) ShowFault) × OnOk sho
     × (ended ≡ concluded last (shown_status shown))
 
 -- a journal was opened, and has forgotten what was learnt
-abbrev pub IsReset : {J : Type 0} → Journals J → Status → Type 0
-IsReset g status = (status ≡ Done) × ((count : ℕ) × ResetsFrom g count)
+abbrev pub IsReset : {J : Type 0} → Journals J → (finds : EntryMap → Type 0) → Status → Type 0
+IsReset g finds status = (status ≡ Done) × ((count : ℕ) × ResetsFrom g finds count)
+
+-- the one that was named
+abbrev pub IsResetAt : {J H : Type 0} → Journals J → (finds : H → EntryMap → Type 0) → Option (Bor H) → Status → Type 0
+IsResetAt g finds (Some journal) status = IsReset g (finds journal.now) status
+IsResetAt g finds None status = ⊥
 
 -- a line was written for each row of a store that was opened
-abbrev pub AreRowsShown : {R : Type 0} → Registries R → Status → Type 0
-AreRowsShown g status = (status ≡ Done) × ((before after : Option (List ℕ)) × ShowsRows g before after)
+abbrev pub AreRowsShown : {R : Type 0} → Registries R → (finds : List StoredRecord → Type 0) → Status → Type 0
+AreRowsShown g finds status = (status ≡ Done) × ((before after : Option (List ℕ)) × ShowsRows g finds before after)
 
 -- a line was written for each entry of a journal that was opened
-abbrev pub AreEntriesShown : {J : Type 0} → Journals J → Status → Type 0
-AreEntriesShown g status = (status ≡ Done) × ((before after : Option (List ℕ)) × ShowsEntries g before after)
+abbrev pub AreEntriesShown : {J : Type 0} → Journals J → (finds : EntryMap → Type 0) → Status → Type 0
+AreEntriesShown g finds status =
+    (status ≡ Done) × ((before after : Option (List ℕ)) × ShowsEntries g finds before after)
 
 -- the one that was named is shown
-abbrev pub IsShown : {R J K H : Type 0} → Registries R → Journals J → (store : Option K) → (journal : Option H)
-    → Status → Type 0
-IsShown rows entries (Some store) None status = AreRowsShown rows status
-IsShown rows entries None (Some journal) status = AreEntriesShown entries status
-IsShown rows entries _ _ status = ⊥
+abbrev pub IsShown : {R J K H : Type 0} → Registries R → (K → List StoredRecord → Type 0) → Journals J
+    → (H → EntryMap → Type 0) → (store : Option (Bor K)) → (journal : Option (Bor H)) → Status → Type 0
+IsShown rows at entries of (Some store) None status = AreRowsShown rows (at store.now) status
+IsShown rows at entries of None (Some journal) status = AreEntriesShown entries (of journal.now) status
+IsShown rows at entries of _ _ status = ⊥
 
 -- ---- what `push` and `loop` carry
 
@@ -90,9 +98,9 @@ ReadsFiles job result = ReadsJob {R = Unit {0}} (λ _ _ _. ⊤) tt job result
 -- ---- the connector
 
 -- a connector over a journal that was just opened
-pub record IsStart {J : Type 0} (g : Journals J) (start : State J) : Type 0 where
+pub record IsStart {J : Type 0} (g : Journals J) (finds : EntryMap → Type 0) (start : State J) : Type 0 where
   pub first : J
-  pub opened : IsOpened g first
+  pub opened : IsOpenedAt g finds first
   pub reads : Reads {T = State J} {F = ConnectorOpenFault × J} g CountsOpenFault first start.journal (Ok start)
   pub book : g.is_faithful start.journal → IsBookOf (g.entries first) start.book
   pub kept : g.is_faithful start.journal → IsKept (g.entries start.journal) start.book
@@ -103,9 +111,9 @@ abbrev pub IsUnopened : CommandFault → Type 0
 IsUnopened why = ((cause : JournalOpenFault) × (why ≡ journal_fault cause))
     ⊎ ((cause : ConnectorOpenFault) × (why ≡ fault.Run (unopened cause)))
 
-abbrev pub GivesConnector : {J : Type 0} → Journals J → Result (State J) CommandFault → Type 0
-GivesConnector g (Ok start) = IsStart g start
-GivesConnector g (Err why) = IsUnopened why
+abbrev pub GivesConnector : {J : Type 0} → Journals J → (finds : EntryMap → Type 0) → Result (State J) CommandFault → Type 0
+GivesConnector g finds (Ok start) = IsStart g finds start
+GivesConnector g finds (Err why) = IsUnopened why
 
 -- ---- `push`
 
@@ -125,11 +133,11 @@ module _ {I O J : Type 0} (remaining : I → Option (List ℕ)) (contents : O �
       ⊎ ((why : CommandFault) × (ended ≡ Err why) × (new ≡ old))
 
   -- A journal was opened, a connector over it carried the records, and the journal was closed; or it couldn't be opened
-  abbrev pub PushesOver : {L : Type 0} → (is_closed : J → L → Type 0) → Job → Result Status CommandFault → Type 0
-  PushesOver {L} is_closed job ended =
-      ((start end : State J) × (left : L) × IsStart g start × PushesFrom job start end ended × is_closed end.journal left)
+  abbrev pub PushesOver : {L : Type 0} → (finds : EntryMap → Type 0) → (is_closed : J → L → Type 0) → Job → Result Status CommandFault → Type 0
+  PushesOver {L} finds is_closed job ended =
+      ((start end : State J) × (left : L) × IsStart g finds start × PushesFrom job start end ended × is_closed end.journal left)
       ⊎ ((why : CommandFault) × IsUnopened why × (ended ≡ Err why))
 
   -- the same of what the arguments name
-  abbrev pub IsPushed : {L : Type 0} → (is_closed : J → L → Type 0) → Found → Status → Type 0
-  IsPushed is_closed found status = (job : Job) × IsJob found job × PushesOver is_closed job (Ok status)
+  abbrev pub IsPushed : {L : Type 0} → (finds : EntryMap → Type 0) → (is_closed : J → L → Type 0) → Found → Status → Type 0
+  IsPushed finds is_closed found status = (job : Job) × IsJob found job × PushesOver finds is_closed job (Ok status)

@@ -55,7 +55,7 @@ pub(crate) fn open_connector<J: EntryStorage>(
     alloc: Global,
     storage: &J,
 ) -> Result<Connector<J::Entries>, CommandFault>
-    ensures { GivesConnector J.Entries.Journal result }
+    ensures { GivesConnector J.Entries.Journal (J.finds storage.now) result }
 {
     match Connector::open(alloc, storage.open()?) {
         Ok(connector) => Ok(connector),

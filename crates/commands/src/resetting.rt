@@ -1,7 +1,7 @@
 //! `reset`: has a journal forget what the provider has shown.
 ghost use Rattle.std.specs.Prelude.{IfOk};
 ghost use Rattle.storage.specs.Resetting.{PrintsReset};
-ghost use Rattle.commands.specs.Running.{EndsShowing, IsReset};
+ghost use Rattle.commands.specs.Running.{EndsShowing, IsReset, IsResetAt};
 
 use crate::endings::shown_status;
 use crate::output::{NotedWriter, standard_output};
@@ -18,7 +18,7 @@ pub fn reset<R: Runtime + AllocGlobal, J: EntryStorage>(
     rt: &R,
     journal: Option<&J>,
 ) -> Result<Status, CommandFault>
-    ensures { IfOk result (IsReset J.Entries.Journal) }
+    ensures { IfOk result (IsResetAt J.Entries.Journal J.finds journal.entry) }
 {
     let journal = journal.ok_or(CommandFault::File)?;
     match fs::metadata(rt, journal.name()) {
@@ -32,7 +32,7 @@ fn reset_there<R: Runtime + AllocGlobal, J: EntryStorage>(
     rt: &R,
     journal: &J,
 ) -> Result<Status, CommandFault>
-    ensures { IfOk result (IsReset J.Entries.Journal) }
+    ensures { IfOk result (IsReset J.Entries.Journal (J.finds journal.now)) }
 {
     let mut out = standard_output(rt)?;
     print_reset(rt.alloc(), journal, &mut out)
@@ -44,7 +44,7 @@ fn print_reset<J: EntryStorage, W: Write + Drop>(
     journal: &J,
     out: &mut NotedWriter<W>,
 ) -> Result<Status, CommandFault>
-    ensures { EndsShowing (PrintsReset J.Entries.Journal (W.contents out.old.inner)
+    ensures { EndsShowing (PrintsReset J.Entries.Journal (J.finds journal.now) (W.contents out.old.inner)
         (W.contents out.new.inner)) out.new.last result }
 {
     let shown = reset_entries(alloc, journal, out);

@@ -34,7 +34,7 @@ pub fn serve<'a, R: Runtime + Net + AllocGlobal, K: RowStorage>(
         (IsServed ⟦<Sockets<'a, R::Listener, R> as Listen>⟧.waiting
         ⟦<AheadReader<PromptStream<'a, SharedStream<R::Stream>, R>> as Read>⟧.remaining
         ⟦<LateWriter<PromptStream<'a, SharedStream<R::Stream>, R>> as Write>⟧.contents
-        K.Rows.Registry ⟦<MemoryRegistry as Registry>⟧ (found_of words.now) store.entry) }
+        K.Rows.Registry K.finds ⟦<MemoryRegistry as Registry>⟧ (found_of words.now) store.entry) }
 {
     let address = address(words)?;
     let requests = requests(words)?;
@@ -77,7 +77,7 @@ fn serve_from_file<'a, R: Runtime + Net + AllocGlobal, K: RowStorage>(
         (ServesStored ⟦<Sockets<'a, R::Listener, R> as Listen>⟧.waiting
         ⟦<AheadReader<PromptStream<'a, SharedStream<R::Stream>, R>> as Read>⟧.remaining
         ⟦<LateWriter<PromptStream<'a, SharedStream<R::Stream>, R>> as Write>⟧.contents
-        K.Rows.Registry base.now requests) }
+        K.Rows.Registry (K.finds storage.now) base.now requests) }
 {
     let rows = storage.open()?;
     match sockets(rt, address) {
@@ -103,7 +103,7 @@ fn serve_rows<'a, R: Runtime + Net + AllocGlobal, K: RowStorage>(
         (ServesRows ⟦<Sockets<'a, R::Listener, R> as Listen>⟧.waiting
         ⟦<AheadReader<PromptStream<'a, SharedStream<R::Stream>, R>> as Read>⟧.remaining
         ⟦<LateWriter<PromptStream<'a, SharedStream<R::Stream>, R>> as Write>⟧.contents
-        K.Rows.Registry base.now rows requests) }
+        K.Rows.Registry (K.finds storage.now) base.now rows requests) }
 {
     let outcome = serve_stored(rt, rt.alloc(), storage, rows, sockets, requests, base)?;
     let finished = sockets.finish(rt);

@@ -19,7 +19,8 @@ pub fn show<R: Runtime + AllocGlobal, K: RowStorage, J: EntryStorage>(
     store: Option<&K>,
     journal: Option<&J>,
 ) -> Result<Status, CommandFault>
-    ensures { IfOk result (IsShown K.Rows.Registry J.Entries.Journal store.entry journal.entry) }
+    ensures { IfOk result (IsShown K.Rows.Registry K.finds J.Entries.Journal J.finds store.entry
+        journal.entry) }
 {
     match (store, journal) {
         (Some(store), None) => show_store(rt, store),
@@ -32,7 +33,7 @@ fn show_store<R: Runtime + AllocGlobal, K: RowStorage>(
     rt: &R,
     store: &K,
 ) -> Result<Status, CommandFault>
-    ensures { IfOk result (AreRowsShown K.Rows.Registry) }
+    ensures { IfOk result (AreRowsShown K.Rows.Registry (K.finds store.now)) }
 {
     let mut out = standard_output(rt)?;
     print_rows(rt.alloc(), store, &mut out)
@@ -44,7 +45,7 @@ fn print_rows<K: RowStorage, W: Write + Drop>(
     store: &K,
     out: &mut NotedWriter<W>,
 ) -> Result<Status, CommandFault>
-    ensures { EndsShowing (ShowsRows K.Rows.Registry (W.contents out.old.inner)
+    ensures { EndsShowing (ShowsRows K.Rows.Registry (K.finds store.now) (W.contents out.old.inner)
         (W.contents out.new.inner)) out.new.last result }
 {
     let shown = show_rows(alloc, store, out);
@@ -55,7 +56,7 @@ fn show_journal<R: Runtime + AllocGlobal, J: EntryStorage>(
     rt: &R,
     journal: &J,
 ) -> Result<Status, CommandFault>
-    ensures { IfOk result (AreEntriesShown J.Entries.Journal) }
+    ensures { IfOk result (AreEntriesShown J.Entries.Journal (J.finds journal.now)) }
 {
     let mut out = standard_output(rt)?;
     print_entries(rt.alloc(), journal, &mut out)
@@ -67,7 +68,7 @@ fn print_entries<J: EntryStorage, W: Write + Drop>(
     journal: &J,
     out: &mut NotedWriter<W>,
 ) -> Result<Status, CommandFault>
-    ensures { EndsShowing (ShowsEntries J.Entries.Journal (W.contents out.old.inner)
+    ensures { EndsShowing (ShowsEntries J.Entries.Journal (J.finds journal.now) (W.contents out.old.inner)
         (W.contents out.new.inner)) out.new.last result }
 {
     let shown = show_entries(alloc, journal, out);
