@@ -134,7 +134,10 @@ fn makes(
     told: &str,
 ) {
     let events = read_schedule(alloc, line).expect(rt, "an event");
-    let said = match world.step(&events[0]) {
+    let Some(event) = events.as_slice().first() else {
+        panic!(rt; "no event");
+    };
+    let said = match world.step(event) {
         Ok(report) => printed(rt, alloc, report),
         Err(fault) => printed(rt, alloc, fault),
     };
