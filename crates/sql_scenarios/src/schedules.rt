@@ -7,12 +7,7 @@ use scim_key::Base;
 use sqlite::Connection;
 use sqlite_trees::memory::MemStore;
 use std::alloc::Global;
-use std::env::temp_dir;
-use std::fs::remove_file;
-use std::hash::{BuildHasher, RandomState};
 use std::process::Abort;
-use std::rt::HostRuntime;
-use storage::{DatabaseFile, EntryStorage, JournalFile, RowStorage, StoreFile};
 use world_sim::{read_schedule, run};
 
 /// Bob is looked for, created and confirmed.
@@ -110,59 +105,5 @@ fn schedules_over_sqlite_in_memory(rt: HostRuntime) {
     for (rest, wanted) in SCHEDULES {
         let (registry, journal) = (registry(&rt, alloc), journal(&rt, alloc));
         assert_same(&rt, told(&rt, alloc, registry, journal, rest), wanted);
-    }
-}
-
-// ---- files
-
-/// Removes a database with its log.
-fn remove(abort: &impl Abort, rt: &HostRuntime, path: &str) {
-    let log = format!(in rt.alloc(); "{path}-wal").expect(abort, "memory");
-    let _ = remove_file(rt, path);
-    let _ = remove_file(rt, log.as_str());
-}
-
-/// The same over new files of these names, which are removed in the end.
-fn told_over_files(
-    abort: &impl Abort,
-    rt: &HostRuntime,
-    store: &str,
-    entries: &str,
-    rest: &str,
-) -> String {
-    remove(abort, rt, store);
-    remove(abort, rt, entries);
-    let rows = StoreFile {
-        file: DatabaseFile { rt, path: store },
-    };
-    let rows = rows.open().expect(abort, "a store");
-    let journal = JournalFile {
-        file: DatabaseFile { rt, path: entries },
-    };
-    let journal = journal.open().expect(abort, "a journal");
-    let text = told(abort, rt.alloc(), rows, journal, rest);
-    remove(abort, rt, store);
-    remove(abort, rt, entries);
-    text
-}
-
-/// A path among the temporary files that no other run has.
-fn path(abort: &impl Abort, rt: &HostRuntime, name: &str) -> String {
-    let folder = temp_dir(rt).expect(abort, "a folder");
-    let folder = folder.to_str().expect(abort, "a text");
-    let run = RandomState::new(rt)
-        .ok()
-        .expect(abort, "a number")
-        .hash_one(&0u8);
-    format!(in rt.alloc(); "{folder}/scimlink-{run}-{name}.db").expect(abort, "memory")
-}
-
-#[test]
-fn schedules_over_files(rt: HostRuntime) {
-    let store = path(&rt, &rt, "rows");
-    let entries = path(&rt, &rt, "entries");
-    for (rest, wanted) in SCHEDULES {
-        let text = told_over_files(&rt, &rt, store.as_str(), entries.as_str(), rest);
-        assert_same(&rt, text, wanted);
     }
 }
