@@ -35,12 +35,16 @@ AnswersStored g base old new before after ended =
     ⊎ ((fault : RegistryOpenFault) × (ended ≡ Err (store_fault fault)) × (new ≡ old) × (after ≡ before))
 
 -- from the rows of a store, if one is named
-abbrev pub AnswersNamed : {R K : Type 0} → Ghosts R → (store : Option K) → (base : List ℕ) → (old new : Reading) → (before after : Writing) → (ended : Result Status CommandFault) → Type 0
+abbrev pub AnswersNamed : {R K : Type 0} → Ghosts R → (store : Option K) → (base : List ℕ) → (old new : Reading)
+    → (before after : Writing) → (ended : Result Status CommandFault) → Type 0
 AnswersNamed g (Some store) base old new before after ended = AnswersStored g base old new before after ended
 AnswersNamed g None base old new before after ended = AnswersOne base old new before after ended
 
 -- at the base that the arguments name; or they name none, or memory ran out
-abbrev pub Answers : {R K : Type 0} → Ghosts R → Found → (store : Option K) → (ended : Result Status CommandFault) → Type 0
+abbrev pub Answers : {R K : Type 0} → Ghosts R → Found → (store : Option K) → (ended : Result Status CommandFault)
+    → Type 0
 Answers g found store ended =
-    ((base : List ℕ) × (wanted_base (first_value found (codes "base")) ≡ Ok base) × ((old new : Reading) × (before after : Writing) × AnswersNamed g store base old new before after ended))
-    ⊎ ((why : CommandFault) × Gives fault.Memory (Err why) (wanted_base (first_value found (codes "base"))) × (ended ≡ Err why))
+    ((base : List ℕ) × (wanted_base (first_value found (codes "base")) ≡ Ok base)
+        × ((old new : Reading) × (before after : Writing) × AnswersNamed g store base old new before after ended))
+    ⊎ ((why : CommandFault) × Gives fault.Memory (Err why) (wanted_base (first_value found (codes "base")))
+        × (ended ≡ Err why))

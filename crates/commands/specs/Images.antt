@@ -22,19 +22,23 @@ abbrev pub Prints : Standing → (before after : Option (List ℕ)) → Status �
 Prints rows before after status = (given : List (Result Row RowFault)) × Appends before after (lines_of given) × (status ≡ records_status given)
     × ((records : List Record) → HasLeft rows records → given ≡ rows_next rows records)
 
--- A step: the line of a row or a rejected record was printed, which is the next one if the bytes are known; or nothing, at
--- the end.
+-- A step: the line of a row or a rejected record was printed, which is the next one if the bytes are known; or nothing,
+-- at the end.
 abbrev pub PrintsNext : (old new : Standing) → (before after : Option (List ℕ)) → Option Bool → Type 0
-PrintsNext old new before after (Some is_row) = (row : Result Row RowFault) × (is_row ≡ is_ok row) × Appends before after (record_line row)
-    × ((records : List Record) → HasLeft old records → (rest : List Record) × HasLeft new rest × (rows_next old records ≡ row ∷ rows_next new rest))
+PrintsNext old new before after (Some is_row) = (row : Result Row RowFault) × (is_row ≡ is_ok row)
+    × Appends before after (record_line row)
+    × ((records : List Record) → HasLeft old records →
+        (rest : List Record) × HasLeft new rest × (rows_next old records ≡ row ∷ rows_next new rest))
 PrintsNext old new before after None = (after ≡ before) × ((records : List Record) → HasLeft old records → records ≡ [])
 
 -- a fault of the lines, or of reading the file after its header
 abbrev pub IsMapFault : CommandFault → Type 0
-IsMapFault fault = ((why : WriteFault) × (fault ≡ lines_fault why)) ⊎ ((why : ReadFault) × IsReadFault why × (fault ≡ file_fault why))
+IsMapFault fault = ((why : WriteFault) × (fault ≡ lines_fault why))
+    ⊎ ((why : ReadFault) × IsReadFault why × (fault ≡ file_fault why))
 
 -- what was left of a file was printed, or a fault came, which has the system's error if a line couldn't be written
-pub record EndsPrinting (rows : Standing) (before after : Option (List ℕ)) (last : Option Error) (ended : Result Status CommandFault) : Type 0 where
+pub record EndsPrinting (rows : Standing) (before after : Option (List ℕ)) (last : Option Error)
+    (ended : Result Status CommandFault) : Type 0 where
   pub printed : Result Status CommandFault
   pub prints : IfOk printed (Prints rows before after)
   pub fault : IfErr printed IsMapFault

@@ -48,14 +48,14 @@ module _ {L I O : Type 0} (waiting : L → Option (List (I × O))) (remaining : 
     pub status_is : status ≡ outcome_status (result_and outcome finished)
 
   -- from the rows of a store, if one is named
-  abbrev pub ServesNamed : {R K : Type 0} → Ghosts R → (finds : K → List StoredRecord → Type 0) → Ghosts MemoryRecord → (base : List ℕ) → (count : ℕ)
-      → (store : Option (Bor K)) → Status → Type 0
+  abbrev pub ServesNamed : {R K : Type 0} → Ghosts R → (finds : K → List StoredRecord → Type 0) → Ghosts MemoryRecord
+      → (base : List ℕ) → (count : ℕ) → (store : Option (Bor K)) → Status → Type 0
   ServesNamed rows finds memory base count (Some store) status = ServesStored rows (finds store.now) base count status
   ServesNamed rows finds memory base count None status = ServesEmpty memory base count status
 
   -- at the base, and as often, as the arguments say
-  pub record IsServed {R K : Type 0} (rows : Ghosts R) (finds : K → List StoredRecord → Type 0) (memory : Ghosts MemoryRecord) (found : Found)
-      (store : Option (Bor K)) (status : Status) : Type 0 where
+  pub record IsServed {R K : Type 0} (rows : Ghosts R) (finds : K → List StoredRecord → Type 0)
+      (memory : Ghosts MemoryRecord) (found : Found) (store : Option (Bor K)) (status : Status) : Type 0 where
     pub base : List ℕ
     pub base_is : wanted_base (first_value found (codes "base")) ≡ Ok base
     pub count : ℕ

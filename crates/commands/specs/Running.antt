@@ -111,7 +111,8 @@ abbrev pub IsUnopened : CommandFault → Type 0
 IsUnopened why = ((cause : JournalOpenFault) × (why ≡ journal_fault cause))
     ⊎ ((cause : ConnectorOpenFault) × (why ≡ fault.Run (unopened cause)))
 
-abbrev pub GivesConnector : {J : Type 0} → Journals J → (finds : EntryMap → Type 0) → Result (State J) CommandFault → Type 0
+abbrev pub GivesConnector : {J : Type 0} → Journals J → (finds : EntryMap → Type 0) → Result (State J) CommandFault
+    → Type 0
 GivesConnector g finds (Ok start) = IsStart g finds start
 GivesConnector g finds (Err why) = IsUnopened why
 
@@ -129,15 +130,19 @@ module _ {I O J : Type 0} (remaining : I → Option (List ℕ)) (contents : O �
   -- connector is as it was
   abbrev pub PushesFrom : Job → (old new : State J) → Result Status CommandFault → Type 0
   PushesFrom job old new ended =
-      ((sources : Sources) × (last : Option Error) × ReadsFiles job (Ok sources) × Pushes job.service sources old new last ended)
+      ((sources : Sources) × (last : Option Error) × ReadsFiles job (Ok sources)
+          × Pushes job.service sources old new last ended)
       ⊎ ((why : CommandFault) × (ended ≡ Err why) × (new ≡ old))
 
   -- A journal was opened, a connector over it carried the records, and the journal was closed; or it couldn't be opened
-  abbrev pub PushesOver : {L : Type 0} → (finds : EntryMap → Type 0) → (is_closed : J → L → Type 0) → Job → Result Status CommandFault → Type 0
+  abbrev pub PushesOver : {L : Type 0} → (finds : EntryMap → Type 0) → (is_closed : J → L → Type 0) → Job
+      → Result Status CommandFault → Type 0
   PushesOver {L} finds is_closed job ended =
-      ((start end : State J) × (left : L) × IsStart g finds start × PushesFrom job start end ended × is_closed end.journal left)
+      ((start end : State J) × (left : L) × IsStart g finds start × PushesFrom job start end ended
+          × is_closed end.journal left)
       ⊎ ((why : CommandFault) × IsUnopened why × (ended ≡ Err why))
 
   -- the same of what the arguments name
-  abbrev pub IsPushed : {L : Type 0} → (finds : EntryMap → Type 0) → (is_closed : J → L → Type 0) → Found → Status → Type 0
+  abbrev pub IsPushed : {L : Type 0} → (finds : EntryMap → Type 0) → (is_closed : J → L → Type 0) → Found → Status
+      → Type 0
   IsPushed finds is_closed found status = (job : Job) × IsJob found job × PushesOver finds is_closed job (Ok status)

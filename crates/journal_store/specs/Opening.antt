@@ -1,6 +1,6 @@
 -- What an opening looks for, what it finds, and what it leaves if it refuses.
-use Rattle.std.specs.Prelude.{◌≡◌, ◌≢◌, ◌⊎◌, ◌≤◌, ℕ, ◌<◌, ℤ, pos, Bool, true, ◌||◌, List, [], ◌∷◌, None, IsTrue, length, map}
-use Rattle.std.specs.Prelude.{is_some}
+use Rattle.std.specs.Prelude.{◌≡◌, ◌≢◌, ◌⊎◌, ◌≤◌, ℕ, ◌<◌, ℤ, pos, Bool, true, ◌||◌, List, [], ◌∷◌, None, IsTrue, length}
+use Rattle.std.specs.Prelude.{is_some, map}
 use Rattle.std.specs.FinMap.{empty}
 use Rattle.std.specs.List.{AllByRecursion, list_all}
 use Rattle.std.specs.List.Sorted.{IsStrictlySortedBy}
@@ -23,7 +23,8 @@ use Rattle.journal_core.specs.Entries.{EntryMap, most_records}
 use Rattle.journal_core.specs.declared.entries.Entry.{Entry}
 use Rattle.journal_core.specs.declared.journals.JournalFault.{JournalFault}
 use Rattle.journal_core.specs.declared.journals.JournalFault.TheVariants as journal
-use Rattle.journal_store.specs.Format.{EntryTable, first_schema, format_number, index_of, journal_schema, key_places, marked_schema, second_schema, second_tree, table_of}
+use Rattle.journal_store.specs.Format.{EntryTable, first_schema, format_number, index_of, journal_schema, key_places}
+use Rattle.journal_store.specs.Format.{marked_schema, second_schema, second_tree, table_of}
 use Rattle.journal_store.specs.Formats.{FormatData, current_format, first_format, second_format}
 use Rattle.sql_tables.specs.Layouts.{IsBlank, IsFormat, format_tree, IsLaid as IsLaidBy, IsOne, IsPlainTable, no_schema}
 use Rattle.sql_tables.specs.Faults.{HasFailed}

@@ -108,7 +108,8 @@ module _ {J I O P Q : Type 0} (h : Journals J) (received : I → Option (List �
 
 -- one connection, from these rows to those that the next one finds
 pub record IsConnection {R P Q : Type 0} (g : Registries R) (remaining : P → Option (List ℕ))
-    (contents : Q → Option (List ℕ)) (base : List ℕ) (c : Connection P Q) (rows found : List StoredRecord) : Type 0 where
+    (contents : Q → Option (List ℕ)) (base : List ℕ) (c : Connection P Q) (rows found : List StoredRecord)
+    : Type 0 where
   pub before : R
   pub after : R
   pub is : IsServed remaining contents g base before after c.reader c.writer c.served

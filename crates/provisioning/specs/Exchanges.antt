@@ -54,7 +54,9 @@ pub record Learns {J : Type 0} (g : Ghosts J) (request : Request) (answer : Answ
   pub names : keys new.book ≡ keys old.book
   pub journal : Writes g CountsLearn old.journal new.journal (noted_entries (g.entries old.journal) (note (book_of old.book) request answer)) result
   pub quiet : KeepsEntries old.book new.book → g.writes new.journal ≡ g.writes old.journal
-  pub leaves : g.is_honest new.journal → LeavesBook g old → Leaves g old new (after_learning (book_of old.book) (learn (book_of old.book) request answer)) (keys old.book) result
+  pub leaves : g.is_honest new.journal → LeavesBook g old →
+      Leaves g old new (after_learning (book_of old.book) (learn (book_of old.book) request answer)) (keys old.book)
+          result
 
 -- without an answer, the connector is unchanged
 abbrev pub Becomes : {J : Type 0} → Ghosts J → Request → Came → (old new : State J) → Type 0

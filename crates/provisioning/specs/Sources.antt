@@ -1,5 +1,6 @@
 -- What the files of a run say.
-use Rattle.std.specs.Prelude.{◌≡◌, ◌⊎◌, ⊤, ℕ, Bool, true, false, ◌&&◌, codes, List, [], Option, Some, None, Result, Ok, Err, is_ok, option_map}
+use Rattle.std.specs.Prelude.{◌≡◌, ◌⊎◌, ⊤, ℕ, Bool, true, false, ◌&&◌, codes, List, [], Option, Some, None}
+use Rattle.std.specs.Prelude.{Result, Ok, Err, is_ok, option_map}
 use denote.Ref.{Bor}
 use Rattle.std.specs.IoError.{error_kind}
 use Rattle.std.specs.List.{list_all}

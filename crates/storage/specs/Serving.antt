@@ -38,7 +38,8 @@ abbrev pub all_of : List (Result (Unit {0}) ConnectionFault) → Result (Unit {0
 all_of [] = Ok tt
 all_of (result ∷ earlier) = result_and (all_of earlier) result
 
-module _ {L I O R : Type 0} (waiting : L → Option (List (I × O))) (remaining : I → Option (List ℕ)) (contents : O → Option (List ℕ)) (g : Ghosts R) (finds : List StoredRecord → Type 0) (base : List ℕ) where
+module _ {L I O R : Type 0} (waiting : L → Option (List (I × O))) (remaining : I → Option (List ℕ))
+    (contents : O → Option (List ℕ)) (g : Ghosts R) (finds : List StoredRecord → Type 0) (base : List ℕ) where
   -- one more connection: it is served from the rows that the one before left, which are opened again after a fault of
   -- their store
   pub record ServesNext (before after : L) (old new : R) (result : Result (Unit {0}) ConnectionFault) : Type 0 where
