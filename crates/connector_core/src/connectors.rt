@@ -3,7 +3,7 @@ ghost use Rattle.std.specs.Prelude.{◌≡◌, IfOk};
 ghost use Rattle.std.specs.FinMap.{keys};
 ghost use Rattle.std.specs.Option.{option_copied};
 ghost use Rattle.journal_core.specs.Calls.{Reads};
-ghost use Rattle.connector_core.specs.Book.{confirmed_of, seen_of, wanted_of};
+ghost use Rattle.connector_core.specs.Book.{confirmed_of, known_id, seen_of, wanted_of, wanted_row};
 ghost use Rattle.connector_core.specs.Maps.{book_of};
 ghost use Rattle.connector_core.specs.State.{CountsOpenFault, IsKept, IsOpened, LeavesBook, journal_after};
 
@@ -11,7 +11,8 @@ use crate::books::Book;
 use crate::knowledge::Seen;
 use crate::opening::{ConnectorOpenFault, read_book};
 use journal_core::Journal;
-use scim_key::{RecordName, Revision};
+use scim_key::{RecordName, ResourceId, Revision};
+use source_csv::Row;
 use std::alloc::{AllocError, Global};
 use std::marker::Model;
 
@@ -104,6 +105,26 @@ impl<J: Journal> Connector<J> {
         match self.book.get(name) {
             Some(known) => known.wanted.revision(),
             None => Revision::none(),
+        }
+    }
+
+    /// The row of a record that the source wants, if the record exists.
+    pub fn row(&self, name: &RecordName) -> Option<&Row>
+        ensures { option_copied result ≡ wanted_row (book_of self.now.book) name.now }
+    {
+        match self.book.get(name) {
+            Some(known) => Some(&known.wanted),
+            None => None,
+        }
+    }
+
+    /// The id that the provider gave to a record, if one is known.
+    pub fn id(&self, name: &RecordName) -> Option<&ResourceId>
+        ensures { option_copied result ≡ known_id (book_of self.now.book) name.now }
+    {
+        match self.book.get(name) {
+            Some(known) => known.id.as_ref(),
+            None => None,
         }
     }
 
