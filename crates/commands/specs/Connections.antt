@@ -45,6 +45,6 @@ abbrev pub Answers : {R K : Type 0} → Ghosts R → Found → (store : Option K
     → Type 0
 Answers g found store ended =
     ((base : List ℕ) × (wanted_base (first_value found (codes "base")) ≡ Ok base)
-        × ((old new : Reading) × (before after : Writing) × AnswersNamed g store base old new before after ended))
+    × ((old new : Reading) × (before after : Writing) × AnswersNamed g store base old new before after ended))
     ⊎ ((why : CommandFault) × Gives fault.Memory (Err why) (wanted_base (first_value found (codes "base")))
-        × (ended ≡ Err why))
+    × (ended ≡ Err why))

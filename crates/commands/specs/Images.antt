@@ -28,7 +28,7 @@ abbrev pub PrintsNext : (old new : Standing) → (before after : Option (List �
 PrintsNext old new before after (Some is_row) = (row : Result Row RowFault) × (is_row ≡ is_ok row)
     × Appends before after (record_line row)
     × ((records : List Record) → HasLeft old records →
-        (rest : List Record) × HasLeft new rest × (rows_next old records ≡ row ∷ rows_next new rest))
+    (rest : List Record) × HasLeft new rest × (rows_next old records ≡ row ∷ rows_next new rest))
 PrintsNext old new before after None = (after ≡ before) × ((records : List Record) → HasLeft old records → records ≡ [])
 
 -- a fault of the lines, or of reading the file after its header

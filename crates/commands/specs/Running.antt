@@ -131,7 +131,7 @@ module _ {I O J : Type 0} (remaining : I → Option (List ℕ)) (contents : O �
   abbrev pub PushesFrom : Job → (old new : State J) → Result Status CommandFault → Type 0
   PushesFrom job old new ended =
       ((sources : Sources) × (last : Option Error) × ReadsFiles job (Ok sources)
-          × Pushes job.service sources old new last ended)
+      × Pushes job.service sources old new last ended)
       ⊎ ((why : CommandFault) × (ended ≡ Err why) × (new ≡ old))
 
   -- A journal was opened, a connector over it carried the records, and the journal was closed; or it couldn't be opened
@@ -139,7 +139,7 @@ module _ {I O J : Type 0} (remaining : I → Option (List ℕ)) (contents : O �
       → Result Status CommandFault → Type 0
   PushesOver {L} finds is_closed job ended =
       ((start end : State J) × (left : L) × IsStart g finds start × PushesFrom job start end ended
-          × is_closed end.journal left)
+      × is_closed end.journal left)
       ⊎ ((why : CommandFault) × IsUnopened why × (ended ≡ Err why))
 
   -- the same of what the arguments name

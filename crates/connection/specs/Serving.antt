@@ -151,8 +151,8 @@ abbrev pub Replies : {R : Type 0} → Ghosts R → List ℕ → (old new : R) �
     → Option ReplyRecord → Type 0
 Replies g base old new (Ok m) reply =
     HasReply reply (λ sent.
-        (AnswersMessage (g.is_faithful new) base (g.rows old) (g.rows new) m sent × IsUnharmed g old new)
-        ⊎ GivesUp (g.is_faithful new) (g.rows old) (g.rows new) sent)
+    (AnswersMessage (g.is_faithful new) base (g.rows old) (g.rows new) m sent × IsUnharmed g old new)
+    ⊎ GivesUp (g.is_faithful new) (g.rows old) (g.rows new) sent)
 Replies g base old new (Err fault) reply = RepliesTo base (reaction_to fault) reply × (new ≡ old)
 
 -- the reply was sent, or lost in agreement with the writer's counts; without a reply nothing was written

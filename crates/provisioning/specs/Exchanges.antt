@@ -56,7 +56,7 @@ pub record Learns {J : Type 0} (g : Ghosts J) (request : Request) (answer : Answ
   pub quiet : KeepsEntries old.book new.book → g.writes new.journal ≡ g.writes old.journal
   pub leaves : g.is_honest new.journal → LeavesBook g old →
       Leaves g old new (after_learning (book_of old.book) (learn (book_of old.book) request answer)) (keys old.book)
-          result
+      result
 
 -- without an answer, the connector is unchanged
 abbrev pub Becomes : {J : Type 0} → Ghosts J → Request → Came → (old new : State J) → Type 0
