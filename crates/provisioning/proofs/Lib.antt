@@ -5,3 +5,4 @@ mod RunLemmas
 mod TurnLemmas
 mod CarryLemmas
 mod OfferLemmas
+mod PrintableLemmas
