@@ -5,3 +5,8 @@ mod RunLemmas
 mod TurnLemmas
 mod CarryLemmas
 mod OfferLemmas
+mod MoveLemmas
+mod TrackLemmas
+mod WindowLemmas
+mod HalfLemmas
+mod AbreastLemmas

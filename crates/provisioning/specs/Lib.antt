@@ -10,3 +10,7 @@ pub mod Records
 pub mod Runs
 pub mod Sources
 pub mod Turns
+pub mod Tracks
+pub mod Windows
+pub mod Halves
+pub mod Abreast

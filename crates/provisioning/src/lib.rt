@@ -3,11 +3,13 @@
 //! exchanges go on until the wanted revision is confirmed.
 #![tactic(auto)]
 
+mod abreast;
 mod carrying;
 mod dialing;
 mod exchanging;
 mod faults;
 mod files;
+mod halves;
 mod lines;
 mod looping;
 mod offering;
@@ -19,9 +21,12 @@ mod records;
 mod sockets;
 mod sources;
 mod telling;
+mod tracks;
 mod turns;
 mod views;
+mod windows;
 
+pub use abreast::push_all_abreast;
 pub use carrying::{Outcome, carry};
 pub use dialing::Dial;
 pub use faults::{LoopFault, RecordFault, RunFault};
