@@ -6,3 +6,8 @@ mod TurnLemmas
 mod CarryLemmas
 mod OfferLemmas
 mod PrintableLemmas
+mod MoveLemmas
+mod TrackLemmas
+mod WindowLemmas
+mod HalfLemmas
+mod AbreastLemmas

@@ -11,3 +11,7 @@ pub mod Records
 pub mod Runs
 pub mod Sources
 pub mod Turns
+pub mod Tracks
+pub mod Windows
+pub mod Halves
+pub mod Abreast

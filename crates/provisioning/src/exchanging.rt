@@ -88,7 +88,7 @@ fn exchange_on<I: Read, O: Write>(
 }
 
 /// Takes the result of an exchange.
-fn take<J: Journal>(
+pub(crate) fn take<J: Journal>(
     connector: &mut Connector<J>,
     request: &Request,
     came: &Result<Answer, ExchangeFault>,

@@ -3,6 +3,7 @@
 //! exchanges go on until the wanted revision is confirmed.
 #![tactic(auto)]
 
+mod abreast;
 mod carrying;
 mod dialing;
 mod exchanging;
@@ -10,6 +11,7 @@ mod explaining;
 mod explanations;
 mod faults;
 mod files;
+mod halves;
 mod lines;
 mod looping;
 mod offering;
@@ -22,10 +24,13 @@ mod records;
 mod sockets;
 mod sources;
 mod telling;
+mod tracks;
 mod turns;
 mod views;
 mod watching;
+mod windows;
 
+pub use abreast::push_all_abreast;
 pub use carrying::{Outcome, carry};
 pub use dialing::Dial;
 pub use explaining::Failed;

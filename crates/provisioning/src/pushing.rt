@@ -29,7 +29,7 @@ pub struct Tally {
 
 impl Tally {
     /// The result with one more record.
-    fn with(self, pushed: &Pushed) -> Tally
+    pub(crate) fn with(self, pushed: &Pushed) -> Tally
         ensures { result ≡ tally_with self pushed.now }
     {
         Tally {
@@ -69,7 +69,9 @@ pub fn push_all<J: Journal, D: Dial, T: Tell>(
 }
 
 /// The names of all records, in the order in which they settle.
-fn names_in_order<J: Journal>(connector: &Connector<J>) -> Result<Vec<RecordName>, RunFault>
+pub(crate) fn names_in_order<J: Journal>(
+    connector: &Connector<J>,
+) -> Result<Vec<RecordName>, RunFault>
     ensures order { IfOk result (λ names. IsSettleOrder (keys connector.now.book) names.items) }
     ensures fault { IfErr result (λ fault. fault ≡ Memory) }
 {
@@ -105,7 +107,11 @@ fn push_each<J: Journal, D: Dial, T: Tell>(
 }
 
 /// Reports the result for a record.
-fn tell<T: Tell>(teller: &mut T, name: &RecordName, pushed: &Pushed) -> Result<(), RunFault>
+pub(crate) fn tell<T: Tell>(
+    teller: &mut T,
+    name: &RecordName,
+    pushed: &Pushed,
+) -> Result<(), RunFault>
     ensures told { OnOk result
         (Tells (T.told teller.old) (T.told teller.new) ((name.now, pushed.now) ∷ [])) }
     ensures fault { IfErr result IsUntold }

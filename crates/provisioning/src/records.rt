@@ -84,7 +84,7 @@ pub fn push_record<J: Journal, D: Dial>(
 }
 
 /// The state of a record after all its exchanges.
-fn standing_after<J: Journal>(
+pub(crate) fn standing_after<J: Journal>(
     connector: &Connector<J>,
     name: &RecordName,
     last: Option<RecordFault>,

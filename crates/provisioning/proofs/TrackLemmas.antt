@@ -1,0 +1,72 @@
+-- How a record goes on while several are under way.
+use Rattle.std.proofs.Common.{◌≡◌, ◌<◌, ◌≤◌, ◌⊎◌, ℕ, List, [], ◌∷◌, Option, Some, None, Result, Ok, Err, inl, inr, refl, ap, sym, ◌∙◌, subst}
+use Rattle.scim_key.specs.declared.records.RecordName.{RecordName}
+use Rattle.scim_message.specs.declared.messages.Answer.{Answer}
+use Rattle.scim_message.specs.declared.messages.Request.{Request}
+use Rattle.scim_client.specs.declared.exchange.ExchangeFault.{ExchangeFault}
+use Rattle.journal_core.specs.declared.journals.Journal.{Ghosts}
+use Rattle.connector_core.specs.Asking.{asking}
+use Rattle.connector_core.specs.Book.{Book}
+use Rattle.connector_core.specs.Maps.{book_of}
+use Rattle.connector_core.specs.State.{State}
+use Rattle.connector_core.specs.declared.asking.Ask.{Ask}
+use Rattle.connector_core.specs.declared.asking.Ask.TheVariants.{Send}
+use Rattle.provisioning.specs.Exchanges.{IsTaken}
+use Rattle.provisioning.specs.Openings.{Opening}
+use Rattle.provisioning.specs.Records.{Stands, most_exchanges}
+use Rattle.provisioning.specs.Tracks.{Advances, ComesOfOpening, GoesOn, IsHeard, IsLearnt, IsReadFrom, IsSetOut, StandsAt, faulted}
+use Rattle.provisioning.specs.declared.faults.RecordFault.{RecordFault}
+use Rattle.provisioning.specs.declared.faults.RunFault.{RunFault}
+use Rattle.provisioning.specs.declared.records.Standing.{Standing}
+use Rattle.provisioning.specs.declared.tracks.Account.{Account}
+use Rattle.provisioning.specs.declared.tracks.Flight.{Flight}
+use Rattle.provisioning.specs.declared.tracks.Track.{Track}
+use Rattle.provisioning.specs.declared.tracks.Track.TheVariants.{UnderWay}
+
+pub spent_at : (book : Book) (a : Account) (standing : Standing) → most_exchanges ≤ a.exchanges → Stands book a.name most_exchanges a.last standing → StandsAt book a standing
+spent_at book a standing all (inl rests) = inl rests
+spent_at book a standing all (inr s) = inr (record { all = all; unconfirmed = s.unconfirmed; last_is = s.last_is })
+
+pub went_on : {I O : Type 0} (contents : O → Option (List ℕ)) (base : List ℕ) (a : Account) (book : Book) (request : Request) (opening : Opening I O) (result : Result (Track I O) RunFault)
+    → a.exchanges < most_exchanges → asking book a.name ≡ Some (Send request) → ComesOfOpening contents base a request opening result
+    → GoesOn contents base a (opening ∷ []) book result
+went_on {I} {O} contents base a book request (Ok stream) result left asked (f, set, is) =
+    subst (λ (r : Result (Track I O) RunFault). GoesOn contents base a (Ok stream ∷ []) book r) (sym is) (record {
+      stream = stream;
+      left = left;
+      asked = asked ∙ ap (λ (r : Request). Some (Send r)) (sym set.request_is);
+      opened_are = refl;
+      set_out = subst (λ (r : Request). IsSetOut contents base r stream f) (sym set.request_is) set;
+      later_is = refl;
+    })
+went_on {I} {O} contents base a book request (Err error) result left asked is =
+    subst (λ (r : Result (Track I O) RunFault). GoesOn contents base a (Err error ∷ []) book r) (sym is) (inl (error, refl, refl))
+
+pub learnt_by : {I O J : Type 0} (remaining : I → Option (List ℕ)) (g : Ghosts J) (f : Flight I O) (came : Result Answer ExchangeFault) (old new : State J) (result : Result (Option RecordFault) RunFault)
+    → IsHeard remaining f.request f.reader f.sent came → IsTaken g f.request came old new result → IsLearnt remaining g f old new result
+learnt_by remaining g f came old new result heard taken = record {
+  came = taken.came;
+  heard = subst (λ (said : Result Answer ExchangeFault). IsHeard remaining f.request f.reader f.sent said) (sym taken.answer_is) heard;
+  becomes = taken.becomes;
+  result_is = taken.result_is;
+}
+
+pub heard_whole : {I : Type 0} (remaining : I → Option (List ℕ)) (request : Request) (reader : I) (sent : Result (Unit {0}) ExchangeFault) (done : Unit {0}) (came : Result Answer ExchangeFault)
+    → sent ≡ Ok done → IsReadFrom remaining request reader came → IsHeard remaining request reader sent came
+heard_whole remaining request reader sent done came is read = subst (λ (s : Result (Unit {0}) ExchangeFault). IsHeard remaining request reader s came) (sym is) read
+
+pub heard_fault : {I : Type 0} (remaining : I → Option (List ℕ)) (request : Request) (reader : I) (sent : Result (Unit {0}) ExchangeFault) (fault : ExchangeFault)
+    → sent ≡ Err fault → IsHeard remaining request reader sent (Err fault)
+heard_fault remaining request reader sent fault is = subst (λ (s : Result (Unit {0}) ExchangeFault). IsHeard remaining request reader s (Err fault)) (sym is) refl
+
+pub ends_learning : {I O J : Type 0} (remaining : I → Option (List ℕ)) (contents : O → Option (List ℕ)) (g : Ghosts J) (base : List ℕ) (track : Track I O) (a : Account) (f : Flight I O) (fault : RunFault) (old new : State J)
+    → track ≡ UnderWay a f → IsLearnt remaining g f old new (Err fault) → Advances remaining contents g base track [] old new (Err fault)
+ends_learning {I} {O} remaining contents g base track a f fault old new is learnt =
+    subst (λ (t : Track I O). Advances remaining contents g base t [] old new (Err fault)) (sym is) (inr (fault, learnt, refl, refl))
+
+pub continues : {I O J : Type 0} (remaining : I → Option (List ℕ)) (contents : O → Option (List ℕ)) (g : Ghosts J) (base : List ℕ) (track : Track I O) (a : Account) (f : Flight I O) (fault : Option RecordFault) (opened : List (Opening I O)) (old new : State J)
+    (later : Account) (result : Result (Track I O) RunFault) → track ≡ UnderWay a f → IsLearnt remaining g f old new (Ok fault) → later ≡ faulted fault a → GoesOn contents base later opened (book_of new.book) result
+    → Advances remaining contents g base track opened old new result
+continues {I} {O} remaining contents g base track a f fault opened old new later result is learnt same goes =
+    subst (λ (t : Track I O). Advances remaining contents g base t opened old new result) (sym is)
+    (inl (record { fault = fault; learnt = learnt; goes_on = subst (λ (x : Account). GoesOn contents base x opened (book_of new.book) result) same goes }))

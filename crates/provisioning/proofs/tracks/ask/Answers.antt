@@ -1,0 +1,29 @@
+use Rattle.std.proofs.Common.{◌≡◌, ◌∷◌, [], Ok, inl, refl, ap, ◌∙◌}
+use Rattle.std.specs.Option.{ok_or}
+use Rattle.connector_core.specs.Asking.{asking}
+use Rattle.connector_core.specs.Maps.{book_of}
+use Rattle.connector_core.specs.declared.asking.Ask.TheVariants.{Nothing, Send}
+use Rattle.connector_core.specs.declared.asking.AskFault.TheVariants.{NoSuchRecord}
+use Rattle.provisioning.proofs.ListLemmas.{adds_none}
+use Rattle.provisioning.proofs.RestLemmas.{confirmed_at_rest}
+use Rattle.provisioning.proofs.TrackLemmas.{went_on}
+use Rattle.provisioning.proofs.TurnLemmas.{was_asked}
+use Rattle.provisioning.proofs.tracks.ask.Goals as goal
+
+pub returns-in-Ok-Nothing : goal.returns-in-Ok-Nothing
+returns-in-Ok-Nothing g c =
+    let book = book_of c.args.connector.now.book in
+    let said : ok_or (asking book c.args.account.name) NoSuchRecord ≡ Ok Nothing = c.in-Ok-Nothing.ensures ∙ ap Ok c.in-Ok-Nothing.field-0-is in
+    let rests = confirmed_at_rest book c.args.account.name (was_asked (asking book c.args.account.name) Nothing said) in
+    ([], adds_none (g.D.Dial.opened c.args.dial.now), (refl, refl, inl (c.confirmed.ensures, c.confirmed.ensures ∙ rests)))
+
+pub returns-in-Ok-Send : goal.returns-in-Ok-Send
+returns-in-Ok-Send g c =
+    let book = book_of c.args.connector.now.book in
+    let said : ok_or (asking book c.args.account.name) NoSuchRecord ≡ Ok (Send c.in-Ok-Send.request) = c.in-Ok-Send.ensures ∙ ap Ok c.in-Ok-Send.field-0-is in
+    let made = c.set_out.ensures in (
+      made.0 ∷ [],
+      made.1,
+      went_on g.D.Writer.Write.contents c.args.service.now c.args.account book c.in-Ok-Send.request made.0 c.set_out.result
+          c.requires (was_asked (asking book c.args.account.name) (Send c.in-Ok-Send.request) said) made.2,
+    )

@@ -1,0 +1,270 @@
+//! A record while several are under way.
+ghost use Rattle.std.specs.Prelude.{◌≡◌, ◌∷◌, ◌<◌, ◌≤◌, []};
+ghost use Rattle.connector_core.specs.Maps.{book_of};
+ghost use Rattle.provisioning.specs.Lists.{Adds};
+ghost use Rattle.provisioning.specs.Openings.{Opening, Opens};
+ghost use Rattle.provisioning.specs.Records.{most_exchanges};
+ghost use Rattle.provisioning.specs.Tracks.{Advances, Closes, ComesOfOpening, GoesOn, IsHeard, IsLearnt, IsSetOut, StandsAt, counted, faulted, fresh};
+
+use crate::dialing::Dial;
+use crate::exchanging::take;
+use crate::faults::{RecordFault, RunFault, open_fault};
+use crate::halves::{read_reply, send_request};
+use crate::records::{Standing, standing_after};
+use connector_core::{Ask, AskFault, Connector};
+use http_text::{Input, Output};
+use journal_core::Journal;
+use scim_client::{ExchangeFault, ScimService};
+use scim_key::RecordName;
+use scim_message::{Answer, Request};
+use std::alloc::Global;
+use std::io::{Read, Write};
+use world_sim::MOST_EXCHANGES;
+
+/// A record, how many exchanges were begun for it, and their last fault.
+#[derive(Drop)]
+pub(crate) struct Account {
+    pub name: RecordName,
+    pub exchanges: u32,
+    pub last: Option<RecordFault>,
+}
+
+/// A request on its stream, and whether it was sent whole.
+#[derive(Drop)]
+pub(crate) struct Flight<R: Drop, W: Drop> {
+    pub request: Request,
+    pub reader: R,
+    pub writer: W,
+    pub sent: Result<(), ExchangeFault>,
+}
+
+/// A record that was begun.
+#[derive(Drop)]
+pub(crate) enum Track<R: Drop, W: Drop> {
+    /// An exchange for it is under way.
+    UnderWay(Account, Flight<R, W>),
+    /// It has this state.
+    Done(Account, Standing),
+}
+
+impl Account {
+    /// A record for which nothing was sent.
+    pub fn new(name: RecordName) -> Account
+        ensures { result ≡ fresh name }
+    {
+        Account {
+            name,
+            exchanges: 0,
+            last: None,
+        }
+    }
+}
+
+/// Sends the connector's next request for a record on a new stream, if there is one and the record has
+/// exchanges left.
+pub(crate) fn go_on<J: Journal, D: Dial>(
+    alloc: Global,
+    service: &ScimService,
+    connector: &Connector<J>,
+    dial: &mut D,
+    account: Account,
+) -> Result<Track<D::Reader, D::Writer>, RunFault>
+    ensures { Opens (D.opened dial.old) (D.opened dial.new) (λ opened. GoesOn
+        D.Writer.contents service.now account opened (book_of connector.now.book) result) }
+{
+    if account.exchanges < MOST_EXCHANGES {
+        ask(alloc, service, connector, dial, account)
+    } else {
+        let standing = spent(connector, &account);
+        Ok(Track::Done(account, standing))
+    }
+}
+
+/// The state of a record that has no exchanges left.
+fn spent<J: Journal>(connector: &Connector<J>, account: &Account) -> Standing
+    requires { most_exchanges ≤ account.now.exchanges }
+    ensures { StandsAt (book_of connector.now.book) account.now result }
+{
+    standing_after(connector, &account.name, account.last)
+}
+
+/// Sends the connector's next request for a record on a new stream, if there is one.
+fn ask<J: Journal, D: Dial>(
+    alloc: Global,
+    service: &ScimService,
+    connector: &Connector<J>,
+    dial: &mut D,
+    account: Account,
+) -> Result<Track<D::Reader, D::Writer>, RunFault>
+    requires { account.exchanges < most_exchanges }
+    ensures { Opens (D.opened dial.old) (D.opened dial.new) (λ opened. GoesOn
+        D.Writer.contents service.now account opened (book_of connector.now.book) result) }
+{
+    match connector.ask(&account.name) {
+        Ok(Ask::Send(request)) => set_out(alloc, service, dial, account, request),
+        Ok(Ask::Nothing) => {
+            let standing = Standing::Confirmed(connector.confirmed(&account.name));
+            Ok(Track::Done(account, standing))
+        }
+        Ok(Ask::Waits(member)) => Ok(Track::Done(account, Standing::Waits(member))),
+        Err(AskFault::NoSuchRecord) => Ok(Track::Done(
+            account,
+            Standing::Unconfirmed(Some(RecordFault::NoSuchRecord)),
+        )),
+        Err(AskFault::Memory) => Err(RunFault::Memory),
+    }
+}
+
+/// Opens a stream and sends a request for a record on it.
+fn set_out<D: Dial>(
+    alloc: Global,
+    service: &ScimService,
+    dial: &mut D,
+    account: Account,
+    request: Request,
+) -> Result<Track<D::Reader, D::Writer>, RunFault>
+    requires { account.exchanges < most_exchanges }
+    ensures { (opening : Opening D.Reader D.Writer)
+        × Adds (D.opened dial.old) (D.opened dial.new) (opening ∷ [])
+        × ComesOfOpening D.Writer.contents service.now account request opening result }
+{
+    let (reader, writer) = match dial.dial() {
+        Ok(stream) => stream,
+        Err(error) => return Err(open_fault(error)),
+    };
+    let flight = send_on(alloc, service, request, reader, writer);
+    Ok(Track::UnderWay(counted(account), flight))
+}
+
+/// A record with one exchange more.
+fn counted(account: Account) -> Account
+    requires { account.exchanges < most_exchanges }
+    ensures { result ≡ counted account }
+{
+    let Account {
+        name,
+        exchanges,
+        last,
+    } = account;
+    Account {
+        name,
+        exchanges: exchanges + 1,
+        last,
+    }
+}
+
+/// Sends a request on a stream.
+fn send_on<R: Read + Drop, W: Write + Drop>(
+    alloc: Global,
+    service: &ScimService,
+    request: Request,
+    reader: R,
+    writer: W,
+) -> Flight<R, W>
+    ensures { IsSetOut W.contents service.now request (reader, writer) result }
+{
+    let mut output = Output::new(writer);
+    let sent = send_request(alloc, service, &request, &mut output);
+    Flight {
+        request,
+        reader,
+        writer: output.into_inner(),
+        sent,
+    }
+}
+
+/// Reads the answer to a request on its stream, ends the stream, and learns from the answer. It returns the
+/// fault of the record, if there is one.
+fn learn_from<J: Journal, D: Dial>(
+    alloc: Global,
+    connector: &mut Connector<J>,
+    dial: &D,
+    flight: Flight<D::Reader, D::Writer>,
+) -> Result<Option<RecordFault>, RunFault>
+    ensures { IsLearnt D.Reader.remaining J.Journal flight connector.old connector.new result }
+{
+    let Flight {
+        request,
+        reader,
+        writer,
+        sent,
+    } = flight;
+    let (came, reader) = hear(alloc, &request, reader, sent);
+    dial.end(reader, writer);
+    take(connector, &request, came)
+}
+
+/// Reads the answer to a request, if it was sent whole. It returns the reader too.
+fn hear<R: Read>(
+    alloc: Global,
+    request: &Request,
+    reader: R,
+    sent: Result<(), ExchangeFault>,
+) -> (Result<Answer, ExchangeFault>, R)
+    ensures { IsHeard R.remaining request.now reader sent result.0 }
+{
+    match sent {
+        Ok(()) => {
+            let mut input = Input::new(reader);
+            let came = read_reply(alloc, request, &mut input);
+            (came, input.into_inner())
+        }
+        Err(fault) => (Err(fault), reader),
+    }
+}
+
+/// Reads the answer of a record that is under way, learns from it, and sends the next request, if there is
+/// one.
+pub(crate) fn advance<J: Journal, D: Dial>(
+    alloc: Global,
+    service: &ScimService,
+    connector: &mut Connector<J>,
+    dial: &mut D,
+    track: Track<D::Reader, D::Writer>,
+) -> Result<Track<D::Reader, D::Writer>, RunFault>
+    ensures { Opens (D.opened dial.old) (D.opened dial.new) (λ opened. Advances
+        D.Reader.remaining D.Writer.contents J.Journal service.now track opened
+        connector.old connector.new result) }
+{
+    match track {
+        Track::UnderWay(account, flight) => {
+            let fault = learn_from(alloc, connector, dial, flight)?;
+            go_on(alloc, service, connector, dial, faulted(account, fault))
+        }
+        Track::Done(account, standing) => Ok(Track::Done(account, standing)),
+    }
+}
+
+/// A record after an exchange with this fault, or none.
+fn faulted(account: Account, fault: Option<RecordFault>) -> Account
+    ensures { result ≡ faulted fault account }
+{
+    let Account {
+        name,
+        exchanges,
+        last,
+    } = account;
+    Account {
+        name,
+        exchanges,
+        last: fault.or(last),
+    }
+}
+
+/// Learns from the answer of a record that is under way, and sends nothing more.
+pub(crate) fn close<J: Journal, D: Dial>(
+    alloc: Global,
+    connector: &mut Connector<J>,
+    dial: &D,
+    track: Track<D::Reader, D::Writer>,
+) -> Result<(), RunFault>
+    ensures { Closes D.Reader.remaining J.Journal track connector.old connector.new result }
+{
+    match track {
+        Track::UnderWay(_, flight) => match learn_from(alloc, connector, dial, flight) {
+            Ok(_) => Ok(()),
+            Err(fault) => Err(fault),
+        },
+        Track::Done(..) => Ok(()),
+    }
+}
