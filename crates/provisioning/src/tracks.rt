@@ -191,7 +191,7 @@ fn learn_from<J: Journal, D: Dial>(
     } = flight;
     let (came, reader) = hear(alloc, &request, reader, sent);
     dial.end(reader, writer);
-    take(connector, &request, came)
+    take(connector, &request, &came)
 }
 
 /// Reads the answer to a request, if it was sent whole. It returns the reader too.
