@@ -5,7 +5,6 @@ mod RunLemmas
 mod TurnLemmas
 mod CarryLemmas
 mod OfferLemmas
-mod PrintableLemmas
 mod MoveLemmas
 mod TrackLemmas
 mod WindowLemmas

@@ -65,11 +65,6 @@ struct Refused<'a> {
 }
 
 impl<'a> fmt::Display for Refused<'a> {
-    ghost use Rattle.std.specs.Prelude.{Some};
-    ghost use Rattle.provisioning.specs.Explanations.{refusal_text};
-
-    ghost output = { λ it. Some (refusal_text it.status it.detail.now) };
-
     fn fmt<W: fmt::Write>(&self, f: &mut fmt::Formatter<W>) -> fmt::Result {
         match self.detail {
             Some(detail) => write!(f, "{}, \"{detail}\"", self.status),
@@ -79,11 +74,6 @@ impl<'a> fmt::Display for Refused<'a> {
 }
 
 impl fmt::Display for Explanation {
-    ghost use Rattle.provisioning.specs.Explanations.{explanation_text};
-    ghost use Rattle.std.specs.Prelude.{Some};
-
-    ghost output = { λ explanation. Some (explanation_text explanation) };
-
     fn fmt<W: fmt::Write>(&self, f: &mut fmt::Formatter<W>) -> fmt::Result {
         match self {
             Explanation::Phrase(phrase) => f.write_str(phrase.words()),

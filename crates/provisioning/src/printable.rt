@@ -1,12 +1,10 @@
 //! Bytes of others, as they are printed.
-ghost use Rattle.std.specs.Prelude.{◌≡◌, ◌<◌, true, take, IfOk};
+ghost use Rattle.std.specs.Prelude.{◌≡◌, ◌<◌, true};
 ghost use Rattle.std.specs.Fmt.{digit_glyph};
 ghost use Rattle.provisioning.specs.Explanations.{is_plain};
-ghost use Rattle.provisioning.specs.declared.printable.TheConstants.{EXCERPT_LIMIT};
 
 use std::alloc::{AllocError, Global};
 use std::fmt;
-use std::marker::Model;
 
 /// The most bytes of one text of others that are printed.
 const EXCERPT_LIMIT: usize = 200;
@@ -55,11 +53,6 @@ impl fmt::Display for PrintableByte {
 }
 
 impl<'a> fmt::Display for Printable<'a> {
-    ghost use Rattle.std.specs.Prelude.{Some};
-    ghost use Rattle.provisioning.specs.Explanations.{printable};
-
-    ghost output = { λ bytes. Some (printable bytes.0.now) };
-
     fn fmt<W: fmt::Write>(&self, f: &mut fmt::Formatter<W>) -> fmt::Result {
         for byte in self.0 {
             write!(f, "{}", PrintableByte(*byte))?;
@@ -74,19 +67,9 @@ pub struct Excerpt {
     bytes: Vec<u8>,
 }
 
-impl Model for Excerpt {
-    ghost use Rattle.std.specs.Prelude.{List, ℕ};
-
-    ghost Value = { List ℕ };
-
-    ghost view = { λ excerpt. excerpt.bytes.items };
-}
-
 impl Excerpt {
     /// The first bytes of a text.
-    pub(crate) fn of(alloc: Global, bytes: &[u8]) -> Result<Excerpt, AllocError>
-        ensures { IfOk result (λ excerpt. excerpt ≡ take EXCERPT_LIMIT bytes.now) }
-    {
+    pub(crate) fn of(alloc: Global, bytes: &[u8]) -> Result<Excerpt, AllocError> {
         let count = bytes.len().min(EXCERPT_LIMIT);
         Ok(Excerpt {
             bytes: Vec::from_slice(alloc, &bytes[..count])?,
@@ -95,11 +78,6 @@ impl Excerpt {
 }
 
 impl fmt::Display for Excerpt {
-    ghost use Rattle.std.specs.Prelude.{Some};
-    ghost use Rattle.provisioning.specs.Explanations.{printable};
-
-    ghost output = { λ excerpt. Some (printable excerpt) };
-
     fn fmt<W: fmt::Write>(&self, f: &mut fmt::Formatter<W>) -> fmt::Result {
         write!(f, "{}", Printable(&self.bytes))
     }
