@@ -1,5 +1,5 @@
 -- A run of many records takes no confirmed revision back.
-use Rattle.std.proofs.Common.{◌≡◌, ◌⊎◌, ℕ, List, [], ◌∷◌, ◌++◌, take, drop, Option, Result, Ok, Err, inl, inr, refl, ap, sym, ◌∙◌, subst}
+use Rattle.std.proofs.Common.{◌≡◌, ℕ, List, [], ◌∷◌, take, drop, Option, Result, Ok, Err, inl, inr, ap, sym, ◌∙◌, subst}
 use Rattle.std.specs.List.{prefix_len}
 use Rattle.journal_core.specs.declared.journals.Journal.{Ghosts}
 use Rattle.connector_core.specs.State.{State}
@@ -9,7 +9,7 @@ use Rattle.provisioning.specs.Onward.{Onward}
 use Rattle.provisioning.specs.Openings.{Opening}
 use Rattle.provisioning.specs.Runs.{Done}
 use Rattle.provisioning.specs.Tracks.{Advances, Closes, IsLearnt}
-use Rattle.provisioning.specs.Windows.{AllMoved, AreMoves, Causes, IsMove, LooksThrough, PartMoved, Point, PushesAbreast, Scene, Stops}
+use Rattle.provisioning.specs.Windows.{AreMoves, Causes, IsMove, LooksThrough, Point, PushesAbreast, Scene}
 use Rattle.provisioning.specs.declared.faults.RecordFault.{RecordFault}
 use Rattle.provisioning.specs.declared.faults.RunFault.{RunFault}
 use Rattle.provisioning.specs.declared.pushing.Tally.{Tally}

@@ -1,18 +1,14 @@
 -- From the halves of an exchange to the whole.
-use Rattle.std.proofs.Common.{◌≡◌, ℕ, inl, inr, List, Option, Result, Ok, Err, refl, sym, subst}
+use Rattle.std.proofs.Common.{Result, Ok, Err, sym, subst}
 use Rattle.scim_message.specs.declared.messages.Answer.{Answer}
 use Rattle.scim_message.specs.declared.messages.Request.{Request}
-use Rattle.http_text.specs.Counts.{Reading, Writing}
 use Rattle.http_text.specs.Message.{Message}
 use Rattle.http_text.specs.declared.fault.ReadFault.{ReadFault}
 use Rattle.http_text.specs.declared.fault.ReadFault.TheVariants as faults
-use Rattle.scim_client.specs.declared.answers.AnswerFault.TheVariants.{NotOneResponse, NotJson, WrongShape}
-use Rattle.scim_client.specs.declared.answers.AnswerFault.TheVariants as answers
 use Rattle.scim_client.specs.declared.exchange.ExchangeFault.{ExchangeFault}
 use Rattle.scim_client.specs.declared.exchange.ExchangeFault.TheVariants.{Unsent, EndedEarly, ReadFailed, OutOfMemory, TurnsExhausted, NoAnswer}
-use Rattle.scim_client.specs.Exchanges.{ComesOf, ExchangesKnown, IsHindered, IsSent, Reads, Sends, fault_of}
-use Rattle.provisioning.specs.Halves.{IsReply, Starts}
-use Rattle.scim_client.proofs.ExchangeLemmas.{hindered_known}
+use Rattle.scim_client.specs.Exchanges.{ComesOf, fault_of}
+use Rattle.provisioning.specs.Halves.{IsReply}
 
 -- ---- a reply
 

@@ -1,19 +1,11 @@
 -- Moves of many records, one after another.
-use Rattle.std.proofs.Common.{◌≡◌, ◌⊎◌, ℕ, List, [], ◌∷◌, ◌++◌, map, Option, Some, None, Result, Ok, Err, inl, inr, refl, ap, sym, ◌∙◌, subst, append_assoc, append-nil}
-use Rattle.scim_key.specs.declared.records.RecordName.{RecordName}
+use Rattle.std.proofs.Common.{ℕ, List, [], ◌∷◌, ◌++◌, map, Option, inl, inr, refl, ap, sym, ◌∙◌, subst, append_assoc, append-nil}
 use Rattle.journal_core.specs.declared.journals.Journal.{Ghosts}
-use Rattle.connector_core.specs.Maps.{book_of}
 use Rattle.connector_core.specs.State.{State}
-use Rattle.provisioning.specs.Exchanges.{IsUnmade}
 use Rattle.provisioning.specs.Openings.{Opening}
 use Rattle.provisioning.specs.Runs.{Done}
-use Rattle.provisioning.specs.Tracks.{Advances, Begins, Closes, IsLearnt, fresh, faulted}
-use Rattle.provisioning.specs.Windows.{AreMoves, Causes, IsMove, IsWith, Leaves, LooksThrough, Moves, Point, Scene, Stops, with_first}
-use Rattle.provisioning.specs.declared.faults.RecordFault.{RecordFault}
+use Rattle.provisioning.specs.Windows.{AreMoves, Causes, IsMove, IsWith, LooksThrough, Moves, Point, Scene, Stops, with_first}
 use Rattle.provisioning.specs.declared.faults.RunFault.{RunFault}
-use Rattle.provisioning.specs.declared.records.Standing.{Standing}
-use Rattle.provisioning.specs.declared.tracks.Account.{Account}
-use Rattle.provisioning.specs.declared.tracks.Flight.{Flight}
 use Rattle.provisioning.specs.declared.tracks.Track.{Track}
 use Rattle.provisioning.specs.declared.tracks.Track.TheVariants.{UnderWay, Done as IsDone}
 

@@ -1,6 +1,5 @@
 -- How a record goes on while several are under way.
-use Rattle.std.proofs.Common.{◌≡◌, ◌<◌, ◌≤◌, ◌⊎◌, ℕ, List, [], ◌∷◌, Option, Some, None, Result, Ok, Err, inl, inr, refl, ap, sym, ◌∙◌, subst}
-use Rattle.scim_key.specs.declared.records.RecordName.{RecordName}
+use Rattle.std.proofs.Common.{◌≡◌, ◌<◌, ◌≤◌, ℕ, List, [], ◌∷◌, Option, Some, Result, Ok, Err, inl, inr, refl, ap, sym, ◌∙◌, subst}
 use Rattle.scim_message.specs.declared.messages.Answer.{Answer}
 use Rattle.scim_message.specs.declared.messages.Request.{Request}
 use Rattle.scim_client.specs.declared.exchange.ExchangeFault.{ExchangeFault}
@@ -9,7 +8,6 @@ use Rattle.connector_core.specs.Asking.{asking}
 use Rattle.connector_core.specs.Book.{Book}
 use Rattle.connector_core.specs.Maps.{book_of}
 use Rattle.connector_core.specs.State.{State}
-use Rattle.connector_core.specs.declared.asking.Ask.{Ask}
 use Rattle.connector_core.specs.declared.asking.Ask.TheVariants.{Send}
 use Rattle.provisioning.specs.Exchanges.{IsTaken}
 use Rattle.provisioning.specs.Openings.{Opening}

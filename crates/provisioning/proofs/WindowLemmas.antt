@@ -18,7 +18,6 @@ use Rattle.provisioning.specs.Windows.{AllMoved, BeginsNext, Goes, IsFinished, I
 use Rattle.provisioning.specs.declared.faults.RunFault.{RunFault}
 use Rattle.provisioning.specs.declared.faults.RunFault.TheVariants.{Memory}
 use Rattle.provisioning.specs.declared.pushing.Tally.{Tally}
-use Rattle.provisioning.specs.declared.records.Pushed.{Pushed}
 use Rattle.provisioning.specs.declared.records.Standing.{Standing}
 use Rattle.provisioning.specs.declared.tracks.Account.{Account}
 use Rattle.provisioning.specs.declared.tracks.Flight.{Flight}

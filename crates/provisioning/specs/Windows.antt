@@ -12,7 +12,6 @@ use Rattle.provisioning.specs.Tracks.{Advances, Begins, Closes, IsLearnt, fresh,
 use Rattle.provisioning.specs.declared.faults.RecordFault.{RecordFault}
 use Rattle.provisioning.specs.declared.faults.RunFault.{RunFault}
 use Rattle.provisioning.specs.declared.pushing.Tally.{Tally}
-use Rattle.provisioning.specs.declared.records.Pushed.{Pushed}
 use Rattle.provisioning.specs.declared.records.Standing.{Standing}
 use Rattle.provisioning.specs.declared.tracks.Account.{Account}
 use Rattle.provisioning.specs.declared.tracks.Flight.{Flight}

@@ -1,4 +1,4 @@
-use Rattle.std.proofs.Common.{◌≡◌, [], List}
+use Rattle.std.proofs.Common.{◌≡◌, []}
 use Rattle.provisioning.specs.Openings.{Opens}
 use Rattle.provisioning.specs.Windows.{Moves, scene_of}
 use Rattle.provisioning.proofs.WindowLemmas.{IsTurned}

@@ -1,4 +1,4 @@
-use Rattle.std.proofs.Common.{[], Ok, deque_len}
+use Rattle.std.proofs.Common.{Ok, deque_len}
 use Rattle.provisioning.specs.Openings.{Opens}
 use Rattle.provisioning.specs.Windows.{Goes, scene_of}
 use Rattle.provisioning.proofs.windows.fill.Given as goal

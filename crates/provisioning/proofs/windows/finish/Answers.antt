@@ -1,4 +1,4 @@
-use Rattle.std.proofs.Common.{◌∙◌, [], ◌++◌, sym}
+use Rattle.std.proofs.Common.{[], ◌++◌}
 use Rattle.std.proofs.lemmas.Result.{err_from_is_err_and}
 use Rattle.provisioning.proofs.ListLemmas.{adds_more, adds_none}
 use Rattle.provisioning.proofs.WindowLemmas.{beside_kept, beside_lost, fewer_left, finishing_done, finishing_next, finishing_none, finishing_stopped, kept_is}

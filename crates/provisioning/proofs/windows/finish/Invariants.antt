@@ -1,7 +1,5 @@
-use Rattle.std.proofs.Common.{ℕ, ◌+◌, ◌-◌}
 use Rattle.provisioning.specs.Openings.{Opens}
 use Rattle.provisioning.specs.Windows.{scene_of}
-use Rattle.provisioning.specs.declared.tracks.Track.{Track}
 use Rattle.provisioning.proofs.WindowLemmas.{IsFinishing, steps_left}
 use Rattle.provisioning.proofs.windows.finish.Given as goal
 

@@ -1,4 +1,4 @@
-use Rattle.std.proofs.Common.{◌≡◌, ◌∙◌, [], ◌∷◌, ◌++◌, refl, ap, sym, append_assoc}
+use Rattle.std.proofs.Common.{◌∙◌, [], refl}
 use Rattle.provisioning.proofs.WindowLemmas.{looked_all, looked_next}
 use Rattle.provisioning.proofs.windows.look_through.Goals as goal
 
