@@ -1,5 +1,6 @@
 -- Every record, several at once: users, and then groups.
-use Rattle.std.specs.Prelude.{◌≡◌, ◌⊎◌, ◌+◌, ◌&&◌, ℕ, Bool, true, false, List, [], ◌++◌, Option, Result, Ok, Err, min, take, drop}
+use Rattle.std.specs.Prelude.{◌≡◌, ◌⊎◌, ◌+◌, ◌&&◌, ℕ, Bool, true, false, List, [], ◌++◌, Option, Result, Ok, Err}
+use Rattle.std.specs.Prelude.{min, take, drop}
 use Rattle.std.specs.FinMap.{keys}
 use Rattle.std.specs.List.{prefix_len}
 use Rattle.scim_key.specs.declared.records.Kind.{Kind}
@@ -44,16 +45,23 @@ abbrev pub joined : Tally → Result Tally RunFault → Result Tally RunFault
 joined tally (Ok more) = Ok (both tally more)
 joined tally (Err fault) = Err fault
 
-module _ {I O J : Type 0} (remaining : I → Option (List ℕ)) (contents : O → Option (List ℕ)) (g : Ghosts J) (base : List ℕ) where
+module _ {I O J : Type 0} (remaining : I → Option (List ℕ))
+    (contents : O → Option (List ℕ)) (g : Ghosts J) (base : List ℕ) where
   -- the groups begin when every user is done and reported; or a fault ended the run before
-  abbrev pub PushesBoth : (users groups : List RecordName) → (opened : List (Opening I O)) → (old new : State J) → (before after : Option (List Done)) → Result Tally RunFault → Type 0
+  abbrev pub PushesBoth : (users groups : List RecordName) → (opened : List (Opening I O)) → (old new : State J)
+      → (before after : Option (List Done)) → Result Tally RunFault → Type 0
   PushesBoth users groups opened old new before after result =
-      ((first : List (Opening I O)) × (last : List (Opening I O)) × (between : State J) × (then : Option (List Done)) × (tally : Tally) × (more : Result Tally RunFault) × (opened ≡ first ++ last)
-      × AllMoved remaining contents g base users first old between before then tally × PushesAbreast remaining contents g base groups last between new then after more × (result ≡ joined tally more))
+      ((first : List (Opening I O)) × (last : List (Opening I O)) × (between : State J)
+      × (then : Option (List Done)) × (tally : Tally) × (more : Result Tally RunFault) × (opened ≡ first ++ last)
+      × AllMoved remaining contents g base users first old between before then tally
+      × PushesAbreast remaining contents g base groups last between new then after more
+      × (result ≡ joined tally more))
       ⊎ ((fault : RunFault) × PartMoved remaining contents g base users opened old new fault × (result ≡ Err fault))
 
   -- The records of the connector, users by key and then groups by key; or memory ran out before the first of them
-  abbrev pub PushesAllAbreast : (opened : List (Opening I O)) → (old new : State J) → (before after : Option (List Done)) → Result Tally RunFault → Type 0
+  abbrev pub PushesAllAbreast : (opened : List (Opening I O)) → (old new : State J)
+      → (before after : Option (List Done)) → Result Tally RunFault → Type 0
   PushesAllAbreast opened old new before after result =
-      ((names : List RecordName) × IsSettleOrder (keys old.book) names × PushesBoth (users_of names) (groups_of names) opened old new before after result)
+      ((names : List RecordName) × IsSettleOrder (keys old.book) names
+      × PushesBoth (users_of names) (groups_of names) opened old new before after result)
       ⊎ ((opened ≡ []) × (result ≡ Err Memory) × (new ≡ old))

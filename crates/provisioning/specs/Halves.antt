@@ -6,7 +6,8 @@ use Rattle.http_text.specs.Sending.{IsLost, EndsSending}
 use Rattle.scim_client.specs.declared.answers.AnswerFault.TheVariants.{NotOneResponse, NotJson, WrongShape}
 use Rattle.scim_client.specs.declared.answers.AnswerFault.TheVariants as answers
 use Rattle.scim_client.specs.declared.exchange.ExchangeFault.{ExchangeFault}
-use Rattle.scim_client.specs.declared.exchange.ExchangeFault.TheVariants.{Unsent, EndedEarly, ReadFailed, OutOfMemory, TurnsExhausted, NoAnswer}
+use Rattle.scim_client.specs.declared.exchange.ExchangeFault.TheVariants.{Unsent, EndedEarly, ReadFailed}
+use Rattle.scim_client.specs.declared.exchange.ExchangeFault.TheVariants.{OutOfMemory, TurnsExhausted, NoAnswer}
 use Rattle.scim_client.specs.Exchanges.{IsSent}
 
 -- The text was written whole; or as much as the fault reports, in agreement with the writer's counts; or nothing, if

@@ -56,7 +56,8 @@ StandsAt book a standing = Rests book a.name standing ⊎ IsSpentAt book a stand
 -- ---- a request is sent
 
 -- The request's text, which spells it, was written to the writer of this stream, as far as the flight says
-pub record IsSetOut {I O : Type 0} (contents : O → Option (List ℕ)) (base : List ℕ) (request : Request) (stream : I × O) (f : Flight I O) : Type 0 where
+pub record IsSetOut {I O : Type 0}
+    (contents : O → Option (List ℕ)) (base : List ℕ) (request : Request) (stream : I × O) (f : Flight I O) : Type 0 where
   pub written : Writing
   pub request_is : f.request ≡ request
   pub reader_is : f.reader ≡ stream.0
@@ -64,7 +65,9 @@ pub record IsSetOut {I O : Type 0} (contents : O → Option (List ℕ)) (base : 
   pub spelled : SpellsSent base request (fresh_writing (contents stream.1)) written
 
 -- A record with exchanges left: what the connector asks for as this book stands was sent on a new stream
-pub record SetsOut {I O : Type 0} (contents : O → Option (List ℕ)) (base : List ℕ) (a : Account) (opened : List (Opening I O)) (book : Book) (later : Account) (f : Flight I O) : Type 0 where
+pub record SetsOut {I O : Type 0}
+    (contents : O → Option (List ℕ)) (base : List ℕ) (a : Account) (opened : List (Opening I O)) (book : Book) (later : Account)
+    (f : Flight I O) : Type 0 where
   pub stream : I × O
   pub left : a.exchanges < most_exchanges
   pub asked : asking book a.name ≡ Some (Send f.request)
@@ -73,35 +76,43 @@ pub record SetsOut {I O : Type 0} (contents : O → Option (List ℕ)) (base : L
   pub later_is : later ≡ counted a
 
 -- the request was sent on the stream that was opened; or the opening's error is the fault
-abbrev pub ComesOfOpening : {I O : Type 0} → (O → Option (List ℕ)) → List ℕ → Account → Request → Opening I O → Result (Track I O) RunFault → Type 0
-ComesOfOpening {I} {O} contents base a request (Ok stream) result = (f : Flight I O) × IsSetOut contents base request stream f × (result ≡ Ok (UnderWay (counted a) f))
+abbrev pub ComesOfOpening : {I O : Type 0} → (O → Option (List ℕ)) → List ℕ → Account → Request → Opening I O
+    → Result (Track I O) RunFault → Type 0
+ComesOfOpening {I} {O} contents base a request (Ok stream) result = (f : Flight I O)
+    × IsSetOut contents base request stream f × (result ≡ Ok (UnderWay (counted a) f))
 ComesOfOpening contents base a request (Err error) result = result ≡ Err (open_fault error)
 
 -- a request is under way, or the record is done and nothing was opened
-abbrev pub Begins : {I O : Type 0} → (O → Option (List ℕ)) → List ℕ → Account → (opened : List (Opening I O)) → Book → Track I O → Type 0
+abbrev pub Begins : {I O : Type 0} → (O → Option (List ℕ)) → List ℕ → Account → (opened : List (Opening I O))
+    → Book → Track I O → Type 0
 Begins contents base a opened book (UnderWay later f) = SetsOut contents base a opened book later f
 Begins contents base a opened book (Done later standing) = (opened ≡ []) × (later ≡ a) × StandsAt book a standing
 
 -- so; or the stream wasn't opened, or memory ran out before
-abbrev pub GoesOn : {I O : Type 0} → (O → Option (List ℕ)) → List ℕ → Account → (opened : List (Opening I O)) → Book → Result (Track I O) RunFault → Type 0
+abbrev pub GoesOn : {I O : Type 0} → (O → Option (List ℕ)) → List ℕ → Account → (opened : List (Opening I O))
+    → Book → Result (Track I O) RunFault → Type 0
 GoesOn contents base a opened book (Ok track) = Begins contents base a opened book track
 GoesOn contents base a opened book (Err fault) = IsUnmade opened fault
 
 -- ---- its answer is read
 
 -- What comes on a reader from its start is the result, if the request was sent whole; else the sending's fault is
-pub record IsReadFrom {I : Type 0} (remaining : I → Option (List ℕ)) (request : Request) (reader : I) (came : Result Answer ExchangeFault) : Type 0 where
+pub record IsReadFrom {I : Type 0}
+    (remaining : I → Option (List ℕ)) (request : Request) (reader : I) (came : Result Answer ExchangeFault) : Type 0 where
   pub left : Reading
   pub reply : IsReply came
   pub read : Reads request (fresh_reading (remaining reader)) left came
   pub known : ExchangesKnown request (remaining reader) left.remaining came
 
-abbrev pub IsHeard : {I : Type 0} → (I → Option (List ℕ)) → Request → I → (sent : Result (Unit {0}) ExchangeFault) → (came : Result Answer ExchangeFault) → Type 0
+abbrev pub IsHeard : {I : Type 0} → (I → Option (List ℕ)) → Request → I → (sent : Result (Unit {0}) ExchangeFault)
+    → (came : Result Answer ExchangeFault) → Type 0
 IsHeard remaining request reader (Ok sent) came = IsReadFrom remaining request reader came
 IsHeard remaining request reader (Err fault) came = came ≡ Err fault
 
 -- The connector learns from what comes on the stream of the request
-pub record IsLearnt {I O J : Type 0} (remaining : I → Option (List ℕ)) (g : Ghosts J) (f : Flight I O) (old new : State J) (result : Result (Option RecordFault) RunFault) : Type 0 where
+pub record IsLearnt {I O J : Type 0}
+    (remaining : I → Option (List ℕ)) (g : Ghosts J) (f : Flight I O) (old new : State J)
+    (result : Result (Option RecordFault) RunFault) : Type 0 where
   pub came : Came
   pub heard : IsHeard remaining f.request f.reader f.sent (answer_in came)
   pub becomes : Becomes g f.request came old new
@@ -109,24 +120,32 @@ pub record IsLearnt {I O J : Type 0} (remaining : I → Option (List ℕ)) (g : 
 
 -- ---- a record that was begun
 
-module _ {I O J : Type 0} (remaining : I → Option (List ℕ)) (contents : O → Option (List ℕ)) (g : Ghosts J) (base : List ℕ) where
+module _ {I O J : Type 0} (remaining : I → Option (List ℕ))
+    (contents : O → Option (List ℕ)) (g : Ghosts J) (base : List ℕ) where
   -- its answer is learnt from, and then it goes on
-  pub record Continues (a : Account) (f : Flight I O) (opened : List (Opening I O)) (old new : State J) (result : Result (Track I O) RunFault) : Type 0 where
+  pub record Continues (a : Account) (f : Flight I O) (opened : List (Opening I O)) (old new : State J)
+      (result : Result (Track I O) RunFault) : Type 0 where
     pub fault : Option RecordFault
     pub learnt : IsLearnt remaining g f old new (Ok fault)
     pub goes_on : GoesOn contents base (faulted fault a) opened (book_of new.book) result
 
   -- learning ended the run
-  abbrev pub EndsLearning : (f : Flight I O) → (opened : List (Opening I O)) → (old new : State J) → (result : Result (Track I O) RunFault) → Type 0
-  EndsLearning f opened old new result = (end : RunFault) × IsLearnt remaining g f old new (Err end) × (opened ≡ []) × (result ≡ Err end)
+  abbrev pub EndsLearning : (f : Flight I O) → (opened : List (Opening I O)) → (old new : State J)
+      → (result : Result (Track I O) RunFault) → Type 0
+  EndsLearning f opened old new result = (end : RunFault) × IsLearnt remaining g f old new (Err end)
+      × (opened ≡ []) × (result ≡ Err end)
 
   -- one step of a record; a record that is done stays
-  abbrev pub Advances : Track I O → (opened : List (Opening I O)) → (old new : State J) → Result (Track I O) RunFault → Type 0
-  Advances (UnderWay a f) opened old new result = Continues a f opened old new result ⊎ EndsLearning f opened old new result
+  abbrev pub Advances : Track I O → (opened : List (Opening I O)) → (old new : State J)
+      → Result (Track I O) RunFault → Type 0
+  Advances (UnderWay a f) opened old new result = Continues a f opened old new result
+      ⊎ EndsLearning f opened old new result
   Advances (Done a standing) opened old new result = (opened ≡ []) × (new ≡ old) × (result ≡ Ok (Done a standing))
 
 -- the last of a record: its answer, if one is under way, is learnt from
-abbrev pub Closes : {I O J : Type 0} → (I → Option (List ℕ)) → Ghosts J → Track I O → (old new : State J) → Result (Unit {0}) RunFault → Type 0
-Closes remaining g (UnderWay a f) old new (Ok done) = (fault : Option RecordFault) × IsLearnt remaining g f old new (Ok fault)
+abbrev pub Closes : {I O J : Type 0} → (I → Option (List ℕ)) → Ghosts J → Track I O → (old new : State J)
+    → Result (Unit {0}) RunFault → Type 0
+Closes remaining g (UnderWay a f) old new (Ok done) = (fault : Option RecordFault)
+    × IsLearnt remaining g f old new (Ok fault)
 Closes remaining g (UnderWay a f) old new (Err fault) = IsLearnt remaining g f old new (Err fault)
 Closes remaining g (Done a standing) old new result = (new ≡ old) × (result ≡ Ok tt)

@@ -61,12 +61,15 @@ abbrev pub at_start : {I O J : Type 0} → List RecordName → State J → Scene
 at_start names state = record { waiting = names; tracks = []; state = state }
 
 -- each answer that is under way is learnt from, one after another
-abbrev pub LooksThrough : {I O J : Type 0} → (I → Option (List ℕ)) → Ghosts J → List (Track I O) → (old new : State J) → Type 0
+abbrev pub LooksThrough : {I O J : Type 0} → (I → Option (List ℕ)) → Ghosts J → List (Track I O)
+    → (old new : State J) → Type 0
 LooksThrough remaining g [] old new = new ≡ old
 LooksThrough {J = J} remaining g (track ∷ tracks) old new =
-    (result : Result (Unit {0}) RunFault) × (between : State J) × Closes remaining g track old between result × LooksThrough remaining g tracks between new
+    (result : Result (Unit {0}) RunFault) × (between : State J) × Closes remaining g track old between result
+    × LooksThrough remaining g tracks between new
 
-module _ {I O J : Type 0} (remaining : I → Option (List ℕ)) (contents : O → Option (List ℕ)) (g : Ghosts J) (base : List ℕ) where
+module _ {I O J : Type 0} (remaining : I → Option (List ℕ))
+    (contents : O → Option (List ℕ)) (g : Ghosts J) (base : List ℕ) where
   -- ---- one move
 
   -- the first record that waits is begun
@@ -115,12 +118,14 @@ module _ {I O J : Type 0} (remaining : I → Option (List ℕ)) (contents : O �
     pub waiting : new.waiting ≡ old.waiting
 
   abbrev pub IsMove : (opened : List (Opening I O)) → (told : List Done) → (old new : Scene I O J) → Type 0
-  IsMove opened told old new = IsBegun opened told old new ⊎ (IsContinued opened told old new ⊎ (IsReported opened told old new ⊎ IsMoved opened told old new))
+  IsMove opened told old new = IsBegun opened told old new ⊎ (IsContinued opened told old new
+      ⊎ (IsReported opened told old new ⊎ IsMoved opened told old new))
 
   -- ---- many moves
 
   -- moves, one after another, each on what the one before left; the openings and the reports are theirs, in order
-  abbrev pub AreMoves : List (Point I O J) → (opened : List (Opening I O)) → (told : List Done) → (old new : Scene I O J) → Type 0
+  abbrev pub AreMoves : List (Point I O J) → (opened : List (Opening I O)) → (told : List Done)
+      → (old new : Scene I O J) → Type 0
   AreMoves [] opened told old new = (opened ≡ []) × (told ≡ []) × (new ≡ old)
   AreMoves (p ∷ ps) opened told old new =
       (others : List (Opening I O)) × (more : List Done) × (opened ≡ p.opened ++ others) × (told ≡ p.told ++ more)
@@ -134,14 +139,17 @@ module _ {I O J : Type 0} (remaining : I → Option (List ℕ)) (contents : O �
   -- The cause of a fault: no stream was opened for the next record, or memory ran out; or a record that was under way
   -- couldn't go on, or learning from its answer ended the run; or a record couldn't be reported. The other records are
   -- these
-  abbrev pub Causes : (last : List (Opening I O)) → Scene I O J → (rest : List (Track I O)) → (new : State J) → RunFault → Type 0
+  abbrev pub Causes : (last : List (Opening I O)) → Scene I O J → (rest : List (Track I O)) → (new : State J)
+      → RunFault → Type 0
   Causes last scene rest new fault =
       ((rest ≡ scene.tracks) × (new ≡ scene.state) × IsUnmade last fault)
-      ⊎ (((track : Track I O) × IsWith track rest scene.tracks × Advances remaining contents g base track last scene.state new (Err fault))
+      ⊎ (((track : Track I O) × IsWith track rest scene.tracks
+      × Advances remaining contents g base track last scene.state new (Err fault))
       ⊎ ((track : Track I O) × IsWith track rest scene.tracks × (last ≡ []) × (new ≡ scene.state) × IsUntold fault))
 
   -- moves, until this fault ended the run
-  pub record Stops (opened : List (Opening I O)) (told : List Done) (old : Scene I O J) (rest : List (Track I O)) (new : State J) (fault : RunFault) : Type 0 where
+  pub record Stops (opened : List (Opening I O)) (told : List Done) (old : Scene I O J) (rest : List (Track I O))
+      (new : State J) (fault : RunFault) : Type 0 where
     pub first : List (Opening I O)
     pub last : List (Opening I O)
     pub between : Scene I O J
@@ -157,18 +165,23 @@ module _ {I O J : Type 0} (remaining : I → Option (List ℕ)) (contents : O �
   Goes opened old new (Err fault) = Stops opened [] old new.tracks new.state fault
 
   -- the first record that isn't reported was taken, and begun if need be; or there is none; or it couldn't be begun
-  abbrev pub TakesFirst : (opened : List (Opening I O)) → (old new : Scene I O J) → Result (Option (Track I O)) RunFault → Type 0
-  TakesFirst opened old new (Ok (Some track)) = Moves opened [] old (with_first track new) × (name_of track ∷ names_in new ≡ names_in old)
-  TakesFirst opened old new (Ok None) = (opened ≡ []) × (new ≡ old) × (names_in old ≡ []) × (new.tracks ≡ []) × (new.waiting ≡ [])
+  abbrev pub TakesFirst : (opened : List (Opening I O)) → (old new : Scene I O J)
+      → Result (Option (Track I O)) RunFault → Type 0
+  TakesFirst opened old new (Ok (Some track)) = Moves opened [] old (with_first track new)
+      × (name_of track ∷ names_in new ≡ names_in old)
+  TakesFirst opened old new (Ok None) = (opened ≡ []) × (new ≡ old) × (names_in old ≡ []) × (new.tracks ≡ [])
+      × (new.waiting ≡ [])
   TakesFirst opened old new (Err fault) = Stops opened [] old new.tracks new.state fault
 
   -- a fault ended the run; some of the records that were begun were looked through, and the others are left
   abbrev pub Leaves : (opened : List (Opening I O)) → (told : List Done) → (old new : Scene I O J) → RunFault → Type 0
   Leaves opened told old new fault =
-      (front : List (Track I O)) × (between : State J) × Stops opened told old (front ++ new.tracks) between fault × LooksThrough remaining g front between new.state
+      (front : List (Track I O)) × (between : State J) × Stops opened told old (front ++ new.tracks) between fault
+      × LooksThrough remaining g front between new.state
 
   -- the first record is done
-  pub record IsFinished (opened : List (Opening I O)) (first : Track I O) (old new : Scene I O J) (done : Done) : Type 0 where
+  pub record IsFinished (opened : List (Opening I O)) (first : Track I O) (old new : Scene I O J)
+      (done : Done) : Type 0 where
     pub account : Account
     pub standing : Standing
     pub done_is : done ≡ done_of account standing
@@ -176,12 +189,14 @@ module _ {I O J : Type 0} (remaining : I → Option (List ℕ)) (contents : O �
     pub moves : Moves opened [] (with_first first old) (with_first (phases.Done account standing) new)
     pub names : names_in new ≡ names_in old
 
-  abbrev pub Finishes : (opened : List (Opening I O)) → (first : Track I O) → (old new : Scene I O J) → Result Done RunFault → Type 0
+  abbrev pub Finishes : (opened : List (Opening I O)) → (first : Track I O) → (old new : Scene I O J)
+      → Result Done RunFault → Type 0
   Finishes opened first old new (Ok done) = IsFinished opened first old new done
   Finishes opened first old new (Err fault) = Leaves opened [] (with_first first old) new fault
 
   -- all records were reported, in their order, and counted
-  pub record IsThrough (opened : List (Opening I O)) (old new : Scene I O J) (before after : Option (List Done)) (tally : Tally) : Type 0 where
+  pub record IsThrough (opened : List (Opening I O)) (old new : Scene I O J) (before after : Option (List Done))
+      (tally : Tally) : Type 0 where
     pub done : List Done
     pub names_are : map (λ d. d.0) done ≡ names_in old
     pub moves : Moves opened done old new
@@ -189,14 +204,16 @@ module _ {I O J : Type 0} (remaining : I → Option (List ℕ)) (contents : O �
     pub tells : Tells before after done
     pub tally_is : tally ≡ tally_of done
 
-  abbrev pub PushesThrough : (opened : List (Opening I O)) → (old new : Scene I O J) → (before after : Option (List Done)) → Result Tally RunFault → Type 0
+  abbrev pub PushesThrough : (opened : List (Opening I O)) → (old new : Scene I O J)
+      → (before after : Option (List Done)) → Result Tally RunFault → Type 0
   PushesThrough opened old new before after (Ok tally) = IsThrough opened old new before after tally
   PushesThrough opened old new before after (Err fault) = (told : List Done) × Leaves opened told old new fault
 
   -- ---- a run
 
   -- each of these records was reported, in this order, and counted
-  pub record AllMoved (names : List RecordName) (opened : List (Opening I O)) (old new : State J) (before after : Option (List Done)) (tally : Tally) : Type 0 where
+  pub record AllMoved (names : List RecordName) (opened : List (Opening I O)) (old new : State J)
+      (before after : Option (List Done)) (tally : Tally) : Type 0 where
     pub done : List Done
     pub names_are : map (λ d. d.0) done ≡ names
     pub moves : Moves opened done (at_start names old) (at_start [] new)
@@ -204,14 +221,16 @@ module _ {I O J : Type 0} (remaining : I → Option (List ℕ)) (contents : O �
     pub tally_is : tally ≡ tally_of done
 
   -- a fault ended the run; then each answer that was under way was learnt from
-  pub record PartMoved (names : List RecordName) (opened : List (Opening I O)) (old new : State J) (fault : RunFault) : Type 0 where
+  pub record PartMoved (names : List RecordName) (opened : List (Opening I O)) (old new : State J)
+      (fault : RunFault) : Type 0 where
     pub done : List Done
     pub rest : List (Track I O)
     pub between : State J
     pub stops : Stops opened done (at_start names old) rest between fault
     pub looked : LooksThrough remaining g rest between new
 
-  abbrev pub PushesAbreast : (names : List RecordName) → (opened : List (Opening I O)) → (old new : State J) → (before after : Option (List Done)) → Result Tally RunFault → Type 0
+  abbrev pub PushesAbreast : (names : List RecordName) → (opened : List (Opening I O)) → (old new : State J)
+      → (before after : Option (List Done)) → Result Tally RunFault → Type 0
   PushesAbreast names opened old new before after (Ok tally) = AllMoved names opened old new before after tally
   PushesAbreast names opened old new before after (Err fault) = PartMoved names opened old new fault
 
@@ -222,12 +241,16 @@ abbrev pub scene_of : {I O J : Type 0} → Window I O → State J → Scene I O 
 scene_of window state = record { waiting = window.waiting.items; tracks = window.tracks.items; state = state }
 
 -- the first of the names that wait was begun; or none waits; or it couldn't be begun
-abbrev pub BeginsNext : {I O : Type 0} → (O → Option (List ℕ)) → List ℕ → (opened : List (Opening I O)) → (waiting later : List RecordName) → Book → Result (Option (Track I O)) RunFault → Type 0
-BeginsNext contents base opened waiting later book (Ok (Some track)) = (name : RecordName) × (waiting ≡ name ∷ later) × Begins contents base (fresh name) opened book track
+abbrev pub BeginsNext : {I O : Type 0} → (O → Option (List ℕ)) → List ℕ → (opened : List (Opening I O))
+    → (waiting later : List RecordName) → Book → Result (Option (Track I O)) RunFault → Type 0
+BeginsNext contents base opened waiting later book (Ok (Some track)) = (name : RecordName)
+    × (waiting ≡ name ∷ later) × Begins contents base (fresh name) opened book track
 BeginsNext contents base opened waiting later book (Ok None) = (opened ≡ []) × (waiting ≡ []) × (later ≡ [])
 BeginsNext contents base opened waiting later book (Err fault) = IsUnmade opened fault
 
 -- a record is given back; or after a fault it was closed
-abbrev pub Keeps : {I O J : Type 0} → (I → Option (List ℕ)) → Ghosts J → Track I O → (beside : Result (Unit {0}) RunFault) → (old new : State J) → Result (Track I O) RunFault → Type 0
+abbrev pub Keeps : {I O J : Type 0} → (I → Option (List ℕ)) → Ghosts J → Track I O
+    → (beside : Result (Unit {0}) RunFault) → (old new : State J) → Result (Track I O) RunFault → Type 0
 Keeps remaining g track (Ok done) old new result = (new ≡ old) × (result ≡ Ok track)
-Keeps remaining g track (Err fault) old new result = (closed : Result (Unit {0}) RunFault) × Closes remaining g track old new closed × (result ≡ Err fault)
+Keeps remaining g track (Err fault) old new result = (closed : Result (Unit {0}) RunFault)
+    × Closes remaining g track old new closed × (result ≡ Err fault)
