@@ -61,6 +61,7 @@ class RowsTest(LoopTest):
             "user bob wanted=4 confirmed=4 held=4 version=1 active=false",
             "group crew wanted=2 confirmed=2 held=2 version=1 members=0",
             status=1,
+            errors=["users record 3: older, 3 is below 4"],
         )
 
     def test_the_same_row_again(self):
@@ -107,6 +108,7 @@ class RowsTest(LoopTest):
             *["1 new", "2 new", "3 older", "4 older"],
             "settled in 2 exchanges",
             "user bob wanted=1:1 confirmed=1:1 held=1:1 version=1 active=false",
+            errors=["users record 3: older, 2000000000 is below 1:1", "users record 4: older, 58 is below 1:1"],
         )
 
     def test_a_file_with_another_header_has_no_rows(self):
@@ -167,7 +169,14 @@ class FilesTest(LoopTest):
         self.writes([])
         self.assert_loop("settled in 0 exchanges", BOB_LEFT, options=self.both)
         self.writes(["bob,1,,,,,active"])
-        self.assert_loop("1 older", "settled in 0 exchanges", BOB_LEFT, options=self.both)
+        older = ["users record 1: older, 1 is below 2"]
+        self.assert_loop("1 older", "settled in 0 exchanges", BOB_LEFT, options=self.both, errors=older)
+        self.writes(["bob,3,,,,,active"])
+        back = "user bob wanted=3 confirmed=3 held=3 version=3 active=true"
+        self.assert_loop("1 new", "settled in 2 exchanges", back, options=self.both)
+        self.writes(["bob,2,,,,,left"])
+        older = ["users record 1: older, 2 is below 3; it says left"]
+        self.assert_loop("1 older", "settled in 0 exchanges", back, options=self.both, errors=older)
 
     def test_a_store_alone(self):
         self.join_and_leave()

@@ -55,7 +55,35 @@ class RecordTest(PushTest):
     def test_an_older_row_changes_nothing(self):
         self.leave()
         self.site.write_users("bob,1,,,,,active")
-        self.pushes(0, ANN_CONFIRMED, "user bob confirmed 2")
+        older = ["users record 1: older, 1 is below 2"]
+        self.pushes(0, ANN_CONFIRMED, "user bob confirmed 2", errors=older)
+
+    def test_an_older_row_of_a_leaver(self):
+        """A file from an old backup says that Bob left; he has come back since."""
+        self.leave()
+        self.site.write_users("bob,1:1,,,,,active")
+        lines = [ANN_CONFIRMED, "user bob confirmed 1:1"]
+        self.pushes(2, *lines)
+        self.site.write_users("ann,1,,,,,active", "zoe", "bob,2,,,,,left", "Bob,0:3,,,,,active")
+        errors = ["users record 2: S2", "users record 3: older, 2 is below 1:1; it says left"]
+        errors += ["users record 4: older, 3 is below 1:1"]
+        self.pushes(0, *lines, status=1, errors=errors)
+        # without the rejected record, the status doesn't say that rows are older
+        self.site.write_users("bob,2,,,,,left")
+        self.pushes(0, *lines, errors=["users record 1: older, 2 is below 1:1; it says left"])
+
+    def test_an_older_row_before_its_wanted_row(self):
+        """The row is beside the one that is wanted once the whole file is taken."""
+        self.join()
+        self.site.write_users("bob,3,,,,,left", "bob,2,,,,,left", "bob,4,,,,,active")
+        lines = [ANN_CONFIRMED, "user bob confirmed 4"]
+        self.pushes(2, *lines, errors=["users record 2: older, 2 is below 4; it says left"])
+        self.site.write_users("bob,3,,,,,left")
+        self.site.write_groups("crew,2,ann")
+        self.pushes(2, *lines, "group crew confirmed 2", errors=["users record 1: older, 3 is below 4; it says left"])
+        self.site.write_users()
+        self.site.write_groups("crew,1,bob zoe")
+        self.pushes(0, *lines, "group crew confirmed 2", errors=["groups record 1: older, 1 is below 2"])
 
     def test_another_row_of_the_same_revision_is_rejected(self):
         self.leave()
@@ -68,7 +96,8 @@ class RecordTest(PushTest):
         self.pushes(2, ANN_CONFIRMED, "user bob confirmed 57")
         # the new personnel system begins at 1 again; a row of the old one comes late
         self.site.write_users("bob,1:1,,,,,left", "bob,58,,,,,active", "ann,1:1,,,,,active")
-        self.pushes(4, "user ann confirmed 1:1", "user bob confirmed 1:1")
+        older = ["users record 2: older, 58 is below 1:1"]
+        self.pushes(4, "user ann confirmed 1:1", "user bob confirmed 1:1", errors=older)
         held = [f"user {name} held=1:1 version={version} active={on}" for name, version, on in (("ann", 2, "true"), ("bob", 3, "false"))]
         self.assert_prints(self.site.show_store(), *held)
         wanted = [f"user {name} wanted=1:1 confirmed=1:1 id={resource_id(number)}" for number, name in enumerate(("ann", "bob"), 1)]

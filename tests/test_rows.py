@@ -28,6 +28,13 @@ GROUPS = [
     ("Crew,2,", "new"),
     ("crew,1,zoe", "older"),
 ]
+# What is printed on standard error about the rows of USERS and GROUPS that are older
+OLDER = {
+    ("users", 3): "older, 1 is below 2000000000",
+    ("users", 12): "older, 1 is below 1:1",
+    ("users", 13): "older, 2000000000 is below 1:1",
+    ("groups", 8): "older, 1 is below 2",
+}
 # All records in their order, each with the revision that the connector wants after USERS and GROUPS
 WANTED = [("user ann", "2000000000"), ("user bob", "2"), ("user eve", "1:1"), ("group crew", "2")]
 # What the provider holds of them at the end
@@ -48,9 +55,15 @@ def reports_of(events):
     return [f"{place} {report}" for place, (_, report) in enumerate(events, 1)]
 
 
-def rejected(label, rows):
-    """What `push` prints of the rows that the connector rejects."""
-    return [f"{label} record {n}: {verdict}" for n, (_, verdict) in enumerate(rows, 1) if verdict.startswith("S")]
+def older(label):
+    """What is printed on standard error about the older rows of a file."""
+    return {n: f"{label} record {n}: {line}" for (file, n), line in OLDER.items() if file == label}
+
+
+def reported(label, rows):
+    """What `push` prints of the rows that the connector rejects, and of those that are older."""
+    rejected = {n: f"{label} record {n}: {verdict}" for n, (_, verdict) in enumerate(rows, 1) if verdict.startswith("S")}
+    return [line for _, line in sorted((rejected | older(label)).items())]
 
 
 class RowsTest(ProgramTest):
@@ -116,11 +129,11 @@ class RowsOfFilesTest(ProgramTest):
             for (record, revision), held in zip(WANTED, HELD)
         ]
         lines = [*reports_of(offered(USERS, GROUPS)), "settled in 8 exchanges", *views]
-        self.assert_prints(self.site.loop(), *lines, status=1)
+        self.assert_prints(self.site.loop(), *lines, status=1, errors=[*older("users").values(), *older("groups").values()])
 
     def test_by_push(self):
         """Nothing is confirmed yet, and the journal is opened again."""
-        errors = [*rejected("users", USERS), *rejected("groups", GROUPS), "connection fault"]
+        errors = [*reported("users", USERS), *reported("groups", GROUPS), "connection fault"]
         self.assert_prints(self.site.push(NOWHERE), status=3, errors=errors)
         entries = [f"{record} wanted={revision} confirmed=0 id=-" for record, revision in WANTED]
         self.assert_prints(self.site.show_journal(), *entries)

@@ -1,19 +1,20 @@
 -- One record more.
-use Rattle.std.proofs.Common.{◌≡◌, ◌≢◌, ◌+◌, ◌<◌, ℕ, Bool, false, List, [], ◌∷◌, ◌++◌, ◌&&◌, length, take, drop, Option, Result, Ok, Err, refl, ap, sym, ◌∙◌, append_assoc, append-nil, add-one, drop-cons}
+use Rattle.std.proofs.Common.{◌≡◌, ◌≢◌, ◌+◌, ◌<◌, ℕ, Bool, List, [], ◌∷◌, ◌++◌, ◌&&◌, length, take, drop, Option, Result, Ok, Err, refl, ap, sym, ◌∙◌, append_assoc, append-nil, add-one, drop-cons}
 use Rattle.std.proofs.Math.ListN.{get_or}
 use Rattle.std.proofs.lemmas.List.{take_more}
 use Rattle.std.proofs.lemmas.List.Elements.{filter_map-append}
 use Rattle.std.proofs.lemmas.List.Folds.{list_all-append}
 use Rattle.std.specs.List.{list_all}
-use Rattle.std.specs.Result.{is_err, result_ok}
+use Rattle.std.specs.Result.{result_ok}
 use Rattle.scim_key.specs.declared.records.Kind.{Kind}
 use Rattle.source_csv.specs.declared.faults.RowFault.{RowFault}
 use Rattle.source_csv.specs.declared.rows.Row.{Row}
 use Rattle.connector_core.specs.declared.accepting.Verdict.{Verdict}
+use Rattle.connector_core.specs.Maps.{BookMap}
 use Rattle.connector_core.specs.declared.changing.ChangeFault.{ChangeFault}
 use Rattle.provisioning.proofs.ListLemmas.{adds_more}
 use Rattle.provisioning.specs.Runs.{IsUntold}
-use Rattle.provisioning.specs.Offering.{Hears, Tells, is_taken, judged_of, rows_in}
+use Rattle.provisioning.specs.Offering.{Hears, Tells, is_taken, judged_of, judged_row, rows_in}
 use Rattle.provisioning.specs.declared.faults.RunFault.{RunFault}
 use Rattle.provisioning.specs.declared.offering.Judged.{Judged}
 
@@ -74,16 +75,10 @@ told_part all left rest judged before mid now taken fault left_is so_far untold 
 
 -- ---- records
 
--- a row comes with the next verdict
-pub left_row : (of : Kind) (place : ℕ) (found : Source) (rest : List Source) (verdict : Said) (said : List Said) → is_err found ≡ false
-    → judged_of of place (found ∷ rest) (verdict ∷ said) ≡ record { kind = of; place = place; verdict = verdict } ∷ judged_of of (place + 1) rest said
-left_row of place (Ok row) rest verdict said is_row = refl
-left_row of place (Err refusal) rest verdict said is_row = absurd (cc is_row)
-
--- the row at this place is the first that is left
-pub left_here : (of : Kind) (records : List Source) (i : ℕ) (found : Source) (items rest : List Said) (verdict : Said) → i < length records → found ≡ get_or records i found → is_err found ≡ false
+-- the row at this place is the first that is left, with the next verdict
+pub left_here : (book : BookMap) (of : Kind) (records : List Source) (i : ℕ) (found : Source) (row : Row) (items rest : List Said) (verdict : Said) → i < length records → found ≡ get_or records i found → found ≡ Ok row
     → items ≡ verdict ∷ rest
-    → judged_of of (i + 1) (drop i records) items ≡ record { kind = of; place = i + 1; verdict = verdict } ∷ judged_of of (i + 1 + 1) (drop (i + 1) records) rest
-left_here of records i found items rest verdict less is is_row items_are =
-    ap (λ xs. judged_of of (i + 1) xs items) (drop_here records i found less is) ∙ ap (λ said. judged_of of (i + 1) (found ∷ drop (i + 1) records) said) items_are
-    ∙ left_row of (i + 1) found (drop (i + 1) records) verdict rest is_row
+    → judged_of book of (i + 1) (drop i records) items ≡ judged_row book of (i + 1) row verdict ∷ judged_of book of (i + 1 + 1) (drop (i + 1) records) rest
+left_here book of records i found row items rest verdict less is is_row items_are =
+    ap (λ xs. judged_of book of (i + 1) xs items) (drop_here records i found less is) ∙ ap (λ said. judged_of book of (i + 1) (found ∷ drop (i + 1) records) said) items_are
+    ∙ ap (λ (x : Source). judged_of book of (i + 1) (x ∷ drop (i + 1) records) (verdict ∷ rest)) is_row

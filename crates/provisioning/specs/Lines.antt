@@ -1,5 +1,5 @@
 -- The lines of a run.
-use Rattle.std.specs.Prelude.{ℕ, List, ◌++◌, Some, None, codes}
+use Rattle.std.specs.Prelude.{ℕ, Bool, true, false, List, [], ◌++◌, Some, None, codes}
 use Rattle.std.specs.Fmt.{decimal}
 use Rattle.scim_key.specs.Revisions.{revision_text}
 use Rattle.scim_key.specs.declared.records.Kind.{Kind}
@@ -11,6 +11,7 @@ use Rattle.connector_core.specs.declared.changing.ChangeFault.{ChangeFault}
 use Rattle.provisioning.specs.Sources.{label}
 use Rattle.provisioning.specs.declared.faults.RecordFault.{RecordFault}
 use Rattle.provisioning.specs.declared.faults.RecordFault.TheVariants as faults
+use Rattle.provisioning.specs.declared.older.OlderRow.{OlderRow}
 use Rattle.provisioning.specs.declared.records.Standing.{Standing}
 use Rattle.provisioning.specs.declared.records.Standing.TheVariants.{Confirmed, Waits, Unconfirmed}
 
@@ -41,3 +42,14 @@ row_line number said = decimal number ++ (codes " " ++ (said ++ codes "\n"))
 abbrev pub refused_text : Kind → (place : ℕ) → ChangeFault → List ℕ
 refused_text kind place fault = label kind ++
     (codes " record " ++ (decimal place ++ (codes ": " ++ change_fault_text fault)))
+
+-- added to the line of an older row that says that a user left, while the wanted row says that the user is active
+abbrev pub leaver_text : Bool → List ℕ
+leaver_text true = codes "; it says left"
+leaver_text false = []
+
+-- what is said of an older row: its file, the place of its record, and both revisions
+abbrev pub older_text : Kind → (place : ℕ) → OlderRow → List ℕ
+older_text kind place older = label kind ++ (codes " record " ++ (decimal place ++ (codes ": older, " ++
+    (revision_text older.revision ++ (codes " is below " ++
+    (revision_text older.wanted ++ leaver_text older.is_leaver))))))

@@ -1,13 +1,19 @@
 -- Rows of files that are offered to the connector, and its verdict on each.
-use Rattle.std.specs.Prelude.{◌≡◌, ◌≢◌, ◌⊎◌, ◌+◌, ◌&&◌, ℕ, Bool, true, List, [], ◌∷◌, Option, Some, None, Result, Ok, Err, is_ok}
+use Rattle.std.specs.Prelude.{◌≡◌, ◌≢◌, ◌⊎◌, ◌+◌, ◌&&◌, ℕ, Bool, true, false, not, List, [], ◌∷◌, Option, Some, None, Result, Ok, Err, is_ok}
 use Rattle.std.specs.List.{filter_map, list_all}
+use Rattle.std.specs.Option.{option_map}
 use Rattle.std.specs.Result.{result_ok}
 use Rattle.scim_key.specs.declared.records.Kind.{Kind}
 use Rattle.source_csv.specs.declared.faults.RowFault.{RowFault}
+use Rattle.source_csv.specs.Records.{row_name, row_revision}
 use Rattle.source_csv.specs.declared.rows.Row.{Row}
+use Rattle.source_csv.specs.declared.rows.Row.TheVariants.{User, Group}
 use Rattle.journal_core.specs.Calls.{Writes}
 use Rattle.journal_core.specs.declared.journals.Journal.{Ghosts}
 use Rattle.connector_core.specs.declared.accepting.Verdict.{Verdict}
+use Rattle.connector_core.specs.declared.accepting.Verdict.TheVariants.{New, Known, Older}
+use Rattle.connector_core.specs.Book.{wanted_row}
+use Rattle.connector_core.specs.Maps.{BookMap, book_of}
 use Rattle.connector_core.specs.Changing.{CountsChange, IsNoVerdict, entries_all, new_rows, taking_all, verdicts}
 use Rattle.connector_core.specs.State.{State}
 use Rattle.connector_core.specs.declared.changing.ChangeFault.{ChangeFault}
@@ -18,6 +24,7 @@ use Rattle.provisioning.specs.Sources.{records_of}
 use Rattle.provisioning.specs.declared.faults.RunFault.{RunFault}
 use Rattle.provisioning.specs.declared.faults.RunFault.TheVariants as fault_of
 use Rattle.provisioning.specs.declared.offering.Judged.{Judged}
+use Rattle.provisioning.specs.declared.older.OlderRow.{OlderRow}
 use Rattle.provisioning.specs.declared.sources.Source.{Source}
 use Rattle.provisioning.specs.declared.sources.Sources.{Sources}
 
@@ -27,12 +34,37 @@ use Rattle.provisioning.specs.declared.sources.Sources.{Sources}
 abbrev pub rows_in : List (Result Row RowFault) → List Row
 rows_in records = filter_map result_ok records
 
+-- ---- rows that are older than the wanted row of their record
+
+-- whether the row says that a user left, while the wanted row says that the user is active
+abbrev pub is_leaver : (row wanted : Row) → Bool
+is_leaver (User row) (User wanted) = not row.active && wanted.active
+is_leaver (User row) (Group wanted) = false
+is_leaver (Group row) wanted = false
+
+-- the row, beside the wanted row of its record
+abbrev pub older_than : (row wanted : Row) → OlderRow
+older_than row wanted = record { revision = row_revision row; wanted = row_revision wanted; is_leaver = is_leaver row wanted }
+
+-- what an older row is beside the wanted row of this book; none for any other verdict
+abbrev pub older_of : BookMap → Row → Result Verdict ChangeFault → Option OlderRow
+older_of book row (Ok Older) = option_map (older_than row) (wanted_row (book_of book) (row_name row))
+older_of book row (Ok New) = None
+older_of book row (Ok Known) = None
+older_of book row (Err fault) = None
+
+-- ---- verdicts
+
+-- the row of the record at this place, with its verdict; the book is the one after the rows of the file
+abbrev pub judged_row : BookMap → Kind → (place : ℕ) → Row → Result Verdict ChangeFault → Judged
+judged_row book of place row verdict = record { kind = of; place = place; verdict = verdict; older = older_of book row verdict }
+
 -- the rows of the records from this place on, each with its verdict: the n-th row with the n-th verdict
-abbrev pub judged_of : Kind → (place : ℕ) → List (Result Row RowFault) → List (Result Verdict ChangeFault) → List Judged
-judged_of of place [] said = []
-judged_of of place (Err refusal ∷ records) said = judged_of of (place + 1) records said
-judged_of of place (Ok row ∷ records) [] = []
-judged_of of place (Ok row ∷ records) (verdict ∷ said) = record { kind = of; place = place; verdict = verdict } ∷ judged_of of (place + 1) records said
+abbrev pub judged_of : BookMap → Kind → (place : ℕ) → List (Result Row RowFault) → List (Result Verdict ChangeFault) → List Judged
+judged_of book of place [] said = []
+judged_of book of place (Err refusal ∷ records) said = judged_of book of (place + 1) records said
+judged_of book of place (Ok row ∷ records) [] = []
+judged_of book of place (Ok row ∷ records) (verdict ∷ said) = judged_row book of place row verdict ∷ judged_of book of (place + 1) records said
 
 -- ---- reporting
 
@@ -79,7 +111,7 @@ IsStopped g rows old new fault = ((cause : ChangeFault) × IsRefused g rows caus
 -- The rows were taken together and then reported; or none of them was taken and none reported
 abbrev pub OffersFile : {J : Type 0} → Ghosts J → Kind → List (Result Row RowFault) → (old new : State J) → (before after : Option (List Judged)) → Result Bool RunFault → Type 0
 OffersFile g of records old new before after result =
-    ((said : List (Result Verdict ChangeFault)) × IsTaken g (rows_in records) said old new × Tells (judged_of of 1 records said) before after result)
+    ((said : List (Result Verdict ChangeFault)) × IsTaken g (rows_in records) said old new × Tells (judged_of new.book of 1 records said) before after result)
     ⊎ ((fault : RunFault) × IsStopped g (rows_in records) old new fault × (after ≡ before) × (result ≡ Err fault))
 
 -- ---- the files of a run

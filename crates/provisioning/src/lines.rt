@@ -8,6 +8,7 @@ ghost use Rattle.world_sim.specs.Lines.{report_text};
 ghost use Rattle.world_sim.specs.declared.reports.Report.TheVariants.{Judged as JudgedReport};
 
 use crate::offering::{Hear, Judged};
+use crate::older::OlderLine;
 use crate::records::Pushed;
 use crate::sources::label;
 use crate::telling::Tell;
@@ -43,8 +44,32 @@ impl<'a> fmt::Display for RefusedRow<'a> {
     }
 }
 
+/// Reports a row on standard error if the connector refuses it.
+fn report_refused<E: Eprint>(stderr: &E, judged: &Judged) {
+    if let Err(fault) = &judged.verdict {
+        let row = RefusedRow {
+            kind: judged.kind,
+            place: judged.place,
+            fault,
+        };
+        let _ = eprintln!(stderr; "{row}");
+    }
+}
+
+/// Reports a row on standard error if it is older than the wanted row of its record.
+fn report_older<E: Eprint>(stderr: &E, judged: &Judged) {
+    if let Some(older) = &judged.older {
+        let row = OlderLine {
+            kind: judged.kind,
+            place: judged.place,
+            older,
+        };
+        let _ = eprintln!(stderr; "{row}");
+    }
+}
+
 /// Prints a line for each record as soon as the record is done: `user bob confirmed 1`. It reports rows
-/// that the connector refuses on standard error.
+/// that the connector refuses, and older rows, on standard error.
 #[derive(Drop)]
 pub struct Lines<'a, W: Drop, E> {
     pub out: W,
@@ -56,19 +81,8 @@ impl<'a, W: Write + Drop, E: Eprint> Hear for Lines<'a, W, E> {
     ghost heard = { λ _. None };
 
     fn hear(&mut self, judged: Judged) -> io::Result<()> {
-        let Judged {
-            kind,
-            place,
-            verdict,
-        } = &judged;
-        if let Err(fault) = verdict {
-            let row = RefusedRow {
-                kind: *kind,
-                place: *place,
-                fault,
-            };
-            let _ = eprintln!(self.stderr; "{row}");
-        }
+        report_refused(self.stderr, &judged);
+        report_older(self.stderr, &judged);
         Ok(())
     }
 }
@@ -89,14 +103,15 @@ impl<'a, W: Write + Drop, E: Eprint> Tell for Lines<'a, W, E> {
 }
 
 /// Prints a line for each row once its file is taken: its number from 1, and the connector's verdict. It
-/// prints nothing for records.
+/// reports older rows on standard error, and prints nothing for records.
 #[derive(Drop)]
-pub(crate) struct Reports<W: Drop> {
+pub(crate) struct Reports<'a, W: Drop, E> {
     pub out: W,
+    pub stderr: &'a E,
     pub rows: usize,
 }
 
-impl<W: Write + Drop> Hear for Reports<W> {
+impl<'a, W: Write + Drop, E: Eprint> Hear for Reports<'a, W, E> {
     /// Which rows the bytes of `out` are of isn't said; each line that is added is, below.
     ghost heard = { λ _. None };
 
@@ -106,6 +121,7 @@ impl<W: Write + Drop> Hear for Reports<W> {
             (row_line self.new.rows (report_text (JudgedReport judged.verdict)))) }
         ensures counted { self.new.rows ≡ min (self.old.rows + 1) (2 ^ 64 - 1) }
     {
+        report_older(self.stderr, &judged);
         let Judged { verdict, .. } = judged;
         self.rows = self.rows.saturating_add(1);
         print_row(&mut self.out, self.rows, &Report::Judged(verdict))
@@ -121,7 +137,7 @@ fn print_row<W: Write>(out: &mut W, number: usize, report: &Report) -> io::Resul
     out.flush()
 }
 
-impl<W: Write + Drop> Tell for Reports<W> {
+impl<'a, W: Write + Drop, E: Eprint> Tell for Reports<'a, W, E> {
     /// Nothing is printed.
     ghost told = { λ _. None };
 

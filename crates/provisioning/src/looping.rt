@@ -16,7 +16,7 @@ use provider_core::Provider;
 use scim_client::ScimService;
 use std::alloc::Global;
 use std::cell::RefCell;
-use std::io::{Read, Write};
+use std::io::{Eprint, Read, Write};
 use std::net::{Net, OpenListener, TcpListener};
 use std::time::{Clock, Duration};
 use storage::StoredRows;
@@ -25,10 +25,10 @@ use world_sim::Count;
 /// Where the provider of `run_loop` listens: at a free port that only this machine reaches.
 pub const OWN_ADDRESS: &str = "127.0.0.1:0";
 
-/// Runs the connector against a provider that listens at a free port. It prints a report for each row, then, if
-/// every record is settled, how many exchanges there were, then a line for each record. A fault of the
-/// provider's store ends the run.
-pub fn run_loop<'a, N: Net + Clock, R: StoredRows + 'a, J: Journal, W: Write>(
+/// Runs the connector against a provider that listens at a free port. It prints a report for each row (older
+/// rows are reported on standard error too), then, if every record is settled, how many exchanges there were,
+/// then a line for each record. A fault of the provider's store ends the run.
+pub fn run_loop<'a, N: Net + Clock + Eprint, R: StoredRows + 'a, J: Journal, W: Write>(
     rt: &'a N,
     alloc: Global,
     service: &ScimService,
@@ -83,7 +83,7 @@ fn print_end<R: StoredRows, J: Journal, W: Write>(
 }
 
 /// Runs the connector against a provider over TCP.
-fn carry_here<'a, N: Net + Clock, R: StoredRows + 'a, J: Journal, W: Write>(
+fn carry_here<'a, N: Net + Clock + Eprint, R: StoredRows + 'a, J: Journal, W: Write>(
     rt: &'a N,
     alloc: Global,
     service: &ScimService,
@@ -124,7 +124,16 @@ fn carry_here<'a, N: Net + Clock, R: StoredRows + 'a, J: Journal, W: Write>(
 }
 
 /// Runs the connector against a provider in this program.
-fn carry_to<'r, 'p, 'b, N: Net + Clock, L: Listen + Drop, R: StoredRows, J: Journal, W: Write>(
+fn carry_to<
+    'r,
+    'p,
+    'b,
+    N: Net + Clock + Eprint,
+    L: Listen + Drop,
+    R: StoredRows,
+    J: Journal,
+    W: Write,
+>(
     rt: &'r N,
     alloc: Global,
     service: &ScimService,
@@ -146,7 +155,11 @@ fn carry_to<'r, 'p, 'b, N: Net + Clock, L: Listen + Drop, R: StoredRows, J: Jour
         },
         own,
     };
-    let mut reports = Reports { out, rows: 0 };
+    let mut reports = Reports {
+        out,
+        stderr: rt,
+        rows: 0,
+    };
     carry(
         alloc,
         service,

@@ -1,9 +1,10 @@
 //! Offers the rows of files to the connector.
 ghost use Rattle.std.specs.Prelude.{◌≡◌, ◌∷◌, [], List, Option, IfOk, OnOk};
-ghost use Rattle.provisioning.specs.Offering.{Hears, Tells, OffersFile, OffersGroups, OffersAll, judged_of, rows_in, stop_of};
+ghost use Rattle.provisioning.specs.Offering.{Hears, Tells, OffersFile, OffersGroups, OffersAll, judged_of, judged_row, rows_in, stop_of};
 ghost use Rattle.provisioning.specs.declared.offering.Judged.{Judged as JudgedRow};
 
 use crate::faults::{RunFault, unwritten};
+use crate::older::{OlderRow, older_of};
 use crate::sources::{Source, Sources};
 use connector_core::{ChangeFault, Connector, Verdict};
 use journal_core::Journal;
@@ -20,6 +21,8 @@ pub struct Judged {
     /// The place of its record, from 1 after the header.
     pub place: usize,
     pub verdict: Result<Verdict, ChangeFault>,
+    /// What the row is beside the wanted row of its record, if it is older.
+    pub older: Option<OlderRow>,
 }
 
 /// What reports each row of a file, as soon as the connector has taken the file.
@@ -65,34 +68,56 @@ fn tell<T: Hear>(judged: Judged, teller: &mut T) -> Result<bool, RunFault>
     }
 }
 
-/// Reports each row with its verdict.
-fn tell_all<T: Hear>(
+/// Reports the row of the record at this place, with its verdict.
+fn tell_row<J: Journal, T: Hear>(
+    alloc: Global,
+    connector: &Connector<J>,
+    kind: Kind,
+    place: usize,
+    row: &Row,
+    verdict: Result<Verdict, ChangeFault>,
+    teller: &mut T,
+) -> Result<bool, RunFault>
+    ensures { Tells (judged_row connector.now.book kind place row.now verdict ∷ [])
+        (T.heard teller.old) (T.heard teller.new) result }
+{
+    match older_of(alloc, connector, row, &verdict) {
+        Ok(older) => tell(
+            Judged {
+                kind,
+                place,
+                verdict,
+                older,
+            },
+            teller,
+        ),
+        Err(AllocError) => Err(RunFault::Memory),
+    }
+}
+
+/// Reports each row with its verdict, once the connector has taken the rows.
+fn tell_all<J: Journal, T: Hear>(
+    alloc: Global,
+    connector: &Connector<J>,
     kind: Kind,
     records: &[Result<Row, RowFault>],
     said: Vec<Result<Verdict, ChangeFault>>,
     teller: &mut T,
 ) -> Result<bool, RunFault>
-    ensures { Tells (judged_of kind 1 records.now said.items) (T.heard teller.old)
-        (T.heard teller.new) result }
+    ensures { Tells (judged_of connector.now.book kind 1 records.now said.items)
+        (T.heard teller.old) (T.heard teller.new) result }
 {
     let mut is_taken = true;
     let mut verdicts = said.into_iter();
     for (index, record) in records.iter().enumerate() {
-        if record.is_err() {
+        let Ok(row) = record else {
             continue;
-        }
+        };
         let Some(verdict) = verdicts.next() else {
             return Ok(is_taken);
         };
         let place = index + 1;
-        let taken = tell(
-            Judged {
-                kind,
-                place,
-                verdict,
-            },
-            teller,
-        )?;
+        let taken = tell_row(alloc, connector, kind, place, row, verdict, teller)?;
         is_taken = is_taken && taken;
     }
     Ok(is_taken)
@@ -111,7 +136,7 @@ fn offer_file<J: Journal, T: Hear>(
 {
     let rows = rows_in(alloc, records)?;
     match connector.change_all(rows) {
-        Ok(said) => tell_all(kind, records, said, teller),
+        Ok(said) => tell_all(alloc, connector, kind, records, said, teller),
         Err(cause) => Err(stop_of(&cause)),
     }
 }

@@ -16,7 +16,7 @@ use std::net::Net;
 use std::time::Clock;
 
 /// Runs the connector against the provider at an address, HOST:PORT. It prints a line for each record as
-/// soon as the record is done, and reports rows that the connector refuses on standard error.
+/// soon as the record is done, and reports rows that the connector refuses, and older rows, on standard error.
 pub fn push<'a, N: Net + Clock + Eprint, J: Journal, W: Write>(
     rt: &'a N,
     alloc: Global,
