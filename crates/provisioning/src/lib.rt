@@ -5,15 +5,19 @@
 
 mod carrying;
 mod dialing;
+mod dry_runs;
 mod exchanging;
 mod faults;
 mod files;
+mod leavers;
 mod lines;
 mod looping;
 mod offering;
 mod over_tcp;
 mod own;
+mod planning;
 mod pushing;
+mod quiet;
 mod records;
 mod sockets;
 mod sources;
@@ -23,13 +27,16 @@ mod views;
 
 pub use carrying::{Outcome, carry};
 pub use dialing::Dial;
+pub use dry_runs::DryJournal;
 pub use faults::{LoopFault, RecordFault, RunFault};
 pub use files::ReadFiles;
-pub use lines::Lines;
+pub use leavers::count_leavers;
+pub use lines::{Lines, RowReports};
 pub use looping::{OWN_ADDRESS, run_loop};
 pub use offering::{Hear, Judged, offer_all};
-pub use over_tcp::push;
+pub use over_tcp::{push, push_quietly};
 pub use own::{OwnProvider, OwnReader};
+pub use planning::{Plan, plan};
 pub use pushing::{Tally, push_all};
 pub use records::{Pushed, Standing, push_record};
 pub use sockets::{CONNECTION_SECONDS, Remote};

@@ -43,6 +43,34 @@ impl<'a> fmt::Display for RefusedRow<'a> {
     }
 }
 
+/// Reports a row on standard error if the connector refuses it.
+fn report_refused<E: Eprint>(stderr: &E, judged: &Judged) {
+    if let Err(fault) = &judged.verdict {
+        let row = RefusedRow {
+            kind: judged.kind,
+            place: judged.place,
+            fault,
+        };
+        let _ = eprintln!(stderr; "{row}");
+    }
+}
+
+/// Reports rows as `Lines` does. It prints nothing.
+#[derive(Clone, Copy)]
+pub struct RowReports<'a, E> {
+    pub stderr: &'a E,
+}
+
+impl<'a, E: Eprint> Hear for RowReports<'a, E> {
+    /// No contract says what standard error took.
+    ghost heard = { λ _. None };
+
+    fn hear(&mut self, judged: Judged) -> io::Result<()> {
+        report_refused(self.stderr, &judged);
+        Ok(())
+    }
+}
+
 /// Prints a line for each record as soon as the record is done: `user bob confirmed 1`. It reports rows
 /// that the connector refuses on standard error.
 #[derive(Drop)]
@@ -56,19 +84,7 @@ impl<'a, W: Write + Drop, E: Eprint> Hear for Lines<'a, W, E> {
     ghost heard = { λ _. None };
 
     fn hear(&mut self, judged: Judged) -> io::Result<()> {
-        let Judged {
-            kind,
-            place,
-            verdict,
-        } = &judged;
-        if let Err(fault) = verdict {
-            let row = RefusedRow {
-                kind: *kind,
-                place: *place,
-                fault,
-            };
-            let _ = eprintln!(self.stderr; "{row}");
-        }
+        report_refused(self.stderr, &judged);
         Ok(())
     }
 }
