@@ -1,6 +1,6 @@
 //! How a push is carried out.
 ghost use Rattle.std.specs.Prelude.{◌≡◌, codes};
-ghost use Rattle.clap.specs.Matches.{found_of, one_text};
+ghost use Rattle.clap.specs.Matches.{first_value, found_of, one_text};
 ghost use Rattle.commands.specs.Manners.{GivesManner, GivesMost};
 ghost use Rattle.commands.specs.Simulating.{is_set};
 
@@ -50,11 +50,12 @@ fn is_quiet(words: &ArgMatches<'_>) -> bool
 
 /// The most users that a run may switch off, if the arguments say so.
 fn most_leavers(words: &ArgMatches<'_>) -> Result<Option<u32>, CommandFault>
-    ensures { GivesMost (one_text (found_of words.now) (codes "most-leavers")) result }
+    ensures { GivesMost (one_text (found_of words.now) (codes "most-leavers"))
+        (first_value (found_of words.now) (codes "most-leavers")) result }
 {
-    match words.get_one("most-leavers") {
-        Some(most) if most <= MOST_LEAVERS => Ok(Some(most)),
-        Some(_) => Err(CommandFault::MostLeavers),
-        None => Ok(None),
+    match (words.get_one("most-leavers"), words.get_str("most-leavers")) {
+        (Some(most), _) if most <= MOST_LEAVERS => Ok(Some(most)),
+        (None, None) => Ok(None),
+        _ => Err(CommandFault::MostLeavers),
     }
 }
