@@ -8,7 +8,7 @@ use crate::output::{NotedWriter, standard_output};
 use crate::status::{CommandFault, Status};
 use connector_core::Connector;
 use journal_core::{Journal, JournalFault};
-use provisioning::{DryJournal, Plan, RowReports, RunFault, Sources, plan};
+use provisioning::{DryJournal, Plan, RowReports, RunFault, Sources, plan_push};
 use std::alloc::Global;
 use std::io::{Eprint, Write};
 use std::rt::Runtime;
@@ -89,7 +89,7 @@ fn plan_to<R: Runtime + AllocGlobal, J: Journal, W: Write + Drop>(
         (W.contents out.old.inner) (W.contents out.new.inner) out.new.last result }
 {
     let mut reports = RowReports { stderr: rt };
-    let ended = plan(rt.alloc(), connector, sources, &mut reports, out);
+    let ended = plan_push(rt.alloc(), connector, sources, &mut reports, out);
     out.concluded(planned_status(rt, ended, most))
 }
 

@@ -36,7 +36,7 @@ pub use looping::{OWN_ADDRESS, run_loop};
 pub use offering::{Hear, Judged, offer_all};
 pub use over_tcp::{push, push_quietly};
 pub use own::{OwnProvider, OwnReader};
-pub use planning::{Plan, plan};
+pub use planning::{Plan, plan_push};
 pub use pushing::{Tally, push_all};
 pub use records::{Pushed, Standing, push_record};
 pub use sockets::{CONNECTION_SECONDS, Remote};

@@ -89,7 +89,7 @@ pub struct Plan {
 
 /// Offers the rows of the files to the connector, and writes a line for each record whose wanted revision isn't
 /// confirmed then, in the order of a push. It reports each row as `offer_all` does.
-pub fn plan<J: Journal, T: Hear, W: Write>(
+pub fn plan_push<J: Journal, T: Hear, W: Write>(
     alloc: Global,
     connector: &mut Connector<J>,
     sources: &Sources,
@@ -104,13 +104,13 @@ pub fn plan<J: Journal, T: Hear, W: Write>(
         Err(_) => return Err(RunFault::Memory),
     };
     match offer_all(alloc, connector, sources, teller) {
-        Ok(is_taken) => planned(connector, names.as_slice(), is_taken && sources.are_whole(), out),
+        Ok(is_taken) => write_planned(connector, names.as_slice(), is_taken && sources.are_whole(), out),
         Err(fault) => Err(fault),
     }
 }
 
 /// Writes the lines of a plan. These records were in use before the rows of the files.
-fn planned<J: Journal, W: Write>(
+fn write_planned<J: Journal, W: Write>(
     connector: &Connector<J>,
     names: &[RecordName],
     is_taken: bool,
