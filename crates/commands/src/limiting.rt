@@ -69,8 +69,7 @@ pub(crate) fn tell_excess<R: Eprint>(rt: &R, count: usize, most: Option<u32>) ->
 {
     match most {
         Some(most) if count > most as usize => {
-            let _ = eprintln!(
-                rt;
+            let _ = eprintln!(rt;
                 "{count} users would be switched off, more than {most}: nothing was done"
             );
             true

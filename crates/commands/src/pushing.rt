@@ -185,6 +185,6 @@ fn push_quietly_to<'a, R: Runtime + Net + AllocGlobal, J: Journal, W: Write + Dr
         ⟦<TimedHandle<'a, R::Stream, R> as Write>⟧.contents J.Journal true job.now.service
         sources.now connector.old connector.new out.new.last result }
 {
-    let ended = push_quietly(rt, rt.alloc(), &job.service, connector, sources, to, out);
-    out.concluded(pushed_status(ended))
+    let carried = push_quietly(rt, rt.alloc(), &job.service, connector, sources, to, out);
+    out.concluded(pushed_status(carried))
 }

@@ -83,7 +83,9 @@ fn count_in<J: Journal>(
 }
 
 /// The records of which a revision is confirmed, and that aren't known to be off.
-pub(crate) fn names_in_use<J: Journal>(connector: &Connector<J>) -> Result<Vec<RecordName>, AllocError>
+pub(crate) fn names_in_use<J: Journal>(
+    connector: &Connector<J>,
+) -> Result<Vec<RecordName>, AllocError>
     ensures { IfOk result (λ names. names.items ≡ names_in_use connector.now.book) }
 {
     let mut names = connector.names()?;

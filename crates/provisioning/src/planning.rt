@@ -99,12 +99,14 @@ pub fn plan_push<J: Journal, T: Hear, W: Write>(
     ensures { Plans J.Journal sources.now connector.old connector.new (T.heard teller.old)
         (T.heard teller.new) (W.contents out.old) (W.contents out.new) result }
 {
-    let names = match names_in_use(connector) {
-        Ok(names) => names,
-        Err(_) => return Err(RunFault::Memory),
-    };
+    let names = names_in_use(connector)?;
     match offer_all(alloc, connector, sources, teller) {
-        Ok(is_taken) => write_planned(connector, names.as_slice(), is_taken && sources.are_whole(), out),
+        Ok(is_taken) => write_planned(
+            connector,
+            names.as_slice(),
+            is_taken && sources.are_whole(),
+            out,
+        ),
         Err(fault) => Err(fault),
     }
 }
@@ -132,10 +134,7 @@ fn write_planned<J: Journal, W: Write>(
 }
 
 /// Writes a line for each record whose wanted revision isn't confirmed, in the order of a push.
-fn write_plan<J: Journal, W: Write>(
-    connector: &Connector<J>,
-    out: &mut W,
-) -> Result<(), RunFault>
+fn write_plan<J: Journal, W: Write>(connector: &Connector<J>, out: &mut W) -> Result<(), RunFault>
     ensures plans { OnOk result
         (PlansRecords connector.now.book (W.contents out.old) (W.contents out.new)) }
     ensures fault { IfErr result IsUntold }

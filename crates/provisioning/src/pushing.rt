@@ -69,7 +69,9 @@ pub fn push_all<J: Journal, D: Dial, T: Tell>(
 }
 
 /// The names of all records, in the order in which they settle.
-pub(crate) fn names_in_order<J: Journal>(connector: &Connector<J>) -> Result<Vec<RecordName>, RunFault>
+pub(crate) fn names_in_order<J: Journal>(
+    connector: &Connector<J>,
+) -> Result<Vec<RecordName>, RunFault>
     ensures order { IfOk result (λ names. IsSettleOrder (keys connector.now.book) names.items) }
     ensures fault { IfErr result (λ fault. fault ≡ Memory) }
 {

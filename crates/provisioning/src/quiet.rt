@@ -33,7 +33,10 @@ impl fmt::Display for Counts {
     fn fmt<W: fmt::Write>(&self, f: &mut fmt::Formatter<W>) -> fmt::Result {
         let (confirmed, unconfirmed) = (self.confirmed, self.unconfirmed);
         let rejected = self.rejected;
-        write!(f, "{confirmed} confirmed, {unconfirmed} unconfirmed, {rejected} rejected")
+        write!(
+            f,
+            "{confirmed} confirmed, {unconfirmed} unconfirmed, {rejected} rejected"
+        )
     }
 }
 

@@ -13,13 +13,13 @@ use Rattle.sql_tables.specs.Layouts.{no_schema}
 use Rattle.storage.specs.declared.looking.LookFault.{LookFault}
 use Rattle.storage.specs.declared.looking.LookFault.TheVariants.{Older, Refused}
 
-module _ {D : Type 0} {g : disk.Ghosts D} where
-  -- these files were connected to, and they have no tables
-  pub record FindsNoTables (files : Files D) : Type 0 where
-    pub conn : Held (FileStore D g)
-    pub found : HasCleanDisk (file_state conn) → Finds files conn
-    pub none : (file_state conn).now.schema ≡ no_schema
+-- these files were connected to, and they have no tables
+pub record FindsNoTables {D : Type 0} (g : disk.Ghosts D) (files : Files D) : Type 0 where
+  pub conn : Held (FileStore D g)
+  pub found : HasCleanDisk (file_state conn) → Finds files conn
+  pub none : (file_state conn).now.schema ≡ no_schema
 
+module _ {D : Type 0} {g : disk.Ghosts D} where
   -- these files were connected to, and a stop leaves what they held
   pub record LeavesAsFound (files : Files D) (now : Held (FileStore D g)) : Type 0 where
     pub conn : Held (FileStore D g)
@@ -28,7 +28,7 @@ module _ {D : Type 0} {g : disk.Ghosts D} where
 
   -- nothing was written: the files have no tables, or a stop leaves what they held
   abbrev pub LooksAt : Files D → Option (Kept (FileStore D g)) → Type 0
-  LooksAt files None = FindsNoTables files
+  LooksAt files None = FindsNoTables g files
   LooksAt files (Some journal) = LeavesAsFound files journal.conn
 
   -- if an older format is the fault, the files have its tables

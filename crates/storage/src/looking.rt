@@ -52,7 +52,10 @@ pub(crate) fn seen_in<D: Disk + Drop>(
 {
     let conn = match connected(rt, files) {
         Ok(conn) => conn,
-        Err((error, left)) => return Err((LookFault::from(error), Err(left))),
+        Err((error, left)) => {
+            let fault = LookFault::Refused(JournalOpenFault::from(error));
+            return Err((fault, Err(left)));
+        }
     };
     if is_older(&conn) {
         return Err((LookFault::Older, Ok(conn)));
