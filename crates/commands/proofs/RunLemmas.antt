@@ -1,10 +1,9 @@
 -- Runs of `push` and `serve`, put together from their parts.
-use Rattle.std.proofs.Common.{◌≡◌, ℕ, List, [], Option, Result, Ok, Err, IfOk, inl}
+use Rattle.std.proofs.Common.{◌≡◌, ℕ, List, [], Option, Result, Ok, Err, IfOk}
 use Rattle.std.specs.Result.{result_and}
 use Rattle.clap.specs.declared.parser.matches.Found.{Found}
 use Rattle.journal_core.specs.Entries.{EntryMap}
 use Rattle.journal_core.specs.declared.journals.Journal.{Ghosts}
-use Rattle.connector_core.specs.State.{State}
 use Rattle.scim_resource.specs.Rows.{StoredRecord}
 use Rattle.provider_core.specs.Memory.{MemoryRecord}
 use Rattle.provider_core.specs.declared.registry.Registry.{Ghosts as Registries}
@@ -14,15 +13,12 @@ use Rattle.connection.specs.declared.serving.ConnectionFault.{ConnectionFault}
 use Rattle.storage.specs.Serving.{ServesFrom}
 use Rattle.commands.specs.Listening.{ServesEmpty, ServesRows}
 use Rattle.commands.specs.Statuses.{outcome_status}
-use Rattle.commands.specs.Running.{IsJob, IsPushed, IsStart, PushesFrom, PushesOver}
+use Rattle.commands.specs.Running.{IsJob, IsPushed, PushesOver}
 use Rattle.commands.specs.declared.jobs.Job.{Job}
 use Rattle.commands.specs.declared.status.CommandFault.{CommandFault}
 use Rattle.commands.specs.declared.status.Status.{Status}
 
 module _ {I O J L : Type 0} (remaining : I → Option (List ℕ)) (contents : O → Option (List ℕ)) (g : Ghosts J) (finds : EntryMap → Type 0) (is_closed : J → L → Type 0) (job : Job) where
-  pub over : (start end : State J) (left : L) (ended : Result Status CommandFault) → IsStart g finds start → PushesFrom remaining contents g job start end ended → is_closed end.journal left → PushesOver remaining contents g finds is_closed job ended
-  over start end left ended starts pushes closed = inl (start, end, left, starts, pushes, closed)
-
   pub named : (found : Found) (ended : Result Status CommandFault) → IsJob found job → PushesOver remaining contents g finds is_closed job ended → IfOk ended (IsPushed remaining contents g finds is_closed found)
   named found (Ok status) is pushes = (job, is, pushes)
   named found (Err why) is pushes = tt

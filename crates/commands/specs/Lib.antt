@@ -8,3 +8,6 @@ pub mod Simulating
 pub mod Running
 pub mod Listening
 pub mod Simulations
+pub mod Manners
+pub mod Limits
+pub mod Planning

@@ -1,5 +1,5 @@
 -- What the commands do over the files that they open, and the exit status after that.
-use Rattle.std.specs.Prelude.{◌≡◌, ◌⊎◌, ⊤, ℕ, List, Option, Some, None, Result, Ok, Err, OnOk, codes}
+use Rattle.std.specs.Prelude.{◌≡◌, ◌⊎◌, ⊤, ℕ, Bool, true, false, List, Option, Some, None, Result, Ok, Err, OnOk, codes}
 use denote.Ref.{Bor}
 use Rattle.std.specs.IoError.{error_kind}
 use Rattle.std.specs.declared.io.Error.{Error}
@@ -21,6 +21,7 @@ use Rattle.storage.specs.StoreShowing.{ShowsFrom as ShowsRows}
 use Rattle.storage.specs.declared.show_fault.ShowFault.{ShowFault}
 use Rattle.provisioning.specs.Carrying.{CarriesSilently}
 use Rattle.provisioning.specs.Faults.{unopened}
+use Rattle.provisioning.specs.Quiet.{CarriesQuietly}
 use Rattle.provisioning.specs.Sources.{ReadsSources}
 use Rattle.provisioning.specs.declared.carrying.Outcome.{Outcome}
 use Rattle.provisioning.specs.declared.faults.RunFault.{RunFault}
@@ -116,33 +117,44 @@ abbrev pub GivesConnector : {J : Type 0} → Journals J → (finds : EntryMap �
 GivesConnector g finds (Ok start) = IsStart g finds start
 GivesConnector g finds (Err why) = IsUnopened why
 
+-- a journal was opened, a connector over it did this, and the journal was closed; or it couldn't be opened
+abbrev pub RunsOver : {J L : Type 0} → Journals J → (finds : EntryMap → Type 0) → (is_closed : J → L → Type 0)
+    → (runs : (old new : State J) → Result Status CommandFault → Type 0) → Result Status CommandFault → Type 0
+RunsOver {J} {L} g finds is_closed runs ended =
+    ((start end : State J) × (left : L) × IsStart g finds start × runs start end ended × is_closed end.journal left)
+    ⊎ ((why : CommandFault) × IsUnopened why × (ended ≡ Err why))
+
 -- ---- `push`
 
 module _ {I O J : Type 0} (remaining : I → Option (List ℕ)) (contents : O → Option (List ℕ)) (g : Journals J) where
+  -- the records of these sources were carried, and reported in this way
+  abbrev pub CarriesAs : (quiet : Bool) → (base : List ℕ) → Sources → (old new : State J) → Result Outcome RunFault
+      → Type 0
+  CarriesAs true base sources old new carried = CarriesQuietly remaining contents g base sources old new carried
+  CarriesAs false base sources old new carried = CarriesSilently remaining contents g base sources old new carried
+
   -- The records of these sources were carried; the status is that of this run, or its fault with the system's error
-  abbrev pub Pushes : (base : List ℕ) → Sources → (old new : State J) → (last : Option Error)
+  abbrev pub Pushes : (quiet : Bool) → (base : List ℕ) → Sources → (old new : State J) → (last : Option Error)
       → Result Status CommandFault → Type 0
-  Pushes base sources old new last ended =
-      (carried : Result Outcome RunFault) × CarriesSilently remaining contents g base sources old new carried
+  Pushes quiet base sources old new last ended =
+      (carried : Result Outcome RunFault) × CarriesAs quiet base sources old new carried
       × (ended ≡ concluded last (pushed_status carried))
+
+  -- the same; or memory ran out, and the connector is as it was
+  abbrev pub PushesKnown : (quiet : Bool) → (base : List ℕ) → Sources → (old new : State J)
+      → Result Status CommandFault → Type 0
+  PushesKnown quiet base sources old new ended =
+      ((last : Option Error) × Pushes quiet base sources old new last ended)
+      ⊎ ((why : CommandFault) × (ended ≡ Err why) × (new ≡ old))
 
   -- The files of a job were read, and their records carried; or a file couldn't be read, or memory ran out, and the
   -- connector is as it was
-  abbrev pub PushesFrom : Job → (old new : State J) → Result Status CommandFault → Type 0
-  PushesFrom job old new ended =
-      ((sources : Sources) × (last : Option Error) × ReadsFiles job (Ok sources)
-      × Pushes job.service sources old new last ended)
+  abbrev pub PushesFrom : (quiet : Bool) → Job → (old new : State J) → Result Status CommandFault → Type 0
+  PushesFrom quiet job old new ended =
+      ((sources : Sources) × ReadsFiles job (Ok sources) × PushesKnown quiet job.service sources old new ended)
       ⊎ ((why : CommandFault) × (ended ≡ Err why) × (new ≡ old))
 
-  -- A journal was opened, a connector over it carried the records, and the journal was closed; or it couldn't be opened
-  abbrev pub PushesOver : {L : Type 0} → (finds : EntryMap → Type 0) → (is_closed : J → L → Type 0) → Job
+  -- from a journal that was opened for it, and closed
+  abbrev pub PushesOver : {L : Type 0} → (finds : EntryMap → Type 0) → (is_closed : J → L → Type 0) → (quiet : Bool) → Job
       → Result Status CommandFault → Type 0
-  PushesOver {L} finds is_closed job ended =
-      ((start end : State J) × (left : L) × IsStart g finds start × PushesFrom job start end ended
-      × is_closed end.journal left)
-      ⊎ ((why : CommandFault) × IsUnopened why × (ended ≡ Err why))
-
-  -- the same of what the arguments name
-  abbrev pub IsPushed : {L : Type 0} → (finds : EntryMap → Type 0) → (is_closed : J → L → Type 0) → Found → Status
-      → Type 0
-  IsPushed finds is_closed found status = (job : Job) × IsJob found job × PushesOver finds is_closed job (Ok status)
+  PushesOver finds is_closed quiet job ended = RunsOver g finds is_closed (PushesFrom quiet job) ended

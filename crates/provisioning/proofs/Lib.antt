@@ -5,3 +5,5 @@ mod RunLemmas
 mod TurnLemmas
 mod CarryLemmas
 mod OfferLemmas
+mod DryLemmas
+mod PlanLemmas

@@ -10,3 +10,7 @@ pub mod Records
 pub mod Runs
 pub mod Sources
 pub mod Turns
+pub mod DryRuns
+pub mod Plans
+pub mod Leavers
+pub mod Quiet

@@ -1,9 +1,11 @@
 //! The connector against the provider at an address.
 ghost use Rattle.provisioning.specs.Carrying.{CarriesSilently};
+ghost use Rattle.provisioning.specs.Quiet.{CarriesQuietly, Concludes};
 
 use crate::carrying::{Outcome, carry};
-use crate::faults::RunFault;
+use crate::faults::{RunFault, unwritten};
 use crate::lines::Lines;
+use crate::quiet::QuietLines;
 use crate::sockets::Remote;
 use crate::sources::Sources;
 use connection::TimedHandle;
@@ -37,4 +39,45 @@ pub fn push<'a, N: Net + Clock + Eprint, J: Journal, W: Write>(
     };
     let mut lines = Lines { out, stderr: rt };
     carry(alloc, service, connector, sources, &mut remote, &mut lines)
+}
+
+/// The same, but it prints a line only for each record that isn't confirmed, and at the end how many records were
+/// confirmed and unconfirmed, and how many rows were rejected.
+pub fn push_quietly<'a, N: Net + Clock + Eprint, J: Journal, W: Write>(
+    rt: &'a N,
+    alloc: Global,
+    service: &ScimService,
+    connector: &mut Connector<J>,
+    sources: &Sources,
+    address: &str,
+    out: &mut W,
+) -> Result<Outcome, RunFault>
+    ensures { CarriesQuietly ⟦<TimedHandle<'a, N::Stream, N> as Read>⟧.remaining
+        ⟦<TimedHandle<'a, N::Stream, N> as Write>⟧.contents J.Journal service.now sources.now
+        connector.old connector.new result }
+{
+    let mut remote = Remote {
+        alloc,
+        runtime: rt,
+        address,
+    };
+    let mut lines = QuietLines::over(Lines { out, stderr: rt }, sources);
+    let carried = carry(alloc, service, connector, sources, &mut remote, &mut lines);
+    concluded(carried, &mut lines)
+}
+
+/// Prints the counts of a run that no fault ended.
+fn concluded<W: Write + Drop, E: Eprint>(
+    carried: Result<Outcome, RunFault>,
+    lines: &mut QuietLines<'_, W, E>,
+) -> Result<Outcome, RunFault>
+    ensures { Concludes carried result }
+{
+    match carried {
+        Ok(outcome) => match lines.conclude() {
+            Ok(()) => Ok(outcome),
+            Err(error) => Err(unwritten(error)),
+        },
+        Err(fault) => Err(fault),
+    }
 }

@@ -40,7 +40,7 @@ impl Tally {
 }
 
 /// Whether the wanted revision is confirmed.
-fn is_confirmed(standing: &Standing) -> bool
+pub(crate) fn is_confirmed(standing: &Standing) -> bool
     ensures { result ≡ is_confirmed standing.now }
 {
     match standing {
@@ -69,7 +69,9 @@ pub fn push_all<J: Journal, D: Dial, T: Tell>(
 }
 
 /// The names of all records, in the order in which they settle.
-fn names_in_order<J: Journal>(connector: &Connector<J>) -> Result<Vec<RecordName>, RunFault>
+pub(crate) fn names_in_order<J: Journal>(
+    connector: &Connector<J>,
+) -> Result<Vec<RecordName>, RunFault>
     ensures order { IfOk result (λ names. IsSettleOrder (keys connector.now.book) names.items) }
     ensures fault { IfErr result (λ fault. fault ≡ Memory) }
 {

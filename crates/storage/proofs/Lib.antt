@@ -2,3 +2,4 @@ mod ServingLemmas
 mod StoreShowingLemmas
 mod JournalShowingLemmas
 mod RenewalLemmas
+mod LookingLemmas

@@ -8,3 +8,4 @@ pub mod JournalOpened
 pub mod JournalLines
 pub mod JournalShowing
 pub mod Resetting
+pub mod Looking

@@ -10,6 +10,7 @@ ghost use Rattle.storage.specs.Closed.{IsRenewed};
 use crate::reason::{DatabaseReason, code_of, failure_of};
 use sqlite::{Connection, Error, ErrorCode, File, FileStore, Files, Leftover, Options, Unknown};
 use sqlite_disk::{Disk, Tally};
+use std::fs;
 use std::fs::OpenOptions;
 use std::hash::{BuildHasher, RandomState};
 use std::io::ErrorKind;
@@ -36,6 +37,14 @@ impl<'a> DatabaseFile<'a> {
         match self.files() {
             Ok(files) => Ok(files),
             Err(reason) => Err(Error::SqliteFailure(code_of(reason))),
+        }
+    }
+
+    /// Whether the system says that there is no such file.
+    pub(crate) fn is_missing(&self) -> bool {
+        match fs::metadata(self.rt, self.path) {
+            Ok(_metadata) => false,
+            Err(error) => matches!(error.kind(), ErrorKind::NotFound),
         }
     }
 

@@ -1,11 +1,12 @@
 //! Where the entries of a connector are kept.
-ghost use Rattle.std.specs.Prelude.{◌≡◌, IfOk, OnOk};
+ghost use Rattle.std.specs.Prelude.{◌≡◌, IfOk, MatchOption, OnOk, ⊤};
 ghost use Rattle.journal_core.specs.Calls.{Writes};
 ghost use Rattle.journal_core.specs.Entries.{EntryMap};
 ghost use Rattle.journal_core.specs.Forgetting.{forgotten, learnt_count};
 ghost use Rattle.journal_core.specs.Stores.{CountsFault};
 ghost use Rattle.storage.specs.JournalOpened.{IsOpenedAt};
 
+use crate::looking::LookFault;
 use crate::reason::DatabaseReason;
 use journal_core::{Journal, JournalFault};
 use journal_store::JournalOpenFault;
@@ -42,6 +43,12 @@ pub trait EntryStorage {
     /// Opens the entries.
     fn open(&self) -> Result<Self::Entries, JournalOpenFault>
         ensures { IfOk result (IsOpenedAt Self.Entries.Journal (finds self.now)) };
+
+    /// Opens the entries as they are, if they are there. It makes and changes nothing: entries of an older format are
+    /// refused.
+    fn look(&self) -> Result<Option<Self::Entries>, LookFault>
+        ensures { IfOk result (λ seen. MatchOption seen ⊤
+            (IsOpenedAt Self.Entries.Journal (finds self.now))) };
 
     /// Why they can't be opened now, if the system or the database says it. They must be closed.
     fn reason(&self) -> Option<DatabaseReason>;

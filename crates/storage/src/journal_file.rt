@@ -4,6 +4,7 @@ ghost use Rattle.storage.specs.JournalOpened.{FindsEntries, IsOpened, IsOpenedAg
 
 use crate::database::{DatabaseFile, Remains, connected, fault_of, renewed};
 use crate::entry_storage::{EntryStorage, StoredEntries};
+use crate::looking::{LookFault, seen_in};
 use crate::reason::{DatabaseReason, failure_in, failure_since};
 use journal_core::{Journal, JournalFault};
 use journal_store::{JournalOpenFault, SqlJournal, is_older};
@@ -34,6 +35,17 @@ impl<'a> EntryStorage for JournalFile<'a> {
     fn open(&self) -> Result<Self::Entries, JournalOpenFault> {
         match entries_in(self.file.rt, self.file.open()?) {
             Ok((entries, is_carried)) => reopened_if(self.file.rt, is_carried, entries),
+            Err(refused) => Err(fault_of(refused)),
+        }
+    }
+
+    /// If there is no file, none is made. If the file is refused, it is closed unchanged.
+    fn look(&self) -> Result<Option<Self::Entries>, LookFault> {
+        if self.file.is_missing() {
+            return Ok(None);
+        }
+        match seen_in(self.file.rt, self.file.open()?) {
+            Ok(seen) => Ok(seen),
             Err(refused) => Err(fault_of(refused)),
         }
     }
