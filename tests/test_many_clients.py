@@ -3,13 +3,11 @@ import contextlib
 import json
 import random
 import selectors
-import socket
-import threading
 import time
 
 from exchanges import create_user, user
-from support import BOB_CREATED, CREATE_BOB, PATIENCE, ProgramTest, Provider, read_all, resource_id
-from test_slow_clients import LIST, MOST_HELD, PROMPTLY, SILENCE, narrow_connection
+from support import BOB_CREATED, CREATE_BOB, PATIENCE, ProgramTest, read_all, resource_id
+from test_slow_clients import LIST, PROMPTLY, narrow_connection
 
 # More clients than any part of the program looks at by accident
 MANY = 100
@@ -89,29 +87,3 @@ class ManyClientsTest(ProgramTest):
                 # the last ones read, while the others don't yet
                 for some in streams[-MANY // 5:], streams[:-MANY // 5]:
                     self.assertTrue(all(answer == whole for answer in read_side_by_side(some)))
-
-    def test_a_newcomer_waits_for_a_place(self):
-        """While as many wait as may, and none of them is silent, a newcomer waits too, and isn't dropped."""
-        with Provider(MOST_HELD + 1) as provider, contextlib.ExitStack() as stack:
-            streams = [stack.enter_context(provider.connect()) for _ in range(MOST_HELD)]
-            for stream in streams:
-                stream.sendall(b"GET /v2/Users HTTP/1.1\r\nA: ")
-            stop = threading.Event()
-            talking = threading.Thread(target=keep_talking, args=(streams[1:], stop))
-            talking.start()
-            stack.callback(talking.join)
-            stack.callback(stop.set)
-            time.sleep(3 * SILENCE)
-            newcomer = stack.enter_context(provider.connect())
-            time.sleep(3 * SILENCE)
-            streams[0].close()
-            newcomer.sendall(CREATE_BOB)
-            self.assertEqual(read_all(newcomer), BOB_CREATED)
-
-
-def keep_talking(streams, stop):
-    """Sends a byte of a field line to each of these, more often than they may be silent."""
-    while not stop.wait(SILENCE / 2):
-        for stream in streams:
-            with contextlib.suppress(OSError):
-                stream.sendall(b"a")

@@ -202,3 +202,32 @@ class OrderTest(ProgramTest):
         run = scimlink("answer", "--store", self.site.store, "--base", "x")
         self.assert_prints(run, status=2, errors=["error: --base is http://HOST/v2"])
         self.assertFalse(self.site.store.exists())
+
+
+class PrivateFilesTest(ProgramTest):
+    """Stores and journals have personal data."""
+
+    def modes(self):
+        """The modes of the files of both, and of their logs where they are there."""
+        files = (self.site.store, self.site.journal)
+        logs = [path.with_name(f"{path.name}-wal") for path in files]
+        return {path.stat().st_mode & 0o777 for path in (*files, *logs) if path.exists()}
+
+    def push(self, *lines):
+        """A push, and the modes while the store is open."""
+        with self.serving(2, "--store", self.site.store) as provider:
+            self.assert_prints(self.site.push(provider.address), *lines)
+            return self.modes()
+
+    def test_new_files_are_for_their_owner_alone(self):
+        self.site.write_users("bob,1,,,,,active")
+        self.assertEqual(self.push("user bob confirmed 1"), {0o600})
+        self.assertEqual(self.modes(), {0o600})
+
+    def test_a_file_that_is_there_keeps_its_mode(self):
+        self.site.write_users("bob,1,,,,,active")
+        self.push("user bob confirmed 1")
+        for path in (self.site.store, self.site.journal):
+            path.chmod(0o640)
+        self.site.write_users("bob,2,,,,,left")
+        self.assertEqual(self.push("user bob confirmed 2"), {0o640})

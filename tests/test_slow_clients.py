@@ -1,16 +1,19 @@
 """`serve`: slow clients hold nobody up, and lose nothing."""
 import contextlib
 import socket
+import threading
 import time
 
-from support import BOB, BOB_CREATED, CREATE_BOB, ProgramTest, read_all, resource_id
+from support import (
+    BOB, BOB_CREATED, CREATE_BOB, PATIENCE, ProgramTest, Provider, limited_handles, read_all, resource_id, wait_until,
+)
 
 FIND_BOB = f"GET /v2/Users/{resource_id(1)} HTTP/1.1\r\nHost: h\r\n\r\n".encode()
 LIST = b"GET /v2/Users HTTP/1.1\r\nHost: h\r\n\r\n"
 # Seconds within which an answer comes if nobody holds it up
 PROMPTLY = 5
-# The most connections that wait for their requests, and the seconds that each may be silent even then
-MOST_HELD, SILENCE = 256, 0.1
+# The most connections that wait for their requests, and the seconds that each may wait even then
+MOST_HELD, GRANTED = 256, 0.1
 
 
 def narrow_connection(port):
@@ -98,14 +101,69 @@ class SlowClientTest(ProgramTest):
                 stream.sendall(LIST)
                 self.assert_prompt(provider, FIND_BOB, b"200")
 
-    def test_the_most_silent_client_makes_room(self):
+    def test_the_oldest_client_makes_room(self):
         with self.serving(3, connection_faults=2) as provider, contextlib.ExitStack() as silent:
             streams = [silent.enter_context(provider.connect()) for _ in range(MOST_HELD)]
-            time.sleep(10 * SILENCE)
+            time.sleep(10 * GRANTED)
             silent.enter_context(provider.connect())
             streams[0].settimeout(PROMPTLY)
             self.assertEqual(streams[0].recv(1), b"")
             # one leaves, so that the next needs nobody's place, even if its request comes a while after it
             streams[1].close()
-            time.sleep(10 * SILENCE)
+            time.sleep(10 * GRANTED)
             self.assert_prompt(provider, CREATE_BOB, b"201")
+
+    def test_clients_that_trickle_lock_nobody_out(self):
+        """Each sends a byte of a head now and then, so that none is silent for long, and comes back when it is closed."""
+        with Provider(1_000_000) as provider, Tricklers(provider, MOST_HELD + 20, 0.6 * GRANTED) as tricklers:
+            wait_until(lambda: tricklers.returns > 0, "a client that made room")
+            for _ in range(20):
+                self.assert_prompt(provider, FIND_BOB, b"404")
+                # a request that comes within the time that each connection is granted
+                with provider.connect() as stream:
+                    stream.sendall(FIND_BOB[:-1])
+                    time.sleep(0.5 * GRANTED)
+                    stream.sendall(FIND_BOB[-1:])
+                    self.assertTrue(read_all(stream).startswith(b"HTTP/1.1 404"))
+
+    def test_a_system_without_descriptors(self):
+        """It gives no connection for a while: that is reported once a second, and uses up few of the requests."""
+        with Provider(9, **limited_handles(24)) as provider:
+            with contextlib.ExitStack() as silent:
+                for _ in range(40):
+                    silent.enter_context(provider.connect())
+                time.sleep(3)
+            self.assert_prompt(provider, CREATE_BOB, b"201")
+            faults = self.kill(provider).errors.splitlines()
+        self.assertEqual(set(faults), {"connection fault"})
+
+
+class Tricklers:
+    """Clients that each send a byte of a request's head at this pace, and come back when they are closed."""
+
+    def __init__(self, provider, count, pace):
+        self.provider, self.pace, self.returns = provider, pace, 0
+        self.streams = [provider.connect() for _ in range(count)]
+        self.is_over = threading.Event()
+        self.thread = threading.Thread(target=self.trickle, daemon=True)
+
+    def __enter__(self):
+        self.thread.start()
+        return self
+
+    def __exit__(self, *_):
+        self.is_over.set()
+        self.thread.join(PATIENCE)
+        for stream in self.streams:
+            stream.close()
+
+    def trickle(self):
+        while not self.is_over.wait(self.pace):
+            for place, stream in enumerate(self.streams):
+                try:
+                    stream.sendall(b"G")
+                except OSError:
+                    stream.close()
+                    with contextlib.suppress(OSError):
+                        self.streams[place] = self.provider.connect()
+                        self.returns += 1

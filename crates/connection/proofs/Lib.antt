@@ -1,5 +1,6 @@
 pub mod ServedLemmas
 pub mod ReplyLemmas
 mod RequestLemmas
+mod HoldingLemmas
 mod StreamLemmas
 mod TurnLemmas

@@ -1,5 +1,5 @@
 -- The one reply of a connection, and what was sent.
-use Rattle.std.proofs.Common.{◌≡◌, ◌⊎◌, ℕ, List, Option, Some, None, Result, Ok, Err, refl, ap, subst, inl, inr}
+use Rattle.std.proofs.Common.{ℕ, List, Option, Some, None, Result, Ok, Err, refl, ap, subst, inl, inr}
 use Rattle.provider_core.specs.declared.registry.Registry.{Ghosts}
 use Rattle.http_text.specs.declared.fault.ReadFault.{ReadFault}
 use Rattle.http_text.specs.Counts.{Writing}

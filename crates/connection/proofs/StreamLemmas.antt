@@ -1,5 +1,6 @@
 -- Bytes that are kept beside a stream.
-use Rattle.std.proofs.Common.{◌≡◌, ℕ, ◌+◌, ◌-◌, ◌≤◌, List, [], ◌++◌, length, take, drop, Option, Some, None, Result, Ok, Err, refl, sym, ap, ◌∙◌, append_assoc, append-nil, length-drop, subst, arith}
+use Rattle.std.proofs.Common.{◌≡◌, ℕ, ◌+◌, ◌-◌, ◌≤◌, List, [], ◌++◌, length, take, drop, Option, Some, None, Result, refl, sym, ap, ◌∙◌, append_assoc, append-nil, length-drop, subst, nat_le, true, ◌∷◌, arith}
+use Rattle.std.proofs.lemmas.Bool.Decides.{nat_tests}
 use Rattle.std.proofs.lemmas.List.{drop_all, drop-drop, take-append-drop, take_all}
 use Rattle.std.specs.Io.KnownBytes.{Keeps, Appends, ReadConsumes, prepend_known}
 use Rattle.http_text.specs.declared.fault.ReadFault.{ReadFault}
@@ -63,3 +64,8 @@ pub keeps_sent : (first old new : Option (List ℕ)) (all unsent : List ℕ) (se
 keeps_sent first old new all unsent sent count same keeps appends =
     keeps_trans first (with_unsent old unsent sent) (with_unsent new unsent (sent + count)) keeps
     (sent_more old new unsent sent count (subst (λ part. Appends old new (take count part)) (part_is all unsent sent same) appends))
+
+-- all of them were sent if none was
+pub none_unsent : (unsent : List ℕ) → nat_le (length unsent) 0 ≡ true → unsent ≡ []
+none_unsent [] all = refl
+none_unsent (b ∷ unsent) all = let none : length (b ∷ unsent) ≤ 0 = grind (arith, nat_tests) in absurd (omega (arith, none))

@@ -5,4 +5,6 @@ pub mod Deadlines
 pub mod Listening
 pub mod Requests
 pub mod Streams
+pub mod Holding
+pub mod Endings
 pub mod Turns

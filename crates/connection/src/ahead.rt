@@ -18,8 +18,10 @@ pub struct AheadReader<R: Drop> {
 
 impl<R: Read + Drop> AheadReader<R> {
     pub(crate) fn new(ahead: Vec<u8>, reader: R) -> Self
-        ensures { after_ahead result.ahead.items result.given (R.remaining result.reader)
+        ensures bytes { after_ahead result.ahead.items result.given (R.remaining result.reader)
             ≡ prepend_known ahead.items (R.remaining reader) }
+        ensures ahead { result.ahead ≡ ahead }
+        ensures given { result.given ≡ 0 }
     {
         AheadReader {
             ahead,

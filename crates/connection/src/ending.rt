@@ -1,6 +1,7 @@
 //! A connection that was served, up to its end.
-ghost use Rattle.std.specs.Prelude.{◌≡◌, ◌≤◌};
+ghost use Rattle.std.specs.Prelude.{◌≡◌, ◌≤◌, [], true, vec_capacity, OnOk};
 ghost use Rattle.std.specs.Io.KnownBytes.{Keeps};
+ghost use Rattle.connection.specs.Endings.{BeginsWith, is_sent};
 ghost use Rattle.connection.specs.Streams.{with_unsent};
 
 use crate::late::LateWriter;
@@ -44,7 +45,9 @@ pub(crate) enum Step {
 
 impl<'a, S: Read + Write + OpenStream + Drop, C: Clock> Ending<'a, S, C> {
     /// The ending of a connection whose answer was written.
-    pub(crate) fn new(writer: LateWriter<PromptStream<'a, S, C>>, now: Instant) -> Self {
+    pub(crate) fn new(writer: LateWriter<PromptStream<'a, S, C>>, now: Instant) -> Self
+        ensures { BeginsWith writer.entry.unsent.items result }
+    {
         let LateWriter { writer, unsent } = writer;
         let mut ending = Ending {
             stream: writer,
@@ -59,7 +62,9 @@ impl<'a, S: Read + Write + OpenStream + Drop, C: Clock> Ending<'a, S, C> {
     }
 
     /// Whether the whole answer was sent.
-    pub(crate) fn is_sent(&self) -> bool {
+    pub(crate) fn is_sent(&self) -> bool
+        ensures { result ≡ is_sent self.now }
+    {
         self.sent >= self.unsent.len()
     }
 
@@ -68,9 +73,11 @@ impl<'a, S: Read + Write + OpenStream + Drop, C: Clock> Ending<'a, S, C> {
         self.pace.moved
     }
 
-    /// How many bytes are kept for the peer.
-    pub(crate) fn size(&self) -> usize {
-        if self.is_sent() { 0 } else { self.unsent.len() }
+    /// How many bytes of memory are taken for the peer: none once its answer is sent.
+    pub(crate) fn size(&self) -> usize
+        ensures { result ≡ vec_capacity self.now.unsent }
+    {
+        self.unsent.capacity()
     }
 
     /// Goes on, if it is time to look, and doesn't wait.
@@ -106,7 +113,8 @@ impl<'a, S: Read + Write + OpenStream + Drop, C: Clock> Ending<'a, S, C> {
 
     /// Sends what the peer takes now of the answer.
     fn send(&mut self) -> io::Result<()>
-        ensures { Keeps
+        ensures sent { OnOk result (is_sent self.new ≡ true) }
+        ensures bytes { Keeps
             (with_unsent (S.contents self.old.stream.stream) self.old.unsent.items self.old.sent)
             (with_unsent (S.contents self.new.stream.stream) self.new.unsent.items self.new.sent) }
     {
@@ -119,8 +127,16 @@ impl<'a, S: Read + Write + OpenStream + Drop, C: Clock> Ending<'a, S, C> {
         Ok(())
     }
 
-    /// Lets the peer see the end of the answer. It has a while to send what it still sends.
-    fn shut_down(&mut self, now: Instant) {
+    /// Frees the answer, which is sent, and lets the peer see its end. The peer has a while to send what it still sends.
+    fn shut_down(&mut self, now: Instant)
+        requires { is_sent self.old ≡ true }
+        ensures items { self.new.unsent.items ≡ [] }
+        ensures sent { self.new.sent ≡ 0 }
+        ensures freed { vec_capacity self.new.unsent ≡ 0 }
+    {
+        self.unsent.clear();
+        self.unsent.shrink_to_fit();
+        self.sent = 0;
         self.stream.shut_down();
         if let Some(end) = now.checked_add(Duration::from_secs(DRAIN_SECONDS)) {
             self.stream.end_by(end);

@@ -1,5 +1,7 @@
 //! All connections that were served and aren't closed yet.
-ghost use Rattle.std.specs.Prelude.{◌≡◌, ◌<◌, ◌≤◌, ◌+◌, ◌↔◌, [], vec_len, IsTrue, IfSome};
+ghost use Rattle.std.specs.Prelude.{◌≡◌, ◌<◌, ◌≤◌, ◌+◌, ◌-◌, ◌↔◌, [], vec_len, IsTrue, IfSome};
+ghost use Rattle.std.specs.List.{remove, slice_index_or};
+ghost use Rattle.connection.specs.Endings.{lost_with};
 
 use crate::ending::{Ending, Step};
 use std::alloc::Global;
@@ -146,7 +148,11 @@ impl<'a, S: Read + Write + OpenStream + Drop, C: Clock> Endings<'a, S, C> {
     /// Closes a connection, and notes if its answer wasn't sent whole.
     fn close(&mut self, place: usize)
         requires { place < vec_len self.old.endings }
-        ensures { vec_len self.new.endings + 1 ≡ vec_len self.old.endings }
+        ensures length { vec_len self.new.endings + 1 ≡ vec_len self.old.endings }
+        ensures others { self.new.endings.items ≡ remove self.old.endings.items place }
+        ensures lost { (d : _) → self.new.lost
+            ≡ lost_with self.old.lost (slice_index_or self.old.endings.items place d) }
+        ensures told { self.new.told ≡ self.old.told }
     {
         let ending = self.endings.remove(place);
         if !ending.is_sent() {
@@ -192,7 +198,10 @@ impl<'a, S: Read + Write + OpenStream + Drop, C: Clock> Endings<'a, S, C> {
 
     /// How many answers were lost since the last call.
     pub(crate) fn take_lost(&mut self) -> u32
-        ensures { vec_len self.new.endings ≡ vec_len self.old.endings }
+        ensures untold { result ≡ self.old.lost - self.old.told }
+        ensures told { self.new.told ≡ self.new.lost }
+        ensures lost { self.new.lost ≡ self.old.lost }
+        ensures endings { self.new.endings ≡ self.old.endings }
     {
         let untold = self.lost.saturating_sub(self.told);
         self.told = self.lost;

@@ -1,6 +1,7 @@
 //! Connections whose requests aren't whole yet.
 ghost use Rattle.std.specs.Prelude.{◌≡◌, []};
 ghost use Rattle.std.specs.Io.KnownBytes.{Keeps, prepend_known};
+ghost use Rattle.connection.specs.Holding.{Looks};
 
 use crate::deadline::Deadline;
 use crate::pace::Pace;
@@ -24,6 +25,8 @@ const MOST_READS: u32 = 12;
 pub(crate) struct Held<S: Drop> {
     pub(crate) stream: S,
     pub(crate) deadline: Deadline,
+    /// When it was accepted.
+    pub(crate) accepted: Instant,
     pub(crate) received: Vec<u8>,
     pub(crate) pace: Pace,
 }
@@ -44,11 +47,13 @@ impl<S: Read + Drop> Held<S> {
     pub(crate) fn new(alloc: Global, stream: S, deadline: Deadline, now: Instant) -> Self
         ensures stream { result.stream ≡ stream }
         ensures deadline { result.deadline ≡ deadline }
+        ensures accepted { result.accepted ≡ now }
         ensures received { result.received.items ≡ [] }
     {
         Held {
             stream,
             deadline,
+            accepted: now,
             received: Vec::new(alloc),
             pace: Pace::new(now),
         }
@@ -57,9 +62,7 @@ impl<S: Read + Drop> Held<S> {
     /// Whether the connection can be served: its request is whole or refused, no more comes, or its time is
     /// over. It looks only if it is time to look, and doesn't wait.
     pub(crate) fn is_ready(&mut self, alloc: Global, now: Instant) -> bool
-        ensures bytes { Keeps (prepend_known self.old.received.items (S.remaining self.old.stream))
-            (prepend_known self.new.received.items (S.remaining self.new.stream)) }
-        ensures deadline { self.new.deadline ≡ self.old.deadline }
+        ensures { Looks S.remaining now self.old self.new result }
     {
         if !self.pace.is_due(now) {
             return false;
@@ -85,6 +88,7 @@ impl<S: Read + Drop> Held<S> {
         ensures bytes { Keeps (prepend_known self.old.received.items (S.remaining self.old.stream))
             (prepend_known self.new.received.items (S.remaining self.new.stream)) }
         ensures deadline { self.new.deadline ≡ self.old.deadline }
+        ensures accepted { self.new.accepted ≡ self.old.accepted }
         ensures pace { self.new.pace ≡ self.old.pace }
     {
         let mut arrival = Arrival::Nothing;
@@ -104,6 +108,7 @@ impl<S: Read + Drop> Held<S> {
         ensures bytes { Keeps (prepend_known self.old.received.items (S.remaining self.old.stream))
             (prepend_known self.new.received.items (S.remaining self.new.stream)) }
         ensures deadline { self.new.deadline ≡ self.old.deadline }
+        ensures accepted { self.new.accepted ≡ self.old.accepted }
         ensures pace { self.new.pace ≡ self.old.pace }
     {
         let mut buffer = [0; READ_LIMIT];

@@ -1,6 +1,7 @@
 //! How often a stream is looked at.
 ghost use Rattle.std.specs.Prelude.{◌≡◌, ◌≤◌, ◌+◌, ◌*◌, ◌↔◌, IsTrue};
-ghost use Rattle.std.specs.Time.{instant_nanos};
+ghost use Rattle.std.specs.Time.{FitsClock, instant_nanos};
+ghost use Rattle.connection.specs.Holding.{waited};
 
 use std::time::{Duration, Instant};
 
@@ -42,6 +43,8 @@ impl Pace {
     pub(crate) fn wait(&mut self, now: Instant)
         ensures moved { self.new.moved ≡ self.old.moved }
         ensures soon { instant_nanos self.new.next ≤ instant_nanos now + LONGEST_PAUSE * 1_000_000 }
+        ensures next { FitsClock (waited self.old.moved now)
+            → instant_nanos self.new.next ≡ waited self.old.moved now }
     {
         let silence = now.duration_since(self.moved);
         let pause = (silence / PART).min(Duration::from_millis(LONGEST_PAUSE));

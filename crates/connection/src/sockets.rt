@@ -1,4 +1,6 @@
 //! The connections of a listening socket.
+ghost use Rattle.std.specs.Prelude.{◌≡◌, [], IfOk};
+
 use crate::ahead::AheadReader;
 use crate::deadline::Deadline;
 use crate::ending::Ending;
@@ -24,6 +26,9 @@ const FIRST_PAUSE: u64 = 20;
 
 const LONGEST_PAUSE: u64 = 4_000;
 
+/// The fewest seconds between two reports that the system gives no connection.
+const REPORT_SECONDS: u64 = 1;
+
 /// The connections of a listening socket. Each has this time in all, from when it is accepted. A connection
 /// is given out when its request is whole, is refused by its form, has ended or failed, or is out of time.
 /// Meanwhile, other connections are read, answers are sent as their peers take them, and streams that were
@@ -39,6 +44,8 @@ where
     limit: Duration,
     /// Whether `accept` of the listener returns at once if no connection waits.
     gives_up: bool,
+    /// When it was last reported that the system gave no connection.
+    reported: Option<Instant>,
     waiting: Waiting<L::Stream>,
     endings: Endings<'a, SharedStream<L::Stream>, C>,
 }
@@ -61,6 +68,7 @@ where
             clock,
             limit,
             gives_up: false,
+            reported: None,
             waiting: Waiting::new(alloc),
             endings: Endings::new(alloc, clock),
         }
@@ -96,9 +104,23 @@ where
         }
         match self.listener.accept() {
             Ok((stream, _)) => Ok(Some(stream)),
-            Err(error) if !gives_up => Err(error),
-            Err(_) => Ok(None),
+            Err(error) => match error.kind() {
+                ErrorKind::WouldBlock | ErrorKind::Interrupted => Ok(None),
+                _ => self.unaccepted(error, now),
+            },
         }
+    }
+
+    /// The system gives no connection, because it has no descriptor left, say. It is tried again after a pause; the fault
+    /// is reported once a second at most.
+    fn unaccepted(&mut self, error: io::Error, now: Instant) -> io::Result<Option<L::Stream>> {
+        if let Some(reported) = self.reported
+            && now.duration_since(reported) < Duration::from_secs(REPORT_SECONDS)
+        {
+            return Ok(None);
+        }
+        self.reported = Some(now);
+        Err(error)
     }
 
     /// Reads what has come of a new connection. If that isn't a whole request, the connection is held. It
@@ -142,10 +164,14 @@ fn opened<'a, S: Read + Write + OpenStream + Drop, C: Clock>(
     alloc: Global,
     held: Held<S>,
     clock: &'a C,
-) -> io::Result<(Asked<'a, S, C>, Answering<'a, S, C>)> {
+) -> io::Result<(Asked<'a, S, C>, Answering<'a, S, C>)>
+    ensures { IfOk result (λ handles. (handles.0.ahead ≡ held.received) × (handles.0.given ≡ 0)
+        × (handles.1.unsent.items ≡ [])) }
+{
     let Held {
         stream,
         deadline,
+        accepted: _,
         received,
         pace: _,
     } = held;

@@ -14,6 +14,7 @@ use std::fs;
 use std::fs::OpenOptions;
 use std::hash::{BuildHasher, RandomState};
 use std::io::ErrorKind;
+use std::os::unix::fs::OpenOptionsExt;
 use std::rt::HostRuntime;
 
 /// How many pages of a file a connection keeps in memory: 2 MB of pages of 4,096 bytes.
@@ -73,6 +74,7 @@ impl<'a> DatabaseFile<'a> {
         if self.path == ":memory:" || self.path.starts_with("file:") {
             return Err(DatabaseReason::Failed(ErrorCode::CannotOpen));
         }
+        make_private(self.rt, self.path);
         match sqlite_std_file::open(self.rt, self.path, Unknown) {
             Ok(files) => Ok(files),
             Err(error) => Err(DatabaseReason::Unopened(error)),
@@ -93,6 +95,18 @@ impl<'a> DatabaseFile<'a> {
             },
         }
     }
+}
+
+/// The mode of a new file: only its owner reads and writes it. Its log gets the same mode.
+const PRIVATE: u32 = 0o600;
+
+/// Makes the file if there is none. If it can't be made, the opening after this says why.
+fn make_private(rt: &HostRuntime, path: &str) {
+    let _ = OpenOptions::new()
+        .write(true)
+        .create_new(true)
+        .mode(PRIVATE)
+        .open(rt, path);
 }
 
 /// What is left of files that were refused: a connection to them, or what became of them before there was one.

@@ -9,5 +9,6 @@ loop-preserved g c = let before = c.args.self.now in let now = c.loop.self in le
       (prepend_known now.received.items (g.S.Read.remaining now.stream))
       (prepend_known after.received.items (g.S.Read.remaining after.stream)) c.loop.invariant.bytes c.read_once.ensures.bytes;
   deadline = c.read_once.ensures.deadline ∙ c.loop.invariant.deadline;
+  accepted = c.read_once.ensures.accepted ∙ c.loop.invariant.accepted;
   pace = c.read_once.ensures.pace ∙ c.loop.invariant.pace;
 }

@@ -1,6 +1,0 @@
-use Rattle.std.proofs.Common.{◌<◌, vec_len, IfSome}
-use Rattle.connection.proofs.waiting.Waiting.most_silent.Given as goal
-
--- what was found is a place
-abbrev pub invariant-loop-place : goal.invariant-loop-place
-invariant-loop-place g l = IfSome l.found (λ place. place < vec_len l.self.connections)
