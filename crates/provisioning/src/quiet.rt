@@ -3,7 +3,7 @@ ghost use Rattle.std.specs.Prelude.{◌≡◌, ◌∷◌, [], None, OnOk, Some, 
 ghost use Rattle.std.specs.Io.KnownBytes.{Appends};
 ghost use Rattle.provisioning.specs.Lines.{record_line, standing_text};
 ghost use Rattle.provisioning.specs.Offering.{Hears};
-ghost use Rattle.provisioning.specs.Quiet.{PrintsUnless, Prints, counts_line, counts_text, rejected_in, with_row, with_record};
+ghost use Rattle.provisioning.specs.Quiet.{PrintsUnless, counts_line, counts_text, rejected_among, rejected_in, with_record, with_row};
 ghost use Rattle.provisioning.specs.Runs.{Tells, is_confirmed};
 
 use crate::lines::Lines;
