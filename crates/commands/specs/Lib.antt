@@ -6,5 +6,6 @@ pub mod Images
 pub mod Words
 pub mod Simulating
 pub mod Running
+pub mod Looping
 pub mod Listening
 pub mod Simulations

@@ -116,6 +116,13 @@ abbrev pub GivesConnector : {J : Type 0} → Journals J → (finds : EntryMap �
 GivesConnector g finds (Ok start) = IsStart g finds start
 GivesConnector g finds (Err why) = IsUnopened why
 
+-- a journal was opened, a connector over it did this, and the journal was closed; or it couldn't be opened
+abbrev pub RunsOver : {J L : Type 0} → Journals J → (finds : EntryMap → Type 0) → (is_closed : J → L → Type 0)
+    → (runs : (old new : State J) → Result Status CommandFault → Type 0) → Result Status CommandFault → Type 0
+RunsOver {J} {L} g finds is_closed runs ended =
+    ((start end : State J) × (left : L) × IsStart g finds start × runs start end ended × is_closed end.journal left)
+    ⊎ ((why : CommandFault) × IsUnopened why × (ended ≡ Err why))
+
 -- ---- `push`
 
 module _ {I O J : Type 0} (remaining : I → Option (List ℕ)) (contents : O → Option (List ℕ)) (g : Journals J) where
@@ -134,15 +141,18 @@ module _ {I O J : Type 0} (remaining : I → Option (List ℕ)) (contents : O �
       × Pushes job.service sources old new last ended)
       ⊎ ((why : CommandFault) × (ended ≡ Err why) × (new ≡ old))
 
-  -- A journal was opened, a connector over it carried the records, and the journal was closed; or it couldn't be opened
+  -- from a journal that was opened for it, and closed
   abbrev pub PushesOver : {L : Type 0} → (finds : EntryMap → Type 0) → (is_closed : J → L → Type 0) → Job
       → Result Status CommandFault → Type 0
-  PushesOver {L} finds is_closed job ended =
-      ((start end : State J) × (left : L) × IsStart g finds start × PushesFrom job start end ended
-      × is_closed end.journal left)
-      ⊎ ((why : CommandFault) × IsUnopened why × (ended ≡ Err why))
+  PushesOver finds is_closed job ended = RunsOver g finds is_closed (PushesFrom job) ended
 
   -- the same of what the arguments name
   abbrev pub IsPushed : {L : Type 0} → (finds : EntryMap → Type 0) → (is_closed : J → L → Type 0) → Found → Status
       → Type 0
   IsPushed finds is_closed found status = (job : Job) × IsJob found job × PushesOver finds is_closed job (Ok status)
+
+  -- the same from the journal that was named
+  abbrev pub IsPushedTo : {L H : Type 0} → (finds : H → EntryMap → Type 0) → (is_closed : J → L → Type 0) → Found
+      → Option (Bor H) → Status → Type 0
+  IsPushedTo finds is_closed found (Some journal) status = IsPushed (finds journal.now) is_closed found status
+  IsPushedTo finds is_closed found None status = ⊥

@@ -1,5 +1,7 @@
 //! `push`: the connector against the provider at an address.
-ghost use Rattle.commands.specs.Running.{GivesConnector, Pushes, PushesFrom};
+ghost use Rattle.std.specs.Prelude.{IfOk};
+ghost use Rattle.clap.specs.Matches.{found_of};
+ghost use Rattle.commands.specs.Running.{GivesConnector, IsPushed, IsPushedTo, Pushes, PushesFrom, PushesOver};
 
 use crate::endings::pushed_status;
 use crate::jobs::Job;
@@ -23,8 +25,25 @@ pub fn push<'a, R: Runtime + Net + AllocGlobal, J: EntryStorage>(
     rt: &'a R,
     words: &ArgMatches<'_>,
     journal: Option<&J>,
-) -> Result<Status, CommandFault> {
+) -> Result<Status, CommandFault>
+    ensures { IfOk result (IsPushedTo ⟦<TimedHandle<'a, R::Stream, R> as Read>⟧.remaining
+        ⟦<TimedHandle<'a, R::Stream, R> as Write>⟧.contents J.Entries.Journal J.finds
+        J.Entries.is_closed (found_of words.now) journal.entry) }
+{
     let storage = journal.ok_or(CommandFault::File)?;
+    push_named(rt, words, storage)
+}
+
+/// Carries the records of the files that the arguments name to the address that they name.
+fn push_named<'a, R: Runtime + Net + AllocGlobal, J: EntryStorage>(
+    rt: &'a R,
+    words: &ArgMatches<'_>,
+    storage: &J,
+) -> Result<Status, CommandFault>
+    ensures { IfOk result (IsPushed ⟦<TimedHandle<'a, R::Stream, R> as Read>⟧.remaining
+        ⟦<TimedHandle<'a, R::Stream, R> as Write>⟧.contents J.Entries.Journal (J.finds storage.now)
+        J.Entries.is_closed (found_of words.now)) }
+{
     let to = to(words)?;
     let job = Job::of(rt.alloc(), words)?;
     push_over(rt, storage, &job, to)
@@ -36,7 +55,11 @@ pub fn push_over<'a, R: Runtime + Net + AllocGlobal, J: EntryStorage>(
     storage: &J,
     job: &Job<'_>,
     to: &str,
-) -> Result<Status, CommandFault> {
+) -> Result<Status, CommandFault>
+    ensures { PushesOver ⟦<TimedHandle<'a, R::Stream, R> as Read>⟧.remaining
+        ⟦<TimedHandle<'a, R::Stream, R> as Write>⟧.contents J.Entries.Journal (J.finds storage.now)
+        J.Entries.is_closed job.now result }
+{
     let mut connector = open_connector(rt.alloc(), storage)?;
     let ended = push_from(rt, &mut connector, job, to);
     close(connector);
@@ -44,7 +67,7 @@ pub fn push_over<'a, R: Runtime + Net + AllocGlobal, J: EntryStorage>(
 }
 
 /// Closes the journal of a connector.
-fn close<E: StoredEntries>(connector: Connector<E>) -> E::Left
+pub(crate) fn close<E: StoredEntries>(connector: Connector<E>) -> E::Left
     ensures { E.is_closed connector.journal result }
 {
     connector.close().close()
