@@ -54,7 +54,7 @@ module _ {I O J : Type 0} (remaining : I → Option (List ℕ)) (contents : O �
   abbrev pub LoopsFrom : Job → (has_failed : Type 0) → (old new : State J) → Result Status CommandFault → Type 0
   LoopsFrom job has_failed old new ended =
       ((sources : Sources) × (last : Option Error) × ReadsFiles job (Ok sources)
-          × LoopsTo job.service sources old new has_failed last ended)
+      × LoopsTo job.service sources old new has_failed last ended)
       ⊎ ((why : CommandFault) × (ended ≡ Err why) × (new ≡ old))
 
   -- from a journal that was opened for it, and closed
