@@ -23,8 +23,9 @@ use Rattle.commands.specs.declared.status.CommandFault.{CommandFault}
 use Rattle.commands.specs.declared.status.Status.{Status}
 
 -- rows were opened, a provider over them was there for this run, and they were closed; or they couldn't be opened
-abbrev pub RunsWith : {R L : Type 0} → Registries R → (finds : List StoredRecord → Type 0) → (is_closed : R → L → Type 0)
-    → (runs : (has_failed : Type 0) → Result Status CommandFault → Type 0) → Result Status CommandFault → Type 0
+abbrev pub RunsWith : {R L : Type 0} → Registries R → (finds : List StoredRecord → Type 0)
+    → (is_closed : R → L → Type 0) → (runs : (has_failed : Type 0) → Result Status CommandFault → Type 0)
+    → Result Status CommandFault → Type 0
 RunsWith {R} {L} g finds is_closed runs ended =
     ((first last : R) × (left : L) × IsOpenedAt g finds first × runs (0 < g.faults last) ended × is_closed last left)
     ⊎ ((cause : RegistryOpenFault) × (ended ≡ Err (store_fault cause)))
@@ -76,7 +77,8 @@ module _ {I K O R L F : Type 0} (remaining : I → Option (List ℕ)) (memory_re
   module _ {S J M H E : Type 0} (memory_rows : Registries S) (g : Journals J) (holds : H → EntryMap → Type 0)
       (is_left : J → E → Type 0) (memory : Journals M) where
     -- to the rows that were named, or to those of a provider in memory that starts empty
-    abbrev pub LoopsWith : Job → (store : Option (Bor F)) → (journal : Option (Bor H)) → Result Status CommandFault → Type 0
+    abbrev pub LoopsWith : Job → (store : Option (Bor F)) → (journal : Option (Bor H)) → Result Status CommandFault
+        → Type 0
     LoopsWith job (Some store) journal ended =
         RunsWith rows (finds store.now) is_closed (LoopsAt remaining contents g holds is_left memory job journal) ended
     LoopsWith job None journal ended =
