@@ -6,6 +6,7 @@ pub mod Images
 pub mod Words
 pub mod Simulating
 pub mod Running
+pub mod Looping
 pub mod Listening
 pub mod Simulations
 pub mod Manners
