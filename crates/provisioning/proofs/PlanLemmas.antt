@@ -1,11 +1,36 @@
--- One record more is planned.
-use Rattle.std.proofs.Common.{◌≡◌, ℕ, ◌+◌, ◌<◌, List, [], ◌∷◌, ◌++◌, Option, Some, None, length, take, get_or, sym, ap, subst, ◌∙◌, append-nil, append_assoc}
+-- One record more is planned, and the end of a plan.
+use Rattle.std.proofs.Common.{◌≡◌, ◌&&◌, Bool, Result, Ok, Err, IfOk, IfErr, inl, inr, ℕ, ◌+◌, ◌<◌, List, [], ◌∷◌, ◌++◌, Option, Some, None, length, take, get_or, sym, ap, subst, ◌∙◌, append-nil, append_assoc}
 use Rattle.std.proofs.lemmas.Grind.{flat_map-append}
 use Rattle.std.proofs.lemmas.List.{take_more}
 use Rattle.std.specs.Io.KnownBytes.{Appends}
 use Rattle.scim_key.specs.declared.records.RecordName.{RecordName}
+use Rattle.std.specs.List.{count_by}
+use Rattle.journal_core.specs.declared.journals.Journal.{Ghosts}
 use Rattle.connector_core.specs.Book.{Book}
-use Rattle.provisioning.specs.Plans.{plan_line, plan_lines}
+use Rattle.connector_core.specs.Maps.{book_of}
+use Rattle.connector_core.specs.State.{State}
+use Rattle.provisioning.specs.Leavers.{is_switched_off, names_in_use}
+use Rattle.provisioning.specs.Offering.{OffersAll}
+use Rattle.provisioning.specs.Plans.{Plans, PlansRecords, plan_line, plan_lines}
+use Rattle.provisioning.specs.Runs.{IsUntold}
+use Rattle.provisioning.specs.Sources.{are_whole}
+use Rattle.provisioning.specs.declared.faults.RunFault.{RunFault}
+use Rattle.provisioning.specs.declared.offering.Judged.{Judged}
+use Rattle.provisioning.specs.declared.planning.Plan.{Plan}
+use Rattle.provisioning.specs.declared.sources.Sources.{Sources}
+
+pub if_ok : {T F : Type 0} {P Q : T → Type 0} (r : Result T F) → ((x : T) → P x → Q x) → IfOk r P → IfOk r Q
+if_ok (Ok x) changes p = changes x p
+if_ok (Err e) changes p = tt
+
+-- the lines were written, or the run ended there
+module _ {J : Type 0} (g : Ghosts J) (sources : Sources) (old new : State J) (heard later : Option (List Judged)) (before after : Option (List ℕ)) (taken : Bool) (names : List RecordName) where
+  pub planned : (r : Result Plan RunFault) → OffersAll g sources old new heard later (Ok taken) → names ≡ names_in_use old.book
+      → IfOk r (λ plan. (plan ≡ record { is_taken = taken && are_whole sources; leavers = count_by (is_switched_off (book_of new.book)) names }) × PlansRecords new.book before after)
+      → IfErr r IsUntold → Plans g sources old new heard later before after r
+  planned (Ok plan) offers are plans fault =
+      (taken, offers, plans.1, plans.0 ∙ ap (λ (xs : List RecordName). record { is_taken = taken && are_whole sources; leavers = count_by (is_switched_off (book_of new.book)) xs }) are)
+  planned (Err untold) offers are plans fault = inr (inl (taken, offers, fault))
 
 pub appends_more : (before middle after : Option (List ℕ)) (first second : List ℕ) → Appends before middle first → Appends middle after second → Appends before after (first ++ second)
 appends_more None middle after first second one two = tt

@@ -1,11 +1,12 @@
 //! A run that is looked at before it happens.
-ghost use Rattle.std.specs.Prelude.{◌≡◌, IfErr, IfOk, OnOk, Some};
+ghost use Rattle.std.specs.Prelude.{◌≡◌, ◌&&◌, IfErr, IfOk, OnOk, Some};
 ghost use Rattle.std.specs.Io.KnownBytes.{Appends};
 ghost use Rattle.std.specs.List.{count_by};
 ghost use Rattle.connector_core.specs.Maps.{book_of};
 ghost use Rattle.provisioning.specs.Leavers.{is_switched_off};
 ghost use Rattle.provisioning.specs.Plans.{Plans, PlansRecords, from_text, plan_line, plan_lines, planned_text, row_text};
 ghost use Rattle.provisioning.specs.Runs.{IsUntold};
+ghost use Rattle.provisioning.specs.Sources.{are_whole};
 
 use crate::faults::{RunFault, unwritten};
 use crate::leavers::{names_in_use, switched_off};
@@ -101,12 +102,7 @@ pub fn plan_push<J: Journal, T: Hear, W: Write>(
 {
     let names = names_in_use(connector)?;
     match offer_all(alloc, connector, sources, teller) {
-        Ok(is_taken) => write_planned(
-            connector,
-            names.as_slice(),
-            is_taken && sources.are_whole(),
-            out,
-        ),
+        Ok(is_taken) => write_planned(connector, names.as_slice(), is_taken, sources, out),
         Err(fault) => Err(fault),
     }
 }
@@ -116,17 +112,18 @@ fn write_planned<J: Journal, W: Write>(
     connector: &Connector<J>,
     names: &[RecordName],
     is_taken: bool,
+    sources: &Sources,
     out: &mut W,
 ) -> Result<Plan, RunFault>
     ensures plans { IfOk result (λ plan. (plan ≡ record {
-      is_taken = is_taken;
+      is_taken = is_taken && are_whole sources.now;
       leavers = count_by (is_switched_off (book_of connector.now.book)) names.now;
     }) × PlansRecords connector.now.book (W.contents out.old) (W.contents out.new)) }
     ensures fault { IfErr result IsUntold }
 {
     match write_plan(connector, out) {
         Ok(()) => Ok(Plan {
-            is_taken,
+            is_taken: is_taken && sources.are_whole(),
             leavers: switched_off(connector, names),
         }),
         Err(fault) => Err(fault),

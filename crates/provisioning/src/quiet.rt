@@ -1,9 +1,11 @@
 //! The lines of a quiet run: the records that aren't confirmed, and at the end how many there were of each.
 ghost use Rattle.std.specs.Prelude.{◌≡◌, ◌∷◌, [], None, OnOk, Some, min, ◌+◌, ◌-◌, ◌^◌};
 ghost use Rattle.std.specs.Io.KnownBytes.{Appends};
+ghost use Rattle.std.specs.List.{count_by};
+ghost use Rattle.std.specs.Result.{is_err};
 ghost use Rattle.provisioning.specs.Lines.{record_line, standing_text};
 ghost use Rattle.provisioning.specs.Offering.{Hears};
-ghost use Rattle.provisioning.specs.Quiet.{PrintsUnless, counts_line, counts_text, rejected_among, rejected_in, with_record, with_row};
+ghost use Rattle.provisioning.specs.Quiet.{PrintsUnless, counts_line, counts_text, rejected_in, with_record, with_row};
 ghost use Rattle.provisioning.specs.Runs.{Tells, is_confirmed};
 
 use crate::lines::Lines;
@@ -94,7 +96,7 @@ pub(crate) struct QuietLines<'a, W: Drop, E> {
 impl<'a, W: Write + Drop, E: Eprint> QuietLines<'a, W, E> {
     /// The lines of a run over these files. Their records that are no rows are rejected already.
     pub fn over(lines: Lines<'a, W, E>, sources: &Sources) -> QuietLines<'a, W, E>
-        ensures lines { result.lines ≡ lines }
+        ensures lines { result.lines ≡ lines.entry }
         ensures counts { result.counts ≡ record {
           confirmed = 0;
           unconfirmed = 0;
@@ -153,16 +155,22 @@ impl<'a, W: Write + Drop, E: Eprint> Tell for QuietLines<'a, W, E> {
 fn rejected_in(sources: &Sources) -> u64
     ensures { result ≡ rejected_in sources.now }
 {
-    let users = rejected_among(sources.users.records());
+    let users = rejected_among(sources.users.records()) as u64;
     match &sources.groups {
-        Some(groups) => users.saturating_add(rejected_among(groups.records())),
+        Some(groups) => users.saturating_add(rejected_among(groups.records()) as u64),
         None => users,
     }
 }
 
 /// How many of these records are no rows.
-fn rejected_among(records: &[Result<Row, RowFault>]) -> u64
-    ensures { result ≡ rejected_among records.now }
+fn rejected_among(records: &[Result<Row, RowFault>]) -> usize
+    ensures { result ≡ count_by is_err records.now }
 {
-    records.iter().filter(|record| record.is_err()).count() as u64
+    records.iter().filter(|record| is_rejected(record)).count()
+}
+
+fn is_rejected(found: &Result<Row, RowFault>) -> bool
+    ensures { result ≡ is_err found.now }
+{
+    found.is_err()
 }
