@@ -1,7 +1,6 @@
 -- What the commands do over the files that they open, and the exit status after that.
 use Rattle.std.specs.Prelude.{◌≡◌, ◌⊎◌, ⊤, ℕ, Bool, true, false, List, Option, Some, None, Result, Ok, Err, OnOk, codes}
 use denote.Ref.{Bor}
-use Rattle.std.specs.IoError.{error_kind}
 use Rattle.std.specs.declared.io.Error.{Error}
 use Rattle.clap.specs.Matches.{first_value}
 use Rattle.clap.specs.declared.parser.matches.Found.{Found}
@@ -27,9 +26,9 @@ use Rattle.provisioning.specs.declared.carrying.Outcome.{Outcome}
 use Rattle.provisioning.specs.declared.faults.RunFault.{RunFault}
 use Rattle.provisioning.specs.declared.sources.Sources.{Sources}
 use Rattle.provisioning.specs.declared.sources.UnreadFile.{UnreadFile}
-use Rattle.commands.specs.Addresses.{IsAddress, text_in}
+use Rattle.commands.specs.Addresses.{text_in}
 use Rattle.commands.specs.Causes.{concluded, source_part}
-use Rattle.commands.specs.Statuses.{journal_fault, pushed_status, shown_status, unless_memory, unread_fault}
+use Rattle.commands.specs.Statuses.{journal_fault, pushed_status, shown_status, unread_fault}
 use Rattle.commands.specs.Words.{wanted, wanted_base}
 use Rattle.commands.specs.declared.jobs.Job.{Job}
 use Rattle.commands.specs.declared.status.CommandFault.{CommandFault}
