@@ -1,6 +1,6 @@
 -- Entries that were read of a journal, and writes that aren't kept.
-use Rattle.std.proofs.Common.{◌≡◌, ◌+◌, ◌-◌, ◌^◌, ℕ, T, List, [], ◌∷◌, map, min, refl, sym, ap, subst, ◌∙◌, arith}
-use Rattle.std.specs.FinMap.{entries, entries_sorted, entries-from_sorted, is_sorted, same_entries_map}
+use Rattle.std.proofs.Common.{◌≡◌, ◌+◌, ◌-◌, ◌^◌, ℕ, T, List, [], ◌∷◌, map, min, refl, sym, subst, ◌∙◌, arith}
+use Rattle.std.specs.FinMap.{entries_sorted, entries-from_sorted, is_sorted, same_entries_map}
 use Rattle.std.specs.List.{AllZip}
 use Rattle.scim_key.specs.Records.{name_cmp}
 use Rattle.scim_key.specs.declared.records.RecordName.{RecordName}

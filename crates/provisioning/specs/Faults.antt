@@ -1,5 +1,5 @@
 -- Which faults are a record's, and which end a run.
-use Rattle.std.specs.Prelude.{◌≡◌, ◌⊎◌, Option, Some, Result, Ok, Err}
+use Rattle.std.specs.Prelude.{Option, Some, Result, Ok, Err}
 use Rattle.std.specs.IoError.{error_kind}
 use Rattle.std.specs.declared.io.Error.{Error}
 use Rattle.std.specs.declared.io.ErrorKind.{ErrorKind}
@@ -16,7 +16,7 @@ use Rattle.provider_core.specs.declared.registry.RegistryFault.TheVariants as re
 use Rattle.provisioning.specs.declared.faults.LoopFault.{LoopFault}
 use Rattle.provisioning.specs.declared.faults.LoopFault.TheVariants as loop
 use Rattle.provisioning.specs.declared.faults.RunFault.{RunFault}
-use Rattle.provisioning.specs.declared.faults.RunFault.TheVariants.{Connection, Journal, Untold, Memory}
+use Rattle.provisioning.specs.declared.faults.RunFault.TheVariants.{Connection, Journal, Memory}
 use Rattle.provisioning.specs.declared.faults.RecordFault.{RecordFault}
 use Rattle.provisioning.specs.declared.faults.RecordFault.TheVariants.{Unanswered, Unfit, Unversioned, Refused, NoSuchRecord}
 

@@ -1,5 +1,5 @@
 -- How many users a run would switch off.
-use Rattle.std.specs.Prelude.{◌≡◌, ◌&&◌, ◌≤◌, ℕ, Bool, false, not, List, filter, Option, Some, None, Result, Ok}
+use Rattle.std.specs.Prelude.{◌≡◌, ◌&&◌, ◌≤◌, ℕ, Bool, false, not, List, filter, Option, Some, None, Ok}
 use Rattle.std.specs.FinMap.{keys}
 use Rattle.std.specs.List.{count_by}
 use Rattle.scim_key.specs.Revisions.{no_revision, same_revision}
