@@ -227,7 +227,7 @@ class PrivateFilesTest(ProgramTest):
     def test_a_file_that_is_there_keeps_its_mode(self):
         self.site.write_users("bob,1,,,,,active")
         self.push("user bob confirmed 1")
-        for path in (self.site.store, self.site.journal):
+        for path in self.folder.iterdir():
             path.chmod(0o640)
         self.site.write_users("bob,2,,,,,left")
         self.assertEqual(self.push("user bob confirmed 2"), {0o640})

@@ -128,9 +128,10 @@ class SlowClientTest(ProgramTest):
 
     def test_a_system_without_descriptors(self):
         """It gives no connection for a while: that is reported once a second, and uses up few of the requests."""
-        with Provider(9, **limited_handles(24)) as provider:
+        silent_clients = 40
+        with Provider(silent_clients + 10, **limited_handles(24)) as provider:
             with contextlib.ExitStack() as silent:
-                for _ in range(40):
+                for _ in range(silent_clients):
                     silent.enter_context(provider.connect())
                 time.sleep(3)
             self.assert_prompt(provider, CREATE_BOB, b"201")
