@@ -6,7 +6,7 @@ import socket
 import struct
 import time
 
-from support import PATIENCE, SOURCE, TIME_LIMIT, USER, ProgramTest, read_all
+from support import PATIENCE, SOURCE, TIME_LIMIT, USER, ProgramTest, read_all, text
 
 LIST = "urn:ietf:params:scim:api:messages:2.0:ListResponse"
 # Seconds by which the end of an exchange may be noticed late
@@ -201,9 +201,12 @@ def asked(requests):
 
 
 class PeerTest(ProgramTest):
-    def meets(self, steps, *lines, status=0, errors=(), site=None, options=()):
-        """A push prints these lines when its exchanges have these answers: the requests that it sent."""
+    def meets(self, steps, *lines, status=0, errors=(), said=None, site=None, options=()):
+        """A push prints these lines when its exchanges have these answers: the requests that it sent. `said` is what it
+        says on standard error about the faults of records, if that is to be asserted."""
         with Peer(steps) as peer:
             run = (site or self.site).push(peer.address, *options)
             self.assert_prints(run, *lines, status=status, errors=errors)
+        if said is not None:
+            self.assertEqual(run.errors, text(*said))
         return peer.requests

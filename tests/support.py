@@ -361,8 +361,10 @@ def contents(path):
 
 
 def without_causes(errors):
-    """Standard error without the second lines of faults, which test_faults_told.py asserts."""
-    return re.sub(r"(?m)^((?:connection|file|journal|store) fault.*\n) .*\n", r"\1", errors)
+    """Standard error without the second lines of faults, which test_faults_told.py asserts, and without what a push
+    says of the faults of unconfirmed records, which test_explanations.py asserts."""
+    errors = re.sub(r"(?m)^((?:connection|file|journal|store) fault.*\n) .*\n", r"\1", errors)
+    return re.sub(r"(?m)^(?:user|group) .*: .*\n", "", errors)
 
 
 class ProgramTest(unittest.TestCase):

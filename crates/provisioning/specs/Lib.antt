@@ -1,5 +1,6 @@
 pub mod Carrying
 pub mod Exchanges
+pub mod Explanations
 pub mod Faults
 pub mod Lines
 pub mod Lists

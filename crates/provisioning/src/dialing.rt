@@ -3,6 +3,7 @@ ghost use Rattle.std.specs.Prelude.{◌∷◌, [], List, Option, None};
 ghost use Rattle.provisioning.specs.Lists.{Adds};
 ghost use Rattle.provisioning.specs.Openings.{Opening};
 
+use crate::explaining::Failed;
 use std::io;
 use std::io::{Read, Write};
 
@@ -22,4 +23,7 @@ pub trait Dial {
 
     /// Ends a stream after its exchange.
     fn end(&self, reader: Self::Reader, writer: Self::Writer);
+
+    /// Hears of the fault of an exchange, after its stream has ended. Whoever explains faults uses it.
+    fn explain(&self, _: &Failed<'_>) {}
 }

@@ -4,22 +4,25 @@ ghost use Rattle.provisioning.specs.Exchanges.{GivesBack, IsTaken, MakesExchange
 ghost use Rattle.provisioning.specs.Openings.{Opens};
 
 use crate::dialing::Dial;
+use crate::explaining::Failed;
 use crate::faults::{RecordFault, RunFault, open_fault, unanswered, unlearnt};
 use connector_core::Connector;
 use http_text::{Input, Output};
 use journal_core::Journal;
 use scim_client::{ExchangeFault, ScimService};
+use scim_key::RecordName;
 use scim_message::{Answer, Request};
 use std::alloc::Global;
 use std::io::{Read, Write};
 
-/// Opens a stream, sends a request on it, reads the answer, and learns from it. It returns the fault of the
-/// record, if there is one.
+/// Opens a stream, sends a request about this record on it, reads the answer, and learns from it. It returns
+/// the fault of the record, if there is one.
 pub(crate) fn exchange<J: Journal, D: Dial>(
     alloc: Global,
     service: &ScimService,
     connector: &mut Connector<J>,
     dial: &mut D,
+    name: &RecordName,
     request: &Request,
 ) -> Result<Option<RecordFault>, RunFault>
     ensures { Opens (D.opened dial.old) (D.opened dial.new) (λ opened. MakesExchange
@@ -32,7 +35,39 @@ pub(crate) fn exchange<J: Journal, D: Dial>(
     };
     let (came, input, output) = exchange_on(alloc, service, request, reader, writer);
     dial.end(input.into_inner(), output.into_inner());
-    take(connector, request, came)
+    let taken = take(connector, request, &came);
+    explain(alloc, connector, dial, name, &came, taken);
+    taken
+}
+
+/// Has the fault of an exchange explained, if it had one.
+fn explain<'x, J: Journal, D: Dial>(
+    alloc: Global,
+    connector: &'x Connector<J>,
+    dial: &D,
+    name: &'x RecordName,
+    came: &'x Result<Answer, ExchangeFault>,
+    taken: Result<Option<RecordFault>, RunFault>,
+) {
+    if let Ok(Some(fault)) = taken {
+        let failed = Failed {
+            alloc,
+            fault,
+            name,
+            answer: answer_in(came),
+            wanted: connector.wanted(name),
+            id: connector.id(name),
+        };
+        dial.explain(&failed);
+    }
+}
+
+/// The answer, if one came.
+fn answer_in(came: &Result<Answer, ExchangeFault>) -> Option<&Answer> {
+    match came {
+        Ok(answer) => Some(answer),
+        Err(_) => None,
+    }
 }
 
 /// Sends a request on a stream and reads its answer. It returns the stream too, with what was counted.
@@ -56,13 +91,13 @@ fn exchange_on<I: Read, O: Write>(
 fn take<J: Journal>(
     connector: &mut Connector<J>,
     request: &Request,
-    came: Result<Answer, ExchangeFault>,
+    came: &Result<Answer, ExchangeFault>,
 ) -> Result<Option<RecordFault>, RunFault>
-    ensures { IsTaken J.Journal request.now came connector.old connector.new result }
+    ensures { IsTaken J.Journal request.now came.now connector.old connector.new result }
 {
     match came {
-        Ok(answer) => learn(connector, request, &answer),
-        Err(fault) => unanswered(fault),
+        Ok(answer) => learn(connector, request, answer),
+        Err(fault) => unanswered(*fault),
     }
 }
 

@@ -8,17 +8,20 @@ use crate::lines::Lines;
 use crate::quiet::QuietLines;
 use crate::sockets::Remote;
 use crate::sources::Sources;
+use crate::watching::{Explained, Explaining};
 use connection::TimedHandle;
 use connector_core::Connector;
 use journal_core::Journal;
 use scim_client::ScimService;
 use std::alloc::Global;
+use std::cell::Cell;
 use std::io::{Eprint, Read, Write};
 use std::net::Net;
 use std::time::Clock;
 
 /// Runs the connector against the provider at an address, HOST:PORT. It prints a line for each record as
 /// soon as the record is done, and reports rows that the connector refuses, and older rows, on standard error.
+/// There it also says why the provider's answer about an unconfirmed record couldn't be used.
 pub fn push<'a, N: Net + Clock + Eprint, J: Journal, W: Write>(
     rt: &'a N,
     alloc: Global,
@@ -32,13 +35,29 @@ pub fn push<'a, N: Net + Clock + Eprint, J: Journal, W: Write>(
         ⟦<TimedHandle<'a, N::Stream, N> as Write>⟧.contents J.Journal service.now sources.now
         connector.old connector.new result }
 {
-    let mut remote = Remote {
+    let last = Cell::new(None);
+    let remote = Remote {
         alloc,
         runtime: rt,
         address,
     };
-    let mut lines = Lines { out, stderr: rt };
-    carry(alloc, service, connector, sources, &mut remote, &mut lines)
+    let mut explaining = Explaining {
+        dial: remote,
+        last: &last,
+    };
+    let mut lines = Explained {
+        teller: Lines { out, stderr: rt },
+        stderr: rt,
+        last: &last,
+    };
+    carry(
+        alloc,
+        service,
+        connector,
+        sources,
+        &mut explaining,
+        &mut lines,
+    )
 }
 
 /// The same, but it prints a line only for each record that isn't confirmed, and at the end how many records were
@@ -56,14 +75,30 @@ pub fn push_quietly<'a, N: Net + Clock + Eprint, J: Journal, W: Write>(
         ⟦<TimedHandle<'a, N::Stream, N> as Write>⟧.contents J.Journal service.now sources.now
         connector.old connector.new result }
 {
-    let mut remote = Remote {
+    let last = Cell::new(None);
+    let remote = Remote {
         alloc,
         runtime: rt,
         address,
     };
-    let mut lines = QuietLines::over(Lines { out, stderr: rt }, sources);
-    let carried = carry(alloc, service, connector, sources, &mut remote, &mut lines);
-    concluded(carried, &mut lines)
+    let mut explaining = Explaining {
+        dial: remote,
+        last: &last,
+    };
+    let mut lines = Explained {
+        teller: QuietLines::over(Lines { out, stderr: rt }, sources),
+        stderr: rt,
+        last: &last,
+    };
+    let carried = carry(
+        alloc,
+        service,
+        connector,
+        sources,
+        &mut explaining,
+        &mut lines,
+    );
+    concluded(carried, &mut lines.teller)
 }
 
 /// Prints the counts of a run that no fault ended.

@@ -1,5 +1,6 @@
 //! Streams to a provider in the same program: one thread asks and answers.
 use crate::dialing::Dial;
+use crate::explaining::Failed;
 use crate::sockets::Remote;
 use connection::{Listen, TimedHandle, serve_next};
 use provider_core::Provider;
@@ -104,4 +105,7 @@ impl<'r, 'p, 'b, N: Net + Clock, L: Listen + Drop, R: StoredRows> Dial
     fn end(&self, mut reader: Self::Reader, _: Self::Writer) {
         reader.be_served();
     }
+
+    /// Faults of a provider in this program aren't explained.
+    fn explain(&self, _: &Failed<'_>) {}
 }

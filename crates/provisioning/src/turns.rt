@@ -37,7 +37,9 @@ pub(crate) fn take_turn<J: Journal, D: Dial>(
     match connector.ask(name) {
         Ok(Ask::Nothing) => Ok(Turn::Resting(Standing::Confirmed(connector.confirmed(name)))),
         Ok(Ask::Waits(member)) => Ok(Turn::Resting(Standing::Waits(member))),
-        Ok(Ask::Send(request)) => exchanged(exchange(alloc, service, connector, dial, &request)),
+        Ok(Ask::Send(request)) => {
+            exchanged(exchange(alloc, service, connector, dial, name, &request))
+        },
         Err(AskFault::NoSuchRecord) => Ok(Turn::Resting(Standing::Unconfirmed(Some(
             RecordFault::NoSuchRecord,
         )))),

@@ -9,7 +9,7 @@ returns-in-Err g c = (Err c.in-Err.error ∷ [], c.in-Err.ensures, (Err c.in-Err
 
 pub returns : goal.returns
 returns g c =
-    let taken = c.take.ensures in (
+    let taken = c.take-taken.ensures in (
       Ok c.in-Ok.stream ∷ [],
       c.in-Ok.ensures,
       (

@@ -1,0 +1,119 @@
+//! Finds why an answer of a provider couldn't be used.
+use crate::explanations::{Explanation, Phrase};
+use crate::faults::RecordFault;
+use crate::printable::Excerpt;
+use scim_key::{RecordName, ResourceId, Revision};
+use scim_message::{Answer, ErrorResponse, ListResponse};
+use scim_resource::{Content, Shown};
+use std::alloc::{AllocError, Global};
+
+/// An exchange that had a fault, and what the connector knows about its record.
+#[derive(Clone, Copy)]
+pub struct Failed<'a> {
+    pub alloc: Global,
+    pub fault: RecordFault,
+    pub name: &'a RecordName,
+    /// The answer, if one came.
+    pub answer: Option<&'a Answer>,
+    /// The wanted revision.
+    pub wanted: Revision,
+    /// The id, if one is known.
+    pub id: Option<&'a ResourceId>,
+}
+
+/// Why the answer of an exchange couldn't be used. `None` if no answer came.
+pub(crate) fn explain(failed: &Failed<'_>) -> Result<Option<Explanation>, AllocError> {
+    match failed.fault {
+        RecordFault::Unfit => explain_unfit(failed),
+        RecordFault::Unversioned => phrase(Phrase::NoTag),
+        RecordFault::Refused => explain_refused(failed),
+        RecordFault::Unanswered(_) | RecordFault::NoSuchRecord => Ok(None),
+    }
+}
+
+fn phrase(phrase: Phrase) -> Result<Option<Explanation>, AllocError> {
+    Ok(Some(Explanation::Phrase(phrase)))
+}
+
+/// What a provider said when it refused.
+fn explain_refused(failed: &Failed<'_>) -> Result<Option<Explanation>, AllocError> {
+    match failed.answer {
+        Some(Answer::Error(error)) => Ok(Some(refused(failed.alloc, error)?)),
+        _ => Ok(None),
+    }
+}
+
+fn refused(alloc: Global, error: &ErrorResponse) -> Result<Explanation, AllocError> {
+    let detail = match error.detail() {
+        Some(detail) => Some(Excerpt::of(alloc, detail.as_bytes())?),
+        None => None,
+    };
+    Ok(Explanation::Refused {
+        status: error.status(),
+        detail,
+    })
+}
+
+/// Why an answer can't be about the record.
+fn explain_unfit(failed: &Failed<'_>) -> Result<Option<Explanation>, AllocError> {
+    match failed.answer {
+        Some(Answer::Created(shown) | Answer::Found(shown) | Answer::Replaced(shown)) => {
+            Ok(Some(unfit(failed, shown)?))
+        }
+        Some(Answer::List(list)) => Ok(Some(unfit_list(failed, list)?)),
+        _ => phrase(Phrase::OtherAnswer),
+    }
+}
+
+/// Why a list can't be about the record.
+fn unfit_list(failed: &Failed<'_>, list: &ListResponse) -> Result<Explanation, AllocError> {
+    match list.resources.as_slice() {
+        [only] if list.total == 1 => unfit(failed, only),
+        resources => Ok(Explanation::Found {
+            total: list.total,
+            listed: resources.len(),
+        }),
+    }
+}
+
+/// Why a resource can't be that of the record.
+fn unfit(failed: &Failed<'_>, shown: &Shown) -> Result<Explanation, AllocError> {
+    let content = shown.content();
+    if !is_named(failed.name, content) {
+        let name = content.spelled_name();
+        return Ok(Explanation::OtherName(Excerpt::of(failed.alloc, name.as_bytes())?));
+    }
+    match failed.id {
+        Some(known) if known.as_str() != shown.id().as_str() => {
+            other_id(failed.alloc, shown.id(), known)
+        }
+        _ => Ok(unfit_revision(failed.wanted, content.revision())),
+    }
+}
+
+/// Whether a content has the name of a record.
+fn is_named(name: &RecordName, content: &Content) -> bool {
+    name.kind == content.kind()
+        && name
+            .key
+            .as_str()
+            .eq_ignore_ascii_case(content.spelled_name())
+}
+
+fn other_id(
+    alloc: Global,
+    shown: &ResourceId,
+    known: &ResourceId,
+) -> Result<Explanation, AllocError> {
+    let shown = Excerpt::of(alloc, shown.as_str().as_bytes())?;
+    let known = Excerpt::of(alloc, known.as_str().as_bytes())?;
+    Ok(Explanation::OtherId { shown, known })
+}
+
+/// Why a resource with this revision isn't the record's.
+fn unfit_revision(wanted: Revision, shown: Option<Revision>) -> Explanation {
+    match shown {
+        Some(shown) => Explanation::Above { shown, wanted },
+        None => Explanation::Phrase(Phrase::NoRevision),
+    }
+}

@@ -1,0 +1,97 @@
+//! Why an answer of a provider couldn't be used, in words.
+ghost use Rattle.std.specs.Prelude.{◌≡◌};
+ghost use Rattle.provisioning.specs.Explanations.{phrase_text};
+
+use crate::printable::Excerpt;
+use scim_key::Revision;
+use std::fmt;
+
+/// A fault that has no more to say than which it is.
+#[derive(Clone, Copy)]
+pub enum Phrase {
+    /// The resource has no revision of the source (C1).
+    NoRevision,
+    /// The answer is that to another request (C1).
+    OtherAnswer,
+    /// The resource has no entity tag (C2).
+    NoTag,
+}
+
+impl Phrase {
+    fn words(self) -> &'static str
+        ensures { result.now ≡ phrase_text self }
+    {
+        match self {
+            Phrase::NoRevision => "no revision of the source",
+            Phrase::OtherAnswer => "an answer to another request",
+            Phrase::NoTag => "no entity tag in meta.version",
+        }
+    }
+}
+
+/// Why an answer of the provider couldn't be used. Its text is printed on standard error.
+#[derive(Drop)]
+pub enum Explanation {
+    Phrase(Phrase),
+    /// The provider refused with this status (C4).
+    Refused {
+        status: u16,
+        detail: Option<Excerpt>,
+    },
+    /// The resource has another name (C1).
+    OtherName(Excerpt),
+    /// The resource has another id than the known one (C1).
+    OtherId {
+        shown: Excerpt,
+        known: Excerpt,
+    },
+    /// A search found so many resources, and lists so many (C1).
+    Found {
+        total: u64,
+        listed: usize,
+    },
+    /// The resource has a higher revision than the wanted one (C1).
+    Above {
+        shown: Revision,
+        wanted: Revision,
+    },
+}
+
+/// A refusal.
+#[derive(Clone, Copy)]
+struct Refused<'a> {
+    status: u16,
+    detail: &'a Option<Excerpt>,
+}
+
+impl<'a> fmt::Display for Refused<'a> {
+    fn fmt<W: fmt::Write>(&self, f: &mut fmt::Formatter<W>) -> fmt::Result {
+        match self.detail {
+            Some(detail) => write!(f, "{}, \"{detail}\"", self.status),
+            None => write!(f, "{}", self.status),
+        }
+    }
+}
+
+impl fmt::Display for Explanation {
+    fn fmt<W: fmt::Write>(&self, f: &mut fmt::Formatter<W>) -> fmt::Result {
+        match self {
+            Explanation::Phrase(phrase) => f.write_str(phrase.words()),
+            Explanation::Refused { status, detail } => {
+                let refused = Refused {
+                    status: *status,
+                    detail,
+                };
+                write!(f, "{refused}")
+            }
+            Explanation::OtherName(name) => write!(f, "another name, \"{name}\""),
+            Explanation::OtherId { shown, known } => {
+                write!(f, "another id, \"{shown}\" in place of \"{known}\"")
+            }
+            Explanation::Found { total, listed } => write!(f, "{total} found, {listed} listed"),
+            Explanation::Above { shown, wanted } => {
+                write!(f, "revision {shown} is above the wanted {wanted}")
+            }
+        }
+    }
+}

@@ -1,0 +1,73 @@
+//! Runs whose faults are explained.
+use crate::dialing::Dial;
+use crate::explaining::{Failed, explain};
+use crate::explanations::Explanation;
+use crate::offering::{Hear, Judged};
+use crate::records::{Pushed, Standing};
+use crate::telling::Tell;
+use journal_core::kind_word;
+use scim_key::RecordName;
+use std::cell::Cell;
+use std::io;
+use std::io::Eprint;
+
+/// Opens the streams of another, and keeps why the last answer couldn't be used.
+#[derive(Drop)]
+pub(crate) struct Explaining<'a, D: Drop> {
+    pub dial: D,
+    pub last: &'a Cell<Option<Explanation>>,
+}
+
+impl<'a, D: Dial + Drop> Dial for Explaining<'a, D> {
+    type Reader = D::Reader;
+
+    type Writer = D::Writer;
+
+    fn dial(&mut self) -> io::Result<(Self::Reader, Self::Writer)> {
+        self.dial.dial()
+    }
+
+    fn end(&self, reader: Self::Reader, writer: Self::Writer) {
+        self.dial.end(reader, writer);
+    }
+
+    /// Keeps what the fault was. If memory runs out, nothing is known about it.
+    fn explain(&self, failed: &Failed<'_>) {
+        self.last.set(explain(failed).unwrap_or_default());
+    }
+}
+
+/// Reports by another, and prints on standard error what the fault of an unconfirmed record was.
+#[derive(Drop)]
+pub(crate) struct Explained<'a, T: Drop, E> {
+    pub teller: T,
+    pub stderr: &'a E,
+    pub last: &'a Cell<Option<Explanation>>,
+}
+
+impl<'a, T: Hear + Drop, E: Eprint> Hear for Explained<'a, T, E> {
+    ghost heard = { λ it. T.heard it.teller };
+
+    fn hear(&mut self, judged: Judged) -> io::Result<()> {
+        self.teller.hear(judged)
+    }
+}
+
+impl<'a, T: Tell + Drop, E: Eprint> Tell for Explained<'a, T, E> {
+    ghost told = { λ it. T.told it.teller };
+
+    fn tell(&mut self, name: &RecordName, pushed: &Pushed) -> io::Result<()> {
+        let told = self.teller.tell(name, pushed);
+        let last = self.last.replace(None);
+        if let (Standing::Unconfirmed(Some(_)), Some(explanation)) = (&pushed.standing, &last) {
+            report(self.stderr, name, explanation);
+        }
+        told
+    }
+}
+
+/// Prints what the fault of a record was.
+fn report<E: Eprint>(stderr: &E, name: &RecordName, explanation: &Explanation) {
+    let (kind, key) = (kind_word(name.kind), name.key.as_str());
+    let _ = eprintln!(stderr; "{kind} {key}: {explanation}");
+}
