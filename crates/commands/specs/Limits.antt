@@ -1,5 +1,5 @@
 -- A push that may switch off only so many users.
-use Rattle.std.specs.Prelude.{◌≡◌, ◌⊎◌, ◌<◌, ◌≤◌, ℕ, Bool, true, false, List, Option, Some, None, Result, Ok, Err, nat_lt}
+use Rattle.std.specs.Prelude.{◌≡◌, ◌⊎◌, ◌<◌, ◌≤◌, ℕ, Bool, false, List, Option, Some, None, Result, Ok, Err, nat_lt}
 use Rattle.std.specs.declared.io.Error.{Error}
 use Rattle.journal_core.specs.Calls.{Reads}
 use Rattle.journal_core.specs.Entries.{EntryMap}
@@ -28,12 +28,14 @@ NoFewer old new fault = old ≤ new
 -- ---- the files
 
 -- the files of a job were read, and this many users are switched off by them
-pub record IsCounted {J : Type 0} (g : Journals J) (h : Journals DryJournal) (job : Job) (old new : J) (sources : Sources) (count : ℕ) : Type 0 where
+pub record IsCounted {J : Type 0} (g : Journals J) (h : Journals DryJournal) (job : Job) (old new : J)
+    (sources : Sources) (count : ℕ) : Type 0 where
   pub read : ReadsFiles job (Ok sources)
   pub counted : CountsOver g h sources old new count
 
 -- these are the sources if they switch off no more users than this; otherwise there are none
-abbrev pub Approves : {J : Type 0} → Journals J → Journals DryJournal → Job → (most : ℕ) → (old new : J) → Option Sources → Type 0
+abbrev pub Approves : {J : Type 0} → Journals J → Journals DryJournal → Job → (most : ℕ) → (old new : J)
+    → Option Sources → Type 0
 Approves g h job most old new (Some sources) = (count : ℕ) × IsCounted g h job old new sources count × (count ≤ most)
 Approves g h job most old new None =
     (sources : Sources) × (count : ℕ) × IsCounted g h job old new sources count × (most < count)
@@ -49,8 +51,8 @@ pub record IsOver {J : Type 0} (g : Journals J) (first : J) (start : State J) : 
 
 module _ {I O J L : Type 0} (remaining : I → Option (List ℕ)) (contents : O → Option (List ℕ)) (g : Journals J) where
   -- the records of these sources were carried by this connector, and its journal was closed
-  abbrev pub PushesSources : (is_closed : J → L → Type 0) → (quiet : Bool) → (base : List ℕ) → Sources → (start : State J)
-      → Result Status CommandFault → Type 0
+  abbrev pub PushesSources : (is_closed : J → L → Type 0) → (quiet : Bool) → (base : List ℕ) → Sources
+      → (start : State J) → Result Status CommandFault → Type 0
   PushesSources is_closed quiet base sources start ended =
       (end : State J) × (left : L) × PushesKnown remaining contents g quiet base sources start end ended
       × is_closed end.journal left
@@ -63,11 +65,12 @@ module _ {I O J L : Type 0} (remaining : I → Option (List ℕ)) (contents : O 
       ⊎ ((why : CommandFault) × (ended ≡ Err why))
 
   -- the files switch off no more users than this, and their records were carried from the journal that was opened
-  abbrev pub IsCarried : (h : Journals DryJournal) → (finds : EntryMap → Type 0) → (is_closed : J → L → Type 0) → (quiet : Bool)
-      → Job → (most : ℕ) → Result Status CommandFault → Type 0
+  abbrev pub IsCarried : (h : Journals DryJournal) → (finds : EntryMap → Type 0) → (is_closed : J → L → Type 0)
+      → (quiet : Bool) → Job → (most : ℕ) → Result Status CommandFault → Type 0
   IsCarried h finds is_closed quiet job most ended =
       (first between : J) × (sources : Sources) × IsOpenedAt g finds first × IsOpenedAt g finds between
-      × Approves g h job most first between (Some sources) × PushesEntries is_closed quiet job.service sources between ended
+      × Approves g h job most first between (Some sources)
+      × PushesEntries is_closed quiet job.service sources between ended
 
   -- the files switch off more users than this: the journal was only read, and closed
   abbrev pub IsStopped : (h : Journals DryJournal) → (finds : EntryMap → Type 0) → (is_closed : J → L → Type 0) → Job

@@ -24,7 +24,8 @@ GivesMost text value (Err why) = (why ≡ fault.MostLeavers) × ((most : ℕ) �
 pub record IsManner (found : Found) (manner : Manner) : Type 0 where
   pub planned : manner.is_planned ≡ is_set (one_text found (codes "plan"))
   pub quiet : manner.is_quiet ≡ is_set (one_text found (codes "quiet"))
-  pub most : GivesMost (one_text found (codes "most-leavers")) (first_value found (codes "most-leavers")) (Ok manner.most_leavers)
+  pub most : GivesMost (one_text found (codes "most-leavers")) (first_value found (codes "most-leavers"))
+      (Ok manner.most_leavers)
 
 -- that; or the number isn't within its limits
 abbrev pub GivesManner : Found → Result Manner CommandFault → Type 0

@@ -154,6 +154,6 @@ module _ {I O J : Type 0} (remaining : I → Option (List ℕ)) (contents : O �
       ⊎ ((why : CommandFault) × (ended ≡ Err why) × (new ≡ old))
 
   -- from a journal that was opened for it, and closed
-  abbrev pub PushesOver : {L : Type 0} → (finds : EntryMap → Type 0) → (is_closed : J → L → Type 0) → (quiet : Bool) → Job
-      → Result Status CommandFault → Type 0
+  abbrev pub PushesOver : {L : Type 0} → (finds : EntryMap → Type 0) → (is_closed : J → L → Type 0) → (quiet : Bool)
+      → Job → Result Status CommandFault → Type 0
   PushesOver finds is_closed quiet job ended = RunsOver g finds is_closed (PushesFrom quiet job) ended

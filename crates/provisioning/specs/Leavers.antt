@@ -38,7 +38,8 @@ names_in_use book = filter (is_in_use (book_of book)) (keys book)
 
 -- the wanted row says that the user left, and its revision isn't confirmed
 abbrev pub is_switched_off : Book → RecordName → Bool
-is_switched_off book name = has_left (wanted_row book name) && not (same_revision (wanted_of book name) (confirmed_of book name))
+is_switched_off book name = has_left (wanted_row book name)
+    && not (same_revision (wanted_of book name) (confirmed_of book name))
 
 -- how many users a run switches off that starts with one book, and has the other after the rows of its files
 abbrev pub leavers : (before after : BookMap) → ℕ
@@ -69,7 +70,8 @@ pub record CountsDry (g : Ghosts DryJournal) (sources : Sources) (dry : DryJourn
   pub counts : CountsIn g sources start end count
 
 -- the same for a connector over the entries of a journal that was read
-pub record CountsOver {J : Type 0} (g : Ghosts J) (h : Ghosts DryJournal) (sources : Sources) (old new : J) (count : ℕ) : Type 0 where
+pub record CountsOver {J : Type 0} (g : Ghosts J) (h : Ghosts DryJournal) (sources : Sources) (old new : J)
+    (count : ℕ) : Type 0 where
   pub dry : DryJournal
   pub shows : g.is_faithful new → Shows (g.entries old) dry
   pub counts : CountsDry h sources dry count

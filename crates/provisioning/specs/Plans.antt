@@ -29,7 +29,8 @@ use Rattle.provisioning.specs.declared.sources.Sources.{Sources}
 
 -- from where the record is changed
 abbrev pub from_text : RevisionValue → List ℕ
-from_text confirmed = if same_revision confirmed no_revision then codes "new" else revision_text confirmed ++ codes " to"
+from_text confirmed =
+    if same_revision confirmed no_revision then codes "new" else revision_text confirmed ++ codes " to"
 
 -- what the row says of its record
 abbrev pub row_text : Row → List ℕ
@@ -63,8 +64,8 @@ pub record PlansRecords (book : BookMap) (before after : Option (List ℕ)) : Ty
 
 -- The rows were offered as in a push, and a line was written for each record that they left unconfirmed; or the rows,
 -- or a line that can't be written, ended the run, or memory ran out before it
-abbrev pub Plans : {J : Type 0} → Ghosts J → Sources → (old new : State J) → (heard later : Option (List Judged))
-    → (before after : Option (List ℕ)) → Result Plan RunFault → Type 0
+abbrev pub Plans : {J : Type 0} → Ghosts J → Sources → (old new : State J)
+    → (heard later : Option (List Judged)) → (before after : Option (List ℕ)) → Result Plan RunFault → Type 0
 Plans g sources old new heard later before after (Ok plan) =
     (taken : Bool) × OffersAll g sources old new heard later (Ok taken) × PlansRecords new.book before after
     × (plan ≡ record { is_taken = taken && are_whole sources; leavers = leavers old.book new.book })

@@ -74,8 +74,8 @@ Concludes (Ok outcome) (Err fault) = IsUntold fault
 Concludes (Err cause) result = result ≡ Err cause
 
 -- a run, and its counts
-abbrev pub CarriesQuietly : {I O J : Type 0} → (I → Option (List ℕ)) → (O → Option (List ℕ)) → Ghosts J → List ℕ → Sources
-    → (old new : State J) → Result Outcome RunFault → Type 0
+abbrev pub CarriesQuietly : {I O J : Type 0} → (I → Option (List ℕ)) → (O → Option (List ℕ)) → Ghosts J → List ℕ
+    → Sources → (old new : State J) → Result Outcome RunFault → Type 0
 CarriesQuietly remaining contents g base sources old new result =
     (carried : Result Outcome RunFault) × CarriesSilently remaining contents g base sources old new carried
     × Concludes carried result
