@@ -98,13 +98,14 @@ pub fn push_quietly<'a, N: Net + Clock + Eprint, J: Journal, W: Write>(
         &mut explaining,
         &mut lines,
     );
-    concluded(carried, &mut lines.teller)
+    let Explained { teller, .. } = lines;
+    concluded(carried, teller)
 }
 
 /// Prints the counts of a run that no fault ended.
 fn concluded<W: Write + Drop, E: Eprint>(
     carried: Result<Outcome, RunFault>,
-    lines: &mut QuietLines<'_, W, E>,
+    mut lines: QuietLines<'_, W, E>,
 ) -> Result<Outcome, RunFault>
     ensures { Concludes carried result }
 {
