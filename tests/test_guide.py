@@ -108,7 +108,7 @@ class GuideTest(ProgramTest):
                 self.assertIn(theirs, command)
                 command = command.replace(theirs, str(ours))
             mail = subprocess.run(["sh", "-c", command], capture_output=True, text=True, check=False)
-            said = "user bob unconfirmed C1\nuser bob: no revision of the source\n"
+            said = "user bob unconfirmed C1\n4 confirmed, 1 unconfirmed, 0 rejected\nuser bob: no revision of the source\n"
             self.assertEqual(mail.stdout + mail.stderr, said)
 
     def test_revisions_from_dates_and_times(self):

@@ -14,16 +14,23 @@ use Rattle.connection.specs.declared.serving.ConnectionFault.{ConnectionFault}
 use Rattle.storage.specs.Serving.{ServesFrom}
 use Rattle.commands.specs.Listening.{ServesEmpty, ServesRows}
 use Rattle.commands.specs.Statuses.{outcome_status}
-use Rattle.commands.specs.Running.{IsJob, IsPushed, PushesOver}
+use Rattle.commands.specs.Running.{IsJob}
 use Rattle.commands.specs.Looping.{IsLooped, LoopsWith}
 use Rattle.commands.specs.declared.jobs.Job.{Job}
 use Rattle.commands.specs.declared.status.CommandFault.{CommandFault}
 use Rattle.commands.specs.declared.status.Status.{Status}
 
-module _ {I O J L : Type 0} (remaining : I → Option (List ℕ)) (contents : O → Option (List ℕ)) (g : Ghosts J) (finds : EntryMap → Type 0) (is_closed : J → L → Type 0) (job : Job) where
-  pub named : (found : Found) (ended : Result Status CommandFault) → IsJob found job → PushesOver remaining contents g finds is_closed job ended → IfOk ended (IsPushed remaining contents g finds is_closed found)
-  named found (Ok status) is pushes = (job, is, pushes)
-  named found (Err why) is pushes = tt
+module _ (found : Found) (job : Job) (is : IsJob found job) where
+  -- what was done is of the job that the arguments name
+  pub named : (done : Job → Result Status CommandFault → Type 0) (ended : Result Status CommandFault) → done job ended
+      → IfOk ended (λ status. (it : Job) × IsJob found it × done it (Ok status))
+  named done (Ok status) runs = (job, is, runs)
+  named done (Err why) runs = tt
+
+  pub named_ok : (done : Job → Status → Type 0) (ended : Result Status CommandFault) → IfOk ended (done job)
+      → IfOk ended (λ status. (it : Job) × IsJob found it × done it status)
+  named_ok done (Ok status) runs = (job, is, runs)
+  named_ok done (Err why) runs = tt
 
 module _ {I K O R L F S J M H E : Type 0} (remaining : I → Option (List ℕ)) (memory_remaining : K → Option (List ℕ)) (contents : O → Option (List ℕ)) (rows : Registries R) (finds : F → List StoredRecord → Type 0) (is_closed : R → L → Type 0) (memory_rows : Registries S) (g : Ghosts J) (holds : H → EntryMap → Type 0) (is_left : J → E → Type 0) (memory : Ghosts M) where
   pub looped : (found : Found) (job : Job) (store : Option (Bor F)) (journal : Option (Bor H)) (ended : Result Status CommandFault) → IsJob found job

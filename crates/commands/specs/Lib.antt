@@ -9,3 +9,6 @@ pub mod Running
 pub mod Looping
 pub mod Listening
 pub mod Simulations
+pub mod Manners
+pub mod Limits
+pub mod Planning

@@ -1,5 +1,5 @@
 -- What the commands do over the files that they open, and the exit status after that.
-use Rattle.std.specs.Prelude.{◌≡◌, ◌⊎◌, ⊤, ℕ, List, Option, Some, None, Result, Ok, Err, OnOk, codes}
+use Rattle.std.specs.Prelude.{◌≡◌, ◌⊎◌, ⊤, ℕ, Bool, true, false, List, Option, Some, None, Result, Ok, Err, OnOk, codes}
 use denote.Ref.{Bor}
 use Rattle.std.specs.declared.io.Error.{Error}
 use Rattle.clap.specs.Matches.{first_value}
@@ -20,6 +20,7 @@ use Rattle.storage.specs.StoreShowing.{ShowsFrom as ShowsRows}
 use Rattle.storage.specs.declared.show_fault.ShowFault.{ShowFault}
 use Rattle.provisioning.specs.Carrying.{CarriesSilently}
 use Rattle.provisioning.specs.Faults.{unopened}
+use Rattle.provisioning.specs.Quiet.{CarriesQuietly}
 use Rattle.provisioning.specs.Sources.{ReadsSources}
 use Rattle.provisioning.specs.declared.carrying.Outcome.{Outcome}
 use Rattle.provisioning.specs.declared.faults.RunFault.{RunFault}
@@ -125,33 +126,34 @@ RunsOver {J} {L} g finds is_closed runs ended =
 -- ---- `push`
 
 module _ {I O J : Type 0} (remaining : I → Option (List ℕ)) (contents : O → Option (List ℕ)) (g : Journals J) where
+  -- the records of these sources were carried, and reported in this way
+  abbrev pub CarriesAs : (quiet : Bool) → (base : List ℕ) → Sources → (old new : State J) → Result Outcome RunFault
+      → Type 0
+  CarriesAs true base sources old new carried = CarriesQuietly remaining contents g base sources old new carried
+  CarriesAs false base sources old new carried = CarriesSilently remaining contents g base sources old new carried
+
   -- The records of these sources were carried; the status is that of this run, or its fault with the system's error
-  abbrev pub Pushes : (base : List ℕ) → Sources → (old new : State J) → (last : Option Error)
+  abbrev pub Pushes : (quiet : Bool) → (base : List ℕ) → Sources → (old new : State J) → (last : Option Error)
       → Result Status CommandFault → Type 0
-  Pushes base sources old new last ended =
-      (carried : Result Outcome RunFault) × CarriesSilently remaining contents g base sources old new carried
+  Pushes quiet base sources old new last ended =
+      (carried : Result Outcome RunFault) × CarriesAs quiet base sources old new carried
       × (ended ≡ concluded last (pushed_status carried))
+
+  -- the same; or memory ran out, and the connector is as it was
+  abbrev pub PushesKnown : (quiet : Bool) → (base : List ℕ) → Sources → (old new : State J)
+      → Result Status CommandFault → Type 0
+  PushesKnown quiet base sources old new ended =
+      ((last : Option Error) × Pushes quiet base sources old new last ended)
+      ⊎ ((why : CommandFault) × (ended ≡ Err why) × (new ≡ old))
 
   -- The files of a job were read, and their records carried; or a file couldn't be read, or memory ran out, and the
   -- connector is as it was
-  abbrev pub PushesFrom : Job → (old new : State J) → Result Status CommandFault → Type 0
-  PushesFrom job old new ended =
-      ((sources : Sources) × (last : Option Error) × ReadsFiles job (Ok sources)
-      × Pushes job.service sources old new last ended)
+  abbrev pub PushesFrom : (quiet : Bool) → Job → (old new : State J) → Result Status CommandFault → Type 0
+  PushesFrom quiet job old new ended =
+      ((sources : Sources) × ReadsFiles job (Ok sources) × PushesKnown quiet job.service sources old new ended)
       ⊎ ((why : CommandFault) × (ended ≡ Err why) × (new ≡ old))
 
   -- from a journal that was opened for it, and closed
-  abbrev pub PushesOver : {L : Type 0} → (finds : EntryMap → Type 0) → (is_closed : J → L → Type 0) → Job
-      → Result Status CommandFault → Type 0
-  PushesOver finds is_closed job ended = RunsOver g finds is_closed (PushesFrom job) ended
-
-  -- the same of what the arguments name
-  abbrev pub IsPushed : {L : Type 0} → (finds : EntryMap → Type 0) → (is_closed : J → L → Type 0) → Found → Status
-      → Type 0
-  IsPushed finds is_closed found status = (job : Job) × IsJob found job × PushesOver finds is_closed job (Ok status)
-
-  -- the same from the journal that was named
-  abbrev pub IsPushedTo : {L H : Type 0} → (finds : H → EntryMap → Type 0) → (is_closed : J → L → Type 0) → Found
-      → Option (Bor H) → Status → Type 0
-  IsPushedTo finds is_closed found (Some journal) status = IsPushed (finds journal.now) is_closed found status
-  IsPushedTo finds is_closed found None status = ⊥
+  abbrev pub PushesOver : {L : Type 0} → (finds : EntryMap → Type 0) → (is_closed : J → L → Type 0) → (quiet : Bool)
+      → Job → Result Status CommandFault → Type 0
+  PushesOver finds is_closed quiet job ended = RunsOver g finds is_closed (PushesFrom quiet job) ended

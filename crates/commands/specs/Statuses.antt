@@ -34,6 +34,8 @@ use Rattle.world_sim.specs.declared.views.View.{View}
 use Rattle.connection.specs.declared.answering.Served.{Served}
 use Rattle.connection.specs.declared.answering.Served.TheVariants.{Answered, NoRequest, Lost}
 use Rattle.connection.specs.declared.serving.ConnectionFault.{ConnectionFault}
+use Rattle.storage.specs.declared.looking.LookFault.{LookFault}
+use Rattle.storage.specs.declared.looking.LookFault.TheVariants as look
 use Rattle.storage.specs.declared.show_fault.ShowFault.{ShowFault}
 use Rattle.storage.specs.declared.show_fault.ShowFault.TheVariants as show
 use Rattle.provisioning.specs.Carrying.{is_done}
@@ -62,6 +64,7 @@ fault_status fault.Base = Usage
 fault_status fault.Listen = Usage
 fault_status fault.To = Usage
 fault_status fault.Requests = Usage
+fault_status fault.MostLeavers = Usage
 fault_status fault.Show = Usage
 fault_status (fault.Events why) = Usage
 fault_status (fault.Users source.Header) = Refused
@@ -71,6 +74,7 @@ fault_status (fault.Schedule schedule.Memory) = Fault
 fault_status fault.Store = Fault
 fault_status (fault.StoreFile why) = Fault
 fault_status (fault.JournalFile why) = Fault
+fault_status fault.OlderJournal = Fault
 fault_status fault.File = Fault
 fault_status (fault.Unread part error) = Fault
 fault_status (fault.Output error) = Fault
@@ -122,6 +126,11 @@ store_fault why = fault.StoreFile why
 abbrev pub journal_fault : JournalOpenFault → CommandFault
 journal_fault journal.Memory = fault.Memory
 journal_fault why = fault.JournalFile why
+
+-- the fault of a journal that couldn't be looked at
+abbrev pub look_fault : LookFault → CommandFault
+look_fault look.Older = fault.OlderJournal
+look_fault (look.Refused why) = journal_fault why
 
 -- the fault of rows or entries that couldn't be shown whole
 abbrev pub show_fault : ShowFault → CommandFault

@@ -1,52 +1,80 @@
 //! `push`: the connector against the provider at an address.
-ghost use Rattle.std.specs.Prelude.{IfOk};
+ghost use Rattle.std.specs.Prelude.{IfOk, true, false};
 ghost use Rattle.clap.specs.Matches.{found_of};
-ghost use Rattle.commands.specs.Running.{GivesConnector, IsPushed, IsPushedTo, Pushes, PushesFrom, PushesOver};
+ghost use Rattle.commands.specs.Planning.{IsPlanned, IsPushed, IsPushedAt};
+ghost use Rattle.commands.specs.Running.{GivesConnector, Pushes, PushesFrom, PushesKnown, PushesOver};
 
 use crate::endings::pushed_status;
 use crate::jobs::Job;
+use crate::limiting::push_within;
+use crate::manners::Manner;
 use crate::output::{NotedWriter, standard_output};
+use crate::planning::plan_over;
 use crate::status::{CommandFault, Status};
 use crate::words::to;
 use clap::ArgMatches;
 use connection::TimedHandle;
 use connector_core::Connector;
 use journal_core::Journal;
-use provisioning::{RunFault, Sources};
+use provisioning::{DryJournal, RunFault, Sources, push_quietly};
 use std::alloc::Global;
 use std::io::{Read, Write};
 use std::net::Net;
 use std::rt::Runtime;
 use storage::{EntryStorage, StoredEntries};
 
-/// Opens the journal, carries the records of files to the provider at an address, and closes the journal. What
-/// was confirmed stays in the journal, however the run ends.
+/// What the arguments want: a plan of a push, or a push. It opens the journal, carries the records of files to the
+/// provider at an address, and closes the journal. What was confirmed stays in the journal, however the run ends.
 pub fn push<'a, R: Runtime + Net + AllocGlobal, J: EntryStorage>(
     rt: &'a R,
     words: &ArgMatches<'_>,
     journal: Option<&J>,
 ) -> Result<Status, CommandFault>
-    ensures { IfOk result (IsPushedTo ⟦<TimedHandle<'a, R::Stream, R> as Read>⟧.remaining
-        ⟦<TimedHandle<'a, R::Stream, R> as Write>⟧.contents J.Entries.Journal J.finds
-        J.Entries.is_closed (found_of words.now) journal.entry) }
+    ensures { IfOk result (IsPushedAt ⟦<TimedHandle<'a, R::Stream, R> as Read>⟧.remaining
+        ⟦<TimedHandle<'a, R::Stream, R> as Write>⟧.contents J.Entries.Journal
+        ⟦<DryJournal as Journal>⟧ J.finds J.Entries.is_closed (found_of words.now) journal.entry) }
 {
     let storage = journal.ok_or(CommandFault::File)?;
-    push_named(rt, words, storage)
+    let manner = Manner::of(words)?;
+    if manner.is_planned {
+        plan_named(rt, words, storage, manner.most_leavers)
+    } else {
+        push_named(rt, words, storage, manner)
+    }
 }
 
-/// Carries the records of the files that the arguments name to the address that they name.
+/// Prints the plan of a push of the files that the arguments name.
+fn plan_named<R: Runtime + AllocGlobal, J: EntryStorage>(
+    rt: &R,
+    words: &ArgMatches<'_>,
+    storage: &J,
+    most: Option<u32>,
+) -> Result<Status, CommandFault>
+    ensures { IfOk result (IsPlanned J.Entries.Journal ⟦<DryJournal as Journal>⟧
+        (J.finds storage.now) J.Entries.is_closed most (found_of words.now)) }
+{
+    let job = Job::of(rt.alloc(), words)?;
+    plan_over(rt, storage, &job, most)
+}
+
+/// Carries the records of the files that the arguments name to the provider that they name.
 fn push_named<'a, R: Runtime + Net + AllocGlobal, J: EntryStorage>(
     rt: &'a R,
     words: &ArgMatches<'_>,
     storage: &J,
+    manner: Manner,
 ) -> Result<Status, CommandFault>
     ensures { IfOk result (IsPushed ⟦<TimedHandle<'a, R::Stream, R> as Read>⟧.remaining
-        ⟦<TimedHandle<'a, R::Stream, R> as Write>⟧.contents J.Entries.Journal (J.finds storage.now)
-        J.Entries.is_closed (found_of words.now)) }
+        ⟦<TimedHandle<'a, R::Stream, R> as Write>⟧.contents J.Entries.Journal
+        ⟦<DryJournal as Journal>⟧ (J.finds storage.now) J.Entries.is_closed manner
+        (found_of words.now)) }
 {
     let to = to(words)?;
     let job = Job::of(rt.alloc(), words)?;
-    push_over(rt, storage, &job, to)
+    match manner.most_leavers {
+        Some(most) => push_within(rt, storage, &job, to, manner.is_quiet, most),
+        None => push_over(rt, storage, &job, to, manner.is_quiet),
+    }
 }
 
 /// Carries the records from a journal that it opens first, and closes.
@@ -55,13 +83,14 @@ pub fn push_over<'a, R: Runtime + Net + AllocGlobal, J: EntryStorage>(
     storage: &J,
     job: &Job<'_>,
     to: &str,
+    is_quiet: bool,
 ) -> Result<Status, CommandFault>
     ensures { PushesOver ⟦<TimedHandle<'a, R::Stream, R> as Read>⟧.remaining
         ⟦<TimedHandle<'a, R::Stream, R> as Write>⟧.contents J.Entries.Journal (J.finds storage.now)
-        J.Entries.is_closed job.now result }
+        J.Entries.is_closed is_quiet job.now result }
 {
     let mut connector = open_connector(rt.alloc(), storage)?;
-    let ended = push_from(rt, &mut connector, job, to);
+    let ended = push_from(rt, &mut connector, job, to, is_quiet);
     close(connector);
     ended
 }
@@ -95,14 +124,35 @@ fn push_from<'a, R: Runtime + Net + AllocGlobal, J: Journal>(
     connector: &mut Connector<J>,
     job: &Job<'_>,
     to: &str,
+    is_quiet: bool,
 ) -> Result<Status, CommandFault>
     ensures { PushesFrom ⟦<TimedHandle<'a, R::Stream, R> as Read>⟧.remaining
-        ⟦<TimedHandle<'a, R::Stream, R> as Write>⟧.contents J.Journal job.now connector.old
-        connector.new result }
+        ⟦<TimedHandle<'a, R::Stream, R> as Write>⟧.contents J.Journal is_quiet job.now
+        connector.old connector.new result }
 {
     let sources = job.read(rt)?;
+    push_known(rt, connector, job, &sources, to, is_quiet)
+}
+
+/// Carries the records of files.
+pub(crate) fn push_known<'a, R: Runtime + Net + AllocGlobal, J: Journal>(
+    rt: &'a R,
+    connector: &mut Connector<J>,
+    job: &Job<'_>,
+    sources: &Sources,
+    to: &str,
+    is_quiet: bool,
+) -> Result<Status, CommandFault>
+    ensures { PushesKnown ⟦<TimedHandle<'a, R::Stream, R> as Read>⟧.remaining
+        ⟦<TimedHandle<'a, R::Stream, R> as Write>⟧.contents J.Journal is_quiet job.now.service
+        sources.now connector.old connector.new result }
+{
     let mut out = standard_output(rt)?;
-    push_to(rt, connector, job, &sources, to, &mut out)
+    if is_quiet {
+        push_quietly_to(rt, connector, job, sources, to, &mut out)
+    } else {
+        push_to(rt, connector, job, sources, to, &mut out)
+    }
 }
 
 /// Carries the records of files, and prints a line for each.
@@ -115,9 +165,26 @@ fn push_to<'a, R: Runtime + Net + AllocGlobal, J: Journal, W: Write + Drop>(
     out: &mut NotedWriter<W>,
 ) -> Result<Status, CommandFault>
     ensures { Pushes ⟦<TimedHandle<'a, R::Stream, R> as Read>⟧.remaining
-        ⟦<TimedHandle<'a, R::Stream, R> as Write>⟧.contents J.Journal job.now.service sources.now
-        connector.old connector.new out.new.last result }
+        ⟦<TimedHandle<'a, R::Stream, R> as Write>⟧.contents J.Journal false job.now.service
+        sources.now connector.old connector.new out.new.last result }
 {
     let ended = provisioning::push(rt, rt.alloc(), &job.service, connector, sources, to, out);
     out.concluded(pushed_status(ended))
+}
+
+/// Carries the records of files, and prints a line for each that isn't confirmed, and the counts.
+fn push_quietly_to<'a, R: Runtime + Net + AllocGlobal, J: Journal, W: Write + Drop>(
+    rt: &'a R,
+    connector: &mut Connector<J>,
+    job: &Job<'_>,
+    sources: &Sources,
+    to: &str,
+    out: &mut NotedWriter<W>,
+) -> Result<Status, CommandFault>
+    ensures { Pushes ⟦<TimedHandle<'a, R::Stream, R> as Read>⟧.remaining
+        ⟦<TimedHandle<'a, R::Stream, R> as Write>⟧.contents J.Journal true job.now.service
+        sources.now connector.old connector.new out.new.last result }
+{
+    let carried = push_quietly(rt, rt.alloc(), &job.service, connector, sources, to, out);
+    out.concluded(pushed_status(carried))
 }

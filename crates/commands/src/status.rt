@@ -2,9 +2,10 @@
 ghost use Rattle.std.specs.Prelude.{◌≡◌};
 ghost use Rattle.std.specs.IoError.{error_kind};
 ghost use Rattle.commands.specs.Causes.{error_of, part_of, source_part};
-ghost use Rattle.commands.specs.Statuses.{fault_status, file_fault, journal_fault, lines_fault, loop_fault, schedule_fault, show_fault, status_code, store_fault, telling_fault, unless_memory, unread_fault, users_fault, words_fault, world_fault};
+ghost use Rattle.commands.specs.Statuses.{fault_status, file_fault, journal_fault, lines_fault, look_fault, loop_fault, schedule_fault, show_fault, status_code, store_fault, telling_fault, unless_memory, unread_fault, users_fault, words_fault, world_fault};
 ghost use Rattle.commands.specs.declared.status.CommandFault.TheVariants.{Memory, Output, Unopened};
 
+use crate::manners::MOST_LEAVERS;
 use crate::simulating::EventsFault;
 use crate::words::MOST_REQUESTS;
 use connection::ConnectionFault;
@@ -17,7 +18,7 @@ use std::alloc::{AllocError, AllocFailed};
 use std::io;
 use std::io::ErrorKind;
 use std::rt::Runtime;
-use storage::{DatabaseReason, ShowFault};
+use storage::{DatabaseReason, LookFault, ShowFault};
 use thiserror::Error;
 use world_sim::{ScheduleFault, TellingFault, WorldFault};
 
@@ -83,6 +84,8 @@ pub enum CommandFault {
     To,
     #[error("error: --requests is 1 to {most}", most = MOST_REQUESTS)]
     Requests,
+    #[error("error: --most-leavers is 0 to {most}", most = MOST_LEAVERS)]
+    MostLeavers,
     #[error("error: show takes one of --store FILE and --journal FILE")]
     Show,
     #[error("error: {0}")]
@@ -102,6 +105,9 @@ pub enum CommandFault {
     /// The file of a journal couldn't be opened, or failed.
     #[error("journal fault {0}")]
     JournalFile(journal_store::JournalOpenFault),
+    /// The journal is of an older format, which a plan doesn't carry over.
+    #[error("journal fault: it is of an older format, and --plan changes nothing")]
+    OlderJournal,
     /// No file is named, or a line couldn't be written.
     #[error("file fault")]
     File,
@@ -132,13 +138,15 @@ impl CommandFault {
         match self {
             CommandFault::Words | CommandFault::Subcommand => Status::Usage,
             CommandFault::Base | CommandFault::Listen | CommandFault::To => Status::Usage,
-            CommandFault::Requests | CommandFault::Show => Status::Usage,
+            CommandFault::Requests | CommandFault::MostLeavers => Status::Usage,
+            CommandFault::Show => Status::Usage,
             CommandFault::Events(_) => Status::Usage,
             CommandFault::Users(SourceFault::Header) => Status::Refused,
             CommandFault::Users(SourceFault::Memory) => Status::Fault,
             CommandFault::Schedule(ScheduleFault::Line(_)) => Status::Refused,
             CommandFault::Schedule(ScheduleFault::Memory) | CommandFault::Store => Status::Fault,
             CommandFault::StoreFile(_) | CommandFault::JournalFile(_) => Status::Fault,
+            CommandFault::OlderJournal => Status::Fault,
             CommandFault::File | CommandFault::Unread(_, _) => Status::Fault,
             CommandFault::Output(_) | CommandFault::Connection(_) => Status::Fault,
             CommandFault::Unopened(_) | CommandFault::Run(_) => Status::Fault,
@@ -341,6 +349,17 @@ impl From<journal_store::JournalOpenFault> for CommandFault {
             journal_store::JournalOpenFault::Store
             | journal_store::JournalOpenFault::Damaged
             | journal_store::JournalOpenFault::Newer => CommandFault::JournalFile(fault),
+        }
+    }
+}
+
+impl From<LookFault> for CommandFault {
+    ghost from_gives = { λ look fault. fault ≡ look_fault look };
+
+    fn from(fault: LookFault) -> CommandFault {
+        match fault {
+            LookFault::Older => CommandFault::OlderJournal,
+            LookFault::Refused(fault) => CommandFault::from(fault),
         }
     }
 }

@@ -10,3 +10,5 @@ mod TrackLemmas
 mod WindowLemmas
 mod HalfLemmas
 mod AbreastLemmas
+mod DryLemmas
+mod PlanLemmas

@@ -15,3 +15,7 @@ pub mod Tracks
 pub mod Windows
 pub mod Halves
 pub mod Abreast
+pub mod DryRuns
+pub mod Plans
+pub mod Leavers
+pub mod Quiet

@@ -68,6 +68,23 @@ fn report_older<E: Eprint>(stderr: &E, judged: &Judged) {
     }
 }
 
+/// Reports rows as `Lines` does. It prints nothing.
+#[derive(Clone, Copy)]
+pub struct RowReports<'a, E> {
+    pub stderr: &'a E,
+}
+
+impl<'a, E: Eprint> Hear for RowReports<'a, E> {
+    /// No contract says what standard error took.
+    ghost heard = { λ _. None };
+
+    fn hear(&mut self, judged: Judged) -> io::Result<()> {
+        report_refused(self.stderr, &judged);
+        report_older(self.stderr, &judged);
+        Ok(())
+    }
+}
+
 /// Prints a line for each record as soon as the record is done: `user bob confirmed 1`. It reports rows
 /// that the connector refuses, and older rows, on standard error.
 #[derive(Drop)]

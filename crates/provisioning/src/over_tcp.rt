@@ -1,9 +1,11 @@
 //! The connector against the provider at an address.
 ghost use Rattle.provisioning.specs.Carrying.{CarriesSilently};
+ghost use Rattle.provisioning.specs.Quiet.{CarriesQuietly, Concludes};
 
 use crate::carrying::{Outcome, carry};
-use crate::faults::RunFault;
+use crate::faults::{RunFault, unwritten};
 use crate::lines::Lines;
+use crate::quiet::QuietLines;
 use crate::sockets::Remote;
 use crate::sources::Sources;
 use crate::watching::{Explained, Explaining};
@@ -56,4 +58,62 @@ pub fn push<'a, N: Net + Clock + Eprint, J: Journal, W: Write>(
         &mut explaining,
         &mut lines,
     )
+}
+
+/// The same, but it prints a line only for each record that isn't confirmed, and at the end how many records were
+/// confirmed and unconfirmed, and how many rows were rejected.
+pub fn push_quietly<'a, N: Net + Clock + Eprint, J: Journal, W: Write>(
+    rt: &'a N,
+    alloc: Global,
+    service: &ScimService,
+    connector: &mut Connector<J>,
+    sources: &Sources,
+    address: &str,
+    out: &mut W,
+) -> Result<Outcome, RunFault>
+    ensures { CarriesQuietly ⟦<TimedHandle<'a, N::Stream, N> as Read>⟧.remaining
+        ⟦<TimedHandle<'a, N::Stream, N> as Write>⟧.contents J.Journal service.now sources.now
+        connector.old connector.new result }
+{
+    let last = Cell::new(None);
+    let remote = Remote {
+        alloc,
+        runtime: rt,
+        address,
+    };
+    let mut explaining = Explaining {
+        dial: remote,
+        last: &last,
+    };
+    let mut lines = Explained {
+        teller: QuietLines::over(Lines { out, stderr: rt }, sources),
+        stderr: rt,
+        last: &last,
+    };
+    let carried = carry(
+        alloc,
+        service,
+        connector,
+        sources,
+        &mut explaining,
+        &mut lines,
+    );
+    let Explained { teller, .. } = lines;
+    concluded(carried, teller)
+}
+
+/// Prints the counts of a run that no fault ended.
+fn concluded<W: Write + Drop, E: Eprint>(
+    carried: Result<Outcome, RunFault>,
+    mut lines: QuietLines<'_, W, E>,
+) -> Result<Outcome, RunFault>
+    ensures { Concludes carried result }
+{
+    match carried {
+        Ok(outcome) => match lines.conclude() {
+            Ok(()) => Ok(outcome),
+            Err(error) => Err(unwritten(error)),
+        },
+        Err(fault) => Err(fault),
+    }
 }

@@ -40,7 +40,7 @@ impl Tally {
 }
 
 /// Whether the wanted revision is confirmed.
-fn is_confirmed(standing: &Standing) -> bool
+pub(crate) fn is_confirmed(standing: &Standing) -> bool
     ensures { result ≡ is_confirmed standing.now }
 {
     match standing {

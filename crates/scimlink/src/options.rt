@@ -19,8 +19,19 @@ struct CommandText {
 struct OptionText {
     name: &'static str,
     value: Value,
-    is_required: bool,
+    rule: Rule,
     help: Help,
+}
+
+/// When an option may be left out.
+#[derive(Clone, Copy)]
+enum Rule {
+    Required,
+    Optional,
+    /// It is required unless this one is there.
+    Unless(&'static str),
+    /// It can't stand beside this one.
+    Without(&'static str),
 }
 
 /// What an option takes.
@@ -51,26 +62,26 @@ enum Help {
 const BASE: OptionText = OptionText {
     name: "base",
     value: Value::Base,
-    is_required: false,
+    rule: Rule::Optional,
     help: Help::Text("the base of the service: http://HOST/v2"),
 };
 
 const STORE: OptionText = OptionText {
     name: "store",
     value: Value::Text("FILE"),
-    is_required: false,
+    rule: Rule::Optional,
     help: Help::Text("the file of the provider's rows, made where it isn't there"),
 };
 
 const JOURNAL: OptionText = OptionText {
     name: "journal",
     value: Value::Text("FILE"),
-    is_required: false,
+    rule: Rule::Optional,
     help: Help::Text("the file of the connector's journal, made where it isn't there"),
 };
 
 const WANTED_JOURNAL: OptionText = OptionText {
-    is_required: true,
+    rule: Rule::Required,
     ..JOURNAL
 };
 
@@ -82,7 +93,7 @@ const JOURNAL_THERE: OptionText = OptionText {
 const USERS: OptionText = OptionText {
     name: "users",
     value: Value::Text("FILE"),
-    is_required: true,
+    rule: Rule::Required,
     help: Help::Text(
         "the file of users: login,revision,number,given,family,mail,status[,department]",
     ),
@@ -91,7 +102,7 @@ const USERS: OptionText = OptionText {
 const GROUPS: OptionText = OptionText {
     name: "groups",
     value: Value::Text("FILE"),
-    is_required: false,
+    rule: Rule::Optional,
     help: Help::Text("the file of groups: name,revision,members"),
 };
 
@@ -112,7 +123,7 @@ static COMMANDS: &[CommandText] = &[
         options: &[OptionText {
             name: "FILE",
             value: Value::Place,
-            is_required: true,
+            rule: Rule::Required,
             help: Help::Text(
                 "a users file: login,revision,number,given,family,mail,status[,department]",
             ),
@@ -128,10 +139,28 @@ static COMMANDS: &[CommandText] = &[
             OptionText {
                 name: "to",
                 value: Value::Text("HOST:PORT"),
-                is_required: true,
+                rule: Rule::Unless("plan"),
                 help: Help::Text("the provider's address"),
             },
             BASE,
+            OptionText {
+                name: "plan",
+                value: Value::Nothing,
+                rule: Rule::Optional,
+                help: Help::Text("prints what would be asked for, and does nothing"),
+            },
+            OptionText {
+                name: "most-leavers",
+                value: Value::Count,
+                rule: Rule::Optional,
+                help: Help::Text("does nothing if more users than this would be switched off"),
+            },
+            OptionText {
+                name: "quiet",
+                value: Value::Nothing,
+                rule: Rule::Without("plan"),
+                help: Help::Text("prints only records that aren't confirmed, and counts"),
+            },
         ],
     },
     CommandText {
@@ -146,7 +175,7 @@ static COMMANDS: &[CommandText] = &[
             OptionText {
                 name: "listen",
                 value: Value::Text("ADDR"),
-                is_required: true,
+                rule: Rule::Required,
                 help: Help::Text(
                     "the address to listen on: HOST:PORT, where port 0 takes a free one",
                 ),
@@ -154,7 +183,7 @@ static COMMANDS: &[CommandText] = &[
             OptionText {
                 name: "requests",
                 value: Value::Count,
-                is_required: true,
+                rule: Rule::Required,
                 help: Help::Text("how many connections to serve"),
             },
             BASE,
@@ -173,7 +202,7 @@ static COMMANDS: &[CommandText] = &[
             OptionText {
                 name: "FILE",
                 value: Value::Place,
-                is_required: false,
+                rule: Rule::Optional,
                 help: Help::Text(
                     "a schedule: an event a line, as `user bob,1,,,,,active`, `send user bob` or `deliver 1`",
                 ),
@@ -181,19 +210,19 @@ static COMMANDS: &[CommandText] = &[
             OptionText {
                 name: "seed",
                 value: Value::Seed,
-                is_required: false,
+                rule: Rule::Optional,
                 help: Help::Text("the seed of random events, in place of a schedule"),
             },
             OptionText {
                 name: "events",
                 value: Value::Count,
-                is_required: false,
+                rule: Rule::Optional,
                 help: Help::OfEvents,
             },
             OptionText {
                 name: "settle",
                 value: Value::Nothing,
-                is_required: false,
+                rule: Rule::Optional,
                 help: Help::Text(
                     "then exchanges in which nothing is lost, until every record is confirmed",
                 ),
@@ -234,16 +263,28 @@ fn command_of<'a>(
 ) -> Result<Command<'a>, AllocError> {
     let mut command = Command::new(alloc, text.name).about(text.about);
     for option in text.options {
-        command = command.arg(arg_of(alloc, *option, events_help))?;
+        command = command.arg(arg_of(alloc, *option, events_help)?)?;
     }
     Ok(command)
 }
 
-fn arg_of<'a>(alloc: Global, option: OptionText, events_help: &'a str) -> Arg<'a> {
-    let arg = Arg::new(alloc, option.name)
-        .help(help_of(option.help, events_help))
-        .required(option.is_required);
-    taking(arg, option)
+fn arg_of<'a>(
+    alloc: Global,
+    option: OptionText,
+    events_help: &'a str,
+) -> Result<Arg<'a>, AllocError> {
+    let arg = Arg::new(alloc, option.name).help(help_of(option.help, events_help));
+    ruled(taking(arg, option), option.rule)
+}
+
+/// The argument, with the rule of when it may be left out.
+fn ruled<'a>(arg: Arg<'a>, rule: Rule) -> Result<Arg<'a>, AllocError> {
+    match rule {
+        Rule::Required => Ok(arg.required(true)),
+        Rule::Optional => Ok(arg),
+        Rule::Unless(other) => arg.required_unless_present(other),
+        Rule::Without(other) => arg.conflicts_with(other),
+    }
 }
 
 fn help_of<'a>(help: Help, events_help: &'a str) -> &'a str {

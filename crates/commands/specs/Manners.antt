@@ -1,0 +1,34 @@
+-- How a push is carried out, by its arguments.
+use Rattle.std.specs.Prelude.{◌≡◌, ◌≤◌, ℕ, List, Option, Some, None, Result, Ok, Err, codes}
+use Rattle.clap.specs.Matches.{first_value, one_text}
+use Rattle.clap.specs.declared.parser.matches.Found.{Found}
+use Rattle.commands.specs.Simulating.{is_set}
+use Rattle.commands.specs.Words.{IsNumber, number_in}
+use Rattle.commands.specs.declared.manners.Manner.{Manner}
+use Rattle.commands.specs.declared.manners.TheConstants.{MOST_LEAVERS}
+use Rattle.commands.specs.declared.status.CommandFault.{CommandFault}
+use Rattle.commands.specs.declared.status.CommandFault.TheVariants as fault
+
+-- the text spells this number, which is within the limit
+abbrev pub IsMost : Option (List ℕ) → ℕ → Type 0
+IsMost None most = ⊥
+IsMost (Some text) most = IsNumber 32 text × (most ≡ number_in text) × (most ≤ MOST_LEAVERS)
+
+-- the number of `--most-leavers`, if it is there; or its text spells none that is within the limit
+abbrev pub GivesMost : (text value : Option (List ℕ)) → Result (Option ℕ) CommandFault → Type 0
+GivesMost text value (Ok (Some most)) = IsMost text most
+GivesMost text value (Ok None) = value ≡ None
+GivesMost text value (Err why) = (why ≡ fault.MostLeavers) × ((most : ℕ) → IsMost text most → ⊥)
+
+-- what these arguments want
+pub record IsManner (found : Found) (manner : Manner) : Type 0 where
+  pub planned : manner.is_planned ≡ is_set (one_text found (codes "plan"))
+  pub quiet : manner.is_quiet ≡ is_set (one_text found (codes "quiet"))
+  pub most : GivesMost (one_text found (codes "most-leavers")) (first_value found (codes "most-leavers"))
+      (Ok manner.most_leavers)
+
+-- that; or the number isn't within its limits
+abbrev pub GivesManner : Found → Result Manner CommandFault → Type 0
+GivesManner found (Ok manner) = IsManner found manner
+GivesManner found (Err why) =
+    GivesMost (one_text found (codes "most-leavers")) (first_value found (codes "most-leavers")) (Err why)

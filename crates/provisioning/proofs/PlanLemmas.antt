@@ -1,0 +1,48 @@
+-- One record more is planned, and the end of a plan.
+use Rattle.std.proofs.Common.{◌≡◌, ◌&&◌, Bool, Result, Ok, Err, IfOk, IfErr, inl, inr, ℕ, ◌+◌, ◌<◌, List, [], ◌∷◌, ◌++◌, Option, Some, None, length, take, get_or, sym, ap, subst, ◌∙◌, append-nil, append_assoc}
+use Rattle.std.proofs.lemmas.Grind.{flat_map-append}
+use Rattle.std.proofs.lemmas.List.{take_more}
+use Rattle.std.specs.Io.KnownBytes.{Appends}
+use Rattle.scim_key.specs.declared.records.RecordName.{RecordName}
+use Rattle.std.specs.List.{count_by}
+use Rattle.journal_core.specs.declared.journals.Journal.{Ghosts}
+use Rattle.connector_core.specs.Book.{Book}
+use Rattle.connector_core.specs.Maps.{book_of}
+use Rattle.connector_core.specs.State.{State}
+use Rattle.provisioning.specs.Leavers.{is_switched_off, names_in_use}
+use Rattle.provisioning.specs.Offering.{OffersAll}
+use Rattle.provisioning.specs.Plans.{Plans, PlansRecords, plan_line, plan_lines}
+use Rattle.provisioning.specs.Runs.{IsUntold}
+use Rattle.provisioning.specs.Sources.{are_whole}
+use Rattle.provisioning.specs.declared.faults.RunFault.{RunFault}
+use Rattle.provisioning.specs.declared.offering.Judged.{Judged}
+use Rattle.provisioning.specs.declared.planning.Plan.{Plan}
+use Rattle.provisioning.specs.declared.sources.Sources.{Sources}
+
+pub if_ok : {T F : Type 0} {P Q : T → Type 0} (r : Result T F) → ((x : T) → P x → Q x) → IfOk r P → IfOk r Q
+if_ok (Ok x) changes p = changes x p
+if_ok (Err e) changes p = tt
+
+-- the lines were written, or the run ended there
+module _ {J : Type 0} (g : Ghosts J) (sources : Sources) (old new : State J) (heard later : Option (List Judged)) (before after : Option (List ℕ)) (taken : Bool) (names : List RecordName) where
+  pub planned : (r : Result Plan RunFault) → OffersAll g sources old new heard later (Ok taken) → names ≡ names_in_use old.book
+      → IfOk r (λ plan. (plan ≡ record { is_taken = taken && are_whole sources; leavers = count_by (is_switched_off (book_of new.book)) names }) × PlansRecords new.book before after)
+      → IfErr r IsUntold → Plans g sources old new heard later before after r
+  planned (Ok plan) offers are plans fault =
+      (taken, offers, plans.1, plans.0 ∙ ap (λ (xs : List RecordName). record { is_taken = taken && are_whole sources; leavers = count_by (is_switched_off (book_of new.book)) xs }) are)
+  planned (Err untold) offers are plans fault = inr (inl (taken, offers, fault))
+
+pub appends_more : (before middle after : Option (List ℕ)) (first second : List ℕ) → Appends before middle first → Appends middle after second → Appends before after (first ++ second)
+appends_more None middle after first second one two = tt
+appends_more (Some o) None after first second one two = absurd one
+appends_more (Some o) (Some m) None first second one two = absurd two
+appends_more (Some o) (Some m) (Some n) first second one two = two ∙ ap (λ t. t ++ second) one ∙ append_assoc o first second
+
+pub one_more : (book : Book) (before middle now : Option (List ℕ)) (list : List RecordName) (n : ℕ) (name : RecordName)
+    → n < length list → name ≡ get_or list n name
+    → Appends before middle (plan_lines book (take n list)) → Appends middle now (plan_line book name) → Appends before now (plan_lines book (take (n + 1) list))
+one_more book before middle now list n name within is so_far written =
+    let more : take (n + 1) list ≡ take n list ++ name ∷ [] = take_more list n name within ∙ ap (λ e. take n list ++ e ∷ []) (sym is) in
+    let lines : plan_lines book (take (n + 1) list) ≡ plan_lines book (take n list) ++ plan_line book name =
+    ap (plan_lines book) more ∙ flat_map-append (plan_line book) (take n list) (name ∷ []) ∙ ap (λ l. plan_lines book (take n list) ++ l) (append-nil (plan_line book name)) in
+    subst (Appends before now) (sym lines) (appends_more before middle now (plan_lines book (take n list)) (plan_line book name) so_far written)
