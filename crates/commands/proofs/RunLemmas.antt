@@ -14,23 +14,14 @@ use Rattle.connection.specs.declared.serving.ConnectionFault.{ConnectionFault}
 use Rattle.storage.specs.Serving.{ServesFrom}
 use Rattle.commands.specs.Listening.{ServesEmpty, ServesRows}
 use Rattle.commands.specs.Statuses.{outcome_status}
+use Rattle.commands.specs.Planning.{IsPushed, PushesAs}
 use Rattle.commands.specs.Running.{IsJob}
 use Rattle.commands.specs.Looping.{IsLooped, LoopsWith}
+use Rattle.provisioning.specs.declared.dry_runs.DryJournal.{DryJournal}
 use Rattle.commands.specs.declared.jobs.Job.{Job}
+use Rattle.commands.specs.declared.manners.Manner.{Manner}
 use Rattle.commands.specs.declared.status.CommandFault.{CommandFault}
 use Rattle.commands.specs.declared.status.Status.{Status}
-
-module _ (found : Found) (job : Job) (is : IsJob found job) where
-  -- what was done is of the job that the arguments name
-  pub named : (done : Job → Result Status CommandFault → Type 0) (ended : Result Status CommandFault) → done job ended
-      → IfOk ended (λ status. (it : Job) × IsJob found it × done it (Ok status))
-  named done (Ok status) runs = (job, is, runs)
-  named done (Err why) runs = tt
-
-  pub named_ok : (done : Job → Status → Type 0) (ended : Result Status CommandFault) → IfOk ended (done job)
-      → IfOk ended (λ status. (it : Job) × IsJob found it × done it status)
-  named_ok done (Ok status) runs = (job, is, runs)
-  named_ok done (Err why) runs = tt
 
 module _ {I K O R L F S J M H E : Type 0} (remaining : I → Option (List ℕ)) (memory_remaining : K → Option (List ℕ)) (contents : O → Option (List ℕ)) (rows : Registries R) (finds : F → List StoredRecord → Type 0) (is_closed : R → L → Type 0) (memory_rows : Registries S) (g : Ghosts J) (holds : H → EntryMap → Type 0) (is_left : J → E → Type 0) (memory : Ghosts M) where
   pub looped : (found : Found) (job : Job) (store : Option (Bor F)) (journal : Option (Bor H)) (ended : Result Status CommandFault) → IsJob found job
@@ -49,3 +40,15 @@ module _ {L I O : Type 0} (waiting : L → Option (List (I × O))) (remaining : 
       → status ≡ outcome_status (result_and outcome finished) → ServesEmpty waiting remaining contents g base count status
   memory_served g base count before after outcome finished status served is =
       record { before = before; after = after; held = served.0; outcome = outcome; finished = finished; follows = served.1; serves = served.2; status_is = is }
+
+-- the records were carried as the arguments want it
+module _ {I O J L : Type 0} (remaining : I → Option (List ℕ)) (contents : O → Option (List ℕ)) (g : Ghosts J) (h : Ghosts DryJournal) (finds : EntryMap → Type 0) (is_closed : J → L → Type 0) (manner : Manner) (found : Found) (job : Job) where
+  pub pushed : (ended : Result Status CommandFault) → IsJob found job → PushesAs remaining contents g h finds is_closed manner.is_quiet manner.most_leavers job ended
+      → IfOk ended (IsPushed remaining contents g h finds is_closed manner found)
+  pushed (Ok status) is pushes = (job, is, pushes)
+  pushed (Err why) is pushes = tt
+
+-- what a success means, by what else it means
+pub if_ok : {T F : Type 0} {P Q : T → Type 0} (r : Result T F) → ((x : T) → P x → Q x) → IfOk r P → IfOk r Q
+if_ok (Ok x) changes p = changes x p
+if_ok (Err e) changes p = tt
