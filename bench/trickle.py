@@ -1,0 +1,103 @@
+#!/usr/bin/env python3
+"""Measures what clients that trickle cost the others of `serve`.
+
+    make build && python3 bench/trickle.py [--seconds N]
+
+Many clients each send a byte of a request's head now and then, and come back at once when they are closed. Beside
+them one client asks for a user, again and again. Each line has how many trickle, how many milliseconds lie between
+two bytes, and the client's answers: how many a second, alone and beside them; the median, and the slowest of 100 and
+of all, in milliseconds; and how many weren't answered within 5 s. It judges nothing.
+"""
+import argparse
+import socket
+import threading
+import time
+
+from slow import FIND, Server
+
+CROWDS, PACES = (256, 600, 2_000), (30, 60, 95, 150)
+PATIENCE = 5
+
+
+class Crowd:
+    """Clients that trickle, for as long as its context lasts."""
+
+    def __init__(self, port, count, pace):
+        self.port, self.count, self.pace = port, count, pace
+        self.is_over = threading.Event()
+        self.thread = threading.Thread(target=self.trickle, daemon=True)
+
+    def __enter__(self):
+        self.thread.start()
+        return self
+
+    def __exit__(self, *_):
+        self.is_over.set()
+        self.thread.join()
+
+    def begin(self):
+        """A new connection; it is set up while others go on."""
+        stream = socket.socket()
+        stream.setblocking(False)
+        stream.connect_ex(("127.0.0.1", self.port))
+        return stream
+
+    def trickle(self):
+        streams = [self.begin() for _ in range(self.count)]
+        while not self.is_over.wait(self.pace / 1000):
+            for place, stream in enumerate(streams):
+                try:
+                    stream.send(b"G")
+                except BlockingIOError:
+                    continue
+                except OSError:
+                    stream.close()
+                    streams[place] = self.begin()
+        for stream in streams:
+            stream.close()
+
+
+def ask(port):
+    """The seconds until a user is shown; None if that takes too long."""
+    began = time.monotonic()
+    try:
+        with socket.create_connection(("127.0.0.1", port), timeout=PATIENCE) as stream:
+            stream.sendall(FIND)
+            whole = b"".join(iter(lambda: stream.recv(4096), b""))
+    except OSError:
+        return None
+    return time.monotonic() - began if whole.startswith(b"HTTP/1.1 200") else None
+
+
+def answers(port, seconds):
+    """What came of asking for so long: the times of the answers, and how many didn't come."""
+    times, lost, end = [], 0, time.monotonic() + seconds
+    while time.monotonic() < end:
+        took = ask(port)
+        if took is None:
+            lost += 1
+        else:
+            times.append(took)
+    return sorted(times), lost
+
+
+def main():
+    parser = argparse.ArgumentParser(description=__doc__.split("\n")[0])
+    parser.add_argument("--seconds", type=int, default=5, help="how long each line takes")
+    seconds = parser.parse_args().seconds
+    print("clients pace alone beside median 99th slowest unanswered", flush=True)
+    for count in CROWDS:
+        for pace in PACES:
+            server = Server()
+            alone, _ = answers(server.port, 1)
+            with Crowd(server.port, count, pace):
+                time.sleep(1)
+                times, lost = answers(server.port, seconds)
+            server.run.kill()
+            spots = [1000 * times[min(int(share * len(times)), len(times) - 1)] for share in (0.5, 0.99, 1)] if times else []
+            shown = " ".join(f"{it:.1f}" for it in spots) or "- - -"
+            print(f"{count} {pace} {len(alone)} {len(times) / seconds:.0f} {shown} {lost}", flush=True)
+
+
+if __name__ == "__main__":
+    main()
