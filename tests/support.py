@@ -127,6 +127,21 @@ def watchdog(process):
     return timer
 
 
+class Beside:
+    """A thread beside the test, for as long as its context lasts. A subclass has `work`, which ends once `is_over` is
+    set."""
+
+    def __enter__(self):
+        self.is_over = threading.Event()
+        self.thread = threading.Thread(target=self.work, daemon=True)
+        self.thread.start()
+        return self
+
+    def __exit__(self, *_):
+        self.is_over.set()
+        self.thread.join(PATIENCE)
+
+
 class Running:
     """A run of the program beside the test. It is killed at the end of its context."""
 

@@ -4,11 +4,10 @@ import contextlib
 import http.client
 import json
 import random
-import threading
 import time
 
 from exchanges import USERS, at_revision, user
-from support import PATIENCE, SCIM_TYPE, ProgramTest, Provider, Running, Site, free_port
+from support import PATIENCE, SCIM_TYPE, Beside, ProgramTest, Provider, Running, Site, free_port
 from test_push_kills import shown
 
 CONNECTORS = 4
@@ -19,25 +18,15 @@ KILLS = 12
 RUNS = 20
 
 
-class Others:
+class Others(Beside):
     """Somebody who creates and replaces users of his own, without conditions, for as long as its context lasts."""
 
     def __init__(self, port, seed):
         self.port, self.random = port, random.Random(seed)
         # by login: the id, once it is known; and the family names that the user may have now
         self.ids, self.surnames = {}, {}
-        self.is_over = threading.Event()
-        self.thread = threading.Thread(target=self.write_on, daemon=True)
 
-    def __enter__(self):
-        self.thread.start()
-        return self
-
-    def __exit__(self, *_):
-        self.is_over.set()
-        self.thread.join(PATIENCE)
-
-    def write_on(self):
+    def work(self):
         for count in range(1_000_000):
             if self.is_over.wait(0.001):
                 return

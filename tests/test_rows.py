@@ -61,7 +61,7 @@ def older(label):
 
 
 def reported(label, rows):
-    """What `push` prints of the rows that the connector rejects, and of those that are older."""
+    """What `push` prints of the rows that the connector rejects, and of older rows."""
     rejected = {n: f"{label} record {n}: {verdict}" for n, (_, verdict) in enumerate(rows, 1) if verdict.startswith("S")}
     return [line for _, line in sorted((rejected | older(label)).items())]
 

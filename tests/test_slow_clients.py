@@ -1,11 +1,10 @@
 """`serve`: slow clients hold nobody up, and lose nothing."""
 import contextlib
 import socket
-import threading
 import time
 
 from support import (
-    BOB, BOB_CREATED, CREATE_BOB, PATIENCE, ProgramTest, Provider, limited_handles, read_all, resource_id, wait_until,
+    BOB, BOB_CREATED, CREATE_BOB, Beside, ProgramTest, Provider, limited_handles, read_all, resource_id, wait_until,
 )
 
 FIND_BOB = f"GET /v2/Users/{resource_id(1)} HTTP/1.1\r\nHost: h\r\n\r\n".encode()
@@ -139,26 +138,19 @@ class SlowClientTest(ProgramTest):
         self.assertEqual(set(faults), {"connection fault"})
 
 
-class Tricklers:
+class Tricklers(Beside):
     """Clients that each send a byte of a request's head at this pace, and come back when they are closed."""
 
     def __init__(self, provider, count, pace):
         self.provider, self.pace, self.returns = provider, pace, 0
         self.streams = [provider.connect() for _ in range(count)]
-        self.is_over = threading.Event()
-        self.thread = threading.Thread(target=self.trickle, daemon=True)
 
-    def __enter__(self):
-        self.thread.start()
-        return self
-
-    def __exit__(self, *_):
-        self.is_over.set()
-        self.thread.join(PATIENCE)
+    def __exit__(self, *what):
+        super().__exit__(*what)
         for stream in self.streams:
             stream.close()
 
-    def trickle(self):
+    def work(self):
         while not self.is_over.wait(self.pace):
             for place, stream in enumerate(self.streams):
                 try:
