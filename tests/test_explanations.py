@@ -26,7 +26,8 @@ SEARCHES = [
     # texts of others
     (refusal(400, "\x1b[31m\n"), "C4", r'400, "\x1B[31m\x0A"'),
     (refusal(400, "a\\b \u00e9~\x7f"), "C4", r'400, "a\x5Cb \xC3\xA9~\x7F"'),
-    (refusal(400, "ab" * 101), "C4", f'400, "{"ab" * 100}"'),
+    (refusal(400, "ab" * 100), "C4", f'400, "{"ab" * 100}"'),
+    (refusal(400, "ab" * 100 + "c"), "C4", f'400, "{"ab" * 100}"'),
     # resources that can't be bob's
     (hits(user("bob", 1), user("bob", 1, number="8")), "C1", "2 found, 2 listed"),
     (hits(user("bob", 1), total=2), "C1", "2 found, 1 listed"),
