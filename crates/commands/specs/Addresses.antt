@@ -35,6 +35,7 @@ IsLacking least None = Unit {0}
 IsLacking least (Some text) = IsNoAddress least text
 
 -- the address in the arguments; or this fault if there is none
-abbrev pub GivesAddress : (least : ℕ) → (wrong : CommandFault) → Option (List ℕ) → Result (Bor (List ℕ)) CommandFault → Type 0
+abbrev pub GivesAddress : (least : ℕ) → (wrong : CommandFault) → Option (List ℕ)
+    → Result (Bor (List ℕ)) CommandFault → Type 0
 GivesAddress least wrong given (Ok address) = (given ≡ Some address.now) × IsAddress least address.now
 GivesAddress least wrong given (Err fault) = (fault ≡ wrong) × IsLacking least given

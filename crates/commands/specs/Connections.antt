@@ -18,7 +18,8 @@ use Rattle.commands.specs.declared.status.CommandFault.TheVariants as fault
 use Rattle.commands.specs.declared.status.Status.{Status}
 use Rattle.commands.specs.Statuses.{served_status, store_fault}
 
-pub record AnswersOne (base : List ℕ) (old new : Reading) (before after : Writing) (ended : Result Status CommandFault) : Type 0 where
+pub record AnswersOne (base : List ℕ) (old new : Reading) (before after : Writing)
+    (ended : Result Status CommandFault) : Type 0 where
   -- what was read, and the answer of a provider at this base that had no row
   pub read : Result Message ReadFault
   pub has_read : HasRead old new read
@@ -29,7 +30,8 @@ pub record AnswersOne (base : List ℕ) (old new : Reading) (before after : Writ
   pub ended_is : ended ≡ served_status served
 
 -- The rows are opened, and the answer is that of a provider over them; or nothing is read or written
-abbrev pub AnswersStored : {R : Type 0} → Ghosts R → (base : List ℕ) → (old new : Reading) → (before after : Writing) → (ended : Result Status CommandFault) → Type 0
+abbrev pub AnswersStored : {R : Type 0} → Ghosts R → (base : List ℕ) → (old new : Reading)
+    → (before after : Writing) → (ended : Result Status CommandFault) → Type 0
 AnswersStored g base old new before after ended =
     ((served : Served) × AnswersFrom g base old new before after served × (ended ≡ served_status served))
     ⊎ ((fault : RegistryOpenFault) × (ended ≡ Err (store_fault fault)) × (new ≡ old) × (after ≡ before))

@@ -16,10 +16,11 @@ use Rattle.commands.specs.Statuses.{file_fault, lines_fault, records_status}
 use Rattle.commands.specs.declared.status.CommandFault.{CommandFault}
 use Rattle.commands.specs.declared.status.Status.{Status}
 
--- The lines of some rows and rejected records were printed, and the status is theirs. If the bytes of the file are known,
--- they are those of its records that were left.
+-- The lines of some rows and rejected records were printed, and the status is theirs. If the bytes of the file are
+-- known, they are those of its records that were left.
 abbrev pub Prints : Standing → (before after : Option (List ℕ)) → Status → Type 0
-Prints rows before after status = (given : List (Result Row RowFault)) × Appends before after (lines_of given) × (status ≡ records_status given)
+Prints rows before after status = (given : List (Result Row RowFault))
+    × Appends before after (lines_of given) × (status ≡ records_status given)
     × ((records : List Record) → HasLeft rows records → given ≡ rows_next rows records)
 
 -- A step: the line of a row or a rejected record was printed, which is the next one if the bytes are known; or nothing,

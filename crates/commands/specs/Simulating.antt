@@ -11,7 +11,8 @@ use Rattle.commands.specs.declared.status.CommandFault.TheVariants as fault
 
 -- this number of random events of this seed, from 1 to 100,000
 abbrev pub random_events : (seed count : ℕ) → Result Events CommandFault
-random_events seed count = if nat_le 1 count && nat_le count 100_000 then Ok (Random seed count) else Err (fault.Events Count)
+random_events seed count =
+    if nat_le 1 count && nat_le count 100_000 then Ok (Random seed count) else Err (fault.Events Count)
 
 -- The events of a schedule, or random ones of a seed: 1,000 if the arguments give no number
 abbrev pub wanted_events : (file : Option (Bor (List ℕ))) → (seed count : Option ℕ) → Result Events CommandFault

@@ -20,8 +20,8 @@ abbrev pub IsPaced : (old new : Pace) → (now : Instant) → Type 0
 IsPaced old new now = ((new.moved ≡ now) × (new.next ≡ now))
     ⊎ ((new.moved ≡ old.moved) × (FitsClock (waited old.moved now) → instant_nanos new.next ≡ waited old.moved now))
 
--- What a look leaves: the bytes that were received, and then those of the stream, are the same from the first on. If the
--- connection can't be served and it was time to look, its stream was looked at now
+-- What a look leaves: the bytes that were received, and then those of the stream, are the same from the first on. If
+-- the connection can't be served and it was time to look, its stream was looked at now
 pub record Looks {S : Type 0} (remaining : S → Option (List ℕ)) (now : Instant) (old new : Held S) (is_ready : Bool)
     : Type 0 where
   pub bytes : Keeps (prepend_known old.received.items (remaining old.stream))
@@ -76,9 +76,10 @@ pub record GivesUpFor {S : Type 0} (held : Held S) (now : Instant) (old new : Li
   pub due : IsDue old now
   pub are : new ≡ others ++ held ∷ []
 
--- Why this connection isn't held, or another one isn't any more: out of memory (`is_tight`), or there is no room; or the
--- oldest was given up for it
-abbrev pub Refuses : {S : Type 0} → (most : ℕ) → Held S → (now : Instant) → (old new : List (Held S)) → (is_tight : Type 0)
+-- Why this connection isn't held, or another one isn't any more: out of memory (`is_tight`), or there is no room; or
+-- the oldest was given up for it
+abbrev pub Refuses : {S : Type 0} → (most : ℕ) → Held S → (now : Instant) → (old new : List (Held S))
+    → (is_tight : Type 0)
     → Type 0
 Refuses most held now old new is_tight =
     ((new ≡ old) × (is_tight ⊎ (HasRoom most old now → ⊥))) ⊎ GivesUpFor held now old new

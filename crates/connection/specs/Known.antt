@@ -29,17 +29,21 @@ IsHindered faithful old new before after served =
 
 -- the reaction to a fault of reading, and unchanged rows
 abbrev pub MeetsFault : List ℕ → (old new : List StoredRecord) → (before after : Writing) → Served → ReadFault → Type 0
-MeetsFault base old new before after served fault = Reacts base before after fault (reaction_to fault) served × (new ≡ old)
+MeetsFault base old new before after served fault =
+    Reacts base before after fault (reaction_to fault) served × (new ≡ old)
 
 -- What a connection does if the reader's bytes are known
-pub record ServesKnown (faithful : Type 0) (base : List ℕ) (old new : List StoredRecord) (before after : Writing) (served : Served) (remaining left : Option (List ℕ)) : Type 0 where
+pub record ServesKnown (faithful : Type 0) (base : List ℕ) (old new : List StoredRecord)
+    (before after : Writing) (served : Served) (remaining left : Option (List ℕ)) : Type 0 where
   -- what an accepted message at the front asks for is answered, and what follows it is left
-  pub message : (bytes rest : List ℕ) (m : Message) (asked : Result Request Refusal) → remaining ≡ Some (bytes ++ rest) → IsRequestMessage bytes m → IsAccepted m
+  pub message : (bytes rest : List ℕ) (m : Message) (asked : Result Request Refusal)
+      → remaining ≡ Some (bytes ++ rest) → IsRequestMessage bytes m → IsAccepted m
       → Asks m asked
       → (Sends before after (AnswersMeaning faithful base old new (is_head m.head) asked) served × (left ≡ Some rest))
       ⊎ IsHindered faithful old new before after served
   -- a refused head at the front is refused, whatever follows
-  pub refused_head : (front rest : List ℕ) (head : Head) (fault : ReadFault) → remaining ≡ Some (front ++ rest) → IsRequestHead front head
+  pub refused_head : (front rest : List ℕ) (head : Head) (fault : ReadFault)
+      → remaining ≡ Some (front ++ rest) → IsRequestHead front head
       → judge_head head ≡ Err fault
       → MeetsFault base old new before after served fault ⊎ IsHindered faithful old new before after served
   -- a head beyond a limit is refused
@@ -50,8 +54,10 @@ pub record ServesKnown (faithful : Type 0) (base : List ℕ) (old new : List Sto
       → MeetsFault base old new before after served EndedEarly ⊎ IsHindered faithful old new before after served
   -- bytes that no bytes complete to a head are malformed; in a target that may be noticed only at its end, and among
   -- field lines beyond the limit not at all
-  pub malformed : (bytes rest : List ℕ) → remaining ≡ Some (bytes ++ rest) → length bytes ≤ head_limit → NeverHasRequest bytes
+  pub malformed : (bytes rest : List ℕ) → remaining ≡ Some (bytes ++ rest) → length bytes ≤ head_limit
+      → NeverHasRequest bytes
       → MeetsFault base old new before after served Malformed
-      ⊎ ((EndsInTarget (take head_limit (bytes ++ rest)) ⊎ RequestExceeds field_limit (bytes ++ rest)) × MeetsFault base old new before after served HeadTooLong)
+      ⊎ ((EndsInTarget (take head_limit (bytes ++ rest)) ⊎ RequestExceeds field_limit (bytes ++ rest))
+      × MeetsFault base old new before after served HeadTooLong)
       ⊎ (EndsInTarget (bytes ++ rest) × MeetsFault base old new before after served EndedEarly)
       ⊎ IsHindered faithful old new before after served

@@ -31,7 +31,8 @@ use Rattle.connection.specs.Reactions.{reaction_to}
 
 -- the model's answer to a request, and its change of the rows, while the store is faithful; what the answer shows is
 -- valid, and its body is UTF-8
-pub record AnswersRequest (faithful : Type 0) (base : List ℕ) (old new : List StoredRecord) (leaves_body_out : Bool) (request : Request) (reply : ReplyRecord) : Type 0 where
+pub record AnswersRequest (faithful : Type 0) (base : List ℕ) (old new : List StoredRecord)
+    (leaves_body_out : Bool) (request : Request) (reply : ReplyRecord) : Type 0 where
   pub answer : Answer
   pub reply_is : reply ≡ reply_of base leaves_body_out answer
   pub lawful : ShowsLawfully answer
@@ -44,7 +45,8 @@ abbrev pub refusal_reply : List ℕ → Bool → Refusal → ReplyRecord
 refusal_reply base leaves_body_out refusal = reply_of base leaves_body_out (Error (error_of refusal))
 
 -- the error message of a refusal, and unchanged rows
-pub record AnswersRefusal (base : List ℕ) (old new : List StoredRecord) (leaves_body_out : Bool) (refusal : Refusal) (reply : ReplyRecord) : Type 0 where
+pub record AnswersRefusal (base : List ℕ) (old new : List StoredRecord) (leaves_body_out : Bool)
+    (refusal : Refusal) (reply : ReplyRecord) : Type 0 where
   pub reply_is : reply ≡ refusal_reply base leaves_body_out refusal
   pub rows : new ≡ old
 
@@ -54,12 +56,16 @@ pub record GivesUp (faithful : Type 0) (old new : List StoredRecord) (reply : Re
   pub rows : faithful → new ≡ old
 
 -- the answer to a request, or to a refusal
-abbrev pub AnswersMeaning : (faithful : Type 0) → List ℕ → (old new : List StoredRecord) → Bool → Result Request Refusal → ReplyRecord → Type 0
-AnswersMeaning faithful base old new leaves_body_out (Ok request) reply = AnswersRequest faithful base old new leaves_body_out request reply
-AnswersMeaning faithful base old new leaves_body_out (Err refusal) reply = AnswersRefusal base old new leaves_body_out refusal reply
+abbrev pub AnswersMeaning : (faithful : Type 0) → List ℕ → (old new : List StoredRecord) → Bool
+    → Result Request Refusal → ReplyRecord → Type 0
+AnswersMeaning faithful base old new leaves_body_out (Ok request) reply =
+    AnswersRequest faithful base old new leaves_body_out request reply
+AnswersMeaning faithful base old new leaves_body_out (Err refusal) reply =
+    AnswersRefusal base old new leaves_body_out refusal reply
 
 -- what a message asks for is answered
-pub record AnswersMessage (faithful : Type 0) (base : List ℕ) (old new : List StoredRecord) (m : Message) (reply : ReplyRecord) : Type 0 where
+pub record AnswersMessage (faithful : Type 0) (base : List ℕ) (old new : List StoredRecord)
+    (m : Message) (reply : ReplyRecord) : Type 0 where
   pub asked : Result Request Refusal
   pub asked_is : Asks m asked
   pub answer : AnswersMeaning faithful base old new (is_head m.head) asked reply
@@ -71,7 +77,8 @@ IsSent before after reply (Answered status) =
     × (after.flushes ≡ count_up before.flushes 1) × (after.failures ≡ before.failures)
 IsSent before after reply (NoRequest fault) = ⊥
 IsSent before after reply (Lost status) =
-    (status ≡ reply.status) × ((fault : SendFault) × IsLost before after reply.text fault × EndsSending before after fault)
+    (status ≡ reply.status) × ((fault : SendFault) × IsLost before after reply.text fault
+    × EndsSending before after fault)
 
 -- a reply of this kind was sent
 abbrev pub Sends : Writing → Writing → (ReplyRecord → Type 0) → Served → Type 0
@@ -84,32 +91,38 @@ pub record IsSilent (before after : Writing) (fault : ReadFault) (served : Serve
 
 -- the error message of a refusal, or the fixed text instead
 abbrev pub AnswersFault : List ℕ → Bool → Refusal → ReplyRecord → Type 0
-AnswersFault base leaves_body_out refusal reply = (reply ≡ refusal_reply base leaves_body_out refusal) ⊎ (reply ≡ fixed_reply)
+AnswersFault base leaves_body_out refusal reply = (reply ≡ refusal_reply base leaves_body_out refusal)
+    ⊎ (reply ≡ fixed_reply)
 
 -- the reaction to a fault of reading
 abbrev pub Reacts : List ℕ → (before after : Writing) → ReadFault → Reaction → Served → Type 0
-Reacts base before after fault (Refuse refusal leaves_body_out) served = Sends before after (AnswersFault base leaves_body_out refusal) served
+Reacts base before after fault (Refuse refusal leaves_body_out) served =
+    Sends before after (AnswersFault base leaves_body_out refusal) served
 Reacts base before after fault GiveUp served = Sends before after (λ reply. reply ≡ fixed_reply) served
 Reacts base before after fault StaySilent served = IsSilent before after fault served
 
 -- What follows from what was read. A message gets its answer, or the fixed text if the store failed or memory ran out.
 -- A fault gets its reaction, and the rows stay
-abbrev pub Serves : (faithful : Type 0) → List ℕ → (old new : List StoredRecord) → (before after : Writing) → Result Message ReadFault → Served → Type 0
+abbrev pub Serves : (faithful : Type 0) → List ℕ → (old new : List StoredRecord)
+    → (before after : Writing) → Result Message ReadFault → Served → Type 0
 Serves faithful base old new before after (Ok m) served =
     Sends before after (λ reply. AnswersMessage faithful base old new m reply ⊎ GivesUp faithful old new reply) served
-Serves faithful base old new before after (Err fault) served = Reacts base before after fault (reaction_to fault) served × (new ≡ old)
+Serves faithful base old new before after (Err fault) served =
+    Reacts base before after fault (reaction_to fault) served × (new ≡ old)
 
 -- ---- what the store holds afterwards, whether or not a fault has shut it
 
 -- the rows after the request that was read
 abbrev pub IsAfter : List StoredRecord → Result Message ReadFault → List StoredRecord → Type 0
-IsAfter rows (Ok m) found = (request : Request) × Asks m (Ok request) × (found ≡ changed_rows rows (outcome rows request).change)
+IsAfter rows (Ok m) found = (request : Request) × Asks m (Ok request)
+    × (found ≡ changed_rows rows (outcome rows request).change)
 IsAfter rows (Err fault) found = ⊥
 
 -- whatever a stop may leave now, it could have left before, or it is the rows after the request that was read
 pub record LeavesRows {R : Type 0} (g : Ghosts R) (old new : R) (read : Result Message ReadFault) : Type 0 where
   pub honest : g.is_honest new → g.is_honest old
-  pub stop : g.is_honest new → LeavesOr (g.may_hold old) (g.may_hold new) (λ found. g.is_faithful old × IsAfter (g.rows old) read found)
+  pub stop : g.is_honest new → LeavesOr (g.may_hold old) (g.may_hold new) (λ found. g.is_faithful old
+      × IsAfter (g.rows old) read found)
 
 -- no fault of the store was counted, and an open store stays open
 pub record IsUnharmed {R : Type 0} (g : Ghosts R) (old new : R) : Type 0 where
@@ -118,7 +131,8 @@ pub record IsUnharmed {R : Type 0} (g : Ghosts R) (old new : R) : Type 0 where
 
 -- no fault of the store was counted, or the fixed text was sent
 abbrev pub AnswersFaults : {R : Type 0} → Ghosts R → (old new : R) → (before after : Writing) → Served → Type 0
-AnswersFaults g old new before after served = IsUnharmed g old new ⊎ Sends before after (λ reply. reply ≡ fixed_reply) served
+AnswersFaults g old new before after served = IsUnharmed g old new
+    ⊎ Sends before after (λ reply. reply ≡ fixed_reply) served
 
 -- what was read, as the reader of requests reports it
 pub record HasRead (old new : Reading) (r : Result Message ReadFault) : Type 0 where

@@ -62,7 +62,8 @@ pub record IsServed {I O R : Type 0} (remaining : I → Option (List ℕ)) (cont
   pub quiet : IsQuiet g.is_faithful g.faults old new
   pub writes : g.writes new ≤ g.writes old + 1
 
-module _ {I O R : Type 0} (remaining : I → Option (List ℕ)) (contents : O → Option (List ℕ)) (g : Ghosts R) (base : List ℕ) where
+module _ {I O R : Type 0} (remaining : I → Option (List ℕ)) (contents : O → Option (List ℕ))
+    (g : Ghosts R) (base : List ℕ) where
   -- a turn without a connection leaves the provider as it is
   abbrev pub IsTurn : Turn I O → (old new : R) → Type 0
   IsTurn (taken reader writer served) old new = IsServed remaining contents g base old new reader writer served
@@ -74,14 +75,18 @@ module _ {I O R : Type 0} (remaining : I → Option (List ℕ)) (contents : O �
   AreTurns (turn ∷ turns) old new = (between : R) × IsTurn turn old between × AreTurns turns between new
 
 -- one turn of a listener
-pub record TakesTurn {L I O R : Type 0} (waiting : L → Option (List (I × O))) (remaining : I → Option (List ℕ)) (contents : O → Option (List ℕ)) (g : Ghosts R) (base : List ℕ) (before after : L) (old new : R) (result : Result (Unit {0}) ConnectionFault) : Type 0 where
+pub record TakesTurn {L I O R : Type 0} (waiting : L → Option (List (I × O)))
+    (remaining : I → Option (List ℕ)) (contents : O → Option (List ℕ)) (g : Ghosts R) (base : List ℕ)
+    (before after : L) (old new : R) (result : Result (Unit {0}) ConnectionFault) : Type 0 where
   pub turn : Turn I O
   pub takes : Takes (waiting before) (waiting after) (opened turn)
   pub served : IsTurn remaining contents g base turn old new
   pub result_is : result ≡ turn_outcome turn
 
 -- `count` turns of a listener, in the order in which its connections waited
-pub record ServesTurns {L I O R : Type 0} (waiting : L → Option (List (I × O))) (remaining : I → Option (List ℕ)) (contents : O → Option (List ℕ)) (g : Ghosts R) (base : List ℕ) (before after : L) (old new : R) (count : ℕ) (result : Result (Unit {0}) ConnectionFault) : Type 0 where
+pub record ServesTurns {L I O R : Type 0} (waiting : L → Option (List (I × O)))
+    (remaining : I → Option (List ℕ)) (contents : O → Option (List ℕ)) (g : Ghosts R) (base : List ℕ)
+    (before after : L) (old new : R) (count : ℕ) (result : Result (Unit {0}) ConnectionFault) : Type 0 where
   pub turns : List (Turn I O)
   pub count_is : length turns ≡ count
   pub takes : Takes (waiting before) (waiting after) (all_opened turns)

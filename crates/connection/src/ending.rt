@@ -127,7 +127,8 @@ impl<'a, S: Read + Write + OpenStream + Drop, C: Clock> Ending<'a, S, C> {
         Ok(())
     }
 
-    /// Frees the answer, which is sent, and lets the peer see its end. The peer has a while to send what it still sends.
+    /// Frees the answer, which is sent, and lets the peer see its end. The peer has a while to send what it still
+    /// sends.
     fn shut_down(&mut self, now: Instant)
         requires { is_sent self.old ≡ true }
         ensures items { self.new.unsent.items ≡ [] }

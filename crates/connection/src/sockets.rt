@@ -111,8 +111,8 @@ where
         }
     }
 
-    /// The system gives no connection, because it has no descriptor left, say. It is tried again after a pause; the fault
-    /// is reported once a second at most.
+    /// The system gives no connection, because it has no descriptor left, say. It is tried again after a pause; the
+    /// fault is reported once a second at most.
     fn unaccepted(&mut self, error: io::Error, now: Instant) -> io::Result<Option<L::Stream>> {
         if let Some(reported) = self.reported
             && now.duration_since(reported) < Duration::from_secs(REPORT_SECONDS)

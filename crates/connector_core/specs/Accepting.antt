@@ -34,13 +34,18 @@ IsNewer history row = (held : Row) → last_row history (row_name row) ≡ Some 
 -- the member at this place isn't a user record, and every member before it is one
 abbrev pub IsFirstMissing : History → Row → ℕ → Type 0
 IsFirstMissing history row place = (earlier : List (List ℕ)) × (key : List ℕ) × (later : List (List ℕ))
-    × (members_of row ≡ earlier ++ key ∷ later) × (length earlier ≡ place) × (list_all (is_user history) earlier ≡ true) × (is_user history key ≡ false)
+    × (members_of row ≡ earlier ++ key ∷ later) × (length earlier ≡ place)
+    × (list_all (is_user history) earlier ≡ true) × (is_user history key ≡ false)
 
 pub data Accepts (history : History) (row : Row) : Result Verdict BookFault → Type 0 where
-  older : (held : Row) → last_row history (row_name row) ≡ Some held → row_revision row ≺ row_revision held → Accepts history row (Ok Older)
-  known : (held : Row) → last_row history (row_name row) ≡ Some held → row_revision row ≡ row_revision held → row ≡ held → Accepts history row (Ok Known)
-  differs : (held : Row) → last_row history (row_name row) ≡ Some held → row_revision row ≡ row_revision held → row ≢ held → Accepts history row (Err Differs)
-  missing : (place : ℕ) → IsNewer history row → IsFirstMissing history row place → Accepts history row (Err (NoSuchMember place))
+  older : (held : Row) → last_row history (row_name row) ≡ Some held
+      → row_revision row ≺ row_revision held → Accepts history row (Ok Older)
+  known : (held : Row) → last_row history (row_name row) ≡ Some held
+      → row_revision row ≡ row_revision held → row ≡ held → Accepts history row (Ok Known)
+  differs : (held : Row) → last_row history (row_name row) ≡ Some held
+      → row_revision row ≡ row_revision held → row ≢ held → Accepts history row (Err Differs)
+  missing : (place : ℕ) → IsNewer history row → IsFirstMissing history row place
+      → Accepts history row (Err (NoSuchMember place))
   new : IsNewer history row → AllAreUsers history row → Accepts history row (Ok New)
 
 -- the verdict on a row, decided by the history alone
@@ -49,7 +54,8 @@ accepting history row = accepted (last_row history (row_name row)) row (missing_
 
 -- `accept` decides by the history, if it gets the last row of the record and the first member that isn't a user record
 abbrev pub AcceptsByHistory : Type 0
-AcceptsByHistory = (history : History) (row : Row) (answer : Result Verdict BookFault) → Accepts history row answer ↔ (answer ≡ accepting history row)
+AcceptsByHistory = (history : History) (row : Row) (answer : Result Verdict BookFault)
+    → Accepts history row answer ↔ (answer ≡ accepting history row)
 
 -- What a row that is accepted as new does to the history: it is appended
 pub record GoesOn (history : History) (row : Row) : Type 0 where

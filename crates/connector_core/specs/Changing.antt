@@ -65,11 +65,14 @@ unknown_member book row = position_from (λ key. is_none (book (user key))) 0 (m
 
 -- The verdict on a row by the book, whose records have these names
 abbrev pub judging : Book → (names : List RecordName) → Row → Result Verdict ChangeFault
-judging book names row = verdict (wanted_row book (row_name row)) (unknown_member book row) (is_full (row_name row).kind names) row
+judging book names row =
+    verdict (wanted_row book (row_name row)) (unknown_member book row) (is_full (row_name row).kind names) row
 
 -- The verdict on a row by the history alone
 abbrev pub judging_by_source : History → Row → Result Verdict ChangeFault
-judging_by_source history row = verdict (last_row history (row_name row)) (missing_member history row) (is_full (row_name row).kind (names_of history)) row
+judging_by_source history row =
+    verdict (last_row history (row_name row)) (missing_member history row)
+    (is_full (row_name row).kind (names_of history)) row
 
 -- ---- other faults
 
@@ -155,7 +158,8 @@ taking_all book (row ∷ rows) = taking_all (taking book row) rows
 -- the entries of the journal that the rows leave
 abbrev pub entries_all : EntryMap → BookMap → List Row → EntryMap
 entries_all entries book [] = entries
-entries_all entries book (row ∷ rows) = entries_all (accepted_entries entries row (judged book row)) (taking book row) rows
+entries_all entries book (row ∷ rows) =
+    entries_all (accepted_entries entries row (judged book row)) (taking book row) rows
 
 -- the row, if it is new
 abbrev pub if_new : Row → Result Verdict ChangeFault → List Row
@@ -171,4 +175,5 @@ new_rows book (row ∷ rows) = if_new row (judged book row) ++ new_rows (taking 
 
 -- the map changes as the book does
 abbrev pub MapsAccept : Type 0
-MapsAccept = (book : BookMap) (row : Row) (verdict : Result Verdict ChangeFault) → book_of (accepted_map book row verdict) ≡ book_after (book_of book) row verdict
+MapsAccept = (book : BookMap) (row : Row) (verdict : Result Verdict ChangeFault)
+    → book_of (accepted_map book row verdict) ≡ book_after (book_of book) row verdict

@@ -28,9 +28,12 @@ AllMapsAreBooks = (map : BookMap) (name : RecordName) (known : Known) → MapsAr
 
 -- over a journal in memory, no call has a store fault
 pub record NoStoreFaults : Type 0 where
-  pub opening : (old new : MemoryRecord) (fault : ConnectorOpenFault) → CountsOpen (memory_faults old) (memory_faults new) fault → fault ≢ opening.Store
-  pub changing : (old new : MemoryRecord) (fault : ChangeFault) → CountsChange (memory_faults old) (memory_faults new) fault → fault ≢ change.Store
-  pub learning : (old new : MemoryRecord) (fault : LearnFault) → CountsLearn (memory_faults old) (memory_faults new) fault → fault ≢ learn.Store
+  pub opening : (old new : MemoryRecord) (fault : ConnectorOpenFault)
+      → CountsOpen (memory_faults old) (memory_faults new) fault → fault ≢ opening.Store
+  pub changing : (old new : MemoryRecord) (fault : ChangeFault)
+      → CountsChange (memory_faults old) (memory_faults new) fault → fault ≢ change.Store
+  pub learning : (old new : MemoryRecord) (fault : LearnFault)
+      → CountsLearn (memory_faults old) (memory_faults new) fault → fault ≢ learn.Store
 
 -- a request replaces the resource with this id by some content, if the resource still has this tag
 pub record Replaces (id : Option (List ℕ)) (tag : List ℕ) (request : Request) : Type 0 where
@@ -42,5 +45,8 @@ pub record Replaces (id : Option (List ℕ)) (tag : List ℕ) (request : Request
 -- if a record was seen with a tag, its next request is the replacement of that version at the known id, and never a
 -- search
 abbrev pub ReplacesWhatWasSeen : Type 0
-ReplacesWhatWasSeen = (book : Book) (name : RecordName) (known : Known) (tag : List ℕ) (revision : RevisionValue) (request : Request) → AllLocated book
-    → book name ≡ Some known → known.seen ≡ At tag revision → asking book name ≡ Some (Send request) → Replaces known.id tag request
+ReplacesWhatWasSeen =
+    (book : Book) (name : RecordName) (known : Known) (tag : List ℕ) (revision : RevisionValue)
+    (request : Request) → AllLocated book
+    → book name ≡ Some known → known.seen ≡ At tag revision → asking book name ≡ Some (Send request)
+    → Replaces known.id tag request

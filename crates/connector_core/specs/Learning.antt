@@ -144,7 +144,11 @@ nothing_new known = record { known = known; learnt = learnt.Nothing }
 -- a resource was seen: its revision is confirmed, unless a higher one is
 abbrev pub sighted : Known → Sight → Lesson
 sighted known sight = record {
-  known = record known { confirmed = later known.confirmed sight.revision; id = Some sight.id; seen = At sight.tag sight.revision };
+  known = record known {
+    confirmed = later known.confirmed sight.revision;
+    id = Some sight.id;
+    seen = At sight.tag sight.revision;
+  };
   learnt = if before known.confirmed sight.revision then learnt.Confirmed sight.revision else learnt.Seen;
 }
 

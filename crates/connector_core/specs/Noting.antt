@@ -45,7 +45,8 @@ noted_in book (Err fault) = Err fault
 
 -- what the connector learns is this note, put into its book
 abbrev pub LearnsByNotes : Type 0
-LearnsByNotes = (book : Book) (request : Request) (answer : Answer) → learn book request answer ≡ noted_in book (note book request answer)
+LearnsByNotes = (book : Book) (request : Request) (answer : Answer)
+    → learn book request answer ≡ noted_in book (note book request answer)
 
 -- what was learnt
 abbrev pub learnt_of : Result Learning LearnFault → Result Learnt LearnFault
@@ -151,7 +152,8 @@ IsNewsAt None news = ⊥
 IsNewsAt (Some known) news = IsNewsOf known news
 
 -- what is noted is news about a record of the book
-pub record IsNoted (book : BookMap) (request : Request) (answer : Answer) (name : RecordName) (news : News) : Type 0 where
+pub record IsNoted (book : BookMap) (request : Request) (answer : Answer) (name : RecordName)
+    (news : News) : Type 0 where
   pub known : Known
   pub there : get book name ≡ Some known
   pub noted : note (book_of book) request answer ≡ Ok (record { name = name; lesson = lesson_of known news })

@@ -46,11 +46,13 @@ LeavesBook h s = (found : EntryMap) → h.may_hold s.journal found → AreOf fou
 
 -- a stop leaves the entries of one of these books
 abbrev pub LeavesOneOf : {J : Type 0} → Journals J → J → (book later : Book) → (names more : List RecordName) → Type 0
-LeavesOneOf h journal book later names more = (found : EntryMap) → h.may_hold journal found → AreOf found book names ⊎ AreOf found later more
+LeavesOneOf h journal book later names more = (found : EntryMap) → h.may_hold journal found
+    → AreOf found book names ⊎ AreOf found later more
 
 -- What a stop leaves after a call that changes the book to `later`, if it left the entries of the book before. After a
 -- success it leaves those of the book; after a fault those of the book, or of `later`
-pub record Leaves {J T F : Type 0} (h : Journals J) (old new : State J) (later : Book) (names : List RecordName) (result : Result T F) : Type 0 where
+pub record Leaves {J T F : Type 0} (h : Journals J) (old new : State J) (later : Book)
+    (names : List RecordName) (result : Result T F) : Type 0 where
   pub done : OnOk result (LeavesBook h new)
   pub failed : OnErr result (LeavesOneOf h new.journal (book_of old.book) later (keys old.book) names)
 

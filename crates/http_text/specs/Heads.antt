@@ -55,7 +55,8 @@ module _ (F : Form) where
 
   -- whatever bytes follow, a head at the front has more than `room` field lines
   abbrev pub Overflows : ℕ → List ℕ → Type 0
-  Overflows room bytes = (more : List ℕ) (tree : F.Tree) (rest : List ℕ) → F.Reads (bytes ++ more) tree rest → room < length (F.lines tree)
+  Overflows room bytes = (more : List ℕ) (tree : F.Tree) (rest : List ℕ)
+      → F.Reads (bytes ++ more) tree rest → room < length (F.lines tree)
 
   -- a prefix of the bytes, ended by an empty line, is a head with more than `room` field lines
   abbrev pub Exceeds : ℕ → List ℕ → Type 0

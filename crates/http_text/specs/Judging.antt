@@ -49,7 +49,8 @@ length_wanted wanted is_head (Some n) = if nat_lt body_limit n then Err (BodyToo
 abbrev pub judge_head : Head → Result ℕ ReadFault
 judge_head head = do
   length ← readable_length (length_of head)
-  _ ← refused_where (is_host_wrong (minor_of head.start) (values (codes "host") head.fields)) (HostMissingOrRepeated (is_head head))
+  _ ← refused_where (is_host_wrong (minor_of head.start) (values (codes "host") head.fields))
+      (HostMissingOrRepeated (is_head head))
   _ ← refused_where (is_any (values (codes "transfer-encoding") head.fields)) (TransferCoding (is_head head))
   _ ← refused_where (is_any (values (codes "expect") head.fields)) (Expectation (is_head head))
   length_wanted (has_body head) (is_head head) length

@@ -22,10 +22,12 @@ form_of Response = response_form
 
 -- the spans of a request's head and of a response's head, as spans of either form
 abbrev pub spans_of_request : RequestSpans → HeadSpans
-spans_of_request head = record { start = RequestLine head.method head.path; minor = head.version; count = head.headers; len = head.len }
+spans_of_request head =
+    record { start = RequestLine head.method head.path; minor = head.version; count = head.headers; len = head.len }
 
 abbrev pub spans_of_response : ResponseSpans → HeadSpans
-spans_of_response head = record { start = StatusLine head.code; minor = head.version; count = head.headers; len = head.len }
+spans_of_response head =
+    record { start = StatusLine head.code; minor = head.version; count = head.headers; len = head.len }
 
 -- each span is within the head, and the head is within the bytes
 pub record AreWithin (bytes : List ℕ) (fields : List HeaderSpan) (spans : HeadSpans) : Type 0 where
@@ -35,7 +37,10 @@ pub record AreWithin (bytes : List ℕ) (fields : List HeaderSpan) (spans : Head
 -- the message that the spans cover, without a body
 abbrev pub front_message : List ℕ → List HeaderSpan → HeadSpans → Message
 front_message bytes fields spans = record {
-  head = record { start = start_in bytes spans.start spans.minor; fields = map (header_bytes bytes) (take spans.count fields) };
+  head = record {
+    start = start_in bytes spans.start spans.minor;
+    fields = map (header_bytes bytes) (take spans.count fields);
+  };
   body = [];
 }
 

@@ -6,7 +6,8 @@ use Rattle.http_text.specs.declared.parsing.Start.TheVariants.{RequestLine, Stat
 use Rattle.http_text.specs.Message.{StartLine, request_line, status_line}
 
 abbrev pub start_in : List ℕ → Start → (minor : ℕ) → StartLine
-start_in bytes (RequestLine method target) minor = request_line (span_bytes bytes method) (span_bytes bytes target) minor
+start_in bytes (RequestLine method target) minor =
+    request_line (span_bytes bytes method) (span_bytes bytes target) minor
 start_in bytes (StatusLine code) minor = status_line minor code
 
 -- its spans are within the first n bytes

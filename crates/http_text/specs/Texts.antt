@@ -46,7 +46,10 @@ IsRead form text m =
 -- The text that is written for a request or a response is a message with exactly those parts, if a head may have its
 -- field lines
 pub record TextsAreRead : Type 0 where
-  pub request : (method target : List ℕ) (fields : List NamedValue) (body : List ℕ) → IsToken method → IsTarget target → All IsFieldLine fields
-      → IsRead request_form (request_text method target fields body) (record { head = record { start = request_line method target 1; fields = fields }; body = body })
+  pub request : (method target : List ℕ) (fields : List NamedValue) (body : List ℕ) → IsToken method
+      → IsTarget target → All IsFieldLine fields
+      → IsRead request_form (request_text method target fields body)
+      (record { head = record { start = request_line method target 1; fields = fields }; body = body })
   pub response : (status : ℕ) (fields : List NamedValue) (body : List ℕ) → IsStatusCode status → All IsFieldLine fields
-      → IsRead response_form (response_text status fields body) (record { head = record { start = status_line 1 status; fields = fields }; body = body })
+      → IsRead response_form (response_text status fields body)
+      (record { head = record { start = status_line 1 status; fields = fields }; body = body })

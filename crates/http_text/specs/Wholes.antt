@@ -15,7 +15,8 @@ module _ (F : Form) where
   -- the head with these bytes as its body, if it states that length; otherwise none
   abbrev pub TakesWhole : Message → List ℕ → Option Message → Type 0
   TakesWhole before body None = ¬ (F.judge before.head ≡ Ok (length body))
-  TakesWhole before body (Some m) = (F.judge before.head ≡ Ok (length body)) × (m ≡ record { head = before.head; body = before.body ++ body })
+  TakesWhole before body (Some m) = (F.judge before.head ≡ Ok (length body))
+      × (m ≡ record { head = before.head; body = before.body ++ body })
 
 -- requests
 

@@ -13,4 +13,5 @@ memory_faults = (journal.ghosts).faults
 -- a journal in memory is always faithful, and its only fault is out of memory
 pub record StaysInMemory : Type 0 where
   pub faithful : (r : MemoryRecord) → (journal.ghosts).is_faithful r
-  pub memory : (old new : MemoryRecord) (fault : JournalFault) → CountsFault (memory_faults old) (memory_faults new) fault → fault ≡ Memory
+  pub memory : (old new : MemoryRecord) (fault : JournalFault)
+      → CountsFault (memory_faults old) (memory_faults new) fault → fault ≡ Memory

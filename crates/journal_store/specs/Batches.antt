@@ -10,7 +10,8 @@ use Rattle.journal_store.specs.Connections.{Commits, Finds, IsLaid, PutsIn}
 
 -- the row is put: its record's entry keeps everything else
 abbrev pub PutsRow : Row → (old new : Trees) → Type 0
-PutsRow row old new = (held : Option Entry) × Finds old (row_name row) held × PutsIn (is_some held) (entry_with row held) old new
+PutsRow row old new = (held : Option Entry) × Finds old (row_name row) held
+    × PutsIn (is_some held) (entry_with row held) old new
 
 -- the rows are put, one after another
 abbrev pub PutsRows : List Row → (old new : Trees) → Type 0

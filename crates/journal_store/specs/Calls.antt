@@ -10,15 +10,21 @@ use Rattle.journal_store.specs.Kept.{Kept, IsFaithful, IsHonest, MayHold, kept_e
 
 -- the call only reads
 abbrev pub Reads : {S T : Type 0} → Ghosts S → (old new : Kept S) → Result T JournalFault → Type 0
-Reads g old new result = OnlyReads (kept_entries g) (IsFaithful g) (IsHonest g) (MayHold g) (λ k. k.faults) (λ k. k.writes) CountsFault old new result
+Reads g old new result =
+    OnlyReads (kept_entries g) (IsFaithful g) (IsHonest g) (MayHold g) (λ k. k.faults) (λ k. k.writes)
+    CountsFault old new result
 
 -- the call changes the entries to `later` by one write at most
 abbrev pub Writes : {S T : Type 0} → Ghosts S → (old new : Kept S) → (later : EntryMap) → Result T JournalFault → Type 0
-Writes g old new later result = WritesOnce (kept_entries g) (IsFaithful g) (IsHonest g) (MayHold g) (λ k. k.faults) (λ k. k.writes) CountsFault old new later result
+Writes g old new later result =
+    WritesOnce (kept_entries g) (IsFaithful g) (IsHonest g) (MayHold g) (λ k. k.faults) (λ k. k.writes)
+    CountsFault old new later result
 
 -- the call opens the store again
 abbrev pub OpensAgain : {S T : Type 0} → Ghosts S → (old new : Kept S) → Result T JournalFault → Type 0
-OpensAgain g old new result = Reopens (kept_entries g) (IsFaithful g) (IsHonest g) (MayHold g) (λ k. k.faults) (λ k. k.writes) CountsFault old new result
+OpensAgain g old new result =
+    Reopens (kept_entries g) (IsFaithful g) (IsHonest g) (MayHold g) (λ k. k.faults) (λ k. k.writes)
+    CountsFault old new result
 
 -- the result of a call that writes, for that of its statements
 abbrev pub call_result : Result (Unit {0}) TableFault → Result (Unit {0}) JournalFault

@@ -17,8 +17,8 @@ use Rattle.journal_store.specs.Rows.{first_row, second_row, shown_row}
 use Rattle.journal_store.specs.declared.making.Moved.{Moved}
 use Rattle.journal_store.specs.declared.making.Moved.TheVariants.{FirstUsers, SecondGroups, SecondUsers}
 
--- a table is copied: what a query shows of the copies is what another query shows of the rows, and each copy has a number of
--- its own
+-- a table is copied: what a query shows of the copies is what another query shows of the rows, and each copy has a
+-- number of its own
 pub record IsCopied (sent kept : Row → Row) (old new : List Row) : Type 0 where
   pub shown : IsPermutation (map sent old) (map kept new)
   pub numbered : AreNumbered new
@@ -88,8 +88,8 @@ HasBoth FirstUsers = IsSecond
 HasBoth SecondUsers = IsJournal
 HasBoth SecondGroups = IsJournal
 
--- some rows are moved from one table to another: both together show what they showed, each row has a number of its own, and no
--- row is added to the table from which they are moved
+-- some rows are moved from one table to another: both together show what they showed, each row has a number of its own,
+-- and no row is added to the table from which they are moved
 pub record AreMoved (sent kept : Row → Row) (old_from old_to new_from new_to : List Row) : Type 0 where
   pub shown : IsPermutation (map sent old_from ++ map kept old_to) (map sent new_from ++ map kept new_to)
   pub left_numbered : AreNumbered new_from
@@ -106,7 +106,8 @@ pub record CanMove (table : Moved) (s : State) : Type 0 where
 -- some rows of a table are moved
 pub record Moves (table : Moved) (old new : State) : Type 0 where
   pub both : HasBoth table new.now.schema
-  pub moved : AreMoved (sent_row table) (kept_row table) (old.now.trees (moved_from table)) (old.now.trees (moved_to table)) (new.now.trees (moved_from table)) (new.now.trees (moved_to table))
+  pub moved : AreMoved (sent_row table) (kept_row table) (old.now.trees (moved_from table))
+      (old.now.trees (moved_to table)) (new.now.trees (moved_from table)) (new.now.trees (moved_to table))
   pub others : Stay (unmoved table) old.now.trees new.now.trees
 
 -- all of them are moved

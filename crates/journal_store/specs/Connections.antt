@@ -78,7 +78,8 @@ has_key key r = is_eq (value_cmp (column r 1) (Text key))
 abbrev pub Finds : Trees → RecordName → Option Entry → Type 0
 Finds db name None = filter (has_key name.key) (db (entry_tree name.kind)) ≡ []
 Finds db name (Some entry) =
-    (r : Row) × (filter (has_key name.key) (db (entry_tree name.kind)) ≡ r ∷ []) × Shows name.kind (shown_row name.kind r) entry
+    (r : Row) × (filter (has_key name.key) (db (entry_tree name.kind)) ≡ r ∷ [])
+    × Shows name.kind (shown_row name.kind r) entry
 
 -- what the rows with a name show: at most one row
 abbrev pub IsOnly : Kind → List Row → Option Entry → Type 0
@@ -103,7 +104,9 @@ pub record FailsToRise (rows : List Row) : Type 0 where
 -- the row shows no valid entry, or one whose name doesn't come after the previous one
 abbrev pub IsNotNext : Kind → Option RecordName → Row → Type 0
 IsNotNext kind previous row =
-    ((entry : Entry) → Shows kind row entry → ⊥) ⊎ ((entry : Entry) × Shows kind row entry × MatchOption previous ⊥ (λ p. is_lt (name_cmp p (row_name entry.row)) ≡ false))
+    ((entry : Entry) → Shows kind row entry → ⊥)
+    ⊎ ((entry : Entry) × Shows kind row entry
+    × MatchOption previous ⊥ (λ p. is_lt (name_cmp p (row_name entry.row)) ≡ false))
 
 -- given which valid entry a row shows
 module _ (Valid : Row → Entry → Type 0) where
@@ -128,7 +131,8 @@ module _ (Valid : Row → Entry → Type 0) where
 
 -- the query shows these columns of each row of a table, in order of the first
 abbrev pub Lists : {Form : Type 0} → (Form → Schema) → (tree : ℕ) → (columns : Row → Row) → List ℕ → Type 0
-Lists {Form} layout tree columns sql = (form : Form) (trees : Trees) (c : Compiled) (rows : List Row) → understood (layout form) sql ≡ Ok c → Reads c.command (record { schema = layout form; trees = trees }) [] rows
+Lists {Form} layout tree columns sql = (form : Form) (trees : Trees) (c : Compiled) (rows : List Row)
+    → understood (layout form) sql ≡ Ok c → Reads c.command (record { schema = layout form; trees = trees }) [] rows
     → IsPermutation (map columns (trees tree)) rows × IsSorted (λ (a b : Row). value_cmp (column a 0) (column b 0)) rows
 
 abbrev pub AreShown : Kind → List Row → List Entry → Type 0
@@ -171,14 +175,17 @@ stored_row n entry = Int n ∷ row_of entry
 
 -- a row of this entry is added with a free number, or replaces the only row with its key
 abbrev pub Puts : Bool → Entry → (old new : List Row) → Type 0
-Puts false entry old new = (n : ℤ) × (is_taken old (stored_row n entry) ≡ false) × (new ≡ put_row (stored_row n entry) old)
+Puts false entry old new = (n : ℤ) × (is_taken old (stored_row n entry) ≡ false)
+    × (new ≡ put_row (stored_row n entry) old)
 Puts true entry old new =
-    (r : Row) × (n : ℤ) × (rowid r ≡ Int n) × (filter (has_key (row_name entry.row).key) old ≡ r ∷ []) × (new ≡ put_row (stored_row n entry) (without_rowid n old))
+    (r : Row) × (n : ℤ) × (rowid r ≡ Int n) × (filter (has_key (row_name entry.row).key) old ≡ r ∷ [])
+    × (new ≡ put_row (stored_row n entry) (without_rowid n old))
 
 -- the entry is put into its table, and the other table stays
 pub record PutsIn (is_there : Bool) (entry : Entry) (old new : Trees) : Type 0 where
   pub lawful : IsRow entry.row
-  pub puts : Puts is_there entry (old (entry_tree (row_name entry.row).kind)) (new (entry_tree (row_name entry.row).kind))
+  pub puts : Puts is_there entry (old (entry_tree (row_name entry.row).kind))
+      (new (entry_tree (row_name entry.row).kind))
   pub users : (row_name entry.row).kind ≡ Group → new (entry_tree User) ≡ old (entry_tree User)
   pub groups : (row_name entry.row).kind ≡ User → new (entry_tree Group) ≡ old (entry_tree Group)
 

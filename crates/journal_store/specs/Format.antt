@@ -38,7 +38,8 @@ abbrev pub EntryColumn : Type 0
 EntryColumn = Bor (List ℕ) × ColumnKind × Bool
 
 abbrev pub column_of : EntryColumn → Column
-column_of c = record { name = c.0.now; kind = c.1; is_strict = false; not_null = c.2; default = Null; collation = Binary }
+column_of c =
+    record { name = c.0.now; kind = c.1; is_strict = false; not_null = c.2; default = Null; collation = Binary }
 
 -- the epochs of the row's revision and of the confirmed one
 abbrev pub epoch_columns : List Column
@@ -47,21 +48,26 @@ epoch_columns = required (codes "epoch") Integer ∷ required (codes "confirmed_
 -- the columns of the users of the first format: a user has no department, and a revision no epoch
 abbrev pub first_user_columns : List Column
 first_user_columns =
-    required (codes "name_key") Text ∷ required (codes "login") Text ∷ required (codes "revision") Integer ∷ required (codes "number") Text
-    ∷ required (codes "given") Text ∷ required (codes "family") Text ∷ required (codes "mail") Text ∷ required (codes "active") Integer
+    required (codes "name_key") Text ∷ required (codes "login") Text
+    ∷ required (codes "revision") Integer ∷ required (codes "number") Text
+    ∷ required (codes "given") Text ∷ required (codes "family") Text ∷ required (codes "mail") Text
+    ∷ required (codes "active") Integer
     ∷ required (codes "confirmed") Integer ∷ optional (codes "id") Text ∷ []
 
 -- the columns of the users of the second format: a revision has no epoch
 abbrev pub second_user_columns : List Column
 second_user_columns =
-    required (codes "name_key") Text ∷ required (codes "login") Text ∷ required (codes "revision") Integer ∷ required (codes "number") Text
-    ∷ required (codes "given") Text ∷ required (codes "family") Text ∷ required (codes "mail") Text ∷ required (codes "department") Text
+    required (codes "name_key") Text ∷ required (codes "login") Text
+    ∷ required (codes "revision") Integer ∷ required (codes "number") Text
+    ∷ required (codes "given") Text ∷ required (codes "family") Text ∷ required (codes "mail") Text
+    ∷ required (codes "department") Text
     ∷ required (codes "active") Integer ∷ required (codes "confirmed") Integer ∷ optional (codes "id") Text ∷ []
 
 -- the columns of the groups of both these formats
 abbrev pub first_group_columns : List Column
 first_group_columns =
-    required (codes "name_key") Text ∷ required (codes "name") Text ∷ required (codes "revision") Integer ∷ required (codes "members") Text
+    required (codes "name_key") Text ∷ required (codes "name") Text
+    ∷ required (codes "revision") Integer ∷ required (codes "members") Text
     ∷ required (codes "confirmed") Integer ∷ optional (codes "id") Text ∷ []
 
 -- ---- tables
@@ -77,22 +83,52 @@ pub record EntryTable : Type 0 where
   pub tree : ℕ
   pub columns : List Column
 
--- the tables of entries, in the order in which they are made: those of the first format, that of the users of the second one,
--- and those of the current one
+-- the tables of entries, in the order in which they are made: those of the first format, that of the users of the
+-- second one, and those of the current one
 abbrev pub first_users : EntryTable
-first_users = record { name = codes "user_entry"; index = codes "sqlite_autoindex_user_entry_1"; tree = 1; columns = first_user_columns }
+first_users =
+    record {
+      name = codes "user_entry";
+      index = codes "sqlite_autoindex_user_entry_1";
+      tree = 1;
+      columns = first_user_columns;
+    }
 
 abbrev pub first_groups : EntryTable
-first_groups = record { name = codes "group_entry"; index = codes "sqlite_autoindex_group_entry_1"; tree = 3; columns = first_group_columns }
+first_groups =
+    record {
+      name = codes "group_entry";
+      index = codes "sqlite_autoindex_group_entry_1";
+      tree = 3;
+      columns = first_group_columns;
+    }
 
 abbrev pub second_users : EntryTable
-second_users = record { name = codes "user_entry_2"; index = codes "sqlite_autoindex_user_entry_2_1"; tree = 5; columns = second_user_columns }
+second_users =
+    record {
+      name = codes "user_entry_2";
+      index = codes "sqlite_autoindex_user_entry_2_1";
+      tree = 5;
+      columns = second_user_columns;
+    }
 
 abbrev pub third_users : EntryTable
-third_users = record { name = codes "user_entry_3"; index = codes "sqlite_autoindex_user_entry_3_1"; tree = 7; columns = second_user_columns ++ epoch_columns }
+third_users =
+    record {
+      name = codes "user_entry_3";
+      index = codes "sqlite_autoindex_user_entry_3_1";
+      tree = 7;
+      columns = second_user_columns ++ epoch_columns;
+    }
 
 abbrev pub third_groups : EntryTable
-third_groups = record { name = codes "group_entry_3"; index = codes "sqlite_autoindex_group_entry_3_1"; tree = 9; columns = first_group_columns ++ epoch_columns }
+third_groups =
+    record {
+      name = codes "group_entry_3";
+      index = codes "sqlite_autoindex_group_entry_3_1";
+      tree = 9;
+      columns = first_group_columns ++ epoch_columns;
+    }
 
 -- the tables with the entries of a type of record, in the current format, in the second one, and in the first one
 abbrev pub entry_tables : Kind → EntryTable
@@ -160,7 +196,8 @@ keyed_table name tree columns order = record {
 
 -- the index of the keys of the table in this tree: its tree is the next one
 abbrev pub keyed_index : (name : List ℕ) (tree : ℕ) → Order → Index
-keyed_index name tree order = record { name = name; tree = suc tree; table = tree; columns = key_places; order = order; is_unique = true }
+keyed_index name tree order =
+    record { name = name; tree = suc tree; table = tree; columns = key_places; order = order; is_unique = true }
 
 -- the table of entries, as SQLite keeps it, and the index of its keys
 abbrev pub table_of : EntryTable → Order → Table
@@ -171,7 +208,8 @@ index_of table = keyed_index table.index table.tree
 
 -- ---- the schemas
 
--- what SQLite chooses of the tables of the first format: the terms of the CHECK of the format, and the orders of the indexes
+-- what SQLite chooses of the tables of the first format: the terms of the CHECK of the format, and the orders of the
+-- indexes
 pub record FirstForm : Type 0 where
   pub format_checks : List Term
   pub users : Order
@@ -180,7 +218,8 @@ pub record FirstForm : Type 0 where
 abbrev pub first_schema : FirstForm → Schema
 first_schema form =
     record {
-      tables = format_table format_name form.format_checks ∷ table_of first_users form.users ∷ table_of first_groups form.groups ∷ [];
+      tables = format_table format_name form.format_checks ∷ table_of first_users form.users
+          ∷ table_of first_groups form.groups ∷ [];
       indexes = index_of first_users form.users ∷ index_of first_groups form.groups ∷ [];
       views = [];
     }
@@ -195,9 +234,11 @@ abbrev pub second_schema : SecondForm → Schema
 second_schema form =
     record {
       tables =
-          format_table format_name form.first.format_checks ∷ table_of first_users form.first.users ∷ table_of first_groups form.first.groups
+          format_table format_name form.first.format_checks ∷ table_of first_users form.first.users
+          ∷ table_of first_groups form.first.groups
           ∷ table_of second_users form.users ∷ [];
-      indexes = index_of first_users form.first.users ∷ index_of first_groups form.first.groups ∷ index_of second_users form.users ∷ [];
+      indexes = index_of first_users form.first.users ∷ index_of first_groups form.first.groups
+          ∷ index_of second_users form.users ∷ [];
       views = [];
     }
 
@@ -212,10 +253,13 @@ abbrev pub journal_schema : Form → Schema
 journal_schema form =
     record {
       tables =
-          format_table format_name form.second.first.format_checks ∷ table_of first_users form.second.first.users ∷ table_of first_groups form.second.first.groups
-          ∷ table_of second_users form.second.users ∷ table_of third_users form.users ∷ table_of third_groups form.groups ∷ [];
+          format_table format_name form.second.first.format_checks
+          ∷ table_of first_users form.second.first.users ∷ table_of first_groups form.second.first.groups
+          ∷ table_of second_users form.second.users ∷ table_of third_users form.users
+          ∷ table_of third_groups form.groups ∷ [];
       indexes =
-          index_of first_users form.second.first.users ∷ index_of first_groups form.second.first.groups ∷ index_of second_users form.second.users
+          index_of first_users form.second.first.users ∷ index_of first_groups form.second.first.groups
+          ∷ index_of second_users form.second.users
           ∷ index_of third_users form.users ∷ index_of third_groups form.groups ∷ [];
       views = [];
     }
@@ -231,28 +275,39 @@ pub record MarkedForm : Type 0 where
 
 -- the table of the format, and any tables after it
 abbrev pub marked_schema : MarkedForm → Schema
-marked_schema form = record { tables = format_table format_name form.format_checks ∷ form.tables; indexes = form.indexes; views = form.views }
+marked_schema form =
+    record {
+      tables = format_table format_name form.format_checks ∷ form.tables;
+      indexes = form.indexes;
+      views = form.views;
+    }
 
 -- ---- statements
 
 abbrev pub format_text : List ℕ
-format_text = codes "CREATE TABLE IF NOT EXISTS journal_format (one INTEGER PRIMARY KEY CHECK (one = 1), number INTEGER NOT NULL)"
+format_text =
+    codes "CREATE TABLE IF NOT EXISTS journal_format (one INTEGER PRIMARY KEY CHECK (one = 1), number INTEGER NOT NULL)"
 
 abbrev pub mark_text : List ℕ
 mark_text = codes "INSERT INTO journal_format (one, number) VALUES (1, ?1)"
 
 abbrev pub create_text : Kind → List ℕ
-create_text User = codes "CREATE TABLE user_entry_3 (name_key TEXT PRIMARY KEY NOT NULL, login TEXT NOT NULL, revision INTEGER NOT NULL, number TEXT NOT NULL, given TEXT NOT NULL, family TEXT NOT NULL, mail TEXT NOT NULL, department TEXT NOT NULL, active INTEGER NOT NULL, confirmed INTEGER NOT NULL, id TEXT, epoch INTEGER NOT NULL, confirmed_epoch INTEGER NOT NULL)"
-create_text Group = codes "CREATE TABLE group_entry_3 (name_key TEXT PRIMARY KEY NOT NULL, name TEXT NOT NULL, revision INTEGER NOT NULL, members TEXT NOT NULL, confirmed INTEGER NOT NULL, id TEXT, epoch INTEGER NOT NULL, confirmed_epoch INTEGER NOT NULL)"
+create_text User =
+    codes "CREATE TABLE user_entry_3 (name_key TEXT PRIMARY KEY NOT NULL, login TEXT NOT NULL, revision INTEGER NOT NULL, number TEXT NOT NULL, given TEXT NOT NULL, family TEXT NOT NULL, mail TEXT NOT NULL, department TEXT NOT NULL, active INTEGER NOT NULL, confirmed INTEGER NOT NULL, id TEXT, epoch INTEGER NOT NULL, confirmed_epoch INTEGER NOT NULL)"
+create_text Group =
+    codes "CREATE TABLE group_entry_3 (name_key TEXT PRIMARY KEY NOT NULL, name TEXT NOT NULL, revision INTEGER NOT NULL, members TEXT NOT NULL, confirmed INTEGER NOT NULL, id TEXT, epoch INTEGER NOT NULL, confirmed_epoch INTEGER NOT NULL)"
 
 -- the table of the users of the second format
 abbrev pub create_second_text : List ℕ
-create_second_text = codes "CREATE TABLE user_entry_2 (name_key TEXT PRIMARY KEY NOT NULL, login TEXT NOT NULL, revision INTEGER NOT NULL, number TEXT NOT NULL, given TEXT NOT NULL, family TEXT NOT NULL, mail TEXT NOT NULL, department TEXT NOT NULL, active INTEGER NOT NULL, confirmed INTEGER NOT NULL, id TEXT)"
+create_second_text =
+    codes "CREATE TABLE user_entry_2 (name_key TEXT PRIMARY KEY NOT NULL, login TEXT NOT NULL, revision INTEGER NOT NULL, number TEXT NOT NULL, given TEXT NOT NULL, family TEXT NOT NULL, mail TEXT NOT NULL, department TEXT NOT NULL, active INTEGER NOT NULL, confirmed INTEGER NOT NULL, id TEXT)"
 
 -- the tables of the first format
 abbrev pub create_first_text : Kind → List ℕ
-create_first_text User = codes "CREATE TABLE user_entry (name_key TEXT PRIMARY KEY NOT NULL, login TEXT NOT NULL, revision INTEGER NOT NULL, number TEXT NOT NULL, given TEXT NOT NULL, family TEXT NOT NULL, mail TEXT NOT NULL, active INTEGER NOT NULL, confirmed INTEGER NOT NULL, id TEXT)"
-create_first_text Group = codes "CREATE TABLE group_entry (name_key TEXT PRIMARY KEY NOT NULL, name TEXT NOT NULL, revision INTEGER NOT NULL, members TEXT NOT NULL, confirmed INTEGER NOT NULL, id TEXT)"
+create_first_text User =
+    codes "CREATE TABLE user_entry (name_key TEXT PRIMARY KEY NOT NULL, login TEXT NOT NULL, revision INTEGER NOT NULL, number TEXT NOT NULL, given TEXT NOT NULL, family TEXT NOT NULL, mail TEXT NOT NULL, active INTEGER NOT NULL, confirmed INTEGER NOT NULL, id TEXT)"
+create_first_text Group =
+    codes "CREATE TABLE group_entry (name_key TEXT PRIMARY KEY NOT NULL, name TEXT NOT NULL, revision INTEGER NOT NULL, members TEXT NOT NULL, confirmed INTEGER NOT NULL, id TEXT)"
 
 abbrev pub marked_text : List ℕ
 marked_text = codes "SELECT number FROM journal_format"
@@ -263,20 +318,28 @@ numbers_text User = codes "SELECT rowid FROM user_entry_3 ORDER BY rowid"
 numbers_text Group = codes "SELECT rowid FROM group_entry_3 ORDER BY rowid"
 
 abbrev pub find_text : Kind → List ℕ
-find_text User = codes "SELECT name_key, login, revision, number, given, family, mail, department, active, confirmed, id, epoch, confirmed_epoch FROM user_entry_3 WHERE name_key = ?1"
-find_text Group = codes "SELECT name_key, name, revision, members, confirmed, id, epoch, confirmed_epoch FROM group_entry_3 WHERE name_key = ?1"
+find_text User =
+    codes "SELECT name_key, login, revision, number, given, family, mail, department, active, confirmed, id, epoch, confirmed_epoch FROM user_entry_3 WHERE name_key = ?1"
+find_text Group =
+    codes "SELECT name_key, name, revision, members, confirmed, id, epoch, confirmed_epoch FROM group_entry_3 WHERE name_key = ?1"
 
 abbrev pub all_text : Kind → List ℕ
-all_text User = codes "SELECT name_key, login, revision, number, given, family, mail, department, active, confirmed, id, epoch, confirmed_epoch FROM user_entry_3 ORDER BY name_key"
-all_text Group = codes "SELECT name_key, name, revision, members, confirmed, id, epoch, confirmed_epoch FROM group_entry_3 ORDER BY name_key"
+all_text User =
+    codes "SELECT name_key, login, revision, number, given, family, mail, department, active, confirmed, id, epoch, confirmed_epoch FROM user_entry_3 ORDER BY name_key"
+all_text Group =
+    codes "SELECT name_key, name, revision, members, confirmed, id, epoch, confirmed_epoch FROM group_entry_3 ORDER BY name_key"
 
 abbrev pub insert_text : Kind → List ℕ
-insert_text User = codes "INSERT INTO user_entry_3 (name_key, login, revision, number, given, family, mail, department, active, confirmed, id, epoch, confirmed_epoch) VALUES (?1, ?2, ?3, ?4, ?5, ?6, ?7, ?8, ?9, ?10, ?11, ?12, ?13)"
-insert_text Group = codes "INSERT INTO group_entry_3 (name_key, name, revision, members, confirmed, id, epoch, confirmed_epoch) VALUES (?1, ?2, ?3, ?4, ?5, ?6, ?7, ?8)"
+insert_text User =
+    codes "INSERT INTO user_entry_3 (name_key, login, revision, number, given, family, mail, department, active, confirmed, id, epoch, confirmed_epoch) VALUES (?1, ?2, ?3, ?4, ?5, ?6, ?7, ?8, ?9, ?10, ?11, ?12, ?13)"
+insert_text Group =
+    codes "INSERT INTO group_entry_3 (name_key, name, revision, members, confirmed, id, epoch, confirmed_epoch) VALUES (?1, ?2, ?3, ?4, ?5, ?6, ?7, ?8)"
 
 abbrev pub update_text : Kind → List ℕ
-update_text User = codes "UPDATE user_entry_3 SET login = ?2, revision = ?3, number = ?4, given = ?5, family = ?6, mail = ?7, department = ?8, active = ?9, confirmed = ?10, id = ?11, epoch = ?12, confirmed_epoch = ?13 WHERE name_key = ?1"
-update_text Group = codes "UPDATE group_entry_3 SET name = ?2, revision = ?3, members = ?4, confirmed = ?5, id = ?6, epoch = ?7, confirmed_epoch = ?8 WHERE name_key = ?1"
+update_text User =
+    codes "UPDATE user_entry_3 SET login = ?2, revision = ?3, number = ?4, given = ?5, family = ?6, mail = ?7, department = ?8, active = ?9, confirmed = ?10, id = ?11, epoch = ?12, confirmed_epoch = ?13 WHERE name_key = ?1"
+update_text Group =
+    codes "UPDATE group_entry_3 SET name = ?2, revision = ?3, members = ?4, confirmed = ?5, id = ?6, epoch = ?7, confirmed_epoch = ?8 WHERE name_key = ?1"
 
 -- ---- statements on the tables of the older formats
 
@@ -286,8 +349,10 @@ second_numbers_text Group = codes "SELECT rowid FROM group_entry ORDER BY rowid"
 
 -- each row is shown as the current format has it, with epochs of 0
 abbrev pub second_all_text : Kind → List ℕ
-second_all_text User = codes "SELECT name_key, login, revision, number, given, family, mail, department, active, confirmed, id, 0, 0 FROM user_entry_2 ORDER BY name_key"
-second_all_text Group = codes "SELECT name_key, name, revision, members, confirmed, id, 0, 0 FROM group_entry ORDER BY name_key"
+second_all_text User =
+    codes "SELECT name_key, login, revision, number, given, family, mail, department, active, confirmed, id, 0, 0 FROM user_entry_2 ORDER BY name_key"
+second_all_text Group =
+    codes "SELECT name_key, name, revision, members, confirmed, id, 0, 0 FROM group_entry ORDER BY name_key"
 
 abbrev pub first_numbers_text : Kind → List ℕ
 first_numbers_text User = codes "SELECT rowid FROM user_entry ORDER BY rowid"
@@ -295,16 +360,20 @@ first_numbers_text Group = second_numbers_text Group
 
 -- a user is also shown with an empty department
 abbrev pub first_all_text : Kind → List ℕ
-first_all_text User = codes "SELECT name_key, login, revision, number, given, family, mail, '', active, confirmed, id, 0, 0 FROM user_entry ORDER BY name_key"
+first_all_text User =
+    codes "SELECT name_key, login, revision, number, given, family, mail, '', active, confirmed, id, 0, 0 FROM user_entry ORDER BY name_key"
 first_all_text Group = second_all_text Group
 
 -- ---- carrying a journal over
 
 -- the rows of a table up to a number are copied to the table of the next format, and deleted
 abbrev pub copy_part_text : Moved → List ℕ
-copy_part_text FirstUsers = codes "INSERT INTO user_entry_2 (name_key, login, revision, number, given, family, mail, department, active, confirmed, id) SELECT name_key, login, revision, number, given, family, mail, '', active, confirmed, id FROM user_entry WHERE rowid <= ?1"
-copy_part_text SecondUsers = codes "INSERT INTO user_entry_3 (name_key, login, revision, number, given, family, mail, department, active, confirmed, id, epoch, confirmed_epoch) SELECT name_key, login, revision, number, given, family, mail, department, active, confirmed, id, 0, 0 FROM user_entry_2 WHERE rowid <= ?1"
-copy_part_text SecondGroups = codes "INSERT INTO group_entry_3 (name_key, name, revision, members, confirmed, id, epoch, confirmed_epoch) SELECT name_key, name, revision, members, confirmed, id, 0, 0 FROM group_entry WHERE rowid <= ?1"
+copy_part_text FirstUsers =
+    codes "INSERT INTO user_entry_2 (name_key, login, revision, number, given, family, mail, department, active, confirmed, id) SELECT name_key, login, revision, number, given, family, mail, '', active, confirmed, id FROM user_entry WHERE rowid <= ?1"
+copy_part_text SecondUsers =
+    codes "INSERT INTO user_entry_3 (name_key, login, revision, number, given, family, mail, department, active, confirmed, id, epoch, confirmed_epoch) SELECT name_key, login, revision, number, given, family, mail, department, active, confirmed, id, 0, 0 FROM user_entry_2 WHERE rowid <= ?1"
+copy_part_text SecondGroups =
+    codes "INSERT INTO group_entry_3 (name_key, name, revision, members, confirmed, id, epoch, confirmed_epoch) SELECT name_key, name, revision, members, confirmed, id, 0, 0 FROM group_entry WHERE rowid <= ?1"
 
 abbrev pub empty_part_text : Moved → List ℕ
 empty_part_text FirstUsers = codes "DELETE FROM user_entry WHERE rowid <= ?1"
@@ -313,9 +382,12 @@ empty_part_text SecondGroups = codes "DELETE FROM group_entry WHERE rowid <= ?1"
 
 -- so are all of them
 abbrev pub copy_text : Moved → List ℕ
-copy_text FirstUsers = codes "INSERT INTO user_entry_2 (name_key, login, revision, number, given, family, mail, department, active, confirmed, id) SELECT name_key, login, revision, number, given, family, mail, '', active, confirmed, id FROM user_entry"
-copy_text SecondUsers = codes "INSERT INTO user_entry_3 (name_key, login, revision, number, given, family, mail, department, active, confirmed, id, epoch, confirmed_epoch) SELECT name_key, login, revision, number, given, family, mail, department, active, confirmed, id, 0, 0 FROM user_entry_2"
-copy_text SecondGroups = codes "INSERT INTO group_entry_3 (name_key, name, revision, members, confirmed, id, epoch, confirmed_epoch) SELECT name_key, name, revision, members, confirmed, id, 0, 0 FROM group_entry"
+copy_text FirstUsers =
+    codes "INSERT INTO user_entry_2 (name_key, login, revision, number, given, family, mail, department, active, confirmed, id) SELECT name_key, login, revision, number, given, family, mail, '', active, confirmed, id FROM user_entry"
+copy_text SecondUsers =
+    codes "INSERT INTO user_entry_3 (name_key, login, revision, number, given, family, mail, department, active, confirmed, id, epoch, confirmed_epoch) SELECT name_key, login, revision, number, given, family, mail, department, active, confirmed, id, 0, 0 FROM user_entry_2"
+copy_text SecondGroups =
+    codes "INSERT INTO group_entry_3 (name_key, name, revision, members, confirmed, id, epoch, confirmed_epoch) SELECT name_key, name, revision, members, confirmed, id, 0, 0 FROM group_entry"
 
 abbrev pub empty_text : Moved → List ℕ
 empty_text FirstUsers = codes "DELETE FROM user_entry"

@@ -6,16 +6,25 @@ use Rattle.scim_key.specs.declared.records.Kind.{Kind}
 use Rattle.journal_store.specs.Format.{FirstForm, Form, SecondForm, entry_tree, first_number, first_schema, first_tree, format_number, journal_schema, second_number, second_schema, second_tree}
 use Rattle.journal_store.specs.Rows.{first_row, second_row, shown_row}
 
--- a format: the layout of its tables, its number, the tree of each type's table, and the columns that its query shows of
--- a row
+-- a format: the layout of its tables, its number, the tree of each type's table, and the columns that its query shows
+-- of a row
 abbrev pub FormatData : Type 1
 FormatData = record { form : Type 0; layout : form → Schema; number : ℕ; tree : Kind → ℕ; columns : Kind → Row → Row }
 
 abbrev pub current_format : FormatData
-current_format = record { form = Form; layout = journal_schema; number = format_number; tree = entry_tree; columns = shown_row }
+current_format =
+    record { form = Form; layout = journal_schema; number = format_number; tree = entry_tree; columns = shown_row }
 
 abbrev pub second_format : FormatData
-second_format = record { form = SecondForm; layout = second_schema; number = second_number; tree = second_tree; columns = second_row }
+second_format =
+    record {
+      form = SecondForm;
+      layout = second_schema;
+      number = second_number;
+      tree = second_tree;
+      columns = second_row;
+    }
 
 abbrev pub first_format : FormatData
-first_format = record { form = FirstForm; layout = first_schema; number = first_number; tree = first_tree; columns = first_row }
+first_format =
+    record { form = FirstForm; layout = first_schema; number = first_number; tree = first_tree; columns = first_row }

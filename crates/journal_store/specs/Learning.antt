@@ -21,9 +21,12 @@ learn_text Group = codes "UPDATE group_entry_3 SET confirmed = ?2, id = ?3, conf
 abbrev pub learnt_values : (key : List ℕ) → RevisionValue → (id : List ℕ) → Row
 learnt_values key confirmed id = Text key ∷ revision_value confirmed ∷ Text id ∷ epoch_value confirmed ∷ []
 
--- the row with its number, its columns before the confirmed revision, and its epoch; this revision is confirmed, and the id is this
+-- the row with its number, its columns before the confirmed revision, and its epoch; this revision is confirmed, and
+-- the id is this
 abbrev pub learnt_row : Kind → RevisionValue → (id : List ℕ) → Row → Row
-learnt_row kind confirmed id r = map (column r) (places 0 (1 + kept_count kind)) ++ revision_value confirmed ∷ Text id ∷ column r (3 + kept_count kind) ∷ epoch_value confirmed ∷ []
+learnt_row kind confirmed id r =
+    map (column r) (places 0 (1 + kept_count kind)) ++ revision_value confirmed ∷ Text id
+    ∷ column r (3 + kept_count kind) ∷ epoch_value confirmed ∷ []
 
 -- what was learnt is in the only row with the record's key; all else of that row stays, and so does the other table
 pub record Learns (name : RecordName) (confirmed : RevisionValue) (id : List ℕ) (old new : Trees) : Type 0 where
@@ -31,6 +34,7 @@ pub record Learns (name : RecordName) (confirmed : RevisionValue) (id : List ℕ
   pub number : ℤ
   pub numbered : rowid row ≡ Int number
   pub only : filter (has_key name.key) (old (entry_tree name.kind)) ≡ row ∷ []
-  pub learns : new (entry_tree name.kind) ≡ put_row (learnt_row name.kind confirmed id row) (without_rowid number (old (entry_tree name.kind)))
+  pub learns : new (entry_tree name.kind)
+      ≡ put_row (learnt_row name.kind confirmed id row) (without_rowid number (old (entry_tree name.kind)))
   pub users : name.kind ≡ Group → new (entry_tree User) ≡ old (entry_tree User)
   pub groups : name.kind ≡ User → new (entry_tree Group) ≡ old (entry_tree Group)

@@ -186,7 +186,8 @@ IsFirstStore = IsStoreBy first_format
 abbrev pub IsOlderStore : State → EntryMap → Type 0
 IsOlderStore s entries = IsSecondStore s entries ⊎ IsFirstStore s entries
 
--- what is in a store: the entries of its tables, of the current format or of an older one, or none if there are no tables
+-- what is in a store: the entries of its tables, of the current format or of an older one, or none if there are no
+-- tables
 abbrev pub Stands : State → EntryMap → Type 0
 Stands s entries = IsStore s entries ⊎ (IsOlderStore s entries ⊎ (IsBlank s × (entries ≡ empty)))
 
@@ -214,7 +215,8 @@ pub record Becomes (old new : State) (entries : EntryMap) : Type 0 where
 abbrev pub IsNewer : State → Type 0
 IsNewer s = (number : ℕ) × (format_number < number) × IsFormat s number
 
--- there are tables, but not those of a format; a table of the format shows no number that is newer than the current format's
+-- there are tables, but not those of a format; a table of the format shows no number that is newer than the current
+-- format's
 pub record IsForeign (s : State) : Type 0 where
   pub stand : s.now.schema ≢ no_schema
   pub other : IsJournal s.now.schema → ⊥
@@ -279,10 +281,11 @@ IsDamaged s = IsForeign s ⊎ (IsSpoilt s ⊎ (IsSecondSpoilt s ⊎ IsFirstSpoil
 abbrev pub IsCause : State → JournalOpenFault → Type 0
 IsCause s = IsFor (IsNewer s) (IsDamaged s)
 
--- why an opening says that the store failed: a transaction was open, the tables weren't there and couldn't be made, those of
--- an older format couldn't be carried over, or a statement that checks them failed
+-- why an opening says that the store failed: a transaction was open, the tables weren't there and couldn't be made,
+-- those of an older format couldn't be carried over, or a statement that checks them failed
 abbrev pub OpeningFails : (old new : State) → Type 0
-OpeningFails old new = IsTrue old.in_transaction ⊎ ((old.now.schema ≡ no_schema) ⊎ ((IsSecond old.now.schema ⊎ IsFirst old.now.schema) ⊎ HasFailed old new))
+OpeningFails old new = IsTrue old.in_transaction
+    ⊎ ((old.now.schema ≡ no_schema) ⊎ ((IsSecond old.now.schema ⊎ IsFirst old.now.schema) ⊎ HasFailed old new))
 
 -- why a reopening refuses the tables: they have the number of a newer format, or they aren't those of the current one,
 -- or something in them is invalid

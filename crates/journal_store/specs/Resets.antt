@@ -24,7 +24,8 @@ use Rattle.journal_store.specs.Opening.{AreLawful}
 pub record ForgetsOnly : Type 0 where
   pub each : (map_ : EntryMap) (name : RecordName) → get (forgotten map_) name ≡ option_map unlearnt (get map_ name)
   pub list : (map_ : EntryMap) (list : List Entry) → IsListOf map_ list → IsListOf (forgotten map_) (map unlearnt list)
-  pub lawful : (users groups : List Entry) → AreLawful users groups → AreLawful (map unlearnt users) (map unlearnt groups)
+  pub lawful : (users groups : List Entry) → AreLawful users groups
+      → AreLawful (map unlearnt users) (map unlearnt groups)
 
 -- ---- rows
 
@@ -41,9 +42,12 @@ none_values = revision_value no_revision ∷ epoch_value no_revision ∷ []
 abbrev pub kept_count : Kind → ℕ
 kept_count kind = column_count kind - 4
 
--- the row with its number, its columns before the confirmed revision, and its epoch; no revision is confirmed, and the id is NULL
+-- the row with its number, its columns before the confirmed revision, and its epoch; no revision is confirmed, and the
+-- id is NULL
 abbrev pub reset_row : Kind → Row → Row
-reset_row kind r = map (column r) (places 0 (1 + kept_count kind)) ++ revision_value no_revision ∷ Null ∷ column r (3 + kept_count kind) ∷ epoch_value no_revision ∷ []
+reset_row kind r =
+    map (column r) (places 0 (1 + kept_count kind)) ++ revision_value no_revision ∷ Null
+    ∷ column r (3 + kept_count kind) ∷ epoch_value no_revision ∷ []
 
 -- the table of a type has its rows, each reset
 abbrev pub Resets : Kind → (old new : Trees) → Type 0

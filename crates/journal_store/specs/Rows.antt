@@ -51,7 +51,8 @@ members_text keys = join_with_byte 32 keys
 abbrev pub row_by : source.Row → RevisionValue → Option (List ℕ) → Row
 row_by (User u) confirmed id =
     Text (row_name (User u)).key ∷ Text u.login ∷ revision_value u.revision
-    ∷ (map (λ which. Text (text_of u which)) TEXT_ORDER ++ Int (pos (active_number u.active)) ∷ revision_value confirmed ∷ id_value id ∷ epoch_value u.revision ∷ epoch_value confirmed ∷ [])
+    ∷ (map (λ which. Text (text_of u which)) TEXT_ORDER ++ Int (pos (active_number u.active))
+    ∷ revision_value confirmed ∷ id_value id ∷ epoch_value u.revision ∷ epoch_value confirmed ∷ [])
 row_by (Group g) confirmed id =
     Text (row_name (Group g)).key ∷ Text g.name ∷ revision_value g.revision ∷ Text (members_text g.members)
     ∷ revision_value confirmed ∷ id_value id ∷ epoch_value g.revision ∷ epoch_value confirmed ∷ []
@@ -160,7 +161,9 @@ entry_by row confirmed id = do
   Some (record { row = source; confirmed = revision; id = given })
 
 abbrev pub fields_in : Kind → Row → Option Entry
-fields_in kind.User r = entry_by (user_in r) (confirmed_in (column r (7 + TEXT_FIELD_COUNT)) (column r (4 + TEXT_FIELD_COUNT))) (id_in (column r (5 + TEXT_FIELD_COUNT)))
+fields_in kind.User r =
+    entry_by (user_in r) (confirmed_in (column r (7 + TEXT_FIELD_COUNT))
+    (column r (4 + TEXT_FIELD_COUNT))) (id_in (column r (5 + TEXT_FIELD_COUNT)))
 fields_in kind.Group r = entry_by (group_in r) (confirmed_in (column r 7) (column r 4)) (id_in (column r 5))
 
 -- the entry, if it is of the record with this key
@@ -221,7 +224,9 @@ named_by columns type table = flat_map (λ r. named_if (entry_in type (columns r
 
 -- the entries of the tables in these trees, of which the queries show these columns
 unfoldable pub entries_by : (tree : Kind → ℕ) (columns : Kind → Row → Row) → Trees → EntryMap
-entries_by tree columns db = from_entries (named_by (columns kind.User) kind.User (db (tree kind.User)) ++ named_by (columns kind.Group) kind.Group (db (tree kind.Group)))
+entries_by tree columns db =
+    from_entries (named_by (columns kind.User) kind.User (db (tree kind.User))
+    ++ named_by (columns kind.Group) kind.Group (db (tree kind.Group)))
 
 abbrev pub named_in : Kind → List Row → List (RecordName × Entry)
 named_in type = named_by (shown_row type) type

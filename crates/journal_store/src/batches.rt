@@ -175,7 +175,8 @@ fn put_entry_in<S: Alter>(
     ensures same_reference { tables.new.conn.ghost_name ≡ tables.old.conn.ghost_name }
     ensures made { HasCleanDisk (state S.Store tables.new.conn.now)
         → OnOk result
-        (Makes is_there (record { row = row.now; confirmed = confirmed; id = id.now }) (settled (state S.Store tables.old.conn.now))
+        (Makes is_there (record { row = row.now; confirmed = confirmed; id = id.now })
+        (settled (state S.Store tables.old.conn.now))
         (settled (state S.Store tables.new.conn.now))) }
     ensures inside { HasCleanDisk (state S.Store tables.new.conn.now)
         → OnOk result (IsTrue (state S.Store tables.new.conn.now).in_transaction) }

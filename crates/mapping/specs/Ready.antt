@@ -13,4 +13,6 @@ unless_missing (Some place) ids = Waits place
 
 -- The ids of the users with these keys, in the order of the keys, or the place, from 0, of the first user without an id
 abbrev pub ready : (id_of : RecordName → Option (List ℕ)) → (keys : List (List ℕ)) → Ready
-ready id_of keys = unless_missing (position_from (λ key. is_none (id_of (user key))) 0 keys) (filter_map (λ key. id_of (user key)) keys)
+ready id_of keys =
+    unless_missing (position_from (λ key. is_none (id_of (user key))) 0 keys)
+    (filter_map (λ key. id_of (user key)) keys)

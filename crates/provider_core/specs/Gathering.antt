@@ -38,10 +38,12 @@ Adds resource old new = (first size : ℕ) (resources : List ShownRecord)
 -- if these rows come after others, the state for the others became the state for all of them
 abbrev pub GoesThrough : Kind → Option Expression → List StoredRecord → Gathered → Gathered → Type 0
 GoesThrough kind wanted rows old new = (first size : ℕ) (before : List StoredRecord)
-    → IsPlace first → old ≡ gathered first size (found kind wanted before) → new ≡ gathered first size (found kind wanted (before ++ rows))
+    → IsPlace first → old ≡ gathered first size (found kind wanted before)
+    → new ≡ gathered first size (found kind wanted (before ++ rows))
 
 -- all rows were looked through, and the rows that were found can be counted
-pub record Gathers (kind : Kind) (wanted : Option Expression) (rows : List StoredRecord) (old new : Gathered) : Type 0 where
+pub record Gathers (kind : Kind) (wanted : Option Expression) (rows : List StoredRecord)
+    (old new : Gathered) : Type 0 where
   pub through : GoesThrough kind wanted rows old new
   pub few : length (found kind wanted rows) ≤ greatest_total
 

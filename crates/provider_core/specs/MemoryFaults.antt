@@ -12,7 +12,8 @@ memory_faults = (impl.ghosts).faults
 
 -- the only fault of a registry in memory is out of memory
 abbrev pub OnlyMemoryWants : Type 0
-OnlyMemoryWants = (old new : MemoryRecord) (fault : ProviderFault) → CountsProviderFault (memory_faults old) (memory_faults new) fault → fault ≡ provider.Memory
+OnlyMemoryWants = (old new : MemoryRecord) (fault : ProviderFault)
+    → CountsProviderFault (memory_faults old) (memory_faults new) fault → fault ≡ provider.Memory
 
 -- a registry in memory is always faithful
 abbrev pub AlwaysFaithful : Type 0

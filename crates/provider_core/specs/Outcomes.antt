@@ -47,7 +47,8 @@ first_row count content = record { number = suc count; version = 1; content = co
 abbrev pub creating : (taken : Option StoredRecord) → (full : Bool) → (count : ℕ) → Content → Outcome
 creating (Some row) full count content = refused NameTaken
 creating None true count content = refused LimitReached
-creating None false count content = record { change = Insert (first_row count content); answer = Created (shown (first_row count content)) }
+creating None false count content =
+    record { change = Insert (first_row count content); answer = Created (shown (first_row count content)) }
 
 -- ---- Replace
 
@@ -60,7 +61,8 @@ abbrev pub writing : (keeps_name : Bool) → (at_last : Bool) → (holds : Bool)
 writing false at_last holds row content = refused NameFixed
 writing true true holds row content = refused LimitReached
 writing true false false row content = refused OtherVersion
-writing true false true row content = record { change = Update (next_row row content); answer = Replaced (shown (next_row row content)) }
+writing true false true row content =
+    record { change = Update (next_row row content); answer = Replaced (shown (next_row row content)) }
 
 -- by the resource, if there is one
 abbrev pub replacing : Option StoredRecord → Content → Condition → Condition → Outcome
@@ -83,16 +85,19 @@ reading true true row = replied (Found (shown row))
 -- by the resource, if there is one
 abbrev pub retrieving : Option StoredRecord → Condition → Condition → Outcome
 retrieving None if_match if_none_match = refused NoSuchResource
-retrieving (Some row) if_match if_none_match = reading (holds_match if_match (Some row.version)) (holds_none_match if_none_match (Some row.version)) row
+retrieving (Some row) if_match if_none_match =
+    reading (holds_match if_match (Some row.version)) (holds_none_match if_none_match (Some row.version)) row
 
 -- ---- all requests
 
 -- What the provider does for a request, given its rows
 abbrev pub outcome : List StoredRecord → Request → Outcome
-outcome rows (Create content) = creating (row_named (content_name content) rows) (nat_le most_resources (length rows)) (length rows) content
+outcome rows (Create content) =
+    creating (row_named (content_name content) rows) (nat_le most_resources (length rows)) (length rows) content
 outcome rows (Retrieve kind id if_match if_none_match) = retrieving (resource kind id rows) if_match if_none_match
 outcome rows (Search kind wanted start count) = replied (answers.List (listing start count (found kind wanted rows)))
-outcome rows (Replace id content if_match if_none_match) = replacing (resource (content_kind content) id rows) content if_match if_none_match
+outcome rows (Replace id content if_match if_none_match) =
+    replacing (resource (content_kind content) id rows) content if_match if_none_match
 
 -- the rows after a change
 abbrev pub changed_rows : List StoredRecord → Change → List StoredRecord

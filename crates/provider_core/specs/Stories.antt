@@ -90,7 +90,8 @@ abbrev pub is_entry_hit : Kind → Option Expression → Numbered → Bool
 is_entry_hit kind wanted n = same_kind kind n.entry.name.kind && is_wanted wanted (row_of n.number n.entry)
 
 abbrev pub found_entries : Kind → Option Expression → List Entry → List ShownRecord
-found_entries kind wanted es = map (λ n. shown (row_of n.number n.entry)) (filter (is_entry_hit kind wanted) (numbered_from 1 es))
+found_entries kind wanted es =
+    map (λ n. shown (row_of n.number n.entry)) (filter (is_entry_hit kind wanted) (numbered_from 1 es))
 
 -- ---- what a request does
 
@@ -109,38 +110,54 @@ refused_on es refusal = replied_on es (Error (error_of refusal))
 abbrev pub creating_entry : (taken : Option Entry) → (full : Bool) → List Entry → Content → Step
 creating_entry (Some e) full es content = refused_on es NameTaken
 creating_entry None true es content = refused_on es LimitReached
-creating_entry None false es content = record { entries = es ++ first_entry content ∷ []; answer = Created (shown (row_of (suc (length es)) (first_entry content))) }
+creating_entry None false es content =
+    record {
+      entries = es ++ first_entry content ∷ [];
+      answer = Created (shown (row_of (suc (length es)) (first_entry content)));
+    }
 
 -- by whether the name stays the same, the story has its greatest length, and both conditions hold
-abbrev pub writing_entry : (keeps_name : Bool) → (at_last : Bool) → (holds : Bool) → Numbered → List Entry → Content → Step
+abbrev pub writing_entry : (keeps_name : Bool) → (at_last : Bool) → (holds : Bool) → Numbered
+    → List Entry → Content → Step
 writing_entry false at_last holds n es content = refused_on es NameFixed
 writing_entry true true holds n es content = refused_on es LimitReached
 writing_entry true false false n es content = refused_on es OtherVersion
-writing_entry true false true n es content = record { entries = renew_at (n.number - 1) content es; answer = Replaced (shown (row_of n.number (renewed n.entry content))) }
+writing_entry true false true n es content =
+    record {
+      entries = renew_at (n.number - 1) content es;
+      answer = Replaced (shown (row_of n.number (renewed n.entry content)));
+    }
 
 abbrev pub replacing_entry : Option Numbered → List Entry → Content → Condition → Condition → Step
 replacing_entry None es content if_match if_none_match = refused_on es NoSuchResource
 replacing_entry (Some n) es content if_match if_none_match =
     writing_entry (same_name n.entry.name (content_name content)) (nat_le last_version (length (story n.entry)))
-    (holds_match if_match (Some (length (story n.entry))) && holds_none_match if_none_match (Some (length (story n.entry)))) n es content
+    (holds_match if_match (Some (length (story n.entry))) && holds_none_match if_none_match
+    (Some (length (story n.entry)))) n es content
 
 -- by whether `If-Match` and `If-None-Match` hold
 abbrev pub reading_entry : (matches : Bool) → (fresh : Bool) → Numbered → List Entry → Step
 reading_entry false fresh n es = refused_on es OtherVersion
-reading_entry true false n es = replied_on es (NotModified n.entry.name.kind (id_text n.number) (version_tag (length (story n.entry))))
+reading_entry true false n es =
+    replied_on es (NotModified n.entry.name.kind (id_text n.number) (version_tag (length (story n.entry))))
 reading_entry true true n es = replied_on es (Found (shown (row_of n.number n.entry)))
 
 abbrev pub retrieving_entry : Option Numbered → List Entry → Condition → Condition → Step
 retrieving_entry None es if_match if_none_match = refused_on es NoSuchResource
 retrieving_entry (Some n) es if_match if_none_match =
-    reading_entry (holds_match if_match (Some (length (story n.entry)))) (holds_none_match if_none_match (Some (length (story n.entry)))) n es
+    reading_entry (holds_match if_match (Some (length (story n.entry))))
+    (holds_none_match if_none_match (Some (length (story n.entry)))) n es
 
 -- What the provider does for a request, given its entries
 abbrev pub step : List Entry → Request → Step
-step es (Create content) = creating_entry (find (is_entry_of (content_name content)) es) (nat_le most_resources (length es)) es content
-step es (Retrieve kind id if_match if_none_match) = retrieving_entry (entry_with_id kind id es) es if_match if_none_match
-step es (Search kind wanted start count) = replied_on es (answers.List (listing start count (found_entries kind wanted es)))
-step es (Replace id content if_match if_none_match) = replacing_entry (entry_with_id (content_kind content) id es) es content if_match if_none_match
+step es (Create content) =
+    creating_entry (find (is_entry_of (content_name content)) es) (nat_le most_resources (length es)) es content
+step es (Retrieve kind id if_match if_none_match) =
+    retrieving_entry (entry_with_id kind id es) es if_match if_none_match
+step es (Search kind wanted start count) =
+    replied_on es (answers.List (listing start count (found_entries kind wanted es)))
+step es (Replace id content if_match if_none_match) =
+    replacing_entry (entry_with_id (content_kind content) id es) es content if_match if_none_match
 
 -- ---- laws
 

@@ -30,7 +30,8 @@ entry_named name es = find (is_numbered_of name) (numbered_from 1 es)
 
 -- a table: every content of a story is of its entry's record, and no two entries are of the same record
 pub record IsWholeTable (es : List Entry) : Type 0 where
-  pub named : (i j : ℕ) (e : Entry) (c : Content) → slice_get es i ≡ Some e → slice_get (story e) j ≡ Some c → content_name c ≡ e.name
+  pub named : (i j : ℕ) (e : Entry) (c : Content) → slice_get es i ≡ Some e
+      → slice_get (story e) j ≡ Some c → content_name c ≡ e.name
   pub distinct : (i j : ℕ) (d e : Entry) → slice_get es i ≡ Some d → slice_get es j ≡ Some e → d.name ≡ e.name → i ≡ j
 
 -- after every request, the table is still whole
@@ -39,12 +40,15 @@ TablesStayWhole = (es : List Entry) (request : Request) → IsWholeTable es → 
 
 -- the row of a record is the row of its entry
 abbrev pub FoundByName : Type 0
-FoundByName = (name : RecordName) (es : List Entry) → IsWholeTable es → row_named name (rows_of es) ≡ option_map (λ n. row_of n.number n.entry) (entry_named name es)
+FoundByName = (name : RecordName) (es : List Entry) → IsWholeTable es
+    → row_named name (rows_of es) ≡ option_map (λ n. row_of n.number n.entry) (entry_named name es)
 
 -- the entry that is found is of this record, and the entry of this record is found
 pub record FindsByName (name : RecordName) (es : List Entry) : Type 0 where
-  pub found : (n : Numbered) → entry_named name es ≡ Some n → (i : ℕ) × (n.number ≡ suc i) × (slice_get es i ≡ Some n.entry) × (n.entry.name ≡ name)
-  pub here : (i : ℕ) (e : Entry) → slice_get es i ≡ Some e → e.name ≡ name → entry_named name es ≡ Some (record { number = suc i; entry = e })
+  pub found : (n : Numbered) → entry_named name es ≡ Some n → (i : ℕ) × (n.number ≡ suc i)
+      × (slice_get es i ≡ Some n.entry) × (n.entry.name ≡ name)
+  pub here : (i : ℕ) (e : Entry) → slice_get es i ≡ Some e → e.name ≡ name
+      → entry_named name es ≡ Some (record { number = suc i; entry = e })
 
 abbrev pub EntriesAreFound : Type 0
 EntriesAreFound = (name : RecordName) (es : List Entry) → IsWholeTable es → FindsByName name es
@@ -54,9 +58,12 @@ EntriesAreFound = (name : RecordName) (es : List Entry) → IsWholeTable es → 
 -- nothing, the first content under a free name, or the next content of a story, if the condition holds for its version
 pub data Writes : List Entry → Request → List Entry → Type 0 where
   nothing : {es : List Entry} {r : Request} → Writes es r es
-  created : {es : List Entry} (content : Content) → entry_named (content_name content) es ≡ None → Writes es (Create content) (es ++ first_entry content ∷ [])
-  replaced : {es : List Entry} (i : ℕ) (e : Entry) (content : Content) (m n : Condition) → slice_get es i ≡ Some e → e.name ≡ content_name content
-      → length (story e) < last_version → holds_match m (Some (length (story e))) ≡ true → Writes es (Replace (id_text (suc i)) content m n) (renew_at i content es)
+  created : {es : List Entry} (content : Content) → entry_named (content_name content) es ≡ None
+      → Writes es (Create content) (es ++ first_entry content ∷ [])
+  replaced : {es : List Entry} (i : ℕ) (e : Entry) (content : Content) (m n : Condition)
+      → slice_get es i ≡ Some e → e.name ≡ content_name content
+      → length (story e) < last_version → holds_match m (Some (length (story e))) ≡ true
+      → Writes es (Replace (id_text (suc i)) content m n) (renew_at i content es)
 
 abbrev pub StepsWrite : Type 0
 StepsWrite = (es : List Entry) (request : Request) → Writes es request (step es request).entries
@@ -82,13 +89,15 @@ shown_in (NotModified kind id version) = []
 shown_in (Error e) = []
 
 abbrev pub ShowsFacts : Type 0
-ShowsFacts = (es : List Entry) (request : Request) (i : ℕ) (s : ShownRecord) → slice_get (shown_in (step es request).answer) i ≡ Some s → IsFact (step es request).entries s
+ShowsFacts = (es : List Entry) (request : Request) (i : ℕ) (s : ShownRecord)
+    → slice_get (shown_in (step es request).answer) i ≡ Some s → IsFact (step es request).entries s
 
 -- ---- entries that go on
 
 -- if all entries go on, the entry at each place does
 abbrev pub GoOnAt : Type 0
-GoOnAt = (es fs : List Entry) (i : ℕ) (e : Entry) → AllGoOn es fs → slice_get es i ≡ Some e → (f : Entry) × (slice_get fs i ≡ Some f) × GoesOn e f
+GoOnAt = (es fs : List Entry) (i : ℕ) (e : Entry) → AllGoOn es fs → slice_get es i ≡ Some e
+    → (f : Entry) × (slice_get fs i ≡ Some f) × GoesOn e f
 
 -- all entries go on if nothing changes
 abbrev pub GoOnStaying : Type 0

@@ -44,7 +44,8 @@ pub record AreDamaged (rows : List Row) : Type 0 where
 abbrev pub FindsNumber : List Row → ℕ → Found → Type 0
 FindsNumber table number Nothing = filter (has_rowid (pos number)) table ≡ []
 FindsNumber table number Damaged = AreDamaged (filter (has_rowid (pos number)) table)
-FindsNumber table number (There s) = (r : Row) × (filter (has_rowid (pos number)) table ≡ r ∷ []) × IsRowOf (shown_row r) s
+FindsNumber table number (There s) = (r : Row) × (filter (has_rowid (pos number)) table ≡ r ∷ [])
+    × IsRowOf (shown_row r) s
 
 -- a row that shows a resource of this name
 pub record IsNamed (table : List Row) (name : RecordName) (r : Row) (s : StoredRecord) : Type 0 where
@@ -56,7 +57,8 @@ pub record IsNamed (table : List Row) (name : RecordName) (r : Row) (s : StoredR
 abbrev pub FindsName : List Row → RecordName → Found → Type 0
 FindsName table name Nothing = filter (has_name name) table ≡ []
 FindsName table name Damaged = AreDamaged (filter (has_name name) table)
-FindsName table name (There s) = (r : Row) × (filter (has_name name) table ≡ r ∷ []) × IsRowOf (shown_row r) s × (content_name s.content ≡ name)
+FindsName table name (There s) = (r : Row) × (filter (has_name name) table ≡ r ∷ [])
+    × IsRowOf (shown_row r) s × (content_name s.content ≡ name)
 
 -- what a look-up found, given the rows of the result
 abbrev pub IsOnly : List Row → Found → Type 0
@@ -66,7 +68,8 @@ IsOnly rows (There s) = (r : Row) × (rows ≡ r ∷ []) × IsRowOf r s
 
 -- ---- a page
 
--- the number is from the first one to the last one, as SQLite compares them; NULL, which no row has as its number, isn't
+-- the number is from the first one to the last one, as SQLite compares them; NULL, which no row has as its number,
+-- isn't
 abbrev pub is_between : ℕ → ℕ → Value → Bool
 is_between first last Null = false
 is_between first last v = is_ge (value_cmp v (Int (pos first))) && is_le (value_cmp v (Int (pos last)))
@@ -82,8 +85,8 @@ AreRowsFrom number [] [] = Unit {0}
 AreRowsFrom number (r ∷ rows) (s ∷ page) = IsRowOf r s × (s.number ≡ number) × AreRowsFrom (suc number) rows page
 AreRowsFrom number rows page = ⊥
 
--- these records are those with the numbers above `after` and up to `last`: their numbers follow each other from the next
--- one on, each is in the only row with its number, and no row has a later number of the page
+-- these records are those with the numbers above `after` and up to `last`: their numbers follow each other from the
+-- next one on, each is in the only row with its number, and no row has a later number of the page
 pub record HoldsPage (table : List Row) (after last : ℕ) (page : List StoredRecord) : Type 0 where
   pub each : (n : ℕ) (s : StoredRecord) → slice_get page n ≡ Some s → FindsNumber table (suc (after + n)) (There s)
   pub none : (n : ℕ) → after + length page < n → n ≤ last → FindsNumber table n Nothing

@@ -30,7 +30,9 @@ abbrev pub name_places : List ℕ
 name_places = 2 ∷ 3 ∷ []
 
 abbrev pub resource_columns : List Column
-resource_columns = optional (codes "number") Integer ∷ required (codes "kind") Integer ∷ required (codes "name_key") Text ∷ required (codes "version") Integer ∷ required (codes "content") Text ∷ []
+resource_columns =
+    optional (codes "number") Integer ∷ required (codes "kind") Integer
+    ∷ required (codes "name_key") Text ∷ required (codes "version") Integer ∷ required (codes "content") Text ∷ []
 
 abbrev pub resource_table : List Term → Order → Table
 resource_table checks order = record {
@@ -49,7 +51,15 @@ resource_table checks order = record {
 }
 
 abbrev pub name_index : Order → Index
-name_index order = record { name = codes "sqlite_autoindex_resource_1"; tree = name_tree; table = resource_tree; columns = name_places; order = order; is_unique = true }
+name_index order =
+    record {
+      name = codes "sqlite_autoindex_resource_1";
+      tree = name_tree;
+      table = resource_tree;
+      columns = name_places;
+      order = order;
+      is_unique = true;
+    }
 
 -- what SQLite chooses of the tables: the terms of their CHECKs, and the order of the index
 pub record Form : Type 0 where
@@ -59,18 +69,25 @@ pub record Form : Type 0 where
 
 abbrev pub provider_schema : Form → Schema
 provider_schema form =
-    record { tables = format_table format_name form.format_checks ∷ resource_table form.resource_checks form.order ∷ []; indexes = name_index form.order ∷ []; views = [] }
+    record {
+      tables = format_table format_name form.format_checks
+          ∷ resource_table form.resource_checks form.order ∷ [];
+      indexes = name_index form.order ∷ [];
+      views = [];
+    }
 
 -- ---- statements
 
 abbrev pub format_text : List ℕ
-format_text = codes "CREATE TABLE IF NOT EXISTS provider_format (one INTEGER PRIMARY KEY CHECK (one = 1), number INTEGER NOT NULL)"
+format_text =
+    codes "CREATE TABLE IF NOT EXISTS provider_format (one INTEGER PRIMARY KEY CHECK (one = 1), number INTEGER NOT NULL)"
 
 abbrev pub mark_text : List ℕ
 mark_text = codes "INSERT INTO provider_format (one, number) VALUES (1, ?1)"
 
 abbrev pub resource_text : List ℕ
-resource_text = codes "CREATE TABLE resource (number INTEGER PRIMARY KEY CHECK (number >= 1), kind INTEGER NOT NULL CHECK (kind = 1 OR kind = 2), name_key TEXT NOT NULL, version INTEGER NOT NULL CHECK (version >= 1), content TEXT NOT NULL, UNIQUE (kind, name_key))"
+resource_text =
+    codes "CREATE TABLE resource (number INTEGER PRIMARY KEY CHECK (number >= 1), kind INTEGER NOT NULL CHECK (kind = 1 OR kind = 2), name_key TEXT NOT NULL, version INTEGER NOT NULL CHECK (version >= 1), content TEXT NOT NULL, UNIQUE (kind, name_key))"
 
 abbrev pub insert_text : List ℕ
 insert_text = codes "INSERT INTO resource (number, kind, name_key, version, content) VALUES (?1, ?2, ?3, ?4, ?5)"
@@ -86,7 +103,8 @@ numbered_text = codes "SELECT number, kind, name_key, version, content FROM reso
 
 -- the query for the rows with the numbers of a page
 abbrev pub page_text : List ℕ
-page_text = codes "SELECT number, kind, name_key, version, content FROM resource WHERE number >= ?1 AND number <= ?2 ORDER BY number"
+page_text = codes
+    "SELECT number, kind, name_key, version, content FROM resource WHERE number >= ?1 AND number <= ?2 ORDER BY number"
 
 abbrev pub marked_text : List ℕ
 marked_text = codes "SELECT number FROM provider_format"

@@ -23,7 +23,8 @@ pub record Kept (S : Type 0) : Type 0 where
 
 abbrev pub kept_code : {S : Type 0} → Coded S → Coded (Kept S)
 kept_code {S} store =
-    code_by (Held S × (Bool × (ℕ × (ℕ × ℕ)))) (coded× (held_code store) (coded× coded_bool (coded× coded_ℕ (coded× coded_ℕ coded_ℕ))))
+    code_by (Held S × (Bool × (ℕ × (ℕ × ℕ))))
+    (coded× (held_code store) (coded× coded_bool (coded× coded_ℕ (coded× coded_ℕ coded_ℕ))))
     (λ k. (k.conn, (k.is_usable, (k.count, (k.faults, k.writes)))))
     (λ p. record { conn = p.0; is_usable = p.1.0; count = p.1.1.0; faults = p.1.1.1.0; writes = p.1.1.1.1 })
     (λ _. refl)

@@ -17,7 +17,8 @@ use Rattle.provider_store.specs.Rows.{kind_code, shown_row, IsRowOf, number_at}
 
 -- the row has this kind and this key, as SQLite compares them
 abbrev pub has_name : RecordName → Row → Bool
-has_name name r = is_eq (value_cmp (column r 2) (Int (pos (kind_code name.kind)))) && is_eq (value_cmp (column r 3) (Text name.key))
+has_name name r =
+    is_eq (value_cmp (column r 2) (Int (pos (kind_code name.kind)))) && is_eq (value_cmp (column r 3) (Text name.key))
 
 -- exactly one row has this number; it shows a record, and no other row has that record's kind and key
 pub record IsLawfulAt (table : List Row) (number : ℕ) : Type 0 where
@@ -29,7 +30,8 @@ pub record IsLawfulAt (table : List Row) (number : ℕ) : Type 0 where
 
 -- no row that shows a record is the only row with this kind and key
 abbrev pub NoneNamed : List Row → RecordName → Type 0
-NoneNamed table name = (r : Row) (s : StoredRecord) → filter (has_name name) table ≡ r ∷ [] → IsRowOf (shown_row r) s → ⊥
+NoneNamed table name = (r : Row) (s : StoredRecord) → filter (has_name name) table ≡ r ∷ []
+    → IsRowOf (shown_row r) s → ⊥
 
 -- a row has this number, and isn't valid
 pub record IsWrong (table : List Row) (number : ℕ) : Type 0 where

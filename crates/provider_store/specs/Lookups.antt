@@ -10,8 +10,8 @@ abbrev pub found_of : Option StoredRecord → Found
 found_of None = Nothing
 found_of (Some s) = There s
 
--- a look-up that fails has the fault of its statement, or found rows that don't show one record, which is a fault of the
--- store
+-- a look-up that fails has the fault of its statement, or found rows that don't show one record, which is a fault of
+-- the store
 abbrev pub IsFaultOf : Result Found RegistryFault → RegistryFault → Type 0
 IsFaultOf (Ok Damaged) fault = fault ≡ Store
 IsFaultOf (Ok found) fault = ⊥

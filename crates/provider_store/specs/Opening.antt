@@ -66,7 +66,8 @@ IsFor newer damaged fault = Unit {0}
 
 -- no two rows show resources with this name
 abbrev pub IsAlone : List Row → RecordName → Type 0
-IsAlone table name = (q r : Row) (s t : StoredRecord) → IsNamed table name q s → IsNamed table name r t → shown_row q ≡ shown_row r
+IsAlone table name = (q r : Row) (s t : StoredRecord) → IsNamed table name q s → IsNamed table name r t
+    → shown_row q ≡ shown_row r
 
 -- ---- the store
 
@@ -117,8 +118,8 @@ IsNewer s = (number : ℕ) × (format_number < number) × IsFormat s number
 abbrev pub IsCause : State → RegistryOpenFault → Type 0
 IsCause s = IsFor (IsNewer s) (IsDamaged s)
 
--- why an opening says that the store failed: a transaction was open, the tables weren't there and couldn't be made, or a
--- statement that checks them failed
+-- why an opening says that the store failed: a transaction was open, the tables weren't there and couldn't be made, or
+-- a statement that checks them failed
 abbrev pub OpeningFails : (old new : State) → Type 0
 OpeningFails old new = IsTrue old.in_transaction ⊎ ((old.now.schema ≡ no_schema) ⊎ HasFailed old new)
 

@@ -28,11 +28,15 @@ shown_row r = column r 0 ∷ column r 2 ∷ column r 3 ∷ column r 4 ∷ column
 
 -- a record as queries show it, with this text of its content
 abbrev pub row_of : StoredRecord → List ℕ → Row
-row_of s text = Int (pos s.number) ∷ Int (pos (kind_code (content_kind s.content))) ∷ Text (content_name s.content).key ∷ Int (pos s.version) ∷ Text text ∷ []
+row_of s text =
+    Int (pos s.number) ∷ Int (pos (kind_code (content_kind s.content)))
+    ∷ Text (content_name s.content).key ∷ Int (pos s.version) ∷ Text text ∷ []
 
 -- a record as it is stored: the column of the number is NULL, and the rowid is the number
 abbrev pub stored_row : StoredRecord → List ℕ → Row
-stored_row s text = Int (pos s.number) ∷ Null ∷ Int (pos (kind_code (content_kind s.content))) ∷ Text (content_name s.content).key ∷ Int (pos s.version) ∷ Text text ∷ []
+stored_row s text =
+    Int (pos s.number) ∷ Null ∷ Int (pos (kind_code (content_kind s.content)))
+    ∷ Text (content_name s.content).key ∷ Int (pos s.version) ∷ Text text ∷ []
 
 -- the row shows this record: its number, the code of its kind, the key of its name, its version, and a text that is
 -- read as its content
@@ -58,7 +62,8 @@ record_with number version (Err e) = None
 
 abbrev pub record_of_kind : Row → Option Kind → Option StoredRecord
 record_of_kind r None = None
-record_of_kind r (Some kind) = record_with (number_at (column r 0)) (number_at (column r 3)) (content_in kind (bytes (column r 4)))
+record_of_kind r (Some kind) =
+    record_with (number_at (column r 0)) (number_at (column r 3)) (content_in kind (bytes (column r 4)))
 
 abbrev pub record_in : Row → Option StoredRecord
 record_in r = record_of_kind r (kind_at (column r 1))
@@ -85,5 +90,6 @@ rows_of table = rows_from last_number 1 table
 pub record Holds (table : List Row) (rows : List StoredRecord) : Type 0 where
   pub numbered : IsNumberedFrom 1 rows
   pub apart : AreNamedApart rows
-  pub each : (n : ℕ) (s : StoredRecord) → slice_get rows n ≡ Some s → (r : Row) × (filter (has_rowid (pos (suc n))) table ≡ r ∷ []) × IsRowOf (shown_row r) s
+  pub each : (n : ℕ) (s : StoredRecord) → slice_get rows n ≡ Some s → (r : Row)
+      × (filter (has_rowid (pos (suc n))) table ≡ r ∷ []) × IsRowOf (shown_row r) s
   pub none : (n : ℕ) → slice_get rows n ≡ None → filter (has_rowid (pos (suc n))) table ≡ []

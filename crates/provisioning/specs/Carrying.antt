@@ -22,23 +22,31 @@ abbrev pub outcome_of : (taken : Bool) → Sources → Result Tally RunFault →
 outcome_of taken sources (Ok tally) = Ok (record { is_taken = taken && are_whole sources; tally = tally })
 outcome_of taken sources (Err fault) = Err fault
 
--- The rows were offered, and then the records were pushed; or the rows of a file, or reporting one, ended the run before
--- any stream was opened
-abbrev pub Carries : {I O J T : Type 0} → (I → Option (List ℕ)) → (O → Option (List ℕ)) → Ghosts J → (heard : T → Option (List Judged)) → (told : T → Option (List Done)) → List ℕ → Sources → (opened : List (Opening I O)) → (old new : State J) → (before after : T) → Result Outcome RunFault → Type 0
+-- The rows were offered, and then the records were pushed; or the rows of a file, or reporting one, ended the run
+-- before any stream was opened
+abbrev pub Carries : {I O J T : Type 0} → (I → Option (List ℕ)) → (O → Option (List ℕ)) → Ghosts J
+    → (heard : T → Option (List Judged)) → (told : T → Option (List Done)) → List ℕ → Sources
+    → (opened : List (Opening I O)) → (old new : State J) → (before after : T) → Result Outcome RunFault → Type 0
 Carries {I} {O} {J} {T} remaining contents g heard told base sources opened old new before after result =
-    ((between : State J) × (mid : T) × (taken : Bool) × (tally : Result Tally RunFault) × OffersAll g sources old between (heard before) (heard mid) (Ok taken)
-    × PushesAll remaining contents g base opened between new (told mid) (told after) tally × (result ≡ outcome_of taken sources tally))
-    ⊎ ((fault : RunFault) × (opened ≡ []) × OffersAll g sources old new (heard before) (heard after) (Err fault) × (result ≡ Err fault))
+    ((between : State J) × (mid : T) × (taken : Bool) × (tally : Result Tally RunFault)
+    × OffersAll g sources old between (heard before) (heard mid) (Ok taken)
+    × PushesAll remaining contents g base opened between new (told mid) (told after) tally
+    × (result ≡ outcome_of taken sources tally))
+    ⊎ ((fault : RunFault) × (opened ≡ [])
+    × OffersAll g sources old new (heard before) (heard after) (Err fault) × (result ≡ Err fault))
 
 -- the same, if it isn't known what was reported before, and which streams were opened before
-abbrev pub CarriesSilently : {I O J : Type 0} → (I → Option (List ℕ)) → (O → Option (List ℕ)) → Ghosts J → List ℕ → Sources → (old new : State J) → Result Outcome RunFault → Type 0
+abbrev pub CarriesSilently : {I O J : Type 0} → (I → Option (List ℕ)) → (O → Option (List ℕ)) → Ghosts J
+    → List ℕ → Sources → (old new : State J) → Result Outcome RunFault → Type 0
 CarriesSilently {I} {O} remaining contents g base sources old new result =
-    (opened : List (Opening I O)) × Carries {T = Unit {0}} remaining contents g (λ told. None) (λ told. None) base sources opened old new tt tt result
+    (opened : List (Opening I O)) × Carries {T = Unit {0}} remaining contents g (λ told. None)
+    (λ told. None) base sources opened old new tt tt result
 
 -- ---- with a provider in the same program
 
 -- such a run; or the provider couldn't listen, and nothing was offered
-abbrev pub CarriesHere : {I O J : Type 0} → (I → Option (List ℕ)) → (O → Option (List ℕ)) → Ghosts J → List ℕ → Sources → (old new : State J) → Result Outcome RunFault → Type 0
+abbrev pub CarriesHere : {I O J : Type 0} → (I → Option (List ℕ)) → (O → Option (List ℕ)) → Ghosts J
+    → List ℕ → Sources → (old new : State J) → Result Outcome RunFault → Type 0
 CarriesHere remaining contents g base sources old new result =
     CarriesSilently remaining contents g base sources old new result
     ⊎ ((fault : RunFault) × (result ≡ Err fault) × (new ≡ old))

@@ -47,12 +47,15 @@ outcome (lost fault) = unanswered fault
 
 -- What is learnt from an answer is what the connector's definition says, and nothing else changes its book and its
 -- journal. A stop leaves the book before it or after it
-pub record Learns {J : Type 0} (g : Ghosts J) (request : Request) (answer : Answer) (result : Result Learnt LearnFault) (old new : State J) : Type 0 where
-  pub learnt : GivesUnless (MayStandFor (learn (book_of old.book) request answer)) result (learnt_of (learn (book_of old.book) request answer))
+pub record Learns {J : Type 0} (g : Ghosts J) (request : Request) (answer : Answer)
+    (result : Result Learnt LearnFault) (old new : State J) : Type 0 where
+  pub learnt : GivesUnless (MayStandFor (learn (book_of old.book) request answer)) result
+      (learnt_of (learn (book_of old.book) request answer))
   pub ok : OnOk result (book_of new.book ≡ after_learning (book_of old.book) (learn (book_of old.book) request answer))
   pub err : OnErr result (new.book ≡ old.book)
   pub names : keys new.book ≡ keys old.book
-  pub journal : Writes g CountsLearn old.journal new.journal (noted_entries (g.entries old.journal) (note (book_of old.book) request answer)) result
+  pub journal : Writes g CountsLearn old.journal new.journal
+      (noted_entries (g.entries old.journal) (note (book_of old.book) request answer)) result
   pub quiet : KeepsEntries old.book new.book → g.writes new.journal ≡ g.writes old.journal
   pub leaves : g.is_honest new.journal → LeavesBook g old →
       Leaves g old new (after_learning (book_of old.book) (learn (book_of old.book) request answer)) (keys old.book)
@@ -100,35 +103,47 @@ abbrev pub openings_of : {I O : Type 0} → List (Exchange I O) → List (Openin
 openings_of es = map opening_of es
 
 -- One exchange for a record, on its own stream: the connector's request is sent, and it learns from the answer
-pub record IsExchange {I O J : Type 0} (remaining : I → Option (List ℕ)) (contents : O → Option (List ℕ)) (g : Ghosts J) (base : List ℕ) (name : RecordName) (e : Exchange I O) (old new : State J) : Type 0 where
+pub record IsExchange {I O J : Type 0} (remaining : I → Option (List ℕ))
+    (contents : O → Option (List ℕ)) (g : Ghosts J) (base : List ℕ) (name : RecordName)
+    (e : Exchange I O) (old new : State J) : Type 0 where
   pub asked : asking (book_of old.book) name ≡ Some (Send e.request)
   pub sent : IsAsked remaining contents base e.request e.reader e.writer (answer_in e.came)
   pub becomes : Becomes g e.request e.came old new
 
 -- nothing was sent: the only opening failed, with this error; or memory ran out before any
 abbrev pub IsUnmade : {I O : Type 0} → (opened : List (Opening I O)) → RunFault → Type 0
-IsUnmade opened fault = ((error : Error) × (opened ≡ Err error ∷ []) × (fault ≡ open_fault error)) ⊎ ((opened ≡ []) × (fault ≡ Memory))
+IsUnmade opened fault = ((error : Error) × (opened ≡ Err error ∷ []) × (fault ≡ open_fault error))
+    ⊎ ((opened ≡ []) × (fault ≡ Memory))
 
 -- ---- the steps of an exchange
 
 -- a request was sent on this stream, and the connector learns from the answer
-pub record IsSent {I O J : Type 0} (remaining : I → Option (List ℕ)) (contents : O → Option (List ℕ)) (g : Ghosts J) (base : List ℕ) (request : Request) (stream : I × O) (old new : State J) (result : Result (Option RecordFault) RunFault) : Type 0 where
+pub record IsSent {I O J : Type 0} (remaining : I → Option (List ℕ)) (contents : O → Option (List ℕ))
+    (g : Ghosts J) (base : List ℕ) (request : Request) (stream : I × O) (old new : State J)
+    (result : Result (Option RecordFault) RunFault) : Type 0 where
   pub came : Came
   pub sent : IsAsked remaining contents base request stream.0 stream.1 (answer_in came)
   pub becomes : Becomes g request came old new
   pub result_is : result ≡ outcome came
 
 -- the request was sent on the stream; or there is none, nothing changed, and the opening's error is the fault
-abbrev pub ComesOf : {I O J : Type 0} → (I → Option (List ℕ)) → (O → Option (List ℕ)) → Ghosts J → List ℕ → Request → Opening I O → (old new : State J) → Result (Option RecordFault) RunFault → Type 0
-ComesOf remaining contents g base request (Ok stream) old new result = IsSent remaining contents g base request stream old new result
+abbrev pub ComesOf : {I O J : Type 0} → (I → Option (List ℕ)) → (O → Option (List ℕ)) → Ghosts J
+    → List ℕ → Request → Opening I O → (old new : State J) → Result (Option RecordFault) RunFault → Type 0
+ComesOf remaining contents g base request (Ok stream) old new result =
+    IsSent remaining contents g base request stream old new result
 ComesOf remaining contents g base request (Err error) old new result = (new ≡ old) × (result ≡ Err (open_fault error))
 
 -- one stream was opened, and the result comes of it
-abbrev pub MakesExchange : {I O J : Type 0} → (I → Option (List ℕ)) → (O → Option (List ℕ)) → Ghosts J → List ℕ → Request → (opened : List (Opening I O)) → (old new : State J) → Result (Option RecordFault) RunFault → Type 0
-MakesExchange {I} {O} remaining contents g base request opened old new result = (opening : Opening I O) × (opened ≡ opening ∷ []) × ComesOf remaining contents g base request opening old new result
+abbrev pub MakesExchange : {I O J : Type 0} → (I → Option (List ℕ)) → (O → Option (List ℕ)) → Ghosts J
+    → List ℕ → Request → (opened : List (Opening I O)) → (old new : State J)
+    → Result (Option RecordFault) RunFault → Type 0
+MakesExchange {I} {O} remaining contents g base request opened old new result = (opening : Opening I O)
+    × (opened ≡ opening ∷ []) × ComesOf remaining contents g base request opening old new result
 
 -- this is what came, and the connector learns from it
-pub record IsTaken {J : Type 0} (g : Ghosts J) (request : Request) (answer : Result Answer ExchangeFault) (old new : State J) (result : Result (Option RecordFault) RunFault) : Type 0 where
+pub record IsTaken {J : Type 0} (g : Ghosts J) (request : Request)
+    (answer : Result Answer ExchangeFault) (old new : State J)
+    (result : Result (Option RecordFault) RunFault) : Type 0 where
   pub came : Came
   pub answer_is : answer_in came ≡ answer
   pub becomes : Becomes g request came old new

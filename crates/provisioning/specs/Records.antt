@@ -23,12 +23,14 @@ use Rattle.provisioning.specs.declared.records.Standing.TheVariants.{Confirmed, 
 abbrev pub most_exchanges : ℕ
 most_exchanges = 3
 
-module _ {I O J : Type 0} (remaining : I → Option (List ℕ)) (contents : O → Option (List ℕ)) (g : Ghosts J) (base : List ℕ) (name : RecordName) where
+module _ {I O J : Type 0} (remaining : I → Option (List ℕ)) (contents : O → Option (List ℕ))
+    (g : Ghosts J) (base : List ℕ) (name : RecordName) where
   -- exchanges for a record, one after another, each on the connector that the one before left; none of them ended the
   -- run
   abbrev pub AreExchanges : List (Exchange I O) → (old new : State J) → Type 0
   AreExchanges [] old new = new ≡ old
-  AreExchanges (e ∷ es) old new = (between : State J) × IsExchange remaining contents g base name e old between × IsOk (outcome e.came) × AreExchanges es between new
+  AreExchanges (e ∷ es) old new = (between : State J)
+      × IsExchange remaining contents g base name e old between × IsOk (outcome e.came) × AreExchanges es between new
 
 -- the fault of the record
 abbrev pub fault_in : Result (Option RecordFault) RunFault → Option RecordFault
@@ -50,7 +52,8 @@ Rests book name (Waits member) = asking book name ≡ Some (asks.Waits member)
 Rests book name (Unconfirmed fault) = (asking book name ≡ None) × (fault ≡ Some NoSuchRecord)
 
 -- all exchanges were made, and the wanted revision isn't confirmed
-pub record IsSpent (book : Book) (name : RecordName) (count : ℕ) (last : Option RecordFault) (standing : Standing) : Type 0 where
+pub record IsSpent (book : Book) (name : RecordName) (count : ℕ) (last : Option RecordFault)
+    (standing : Standing) : Type 0 where
   pub all : count ≡ most_exchanges
   pub unconfirmed : confirmed_of book name ≢ wanted_of book name
   pub last_is : standing ≡ Unconfirmed last
@@ -61,7 +64,9 @@ Stands book name count last standing = Rests book name standing ⊎ IsSpent book
 -- ---- a record
 
 -- Exchanges for a record, each on a stream of its own, and the record's state after them
-pub record IsPushed {I O J : Type 0} (remaining : I → Option (List ℕ)) (contents : O → Option (List ℕ)) (g : Ghosts J) (base : List ℕ) (name : RecordName) (opened : List (Opening I O)) (old new : State J) (pushed : Pushed) : Type 0 where
+pub record IsPushed {I O J : Type 0} (remaining : I → Option (List ℕ)) (contents : O → Option (List ℕ))
+    (g : Ghosts J) (base : List ℕ) (name : RecordName) (opened : List (Opening I O)) (old new : State J)
+    (pushed : Pushed) : Type 0 where
   pub exchanges : List (Exchange I O)
   pub are : AreExchanges remaining contents g base name exchanges old new
   pub opened_are : opened ≡ openings_of exchanges
@@ -70,13 +75,17 @@ pub record IsPushed {I O J : Type 0} (remaining : I → Option (List ℕ)) (cont
   pub stands : Stands (book_of new.book) name pushed.exchanges (last_fault exchanges) pushed.standing
 
 -- the next exchange ended the run, or couldn't be made
-abbrev pub Ends : {I O J : Type 0} → (I → Option (List ℕ)) → (O → Option (List ℕ)) → Ghosts J → List ℕ → RecordName → (opened : List (Opening I O)) → (old new : State J) → RunFault → Type 0
+abbrev pub Ends : {I O J : Type 0} → (I → Option (List ℕ)) → (O → Option (List ℕ)) → Ghosts J → List ℕ
+    → RecordName → (opened : List (Opening I O)) → (old new : State J) → RunFault → Type 0
 Ends {I} {O} remaining contents g base name opened old new fault =
-    ((e : Exchange I O) × (opened ≡ opening_of e ∷ []) × IsExchange remaining contents g base name e old new × (outcome e.came ≡ Err fault))
+    ((e : Exchange I O) × (opened ≡ opening_of e ∷ [])
+    × IsExchange remaining contents g base name e old new × (outcome e.came ≡ Err fault))
     ⊎ ((new ≡ old) × IsUnmade opened fault)
 
 -- Exchanges for a record, until this fault ended the run
-pub record EndsRun {I O J : Type 0} (remaining : I → Option (List ℕ)) (contents : O → Option (List ℕ)) (g : Ghosts J) (base : List ℕ) (name : RecordName) (opened : List (Opening I O)) (old new : State J) (fault : RunFault) : Type 0 where
+pub record EndsRun {I O J : Type 0} (remaining : I → Option (List ℕ)) (contents : O → Option (List ℕ))
+    (g : Ghosts J) (base : List ℕ) (name : RecordName) (opened : List (Opening I O)) (old new : State J)
+    (fault : RunFault) : Type 0 where
   pub exchanges : List (Exchange I O)
   pub last : List (Opening I O)
   pub between : State J
@@ -85,6 +94,9 @@ pub record EndsRun {I O J : Type 0} (remaining : I → Option (List ℕ)) (conte
   pub most : length exchanges < most_exchanges
   pub ends : Ends remaining contents g base name last between new fault
 
-abbrev pub PushesRecord : {I O J : Type 0} → (I → Option (List ℕ)) → (O → Option (List ℕ)) → Ghosts J → List ℕ → RecordName → (opened : List (Opening I O)) → (old new : State J) → Result Pushed RunFault → Type 0
-PushesRecord remaining contents g base name opened old new (Ok pushed) = IsPushed remaining contents g base name opened old new pushed
-PushesRecord remaining contents g base name opened old new (Err fault) = EndsRun remaining contents g base name opened old new fault
+abbrev pub PushesRecord : {I O J : Type 0} → (I → Option (List ℕ)) → (O → Option (List ℕ)) → Ghosts J
+    → List ℕ → RecordName → (opened : List (Opening I O)) → (old new : State J) → Result Pushed RunFault → Type 0
+PushesRecord remaining contents g base name opened old new (Ok pushed) =
+    IsPushed remaining contents g base name opened old new pushed
+PushesRecord remaining contents g base name opened old new (Err fault) =
+    EndsRun remaining contents g base name opened old new fault

@@ -57,7 +57,8 @@ StandsAt book a standing = Rests book a.name standing ⊎ IsSpentAt book a stand
 
 -- The request's text, which spells it, was written to the writer of this stream, as far as the flight says
 pub record IsSetOut {I O : Type 0}
-    (contents : O → Option (List ℕ)) (base : List ℕ) (request : Request) (stream : I × O) (f : Flight I O) : Type 0 where
+    (contents : O → Option (List ℕ)) (base : List ℕ) (request : Request) (stream : I × O)
+    (f : Flight I O) : Type 0 where
   pub written : Writing
   pub request_is : f.request ≡ request
   pub reader_is : f.reader ≡ stream.0
@@ -66,7 +67,8 @@ pub record IsSetOut {I O : Type 0}
 
 -- A record with exchanges left: what the connector asks for as this book stands was sent on a new stream
 pub record SetsOut {I O : Type 0}
-    (contents : O → Option (List ℕ)) (base : List ℕ) (a : Account) (opened : List (Opening I O)) (book : Book) (later : Account)
+    (contents : O → Option (List ℕ)) (base : List ℕ) (a : Account) (opened : List (Opening I O))
+    (book : Book) (later : Account)
     (f : Flight I O) : Type 0 where
   pub stream : I × O
   pub left : a.exchanges < most_exchanges
@@ -98,7 +100,8 @@ GoesOn contents base a opened book (Err fault) = IsUnmade opened fault
 
 -- What comes on a reader from its start is the result, if the request was sent whole; else the sending's fault is
 pub record IsReadFrom {I : Type 0}
-    (remaining : I → Option (List ℕ)) (request : Request) (reader : I) (came : Result Answer ExchangeFault) : Type 0 where
+    (remaining : I → Option (List ℕ)) (request : Request) (reader : I)
+    (came : Result Answer ExchangeFault) : Type 0 where
   pub left : Reading
   pub reply : IsReply came
   pub read : Reads request (fresh_reading (remaining reader)) left came

@@ -17,10 +17,14 @@ abbrev pub exchanged : Result (Option RecordFault) RunFault → Result Turn RunF
 exchanged (Ok fault) = Ok (Exchanged fault)
 exchanged (Err fault) = Err fault
 
--- Nothing is opened or sent, and the record has this state; or there was an exchange on one stream, which had this fault
--- or ended the run
-abbrev pub TakesTurn : {I O J : Type 0} → (I → Option (List ℕ)) → (O → Option (List ℕ)) → Ghosts J → List ℕ → RecordName → (opened : List (Opening I O)) → (old new : State J) → Result Turn RunFault → Type 0
-TakesTurn remaining contents g base name opened old new (Ok (Resting standing)) = (opened ≡ []) × (new ≡ old) × Rests (book_of old.book) name standing
+-- Nothing is opened or sent, and the record has this state; or there was an exchange on one stream, which had this
+-- fault or ended the run
+abbrev pub TakesTurn : {I O J : Type 0} → (I → Option (List ℕ)) → (O → Option (List ℕ)) → Ghosts J
+    → List ℕ → RecordName → (opened : List (Opening I O)) → (old new : State J) → Result Turn RunFault → Type 0
+TakesTurn remaining contents g base name opened old new (Ok (Resting standing)) = (opened ≡ [])
+    × (new ≡ old) × Rests (book_of old.book) name standing
 TakesTurn {I} {O} remaining contents g base name opened old new (Ok (Exchanged fault)) =
-    (e : Exchange I O) × (opened ≡ opening_of e ∷ []) × IsExchange remaining contents g base name e old new × (outcome e.came ≡ Ok fault)
-TakesTurn remaining contents g base name opened old new (Err fault) = Ends remaining contents g base name opened old new fault
+    (e : Exchange I O) × (opened ≡ opening_of e ∷ [])
+    × IsExchange remaining contents g base name e old new × (outcome e.came ≡ Ok fault)
+TakesTurn remaining contents g base name opened old new (Err fault) =
+    Ends remaining contents g base name opened old new fault

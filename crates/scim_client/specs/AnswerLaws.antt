@@ -13,7 +13,8 @@ use Rattle.scim_client.specs.Spelling.{HasLawfulTarget}
 
 -- Bytes are at most one answer to a request
 abbrev pub OneAnswer : Type 0
-OneAnswer = (text : List ℕ) (request : Request) (one two : Answer) → AnswersSo text request one → AnswersSo text request two → one ≡ two
+OneAnswer = (text : List ℕ) (request : Request) (one two : Answer) → AnswersSo text request one
+    → AnswersSo text request two → one ≡ two
 
 -- the head and the body of an answer's text are within the limits of responses
 pub record KeepsAnswerLimits (base : List ℕ) (a : Answer) : Type 0 where
@@ -23,5 +24,6 @@ pub record KeepsAnswerLimits (base : List ℕ) (a : Answer) : Type 0 where
 -- The text that a server at this base writes for an answer is that answer and no other, if it fits the request
 abbrev pub AnswersAreRead : Type 0
 AnswersAreRead =
-    (base : List ℕ) (request : Request) (a : Answer) → IsBase base → HasLawfulTarget request → Fits request a → IsUtf8 (body_text base a)
+    (base : List ℕ) (request : Request) (a : Answer) → IsBase base → HasLawfulTarget request
+    → Fits request a → IsUtf8 (body_text base a)
     → KeepsAnswerLimits base a → AnswersSo (answer_text base false a) request a

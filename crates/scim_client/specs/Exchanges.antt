@@ -86,10 +86,12 @@ Reads request old new (Err EndedEarly) = StopsReading old new faults.EndedEarly
 Reads request old new (Err ReadFailed) = StopsReading old new faults.ReadFailed
 Reads request old new (Err OutOfMemory) = StopsReading old new faults.OutOfMemory
 Reads request old new (Err TurnsExhausted) = StopsReading old new faults.TurnsExhausted
-Reads request old new (Err (NoAnswer NotOneResponse)) = (fault : ReadFault) × (fault_of fault ≡ NoAnswer NotOneResponse) × StopsReading old new fault
+Reads request old new (Err (NoAnswer NotOneResponse)) = (fault : ReadFault)
+    × (fault_of fault ≡ NoAnswer NotOneResponse) × StopsReading old new fault
 Reads request old new (Err (NoAnswer NotJson)) = TakesAnswer request old new (Err bodies.NotJson)
 Reads request old new (Err (NoAnswer WrongShape)) = TakesAnswer request old new (Err bodies.WrongShape)
-Reads request old new (Err (NoAnswer answers.OutOfMemory)) = ((said : Result Answer BodyFault) × TakesAnswer request old new said) ⊎ (new ≡ old)
+Reads request old new (Err (NoAnswer answers.OutOfMemory)) =
+    ((said : Result Answer BodyFault) × TakesAnswer request old new said) ⊎ (new ≡ old)
 
 -- ---- from what is at the reader's front
 
@@ -111,27 +113,33 @@ abbrev pub IsWithout : Result Answer ExchangeFault → Type 0
 IsWithout result = (result ≡ Err (NoAnswer NotOneResponse)) ⊎ (result ≡ Err EndedEarly)
 
 -- The result of an exchange if the reader's bytes are known
-pub record ExchangesKnown (request : Request) (remaining left : Option (List ℕ)) (result : Result Answer ExchangeFault) : Type 0 where
+pub record ExchangesKnown (request : Request) (remaining left : Option (List ℕ))
+    (result : Result Answer ExchangeFault) : Type 0 where
   -- the answer at the front is the result, and what follows it is left
   pub answer : (bytes rest : List ℕ) (a : Answer) → remaining ≡ Some (bytes ++ rest) → AnswersSo bytes request a
       → ((result ≡ Ok a) × (left ≡ Some rest)) ⊎ IsHindered result
   -- a response at the front whose body is refused
   pub not_json : (bytes rest : List ℕ) → remaining ≡ Some (bytes ++ rest) → RefusesBody bytes request bodies.NotJson
       → ((result ≡ Err (NoAnswer NotJson)) × (left ≡ Some rest)) ⊎ IsHindered result
-  pub wrong_shape : (bytes rest : List ℕ) → remaining ≡ Some (bytes ++ rest) → RefusesBody bytes request bodies.WrongShape
+  pub wrong_shape : (bytes rest : List ℕ) → remaining ≡ Some (bytes ++ rest)
+      → RefusesBody bytes request bodies.WrongShape
       → ((result ≡ Err (NoAnswer WrongShape)) × (left ≡ Some rest)) ⊎ IsHindered result
   -- no response comes only if there is none at the front
   pub without : (bytes rest : List ℕ) → remaining ≡ Some (bytes ++ rest) → IsWithout result → IsNoResponse bytes
   -- only a part of a response
-  pub part : (bytes : List ℕ) → remaining ≡ Some bytes → IsPartOfHead response_form bytes ⊎ IsPartOfBody response_form bytes
+  pub part : (bytes : List ℕ) → remaining ≡ Some bytes → IsPartOfHead response_form bytes
+      ⊎ IsPartOfBody response_form bytes
       → (result ≡ Err EndedEarly) ⊎ IsHindered result
   -- a refused head, a head beyond a limit, and bytes that no bytes complete to a head
-  pub refused_head : (front rest : List ℕ) (head : Head) (fault : ReadFault) → remaining ≡ Some (front ++ rest) → IsResponseHead front head
+  pub refused_head : (front rest : List ℕ) (head : Head) (fault : ReadFault)
+      → remaining ≡ Some (front ++ rest) → IsResponseHead front head
       → judge_response head ≡ Err fault
       → (result ≡ Err (NoAnswer NotOneResponse)) ⊎ IsHindered result
-  pub long : (bytes rest : List ℕ) → remaining ≡ Some (bytes ++ rest) → IsLongPart response_form bytes ⊎ HasLongSection response_form bytes
+  pub long : (bytes rest : List ℕ) → remaining ≡ Some (bytes ++ rest) → IsLongPart response_form bytes
+      ⊎ HasLongSection response_form bytes
       → (result ≡ Err (NoAnswer NotOneResponse)) ⊎ IsHindered result
-  pub malformed : (bytes rest : List ℕ) → remaining ≡ Some (bytes ++ rest) → length bytes ≤ head_limit → NeverHas response_form bytes
+  pub malformed : (bytes rest : List ℕ) → remaining ≡ Some (bytes ++ rest) → length bytes ≤ head_limit
+      → NeverHas response_form bytes
       → (result ≡ Err (NoAnswer NotOneResponse)) ⊎ IsHindered result
 
 -- ---- the steps of an exchange

@@ -37,7 +37,8 @@ start_value start = if int_eq start (pos 1) then None else Some (signed_decimal 
 abbrev pub query_text : Option Expression → ℤ → Option ℤ → List ℕ
 query_text filter start count =
     with_parameter
-    (with_parameter (with_parameter [] (codes "filter") (option_map filter_text filter)) (codes "startIndex") (start_value start))
+    (with_parameter (with_parameter [] (codes "filter") (option_map filter_text filter))
+    (codes "startIndex") (start_value start))
     (codes "count") (option_map signed_decimal count)
 
 -- a path, and the query after a `?` if it isn't empty
@@ -116,14 +117,16 @@ lines_of host length_ if_match if_none_match =
 
 abbrev pub request_lines : List ℕ → Request → List Line
 request_lines base request =
-    lines_of (authority_of base) (stated_length request) (condition_value (if_match_of request)) (condition_value (if_none_match_of request))
+    lines_of (authority_of base) (stated_length request) (condition_value (if_match_of request))
+    (condition_value (if_none_match_of request))
 
 -- ---- the text
 
 -- The text of a request to the service at this base
 abbrev pub text_of : List ℕ → Request → List ℕ
 text_of base request =
-    request_text (method_text request) (target_text request) (written_lines (request_lines base request)) (body_text request)
+    request_text (method_text request) (target_text request)
+    (written_lines (request_lines base request)) (body_text request)
 
 -- a request that is being built, and the base of its service
 pub record Planned : Type 0 where

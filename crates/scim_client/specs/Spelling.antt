@@ -55,7 +55,8 @@ HasLawfulTarget (Replace id content if_match if_none_match) = IsIdText id
 
 abbrev pub HasLawfulParts : Request → Type 0
 HasLawfulParts request =
-    HasLawfulTarget request × IfSome (content_sent request) IsSentContent × HasEntityTags (if_match_of request) × HasEntityTags (if_none_match_of request)
+    HasLawfulTarget request × IfSome (content_sent request) IsSentContent
+    × HasEntityTags (if_match_of request) × HasEntityTags (if_none_match_of request)
 
 -- ---- what the sender must ensure
 
@@ -77,18 +78,21 @@ KeepsFilterLimits filter = (length (filter_text filter) ≤ text_limit) × (nest
 abbrev pub IsWritable : Request → Type 0
 IsWritable (Create content) = ⊤
 IsWritable (Retrieve kind id if_match if_none_match) = HasSomeTag if_match × HasSomeTag if_none_match
-IsWritable (Search kind filter start count) = IfSome filter KeepsFilterLimits × IsShortNumber start × IfSome count IsShortNumber
+IsWritable (Search kind filter start count) = IfSome filter KeepsFilterLimits × IsShortNumber start
+    × IfSome count IsShortNumber
 IsWritable (Replace id content if_match if_none_match) = HasSomeTag if_match × HasSomeTag if_none_match
 
 -- the head and the body are within the limits of requests
 abbrev pub KeepsLimits : List ℕ → Request → Type 0
 KeepsLimits base request =
-    (length (text_of base request) ≤ head_limit + length (body_text request)) × (length (body_text request) ≤ body_limit)
+    (length (text_of base request) ≤ head_limit + length (body_text request))
+    × (length (body_text request) ≤ body_limit)
 
 -- A request's text is a message that asks for that request
 abbrev pub RequestsAreSpelled : Type 0
 RequestsAreSpelled =
-    (base : List ℕ) (request : Request) → IsBase base → HasLawfulParts request → IsWritable request → KeepsLimits base request
+    (base : List ℕ) (request : Request) → IsBase base → HasLawfulParts request → IsWritable request
+    → KeepsLimits base request
     → SpellsRequest (text_of base request) request
 
 -- A text spells at most one request

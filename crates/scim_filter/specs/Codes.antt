@@ -28,7 +28,11 @@ text_attribute_number ExternalId = 8
 text_attribute_number Version = 9
 
 abbrev text_attribute_at : ℕ → TextAttribute
-text_attribute_at n = cond (n == 0) UserName (cond (n == 1) DisplayName (cond (n == 2) GivenName (cond (n == 3) FamilyName (cond (n == 4) EmailValue (cond (n == 5) EmailType (cond (n == 6) Member (cond (n == 7) Id (cond (n == 8) ExternalId Version))))))))
+text_attribute_at n =
+    cond (n == 0) UserName (cond (n == 1) DisplayName
+    (cond (n == 2) GivenName (cond (n == 3) FamilyName
+    (cond (n == 4) EmailValue (cond (n == 5) EmailType
+    (cond (n == 6) Member (cond (n == 7) Id (cond (n == 8) ExternalId Version))))))))
 
 text_attribute_at-number : (x : TextAttribute) → text_attribute_at (text_attribute_number x) ≡ x
 text_attribute_at-number UserName = refl
@@ -61,7 +65,8 @@ text_operator_number StartsWith = 3
 text_operator_number EndsWith = 4
 
 abbrev text_operator_at : ℕ → TextOperator
-text_operator_at n = cond (n == 0) Equal (cond (n == 1) NotEqual (cond (n == 2) Contains (cond (n == 3) StartsWith EndsWith)))
+text_operator_at n =
+    cond (n == 0) Equal (cond (n == 1) NotEqual (cond (n == 2) Contains (cond (n == 3) StartsWith EndsWith)))
 
 text_operator_at-number : (x : TextOperator) → text_operator_at (text_operator_number x) ≡ x
 text_operator_at-number Equal = refl
@@ -141,7 +146,8 @@ put_part-test (Flag a o false) xs =
     ∙ ap (λ x. Only (Flag a x false) ∷ xs) (flag_operator_at-number o)
 
 -- the parts of an expression put it on top of what is there
-put_parts-parts : (e : Expression) (ps : List Part) (xs : List Expression) → put_parts (parts e ++ ps) xs ≡ put_parts ps (e ∷ xs)
+put_parts-parts : (e : Expression) (ps : List Part) (xs : List Expression)
+    → put_parts (parts e ++ ps) xs ≡ put_parts ps (e ∷ xs)
 put_parts-parts (Only t) ps xs = ap (put_parts ps) (put_part-test t xs)
 put_parts-parts (Both a b) ps xs =
     ap (λ l. put_parts l xs) (append_assoc (parts a) (parts b ++ (5, (0, (0, []))) ∷ []) ps)
@@ -162,4 +168,6 @@ from_parts-parts e =
     ap (λ l. first_of_all (put_parts l [])) (sym (append-nil (parts e))) ∙ ap first_of_all (put_parts-parts e [] [])
 
 abbrev pub expression_code : Coded Expression
-expression_code = code_by (List Part) (coded_list (coded× coded_ℕ (coded× coded_ℕ (coded× coded_ℕ (coded_list coded_ℕ))))) parts from_parts from_parts-parts
+expression_code =
+    code_by (List Part) (coded_list (coded× coded_ℕ
+    (coded× coded_ℕ (coded× coded_ℕ (coded_list coded_ℕ))))) parts from_parts from_parts-parts

@@ -9,4 +9,5 @@ use Rattle.scim_filter.specs.Names.{single_key}
 
 -- A filter that names one record holds for the rows of that record, and for no others
 abbrev pub KeysDecide : Type 0
-KeysDecide = (f : Expression) (name : RecordName) (row : StoredRecord) → single_key f ≡ Some name → (satisfies f row ≡ true) ↔ (content_name row.content ≡ name)
+KeysDecide = (f : Expression) (name : RecordName) (row : StoredRecord) → single_key f ≡ Some name
+    → (satisfies f row ≡ true) ↔ (content_name row.content ≡ name)

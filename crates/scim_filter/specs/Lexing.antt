@@ -30,7 +30,8 @@ unfoldable pub text_of : List ℕ → Result (List ℕ) FilterFault
 text_of spelled = or_unsupported (string_in (read spelled))
 
 unfoldable pub word_at : List ℕ → Result (Token × List ℕ) FilterFault
-word_at bs = or_unsupported (option_map (λ w. (Plain w, drop (prefix_len is_word_byte bs) bs)) (word_named (take (prefix_len is_word_byte bs) bs)))
+word_at bs = or_unsupported (option_map (λ w. (Plain w, drop (prefix_len is_word_byte bs) bs))
+    (word_named (take (prefix_len is_word_byte bs) bs)))
 
 unfoldable pub gap_at : List ℕ → Token × List ℕ
 gap_at bs = (Gap, drop (prefix_len is_space bs) bs)

@@ -90,7 +90,9 @@ flag_test (OfFlag a) o v = option_map (λ p. tests.Flag a p v) (flag_operator o)
 -- ---- parentheses
 
 abbrev pub opened : State → Bool → Option State
-opened s negated = if nat_lt (length s.outer) depth_limit then Some (record { outer = s.level ∷ s.outer; level = level_start negated; place = BeforeItem true }) else None
+opened s negated =
+    if nat_lt (length s.outer) depth_limit
+    then Some (record { outer = s.level ∷ s.outer; level = level_start negated; place = BeforeItem true }) else None
 
 -- the filter that a whole level spells
 abbrev pub whole_of : Level → Option Expression
@@ -102,13 +104,19 @@ negated_if false e = e
 
 abbrev pub closed : List Level → Bool → Option Expression → Option State
 closed [] negated e = None
-closed (l ∷ ls) negated e = option_map (λ e. record { outer = ls; level = with_item l (negated_if negated e); place = AfterItem false }) e
+closed (l ∷ ls) negated e =
+    option_map (λ e. record { outer = ls; level = with_item l (negated_if negated e); place = AfterItem false }) e
 
 -- ---- words
 
 -- the whole level so far becomes the left operand of an `or`
 abbrev pub after_or : State → Option State
-after_or s = option_map (λ e. record { outer = s.outer; level = record { negated = s.level.negated; either = Some e; both = None }; place = AfterConnective }) (whole_of s.level)
+after_or s = option_map (λ e. record {
+  outer = s.outer;
+  level = record { negated = s.level.negated; either = Some e; both = None };
+  place =
+      AfterConnective;
+}) (whole_of s.level)
 
 abbrev pub word_before_item : State → Word → Option State
 word_before_item s Not = Some (at_place s (BeforeOpen true))

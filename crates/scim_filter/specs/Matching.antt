@@ -89,7 +89,8 @@ is_exact Version = true
 
 -- the comparison with the given text holds for some of these texts
 unfoldable pub some_compares : Bool → TextOperator → List ℕ → List (List ℕ) → Bool
-some_compares exact operator given texts = list_any (λ text. compares operator (folded exact text) (folded exact given)) texts
+some_compares exact operator given texts =
+    list_any (λ text. compares operator (folded exact text) (folded exact given)) texts
 
 -- some value is equal to, contains, begins with or ends with the text; `ne` is the negation of `eq`
 abbrev pub text_holds : TextOperator → Bool → List ℕ → List (List ℕ) → Bool

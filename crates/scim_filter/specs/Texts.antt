@@ -49,7 +49,8 @@ truth_name false = codes "false"
 abbrev pub test_text : Test → List ℕ
 test_text (Present a) = attribute_name a ++ codes " pr"
 test_text (Text a o s) = text_attribute_name a ++ (codes " " ++ (operator_name o ++ (codes " " ++ quoted s)))
-test_text (Flag a o v) = flag_attribute_name a ++ (codes " " ++ (operator_name (as_text o) ++ (codes " " ++ truth_name v)))
+test_text (Flag a o v) =
+    flag_attribute_name a ++ (codes " " ++ (operator_name (as_text o) ++ (codes " " ++ truth_name v)))
 
 abbrev pub is_either : Expression → Bool
 is_either (Only t) = false
@@ -71,7 +72,9 @@ in_parentheses_if false text = text
 -- or an `or`, and a right operand of `or` that is an `or`
 abbrev pub filter_text : Expression → List ℕ
 filter_text (Only t) = test_text t
-filter_text (Both a b) = in_parentheses_if (is_either a) (filter_text a) ++ (codes " and " ++ in_parentheses_if (is_joined b) (filter_text b))
+filter_text (Both a b) =
+    in_parentheses_if (is_either a) (filter_text a)
+    ++ (codes " and " ++ in_parentheses_if (is_joined b) (filter_text b))
 filter_text (Either a b) = filter_text a ++ (codes " or " ++ in_parentheses_if (is_either b) (filter_text b))
 filter_text (Negated a) = codes "not (" ++ (filter_text a ++ codes ")")
 

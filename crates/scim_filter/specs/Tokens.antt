@@ -19,7 +19,9 @@ is_word_byte b = (nat_le 65 b && nat_le b 90) || (nat_le 97 b && nat_le b 122) |
 unfoldable pub quote_at : Bool → List ℕ → Option ℕ
 quote_at escaped [] = None
 quote_at true (b ∷ bs) = option_map suc (quote_at false bs)
-quote_at false (b ∷ bs) = if b == 92 then option_map suc (quote_at true bs) else if b == 34 then Some 0 else option_map suc (quote_at false bs)
+quote_at false (b ∷ bs) =
+    if b == 92 then option_map suc (quote_at true bs) else if b == 34 then Some 0
+    else option_map suc (quote_at false bs)
 
 -- one space or more
 abbrev pub IsGap : List ℕ → Type 0
@@ -56,4 +58,5 @@ EndsBefore t (u ∷ us) = runs_on t u ≡ false
 -- the text is these tokens, one after the other
 pub data Consists : List ℕ → List Token → Type 0 where
   nothing : Consists [] []
-  token : (bs : List ℕ) {rest : List ℕ} (t : Token) {ts : List Token} → IsToken t bs → EndsBefore t ts → Consists rest ts → Consists (bs ++ rest) (t ∷ ts)
+  token : (bs : List ℕ) {rest : List ℕ} (t : Token) {ts : List Token} → IsToken t bs → EndsBefore t ts
+      → Consists rest ts → Consists (bs ++ rest) (t ∷ ts)

@@ -62,7 +62,8 @@ or_else (Some x) other = Some x
 
 unfoldable pub attribute_word : List ℕ → Option Word
 attribute_word text =
-    or_else (option_map (λ a. Name (OfText a)) (text_attribute_named text)) (option_map (λ a. Name (OfFlag a)) (flag_attribute_named text))
+    or_else (option_map (λ a. Name (OfText a)) (text_attribute_named text))
+    (option_map (λ a. Name (OfFlag a)) (flag_attribute_named text))
 
 -- the word that a text is, in any case
 unfoldable pub word_named : List ℕ → Option Word

@@ -31,13 +31,15 @@ OneMeaning = (m : Message) (one two : Result Request Refusal) → Asks m one →
 
 -- what the fixed text says
 abbrev pub fixed_error : ErrorRecord
-fixed_error = record { status = 500; scim_type = None; detail = Some (codes "the provider could not complete the request") }
+fixed_error =
+    record { status = 500; scim_type = None; detail = Some (codes "the provider could not complete the request") }
 
 -- the whole text of 304: no length, no media type and no body
 abbrev pub not_modified_text : List ℕ → Kind → (id version : List ℕ) → List ℕ
 not_modified_text base kind id version =
     response_text 304
-    ((codes "Connection", codes "close") ∷ (codes "Content-Location", location_text base kind id) ∷ (codes "ETag", version) ∷ [])
+    ((codes "Connection", codes "close") ∷ (codes "Content-Location", location_text base kind id)
+    ∷ (codes "ETag", version) ∷ [])
     []
 
 -- A 304 has only the resource's location and version; the fixed text is an ordinary error message, whatever the base
@@ -57,7 +59,8 @@ resource_path kinds.Group id = codes "/v2/Groups/" ++ escaped id
 
 -- The location of a resource without its origin is a path that names this resource, whatever text the id is
 pub record LocationsAreRouted : Type 0 where
-  pub located : (origin : List ℕ) (kind : Kind) (id : List ℕ) → location_text (origin ++ codes "/v2") kind id ≡ origin ++ resource_path kind id
+  pub located : (origin : List ℕ) (kind : Kind) (id : List ℕ)
+      → location_text (origin ++ codes "/v2") kind id ≡ origin ++ resource_path kind id
   pub routed : (kind : Kind) (id : List ℕ) → AllByRecursion (λ byte. byte < 256) id → IsUtf8 id → IsId id
       → route_of (resource_path kind id) ≡ Some (Resource kind id)
 
@@ -84,6 +87,7 @@ response_message base answer = record {
 abbrev pub AnswersAreResponses : Type 0
 AnswersAreResponses =
     (authority : List ℕ) (answer : Answer) → list_all is_authority_byte authority ≡ true → HasLawfulParts answer
-    → length (answer_text (base_text authority) false answer) ≤ head_limit + length (body_text (base_text authority) answer)
+    → length (answer_text (base_text authority) false answer) ≤ head_limit
+    + length (body_text (base_text authority) answer)
     → length (body_text (base_text authority) answer) ≤ response_body_limit
     → IsResponseMessage (answer_text (base_text authority) false answer) (response_message (base_text authority) answer)

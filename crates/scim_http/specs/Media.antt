@@ -18,7 +18,8 @@ ends_type rest = begins_parameters (find (λ byte. not (is_blank byte)) rest)
 
 -- a text is this media type in any case, with any parameters
 abbrev pub is_media_type : List ℕ → List ℕ → Bool
-is_media_type name text = bytes_eq (lowered (take (length name) text)) (lowered name) && ends_type (drop (length name) text)
+is_media_type name text =
+    bytes_eq (lowered (take (length name) text)) (lowered name) && ends_type (drop (length name) text)
 
 -- the media type of SCIM (RFC 7644 section 3.1)
 abbrev pub media_type : List ℕ

@@ -17,4 +17,6 @@ digits_in text = if is_digits text then Some (digits_value 10 text) else None
 
 -- The number that a text writes: an optional `-` and 1 to 18 digits
 abbrev pub number_in : List ℕ → Option ℤ
-number_in text = if starts_with_minus text then option_map (λ n. neg_ℤ (pos n)) (digits_in (drop 1 text)) else option_map pos (digits_in text)
+number_in text =
+    if starts_with_minus text then option_map (λ n. neg_ℤ (pos n)) (digits_in (drop 1 text))
+    else option_map pos (digits_in text)

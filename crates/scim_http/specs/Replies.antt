@@ -86,7 +86,8 @@ lines_of length_ location tag created =
     ∷ []
 
 abbrev pub answer_lines : List ℕ → Answer → List Line
-answer_lines base answer = lines_of (stated_length base answer) (shown_location base answer) (shown_tag answer) (is_created answer)
+answer_lines base answer =
+    lines_of (stated_length base answer) (shown_location base answer) (shown_tag answer) (is_created answer)
 
 abbrev pub unless_left_out : Bool → List ℕ → List ℕ
 unless_left_out true body = []
@@ -95,7 +96,8 @@ unless_left_out false body = body
 -- The text of an answer. The answer to HEAD has the same head and no body
 abbrev pub answer_text : List ℕ → (leaves_body_out : Bool) → Answer → List ℕ
 answer_text base leaves_body_out answer =
-    response_text (answer_status answer) (written_lines (answer_lines base answer)) (unless_left_out leaves_body_out (body_text base answer))
+    response_text (answer_status answer) (written_lines (answer_lines base answer))
+    (unless_left_out leaves_body_out (body_text base answer))
 
 -- a response as it is sent
 pub record ReplyRecord : Type 0 where
@@ -103,13 +105,15 @@ pub record ReplyRecord : Type 0 where
   pub text : List ℕ
 
 abbrev pub reply_of : List ℕ → (leaves_body_out : Bool) → Answer → ReplyRecord
-reply_of base leaves_body_out answer = record { status = answer_status answer; text = answer_text base leaves_body_out answer }
+reply_of base leaves_body_out answer =
+    record { status = answer_status answer; text = answer_text base leaves_body_out answer }
 
 -- The one text that is sent if the store failed or memory ran out
 unfoldable pub fixed_text : List ℕ
 fixed_text =
     response_text 500
-    ((codes "Connection", codes "close") ∷ (codes "Content-Length", codes "129") ∷ (codes "Content-Type", codes "application/scim+json") ∷ [])
+    ((codes "Connection", codes "close") ∷ (codes "Content-Length", codes "129")
+    ∷ (codes "Content-Type", codes "application/scim+json") ∷ [])
     (codes "{\"detail\":\"the provider could not complete the request\",\"schemas\":[\"urn:ietf:params:scim:api:messages:2.0:Error\"],\"status\":\"500\"}")
 
 abbrev pub fixed_reply : ReplyRecord

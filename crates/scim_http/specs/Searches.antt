@@ -68,7 +68,8 @@ search_with kind page (Ok filter) = Ok (Search kind filter page.0 page.1)
 abbrev pub IsSearchOn : Kind → List ℕ → Result (ℤ × Option ℤ) Refusal → Result Request Refusal → Type 0
 IsSearchOn kind query (Err refusal) answer = Err refusal ≡ answer
 IsSearchOn kind query (Ok page) answer =
-    (filter : Result (Option Expression) Refusal) × IsFilter (parameter (codes "filter") query) filter × (search_with kind page filter ≡ answer)
+    (filter : Result (Option Expression) Refusal) × IsFilter (parameter (codes "filter") query) filter
+    × (search_with kind page filter ≡ answer)
 
 -- What a query asks of the resources of a type, or the first refusal
 abbrev pub IsSearch : Kind → List ℕ → Result Request Refusal → Type 0

@@ -14,8 +14,10 @@ hex_value byte = if is_digit byte 16 then Some (digit_value byte) else None
 -- number
 pub data SpellsText : (segment text : List ℕ) → Type 0 where
   nothing : SpellsText [] []
-  plain : (byte : ℕ) {segment text : List ℕ} → byte ≢ 37 → SpellsText segment text → SpellsText (byte ∷ segment) (byte ∷ text)
-  escape : (high low a b : ℕ) {segment text : List ℕ} → hex_value high ≡ Some a → hex_value low ≡ Some b → SpellsText segment text
+  plain : (byte : ℕ) {segment text : List ℕ} → byte ≢ 37 → SpellsText segment text
+      → SpellsText (byte ∷ segment) (byte ∷ text)
+  escape : (high low a b : ℕ) {segment text : List ℕ} → hex_value high ≡ Some a → hex_value low ≡ Some b
+      → SpellsText segment text
       → SpellsText (37 ∷ high ∷ low ∷ segment) ((16 * a + b) ∷ text)
 
 -- The same as a function.
@@ -45,7 +47,8 @@ unescaped [] = Some []
 unescaped (byte ∷ []) = put_before (plain_byte byte) (Some [])
 unescaped (byte ∷ next ∷ []) = put_before (plain_byte byte) (unescaped (next ∷ []))
 unescaped (byte ∷ high ∷ low ∷ rest) =
-    if byte == 37 then put_before (escaped_byte high low) (unescaped rest) else put_before (Some byte) (unescaped (high ∷ low ∷ rest))
+    if byte == 37 then put_before (escaped_byte high low) (unescaped rest)
+    else put_before (Some byte) (unescaped (high ∷ low ∷ rest))
 
 abbrev pub without_fault : Option NameFault → List ℕ → Option (List ℕ)
 without_fault None text = Some text

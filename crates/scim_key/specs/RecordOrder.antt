@@ -11,7 +11,8 @@ use Rattle.scim_key.specs.declared.records.Kind.TheVariants.{User, Group}
 use Rattle.scim_key.specs.declared.records.RecordName.{RecordName}
 
 pub names_total : IsTotalOrder name_cmp
-names_total = then_total (on_total (λ name. kind_place name.kind) nat_cmp_total) (on_total (λ name. name.key) nat_list_cmp_total)
+names_total =
+    then_total (on_total (λ name. kind_place name.kind) nat_cmp_total) (on_total (λ name. name.key) nat_list_cmp_total)
 
 abbrev of : Kind → List ℕ → RecordName
 of kind key = record { kind = kind; key = key }

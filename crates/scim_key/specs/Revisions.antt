@@ -58,11 +58,15 @@ revision_number r = r.number
 
 -- the revision with this epoch and number
 unfoldable pub revision_of_parts : (epoch number : ℕ) → Option RevisionValue
-revision_of_parts epoch number = if is_revision (record { epoch = epoch; number = number }) then Some (record { epoch = epoch; number = number }) else None
+revision_of_parts epoch number =
+    if is_revision (record { epoch = epoch; number = number })
+    then Some (record { epoch = epoch; number = number }) else None
 
 -- the same, or none for 0 and 0
 unfoldable pub confirmed_of_parts : (epoch number : ℕ) → Option RevisionValue
-confirmed_of_parts epoch number = if same_revision (record { epoch = epoch; number = number }) no_revision then Some no_revision else revision_of_parts epoch number
+confirmed_of_parts epoch number =
+    if same_revision (record { epoch = epoch; number = number }) no_revision then Some no_revision
+    else revision_of_parts epoch number
 
 -- 1 to 18 digits; leading zeros are allowed
 abbrev pub is_numeral : List ℕ → Bool
@@ -79,7 +83,8 @@ has_colon text = nat_lt (position_or_len is_colon text) (length text)
 
 -- what stands before the first colon and after it: the epoch and the number; with no colon the epoch is 0
 abbrev pub spelled_parts : List ℕ → List ℕ × List ℕ
-spelled_parts text = if has_colon text then (before_first is_colon text, after_first is_colon text) else (codes "0", text)
+spelled_parts text =
+    if has_colon text then (before_first is_colon text, after_first is_colon text) else (codes "0", text)
 
 abbrev pub revision_spelled : Option ℕ → Option ℕ → Option RevisionValue
 revision_spelled epoch number = option_and_then (λ e. option_and_then (λ n. revision_of_parts e n) number) epoch
@@ -95,10 +100,14 @@ revision_text r = if r.epoch == 0 then decimal r.number else decimal r.epoch ++ 
 -- A valid revision, once written, is read back as itself
 pub record RevisionsAreReadBack : Type 0 where
   pub from_text : (r : RevisionValue) → IsRevision r → read_revision (revision_text r) ≡ Some r
-  pub from_parts : (r : RevisionValue) → IsRevision r → revision_of_parts (revision_epoch r) (revision_number r) ≡ Some r
-  pub confirmed_from_parts : (r : RevisionValue) → IsNoneOrRevision r → confirmed_of_parts (revision_epoch r) (revision_number r) ≡ Some r
-  pub lawful_from_parts : (epoch number : ℕ) (r : RevisionValue) → revision_of_parts epoch number ≡ Some r → IsRevision r
-  pub known_from_parts : (epoch number : ℕ) (r : RevisionValue) → confirmed_of_parts epoch number ≡ Some r → IsNoneOrRevision r
+  pub from_parts : (r : RevisionValue) → IsRevision r
+      → revision_of_parts (revision_epoch r) (revision_number r) ≡ Some r
+  pub confirmed_from_parts : (r : RevisionValue) → IsNoneOrRevision r
+      → confirmed_of_parts (revision_epoch r) (revision_number r) ≡ Some r
+  pub lawful_from_parts : (epoch number : ℕ) (r : RevisionValue)
+      → revision_of_parts epoch number ≡ Some r → IsRevision r
+  pub known_from_parts : (epoch number : ℕ) (r : RevisionValue)
+      → confirmed_of_parts epoch number ≡ Some r → IsNoneOrRevision r
   pub parts_fit : (r : RevisionValue) → IsRevision r → (revision_epoch r < 2 ^ 64) × (revision_number r < 2 ^ 64)
 
 -- ---- order

@@ -24,7 +24,9 @@ LeavesOr {C} old new also = (found : C) → new found → old found ⊎ also fou
 -- ---- calls
 
 -- A call that only reads. The contents stay, nothing is written, and the call succeeds only if the store is open
-pub record OnlyReads {S C T F : Type 0} (held : S → C) (is_faithful is_honest : S → Type 0) (may_hold : S → C → Type 0) (faults writes : S → ℕ) (counts : ℕ → ℕ → F → Type 0) (old new : S) (result : Result T F) : Type 0 where
+pub record OnlyReads {S C T F : Type 0} (held : S → C) (is_faithful is_honest : S → Type 0)
+    (may_hold : S → C → Type 0) (faults writes : S → ℕ) (counts : ℕ → ℕ → F → Type 0) (old new : S)
+    (result : Result T F) : Type 0 where
   pub was : is_faithful new → is_faithful old
   pub same : is_faithful new → held new ≡ held old
   pub honest : is_honest new → is_honest old
@@ -35,7 +37,9 @@ pub record OnlyReads {S C T F : Type 0} (held : S → C) (is_faithful is_honest 
 
 -- A call that changes the contents to `later` by one write at most. If the call succeeds, the store holds `later`; if
 -- it fails, the contents stay. A stop during the call leaves the old contents or the new
-pub record WritesOnce {S C T F : Type 0} (held : S → C) (is_faithful is_honest : S → Type 0) (may_hold : S → C → Type 0) (faults writes : S → ℕ) (counts : ℕ → ℕ → F → Type 0) (old new : S) (later : C) (result : Result T F) : Type 0 where
+pub record WritesOnce {S C T F : Type 0} (held : S → C) (is_faithful is_honest : S → Type 0)
+    (may_hold : S → C → Type 0) (faults writes : S → ℕ) (counts : ℕ → ℕ → F → Type 0) (old new : S)
+    (later : C) (result : Result T F) : Type 0 where
   pub was : is_faithful new → is_faithful old
   pub done : is_faithful new → OnOk result (held new ≡ later)
   pub same : is_faithful new → OnErr result (held new ≡ held old)
@@ -46,7 +50,9 @@ pub record WritesOnce {S C T F : Type 0} (held : S → C) (is_faithful is_honest
   pub unwritten : OnErr result (writes new ≡ writes old)
 
 -- A call that opens the store again. The store then holds what a stop may have left, and nothing is written
-pub record Reopens {S C T F : Type 0} (held : S → C) (is_faithful is_honest : S → Type 0) (may_hold : S → C → Type 0) (faults writes : S → ℕ) (counts : ℕ → ℕ → F → Type 0) (old new : S) (result : Result T F) : Type 0 where
+pub record Reopens {S C T F : Type 0} (held : S → C) (is_faithful is_honest : S → Type 0)
+    (may_hold : S → C → Type 0) (faults writes : S → ℕ) (counts : ℕ → ℕ → F → Type 0) (old new : S)
+    (result : Result T F) : Type 0 where
   pub found : is_honest new → OnOk result (may_hold old (held new))
   pub honest : is_honest new → is_honest old
   pub opened : is_honest new → OnOk result (is_faithful new)

@@ -39,7 +39,12 @@ is_error_message ms = not (repeats ms) && lists_text error_message (attribute (c
 
 -- `scimType` and `detail`, if they are texts and not empty
 abbrev pub error_with : (status : ℕ) → Members → ErrorRecord
-error_with status ms = record { status = status; scim_type = text_of (attribute (codes "scimType") ms); detail = text_of (attribute (codes "detail") ms) }
+error_with status ms =
+    record {
+      status = status;
+      scim_type = text_of (attribute (codes "scimType") ms);
+      detail = text_of (attribute (codes "detail") ms);
+    }
 
 abbrev pub error_of_members : (status : ℕ) → Members → ErrorRecord
 error_of_members status ms = if is_error_message ms then error_with status ms else bare_error status
@@ -135,7 +140,8 @@ abbrev pub said : Request → Data → Result Answer BodyFault
 said (Create content) d = shaped (read_shown (content_kind content) d) >>= (λ s. Ok (Created s))
 said (Retrieve kind id if_match if_none_match) d = shaped (read_shown kind d) >>= (λ s. Ok (Found s))
 said (Search kind wanted start count) d = read_list kind d >>= (λ list. Ok (answers.List list))
-said (Replace id content if_match if_none_match) d = shaped (read_shown (content_kind content) d) >>= (λ s. Ok (Replaced s))
+said (Replace id content if_match if_none_match) d =
+    shaped (read_shown (content_kind content) d) >>= (λ s. Ok (Replaced s))
 
 abbrev pub said_if : Request → (status : ℕ) → Option Data → Result Answer BodyFault
 said_if request status None = Err NotJson
@@ -159,9 +165,11 @@ success (Create content) status etag body = said_in (Create content) status body
 success (Retrieve kind id if_match if_none_match) status etag body =
     if status == 304 then not_modified kind id etag else said_in (Retrieve kind id if_match if_none_match) status body
 success (Search kind wanted start count) status etag body = said_in (Search kind wanted start count) status body
-success (Replace id content if_match if_none_match) status etag body = said_in (Replace id content if_match if_none_match) status body
+success (Replace id content if_match if_none_match) status etag body =
+    said_in (Replace id content if_match if_none_match) status body
 
 -- The answer to a request, read from this status, this field `ETag` and this body. A status from 400 to 599 is an error
 -- whatever the body says
 abbrev pub read_body : Request → (status : ℕ) → (etag : Option (List ℕ)) → (body : List ℕ) → Result Answer BodyFault
-read_body request status etag body = if is_error_status status then Ok (Error (error_in status body)) else success request status etag body
+read_body request status etag body =
+    if is_error_status status then Ok (Error (error_in status body)) else success request status etag body

@@ -58,11 +58,16 @@ pub record IsErrorOf (error : ErrorRecord) : Type 0 where
 -- The answer fits the request: it shows resources of the requested type, or says that nothing was modified, or why the
 -- request was refused
 pub data Fits : Request → Answer → Type 0 where
-  created : (content : Content) (s : ShownRecord) → IsShownOf (content_kind content) s → Fits (Create content) (Created s)
-  found : (kind : Kind) (id : List ℕ) (if_match if_none_match : Condition) (s : ShownRecord) → IsShownOf kind s → Fits (Retrieve kind id if_match if_none_match) (Found s)
-  unmodified : (kind : Kind) (id : List ℕ) (if_match if_none_match : Condition) (tag : List ℕ) → IsEntityTag tag → Fits (Retrieve kind id if_match if_none_match) (NotModified kind id tag)
-  listed : (kind : Kind) (wanted : Option Expression) (start : ℤ) (count : Option ℤ) (list : ListResponse) → IsListOf kind list → Fits (Search kind wanted start count) (answers.List list)
-  replaced : (id : List ℕ) (content : Content) (if_match if_none_match : Condition) (s : ShownRecord) → IsShownOf (content_kind content) s → Fits (Replace id content if_match if_none_match) (Replaced s)
+  created : (content : Content) (s : ShownRecord) → IsShownOf (content_kind content) s
+      → Fits (Create content) (Created s)
+  found : (kind : Kind) (id : List ℕ) (if_match if_none_match : Condition) (s : ShownRecord)
+      → IsShownOf kind s → Fits (Retrieve kind id if_match if_none_match) (Found s)
+  unmodified : (kind : Kind) (id : List ℕ) (if_match if_none_match : Condition) (tag : List ℕ)
+      → IsEntityTag tag → Fits (Retrieve kind id if_match if_none_match) (NotModified kind id tag)
+  listed : (kind : Kind) (wanted : Option Expression) (start : ℤ) (count : Option ℤ)
+      (list : ListResponse) → IsListOf kind list → Fits (Search kind wanted start count) (answers.List list)
+  replaced : (id : List ℕ) (content : Content) (if_match if_none_match : Condition) (s : ShownRecord)
+      → IsShownOf (content_kind content) s → Fits (Replace id content if_match if_none_match) (Replaced s)
   refused : (request : Request) (error : ErrorRecord) → IsErrorOf error → Fits request (Error error)
 
 -- an answer without a body has the tag in its field `ETag`; other answers may have any field

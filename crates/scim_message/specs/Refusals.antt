@@ -75,7 +75,8 @@ refusal_detail NoSuchPath = codes "no such path"
 
 -- The error message for a refusal
 abbrev pub error_of : Refusal → ErrorRecord
-error_of refusal = record { status = refusal_status refusal; scim_type = refusal_type refusal; detail = Some (refusal_detail refusal) }
+error_of refusal =
+    record { status = refusal_status refusal; scim_type = refusal_type refusal; detail = Some (refusal_detail refusal) }
 
 -- an error message that says only its status
 abbrev pub bare_error : (status : ℕ) → ErrorRecord

@@ -9,7 +9,8 @@ mutual
   pub data Alike : Data → Data → Type 0 where
     same : (d : Data) → Alike d d
     lists : (ds es : Items) → ItemsAlike ds es → Alike (array ds) (array es)
-    objects : (ms ns : Members) → repeats ms ≡ repeats ns → ((name : List ℕ) → AlikeIf (named name ms) (named name ns)) → Alike (object ms) (object ns)
+    objects : (ms ns : Members) → repeats ms ≡ repeats ns
+        → ((name : List ℕ) → AlikeIf (named name ms) (named name ns)) → Alike (object ms) (object ns)
 
   pub data ItemsAlike : Items → Items → Type 0 where
     no_more : ItemsAlike no_items no_items

@@ -27,4 +27,5 @@ pub record StandsBehind (kept : List (List ℕ)) (v : List ℕ) (those : List (L
 pub record KeepsFirsts (all kept : List (List ℕ)) : Type 0 where
   pub each_once : are_distinct kept ≡ true
   pub none_lost : (v : List ℕ) → is_among v kept ≡ is_among v all
-  pub first_places : (before after : List (List ℕ)) (v : List ℕ) → all ≡ before ++ v ∷ after → is_among v before ≡ false → StandsBehind kept v before
+  pub first_places : (before after : List (List ℕ)) (v : List ℕ) → all ≡ before ++ v ∷ after
+      → is_among v before ≡ false → StandsBehind kept v before

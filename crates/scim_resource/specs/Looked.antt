@@ -18,7 +18,8 @@ pub record Lists (name : List ℕ) (ms inner : Members) : Type 0 where
 pub data IsLookedInto (kind : Kind) (ms inner : Members) : Type 0 where
   the_body : inner ≡ ms → IsLookedInto kind ms inner
   the_source : attribute source_extension ms ≡ Some (object inner) → IsLookedInto kind ms inner
-  an_enterprise : kind ≡ kinds.User → attribute enterprise_extension ms ≡ Some (object inner) → IsLookedInto kind ms inner
+  an_enterprise : kind ≡ kinds.User → attribute enterprise_extension ms ≡ Some (object inner)
+      → IsLookedInto kind ms inner
   a_name : kind ≡ kinds.User → attribute (codes "name") ms ≡ Some (object inner) → IsLookedInto kind ms inner
   an_email : kind ≡ kinds.User → Lists (codes "emails") ms inner → IsLookedInto kind ms inner
   a_member : kind ≡ kinds.Group → Lists (codes "members") ms inner → IsLookedInto kind ms inner

@@ -82,7 +82,8 @@ revision_of epoch (Some n) = checked epoch >>= revision_with n
 
 abbrev pub source_revision : Option Members → Result (Option RevisionValue) ContentFault
 source_revision None = Ok None
-source_revision (Some ms) = checked (whole_in (attribute (codes "revision") ms)) >>= revision_of (whole_in (attribute (codes "epoch") ms))
+source_revision (Some ms) =
+    checked (whole_in (attribute (codes "revision") ms)) >>= revision_of (whole_in (attribute (codes "epoch") ms))
 
 -- the revision in the source extension, if there is one
 abbrev pub revision_in : Option Data → Result (Option RevisionValue) ContentFault
@@ -262,7 +263,8 @@ read_user (array ds) = Err InvalidSyntax
 read_user (object ms) = unless_repeated (user_repeats ms) (user_fields ms)
 
 unfoldable pub group_repeats : Members → Bool
-group_repeats ms = repeats ms || value_repeats (attribute source_extension ms) || list_repeats (attribute (codes "members") ms)
+group_repeats ms =
+    repeats ms || value_repeats (attribute source_extension ms) || list_repeats (attribute (codes "members") ms)
 
 abbrev pub read_group : Data → Result GroupRecord ContentFault
 read_group null = Err InvalidSyntax

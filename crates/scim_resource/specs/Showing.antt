@@ -61,4 +61,6 @@ read_shown kind (boolean b) = Err InvalidSyntax
 read_shown kind (number n) = Err InvalidSyntax
 read_shown kind (string s) = Err InvalidSyntax
 read_shown kind (array ds) = Err InvalidSyntax
-read_shown kind (object ms) = unless_repeated (value_repeats (attribute (codes "meta") ms)) (read_content kind (object ms) >>= (λ content. shown_with content ms))
+read_shown kind (object ms) =
+    unless_repeated (value_repeats (attribute (codes "meta") ms))
+    (read_content kind (object ms) >>= (λ content. shown_with content ms))

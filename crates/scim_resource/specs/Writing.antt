@@ -23,7 +23,9 @@ abbrev pub epoch_data : ℕ → Option Data
 epoch_data epoch = if epoch == 0 then None else Some (number (unsigned epoch))
 
 abbrev pub source_parts : RevisionValue → List Part
-source_parts r = (codes "epoch", epoch_data (revision_epoch r)) ∷ (codes "revision", Some (number (unsigned (revision_number r)))) ∷ []
+source_parts r =
+    (codes "epoch", epoch_data (revision_epoch r))
+    ∷ (codes "revision", Some (number (unsigned (revision_number r)))) ∷ []
 
 -- the source extension, if there is a revision
 abbrev pub source_data : Option RevisionValue → Option Data
@@ -78,7 +80,8 @@ primary_data false = None
 
 abbrev pub email_parts : Email → List Part
 email_parts e =
-    (codes "primary", primary_data e.primary) ∷ (codes "type", option_map string e.type_text) ∷ (codes "value", Some (string e.value)) ∷ []
+    (codes "primary", primary_data e.primary) ∷ (codes "type", option_map string e.type_text)
+    ∷ (codes "value", Some (string e.value)) ∷ []
 
 unfoldable pub email_data : Email → Data
 email_data e = object (members_from (email_parts e))

@@ -18,8 +18,10 @@ IsElement text = (text ≡ codes "*") ⊎ IsEntityTag text
 -- is a list of one. Two lists joined by a comma are one list.
 pub data IsListOf : List ℕ → List (List ℕ) → Type 0 where
   empty : {blanks : List ℕ} → IsBlank blanks → IsListOf blanks []
-  single : (before element after : List ℕ) → IsBlank before → IsElement element → IsBlank after → IsListOf (before ++ element ++ after) (element ∷ [])
-  joined : {left right : List ℕ} {first rest : List (List ℕ)} → IsListOf left first → IsListOf right rest → IsListOf (left ++ 0x2C ∷ right) (first ++ rest)
+  single : (before element after : List ℕ) → IsBlank before → IsElement element → IsBlank after
+      → IsListOf (before ++ element ++ after) (element ∷ [])
+  joined : {left right : List ℕ} {first rest : List (List ℕ)} → IsListOf left first
+      → IsListOf right rest → IsListOf (left ++ 0x2C ∷ right) (first ++ rest)
 
 -- The same as a function: the parts between the commas outside double quotes, without the blanks around them. Empty
 -- parts are left out.

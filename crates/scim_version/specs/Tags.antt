@@ -16,7 +16,8 @@ quoted opaque = 0x22 ∷ opaque ++ 0x22 ∷ []
 
 -- The grammar: an optional `W/`, a double quote, any number of tag bytes, and a double quote.
 abbrev pub IsEntityTag : List ℕ → Type 0
-IsEntityTag tag = (opaque : List ℕ) × IsTrue (list_all is_tag_byte opaque) × ((tag ≡ quoted opaque) ⊎ (tag ≡ codes "W/" ++ quoted opaque))
+IsEntityTag tag = (opaque : List ℕ) × IsTrue (list_all is_tag_byte opaque)
+    × ((tag ≡ quoted opaque) ⊎ (tag ≡ codes "W/" ++ quoted opaque))
 
 -- the tag of a version
 abbrev pub version_tag : ℕ → List ℕ

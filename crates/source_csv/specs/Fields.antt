@@ -40,7 +40,9 @@ read_values texts = if list_all is_short texts then Ok texts else Err code.Value
 
 -- S6: a status is `active` or `left`
 unfoldable pub read_status : List ℕ → Result Bool RowCode
-read_status text = if bytes_eq text (codes "active") then Ok true else if bytes_eq text (codes "left") then Ok false else Err code.Value
+read_status text =
+    if bytes_eq text (codes "active") then Ok true else if bytes_eq text (codes "left") then Ok false
+    else Err code.Value
 
 -- the field at a place; empty if there is none
 abbrev pub field : Record → ℕ → List ℕ
@@ -77,7 +79,9 @@ read_user_fields column_named = do
 
 -- A record of a users file with these columns, as a row. S2: the number of fields is wrong.
 unfoldable pub read_user : Record → Record → Result UserFields RowCode
-read_user columns fields = if length fields == length columns then (read_texts fields >>= λ texts. read_user_fields (column columns texts)) else Err code.FieldCount
+read_user columns fields =
+    if length fields == length columns
+    then (read_texts fields >>= λ texts. read_user_fields (column columns texts)) else Err code.FieldCount
 
 -- S4: the name of a group
 unfoldable pub read_group_name : List ℕ → Result (List ℕ) RowCode

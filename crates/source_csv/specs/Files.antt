@@ -48,7 +48,8 @@ at_place place (Err code) = Err (record { place = place; code = code })
 -- the records after the header, in order, counted from this place on
 abbrev pub rows_from : Kind → Record → ℕ → List Record → List (Result Row RowFault)
 rows_from of columns place [] = []
-rows_from of columns place (fields ∷ records) = at_place place (read_row of columns fields) ∷ rows_from of columns (place + 1) records
+rows_from of columns place (fields ∷ records) =
+    at_place place (read_row of columns fields) ∷ rows_from of columns (place + 1) records
 
 -- what the records after the header say. S1: the header isn't one of its kind
 abbrev pub rows_in : Kind → Option Record → List Record → Result (List (Result Row RowFault)) SourceFault
@@ -62,4 +63,5 @@ rows_of of (header ∷ records) = rows_in of (columns_of of header) records
 
 -- every file has exactly one list of records
 abbrev pub FilesHaveRecords : Type 0
-FilesHaveRecords = (bytes : List ℕ) → (records : List Record) × AreRecordsOf bytes records × ((others : List Record) → AreRecordsOf bytes others → others ≡ records)
+FilesHaveRecords = (bytes : List ℕ) → (records : List Record) × AreRecordsOf bytes records
+    × ((others : List Record) → AreRecordsOf bytes others → others ≡ records)

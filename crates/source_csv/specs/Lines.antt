@@ -28,13 +28,15 @@ record_lines (field ∷ fields) = max (field_lines field) (record_lines fields)
 
 -- the record at this place, if its longest field has more than one line
 abbrev pub multiline_at : (place : ℕ) → Record → Option Multiline
-multiline_at place fields = if nat_lt 1 (record_lines fields) then Some (record { place = place; lines = record_lines fields }) else None
+multiline_at place fields =
+    if nat_lt 1 (record_lines fields) then Some (record { place = place; lines = record_lines fields }) else None
 
 -- ---- a file
 
 -- A step over these records: it counted the lines of the first of them, and the others are left. Or there were none.
 abbrev pub Counts : (lines : Option ℕ) → (remaining : Option (List ℕ)) → State → List Record → Type 0
-Counts (Some lines) remaining state records = (rest : List Record) × Leaves remaining state rest × (map record_lines records ≡ lines ∷ map record_lines rest)
+Counts (Some lines) remaining state records = (rest : List Record) × Leaves remaining state rest
+    × (map record_lines records ≡ lines ∷ map record_lines rest)
 Counts None remaining state records = records ≡ []
 
 -- for each record after the header
@@ -45,7 +47,9 @@ lines_after_header (header ∷ records) = map record_lines records
 -- the records whose longest fields have more than one of these lines, counted from this place on
 abbrev pub multiline_from : (place : ℕ) → List ℕ → List Multiline
 multiline_from place [] = []
-multiline_from place (lines ∷ more) = if nat_lt 1 lines then record { place = place; lines = lines } ∷ multiline_from (place + 1) more else multiline_from (place + 1) more
+multiline_from place (lines ∷ more) =
+    if nat_lt 1 lines then record { place = place; lines = lines } ∷ multiline_from (place + 1) more
+    else multiline_from (place + 1) more
 
 -- the records of a file with a field over several lines
 abbrev pub multiline_of : List Record → List Multiline
@@ -54,4 +58,6 @@ multiline_of records = multiline_from 1 (lines_after_header records)
 -- ---- what is reported
 
 abbrev pub multiline_text : Multiline → Option (List ℕ)
-multiline_text found = Some (codes "record " ++ (decimal found.place ++ (codes ": a quoted field goes over " ++ (decimal found.lines ++ codes " lines; is a quote missing?"))))
+multiline_text found =
+    Some (codes "record " ++ (decimal found.place
+    ++ (codes ": a quoted field goes over " ++ (decimal found.lines ++ codes " lines; is a quote missing?"))))

@@ -28,9 +28,11 @@ IsReadFault (Source Header) = ⊥
 IsReadFault (Source Memory) = ⊤
 IsReadFault (Input why) = ⊤
 
--- The header of a file with these records was read: it has these columns, and the other records are left in these bytes.
+-- The header of a file with these records was read: it has these columns, and the other records are left in these
+-- bytes.
 abbrev pub HeaderRead : Kind → List Record → (columns : Record) → (remaining : Option (List ℕ)) → State → Type 0
-HeaderRead of records columns remaining state = (header : Record) × (rest : List Record) × (records ≡ header ∷ rest) × (columns_of of header ≡ Some columns) × Leaves remaining state rest
+HeaderRead of records columns remaining state = (header : Record) × (rest : List Record)
+    × (records ≡ header ∷ rest) × (columns_of of header ≡ Some columns) × Leaves remaining state rest
 
 -- The header of a file with these records wasn't read. S1 comes exactly if the file says nothing else.
 abbrev pub HeaderUnread : Kind → List Record → ReadFault → Type 0

@@ -32,7 +32,9 @@ text_of row text = get_or row.texts (place_of text) []
 
 -- whether all fields of two rows of users are equal, byte for byte: a login in another spelling is another field
 abbrev pub same_user : UserFields → UserFields → Bool
-same_user a b = bytes_eq a.login b.login && same_revision a.revision b.revision && beq a.active b.active && pointwise bytes_eq a.texts b.texts
+same_user a b =
+    bytes_eq a.login b.login && same_revision a.revision b.revision && beq a.active b.active &&
+    pointwise bytes_eq a.texts b.texts
 
 -- whether a key comes before another in byte order
 unfoldable pub precedes : List ℕ → List ℕ → Bool

@@ -29,7 +29,8 @@ pub record Standing : Type 0 where
 
 -- the known bytes that are left have these records
 abbrev pub Leaves : (remaining : Option (List ℕ)) → State → List Record → Type 0
-Leaves remaining state records = (bytes : List ℕ) × (remaining ≡ Some bytes) × AreRecords default_config state bytes records
+Leaves remaining state records = (bytes : List ℕ) × (remaining ≡ Some bytes)
+    × AreRecords default_config state bytes records
 
 -- these records are left
 abbrev pub HasLeft : Standing → List Record → Type 0
@@ -37,7 +38,8 @@ HasLeft rows records = Leaves rows.remaining rows.state records
 
 -- A step over these records: it took the first of them, with these fields, and the others are left. Or there were none.
 abbrev pub Takes : (found : Bool) → (fields : Record) → (remaining : Option (List ℕ)) → State → List Record → Type 0
-Takes true fields remaining state records = (rest : List Record) × (records ≡ fields ∷ rest) × Leaves remaining state rest
+Takes true fields remaining state records = (rest : List Record) × (records ≡ fields ∷ rest)
+    × Leaves remaining state rest
 Takes false fields remaining state records = records ≡ []
 
 -- the place after a step
@@ -54,6 +56,8 @@ abbrev pub rows_next : Standing → List Record → List (Result Row RowFault)
 rows_next rows records = rows_from rows.kind rows.columns (rows.place + 1) records
 
 -- A step over these records: it added the row of the first of them, and the others are left. Or there were none.
-abbrev pub Adds : (found : Bool) → (old new : Standing) → (before after : List (Result Row RowFault)) → List Record → Type 0
-Adds true old new before after records = (rest : List Record) × HasLeft new rest × (before ++ rows_next old records ≡ after ++ rows_next new rest)
+abbrev pub Adds : (found : Bool) → (old new : Standing) → (before after : List (Result Row RowFault))
+    → List Record → Type 0
+Adds true old new before after records = (rest : List Record) × HasLeft new rest
+    × (before ++ rows_next old records ≡ after ++ rows_next new rest)
 Adds false old new before after records = (records ≡ []) × (after ≡ before)

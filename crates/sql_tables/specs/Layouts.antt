@@ -17,10 +17,12 @@ use Rattle.sql_tables.specs.declared.marks.Mark.TheVariants.{Own, Newer, Unmarke
 -- ---- columns
 
 abbrev pub required : List ℕ → Kind → Column
-required name kind = record { name = name; kind = kind; is_strict = false; not_null = true; default = Null; collation = Binary }
+required name kind =
+    record { name = name; kind = kind; is_strict = false; not_null = true; default = Null; collation = Binary }
 
 abbrev pub optional : List ℕ → Kind → Column
-optional name kind = record { name = name; kind = kind; is_strict = false; not_null = false; default = Null; collation = Binary }
+optional name kind =
+    record { name = name; kind = kind; is_strict = false; not_null = false; default = Null; collation = Binary }
 
 -- ---- tables
 
@@ -63,8 +65,8 @@ no_schema = record { tables = []; indexes = []; views = [] }
 
 -- ---- layouts
 
--- A layout is a schema for each form: a form has what SQLite chooses, as the terms of a CHECK and the order of an index.
--- The schema is one of the layout
+-- A layout is a schema for each form: a form has what SQLite chooses, as the terms of a CHECK and the order of an
+-- index. The schema is one of the layout
 pub record IsOne {Form : Type 0} (layout : Form → Schema) (schema : Schema) : Type 0 where
   pub form : Form
   pub is : schema ≡ layout form

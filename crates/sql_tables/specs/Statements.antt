@@ -21,7 +21,8 @@ use Rattle.sql_tables.specs.Layouts.{format_tree}
 -- the connection is unchanged, if it is still open and was outside a transaction
 pub record Keeps (old new : State) : Type 0 where
   pub was_open : IsTrue new.is_open → IsTrue old.is_open
-  pub same : IsTrue new.is_open → old.committed ≡ old.now → old.in_transaction ≡ false → (new.now ≡ old.now) × (new.committed ≡ new.now) × (new.in_transaction ≡ false)
+  pub same : IsTrue new.is_open → old.committed ≡ old.now → old.in_transaction ≡ false
+      → (new.now ≡ old.now) × (new.committed ≡ new.now) × (new.in_transaction ≡ false)
 
 -- a call that only looks: the connection is unchanged, and nothing is committed
 pub record Looks (old new : State) : Type 0 where
@@ -42,7 +43,8 @@ module _ {Form : Type 0} (layout : Form → Schema) where
 
   -- the text is one statement over the tables, and has this many parameters
   abbrev pub IsWhole : List ℕ → ℕ → Type 0
-  IsWhole sql count = (form : Form) → (c : Compiled) × (understood (layout form) sql ≡ Ok c) × (length sql ≤ c.tail) × (count ≡ length c.names)
+  IsWhole sql count = (form : Form) → (c : Compiled) × (understood (layout form) sql ≡ Ok c)
+      × (length sql ≤ c.tail) × (count ≡ length c.names)
 
   -- with these values the query is refused only over a limit on steps, whatever rows the tables have
   abbrev pub IsAnswered : List ℕ → Row → Type 0
@@ -60,8 +62,10 @@ Answers sql params s rows = (c : Compiled) → understood s.now.schema sql ≡ O
 
 -- the rows of the query are the numbers in the table of the format
 abbrev pub ShowsFormat : {Form : Type 0} → (Form → Schema) → List ℕ → Type 0
-ShowsFormat {Form} layout sql = (form : Form) (trees : Trees) (c : Compiled) (rows : List Row) → understood (layout form) sql ≡ Ok c
-    → Reads c.command (record { schema = layout form; trees = trees }) [] rows → IsPermutation (map (λ (r : Row). column r 2 ∷ []) (trees format_tree)) rows
+ShowsFormat {Form} layout sql = (form : Form) (trees : Trees) (c : Compiled) (rows : List Row)
+    → understood (layout form) sql ≡ Ok c
+    → Reads c.command (record { schema = layout form; trees = trees }) [] rows
+    → IsPermutation (map (λ (r : Row). column r 2 ∷ []) (trees format_tree)) rows
 
 -- ---- a write
 
@@ -76,7 +80,8 @@ IsEdit command = ⊥
 
 -- the text is one INSERT or one UPDATE, without RETURNING and without the time
 abbrev pub IsEditText : {Form : Type 0} → (Form → Schema) → List ℕ → Type 0
-IsEditText {Form} layout sql = (form : Form) (c : Compiled) → understood (layout form) sql ≡ Ok c → (c.returning ≡ None) × (c.formats ≡ []) × IsEdit c.command
+IsEditText {Form} layout sql = (form : Form) (c : Compiled) → understood (layout form) sql ≡ Ok c
+    → (c.returning ≡ None) × (c.formats ≡ []) × IsEdit c.command
 
 -- the statement did this to the database, and outside a transaction committed it
 pub record Ran (sql : List ℕ) (params : Row) (old new : State) : Type 0 where

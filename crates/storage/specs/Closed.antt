@@ -14,7 +14,8 @@ use Rattle.sqlite.specs.State.{HasCleanDisk}
 
 -- If the disks returned what was written, the last commit is in the main file alone, or the library said why it
 -- couldn't be copied there
-pub record ClosesFiles {D : Type 0} (g : Ghosts D) (conn : Held (FileStore D g)) (left : Result (Files D) (Error × FileStore D g)) : Type 0 where
+pub record ClosesFiles {D : Type 0} (g : Ghosts D) (conn : Held (FileStore D g))
+    (left : Result (Files D) (Error × FileStore D g)) : Type 0 where
   pub copied : IfOk left (λ files. AreClean g files.log files.db → IsCopied conn files)
   pub err : IfErr left (λ e. IsClosed conn e.1 × (IsClean (view e.1) → FailsToClose conn e.1 e.0))
 

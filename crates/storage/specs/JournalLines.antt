@@ -14,7 +14,9 @@ id_text None = codes "-"
 
 abbrev pub line_of : RecordName → (wanted confirmed : RevisionValue) → (id : List ℕ) → List ℕ
 line_of name wanted confirmed id =
-    kind_word name.kind ++ (codes " " ++ (name.key ++ (codes " wanted=" ++ (revision_text wanted ++ (codes " confirmed=" ++ (revision_text confirmed ++ (codes " id=" ++ (id ++ codes "\n"))))))))
+    kind_word name.kind ++ (codes " " ++ (name.key
+    ++ (codes " wanted=" ++ (revision_text wanted
+    ++ (codes " confirmed=" ++ (revision_text confirmed ++ (codes " id=" ++ (id ++ codes "\n"))))))))
 
 -- the key of the name, the wanted revision, the confirmed revision or 0, and the id
 abbrev pub entry_line : Entry → List ℕ

@@ -33,6 +33,7 @@ module _ {D : Type 0} {g : disk.Ghosts D} where
 
   -- if an older format is the fault, the files have its tables
   abbrev pub LooksOlder : Files D → LookFault → Result (Held (FileStore D g)) (Leftover D g) → Type 0
-  LooksOlder files Older (Ok left) = HasCleanDisk (file_state left) → Finds files left × IsOlder (file_state left).now.schema
+  LooksOlder files Older (Ok left) = HasCleanDisk (file_state left) → Finds files left
+      × IsOlder (file_state left).now.schema
   LooksOlder files Older (Err left) = ⊥
   LooksOlder files (Refused fault) left = ⊤

@@ -16,7 +16,8 @@ use Rattle.storage.specs.StoreOpened.{IsOpened, IsMended}
 -- ---- one connection
 
 -- what was read, and the answer of a provider at this base over rows that were opened for it
-pub record AnswersFrom {R : Type 0} (g : Ghosts R) (base : List ℕ) (old new : Reading) (before after : Writing) (served : Served) : Type 0 where
+pub record AnswersFrom {R : Type 0} (g : Ghosts R) (base : List ℕ) (old new : Reading)
+    (before after : Writing) (served : Served) : Type 0 where
   pub first : R
   pub last : R
   pub opened : IsOpened g first
@@ -55,7 +56,8 @@ module _ {L I O R : Type 0} (waiting : L → Option (List (I × O))) (remaining 
       (middle : L) × (last : R) × ServesEach earlier before middle old last × ServesNext middle after last new result
 
   -- `count` connections, one after another
-  pub record ServesFrom (before after : L) (old new : R) (count : ℕ) (outcome : Result (Unit {0}) ConnectionFault) : Type 0 where
+  pub record ServesFrom (before after : L) (old new : R) (count : ℕ)
+      (outcome : Result (Unit {0}) ConnectionFault) : Type 0 where
     pub results : List (Result (Unit {0}) ConnectionFault)
     pub count_is : length results ≡ count
     pub served : ServesEach results before after old new

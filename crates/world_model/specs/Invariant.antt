@@ -58,14 +58,16 @@ abbrev pub Follows : Book → History → Type 0
 Follows book history = (name : RecordName) → wanted_row book name ≡ last_row history name
 
 -- the known id has a version of this revision
-pub record HasVersion (es : List Entry) (name : RecordName) (known_id : Option (List ℕ)) (revision : RevisionValue) : Type 0 where
+pub record HasVersion (es : List Entry) (name : RecordName) (known_id : Option (List ℕ))
+    (revision : RevisionValue) : Type 0 where
   pub id : List ℕ
   pub known : known_id ≡ Some id
   pub tag : List ℕ
   pub version : IsVersion es name id tag revision
 
 -- a tag in sight is that of a version, whose revision counts as confirmed
-pub record InSight (es : List Entry) (name : RecordName) (known : Known) (tag : List ℕ) (revision : RevisionValue) : Type 0 where
+pub record InSight (es : List Entry) (name : RecordName) (known : Known) (tag : List ℕ)
+    (revision : RevisionValue) : Type 0 where
   pub id : List ℕ
   pub has_id : known.id ≡ Some id
   pub version : IsVersion es name id tag revision
@@ -76,7 +78,8 @@ pub record Noted (es : List Entry) (name : RecordName) (known : Known) : Type 0 
   pub id : (id : List ℕ) → known.id ≡ Some id → id_in es name ≡ Some id
   pub confirmed : known.confirmed ≢ no_revision → HasVersion es name known.id known.confirmed
   pub within : known.confirmed ≼ row_revision known.wanted
-  pub seen : (tag : List ℕ) (revision : RevisionValue) → known.seen ≡ At tag revision → InSight es name known tag revision
+  pub seen : (tag : List ℕ) (revision : RevisionValue) → known.seen ≡ At tag revision
+      → InSight es name known tag revision
 
 abbrev pub AllNoted : List Entry → Book → Type 0
 AllNoted es book = (name : RecordName) (known : Known) → book name ≡ Some known → Noted es name known
@@ -84,7 +87,8 @@ AllNoted es book = (name : RecordName) (known : Known) → book name ≡ Some kn
 -- ---- the messages
 
 -- a Replace carries an image, and the tag of a version of its record whose revision is lower
-pub record Overwrites (history : History) (es : List Entry) (id : List ℕ) (content : Content) (if_match : Condition) : Type 0 where
+pub record Overwrites (history : History) (es : List Entry) (id : List ℕ) (content : Content)
+    (if_match : Condition) : Type 0 where
   pub image : IsImage history es (content_name content) content
   pub tag : List ℕ
   pub alone : if_match ≡ Tags (tag ∷ [])
@@ -148,4 +152,5 @@ pub record IsStillTrue (w : World) (message : Message) : Type 0 where
   pub told : ToldTruly w.history w.entries message
 
 abbrev pub FactsStay : Type 0
-FactsStay = (w : World) (events : List Event) (message : Message) → Invariant w → Has w.messages message → IsStillTrue (run w events) message
+FactsStay = (w : World) (events : List Event) (message : Message) → Invariant w → Has w.messages message
+    → IsStillTrue (run w events) message

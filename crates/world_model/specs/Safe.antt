@@ -63,7 +63,8 @@ pub record IsImage (history : History) (es : List Entry) (name : RecordName) (co
 
 -- revisions strictly rise along a story
 abbrev pub StoryRises : List Content → Type 0
-StoryRises contents = (i j : ℕ) (earlier later : Content) (r s : RevisionValue) → i < j → IsAt contents i earlier → IsAt contents j later
+StoryRises contents = (i j : ℕ) (earlier later : Content) (r s : RevisionValue) → i < j
+    → IsAt contents i earlier → IsAt contents j later
     → content_revision earlier ≡ Some r → content_revision later ≡ Some s → r ≺ s
 
 -- the row says that the user left
@@ -78,7 +79,8 @@ is_inactive (contents.Group g) = false
 
 -- the record's row at this revision and every later row say that the user left
 abbrev pub HasLeftSince : History → RecordName → RevisionValue → Type 0
-HasLeftSince history name revision = (row : Row) → Has (rows_of history name) row → revision ≼ row_revision row → is_leaver row ≡ true
+HasLeftSince history name revision = (row : Row) → Has (rows_of history name) row
+    → revision ≼ row_revision row → is_leaver row ≡ true
 
 -- ---- at each moment
 
@@ -102,7 +104,8 @@ SeenTruly es name None (At tag revision) = ⊥
 SeenTruly es name (Some id) (At tag revision) = IsVersion es name id tag revision
 
 -- the record has an entry with this id, which holds this revision or a later one
-pub record IsReached (es : List Entry) (name : RecordName) (id : Option (List ℕ)) (revision : RevisionValue) : Type 0 where
+pub record IsReached (es : List Entry) (name : RecordName) (id : Option (List ℕ))
+    (revision : RevisionValue) : Type 0 where
   pub entry : Entry
   pub of_record : IsEntryOf es name entry
   pub has_id : id ≡ id_in es name
@@ -123,7 +126,8 @@ pub record Safe (w : World) : Type 0 where
   pub one_each : (i j : ℕ) (d e : Entry) → IsAt w.entries i d → IsAt w.entries j e → d.name ≡ e.name → i ≡ j
   -- revisions strictly rise along each story, and each content is the image of its row
   pub stories_rise : (e : Entry) → Has w.entries e → StoryRises (story e)
-  pub images : (e : Entry) (content : Content) → Has w.entries e → Has (story e) content → IsImage w.history w.entries e.name content
+  pub images : (e : Entry) (content : Content) → Has w.entries e → Has (story e) content
+      → IsImage w.history w.entries e.name content
   -- the wanted row is the last row of its record, and a record that isn't in the book has no row
   pub wanted : (name : RecordName) → wanted_row w.book name ≡ last_row w.history name
   -- a known id is the entry's, what counts as confirmed is held or surpassed, and a tag that was seen is that of a
@@ -131,7 +135,8 @@ pub record Safe (w : World) : Type 0 where
   pub known : (name : RecordName) (known : Known) → w.book name ≡ Some known → KnownTruly w.entries name known
   -- if a user's row at the confirmed revision and every later row say that the user left, the User that the provider
   -- holds is inactive
-  pub leavers : (name : RecordName) (known : Known) (e : Entry) → name.kind ≡ kinds.User → w.book name ≡ Some known → IsEntryOf w.entries name e
+  pub leavers : (name : RecordName) (known : Known) (e : Entry) → name.kind ≡ kinds.User
+      → w.book name ≡ Some known → IsEntryOf w.entries name e
       → HasLeftSince w.history name known.confirmed → is_inactive e.held ≡ true
 
 -- ---- from each moment on
@@ -154,14 +159,17 @@ pub record IsLater (s t : StoredRecord) : Type 0 where
   pub at_revision : content_revision s.content ≡ Some earlier
   pub reached : HasReached earlier t.content
 
--- Headline: the provider holds at most one resource per name, it is the image of its revision, its revision never goes back,
--- and every revision that the connector counts as confirmed is held or surpassed
+-- Headline: the provider holds at most one resource per name, it is the image of its revision, its revision never goes
+-- back, and every revision that the connector counts as confirmed is held or surpassed
 pub record Headline (early late : World) : Type 0 where
-  pub one_per_name : (s t : StoredRecord) → Has (rows early) s → Has (rows early) t → content_name s.content ≡ content_name t.content → s.number ≡ t.number
-  pub its_image : (s : StoredRecord) → Has (rows early) s → IsImage early.history early.entries (content_name s.content) s.content
+  pub one_per_name : (s t : StoredRecord) → Has (rows early) s → Has (rows early) t
+      → content_name s.content ≡ content_name t.content → s.number ≡ t.number
+  pub its_image : (s : StoredRecord) → Has (rows early) s
+      → IsImage early.history early.entries (content_name s.content) s.content
   pub never_back : (s : StoredRecord) → Has (rows early) s → (t : StoredRecord) × Has (rows late) t × IsLater s t
   pub reached : (name : RecordName) (known : Known) → early.book name ≡ Some known → known.confirmed ≢ no_revision
-      → (s : StoredRecord) × Has (rows early) s × (content_name s.content ≡ name) × (known.id ≡ Some (id_text s.number)) × HasReached known.confirmed s.content
+      → (s : StoredRecord) × Has (rows early) s × (content_name s.content ≡ name)
+      × (known.id ≡ Some (id_text s.number)) × HasReached known.confirmed s.content
 
 -- ---- the laws of all runs
 
@@ -176,4 +184,5 @@ HeadlineHolds = (early late : List Event) → Headline (run empty early) (run em
 
 -- the book judges each row as the history alone does
 abbrev pub JudgesBySource : Type 0
-JudgesBySource = (events : List Event) (row : Row) → judged (run empty events) row ≡ judging_by_source (run empty events).history row
+JudgesBySource = (events : List Event) (row : Row)
+    → judged (run empty events) row ≡ judging_by_source (run empty events).history row

@@ -16,7 +16,8 @@ use Rattle.world_model.specs.Untroubled.{IsLawful}
 
 -- One exchange: the connector's next request for a record is sent and arrives, and so does its reply
 abbrev pub exchange : World → RecordName → World
-exchange w name = run w (Sends name ∷ Delivers (suc (length w.messages)) ∷ Delivers (suc (suc (length w.messages))) ∷ [])
+exchange w name =
+    run w (Sends name ∷ Delivers (suc (length w.messages)) ∷ Delivers (suc (suc (length w.messages))) ∷ [])
 
 -- the connector has something to send for the record
 abbrev pub Wants : World → RecordName → Type 0
@@ -35,7 +36,8 @@ Exchanges w name (suc count) v = Wants w name × Exchanges (exchange w name) nam
 -- for each, and `count` in all
 abbrev pub Turns : World → List RecordName → (count : ℕ) → World → Type 0
 Turns w [] count v = (v ≡ w) × (count ≡ 0)
-Turns w (name ∷ names) count v = (here there : ℕ) × (u : World) × (here ≤ 3) × Exchanges w name here u × Rests u name × Turns u names there v × (count ≡ here + there)
+Turns w (name ∷ names) count v = (here there : ℕ) × (u : World) × (here ≤ 3) × Exchanges w name here u
+    × Rests u name × Turns u names there v × (count ≡ here + there)
 
 -- the wanted revision is confirmed, and the provider holds the image of the wanted row, which is the record's last row
 pub record IsSettledOf (w : World) (name : RecordName) : Type 0 where
@@ -59,9 +61,11 @@ Settles = (events : List Event) → AllByRecursion IsLawful events
 
 -- no other exchanges do: their number and the world after them are determined
 abbrev pub OneWay : Type 0
-OneWay = (w : World) (names : List RecordName) (m n : ℕ) (u v : World) → Turns w names m u → Turns w names n v → (m ≡ n) × (u ≡ v)
+OneWay = (w : World) (names : List RecordName) (m n : ℕ) (u v : World) → Turns w names m u
+    → Turns w names n v → (m ≡ n) × (u ≡ v)
 
 -- after any first part of a record's exchanges, the remaining ones lead to the same world
 abbrev pub LeadsOn : Type 0
-LeadsOn = (w : World) (name : RecordName) (m n : ℕ) (u v : World) → Exchanges w name m u → Exchanges w name n v → Rests v name
+LeadsOn = (w : World) (name : RecordName) (m n : ℕ) (u v : World) → Exchanges w name m u
+    → Exchanges w name n v → Rests v name
     → (left : ℕ) × (m + left ≡ n) × Exchanges u name left v

@@ -45,14 +45,17 @@ longest_body kinds.Group = 21_000
 abbrev pub most_entries : ℕ
 most_entries = 110_000
 
--- the connector learns from every reply that was ever given, no request that was ever sent meets a limit of the provider,
--- and the numbers that this rests on
+-- the connector learns from every reply that was ever given, no request that was ever sent meets a limit of the
+-- provider, and the numbers that this rests on
 pub record Untroubled (w : World) : Type 0 where
-  pub learns : (request : Request) (answer : Answer) → Has w.messages (Answered request answer) → IsOk (learn w.book request answer)
-  pub room : (request : Request) → Has w.messages (Asked request) → (step w.entries request).answer ≢ Error (error_of LimitReached)
+  pub learns : (request : Request) (answer : Answer) → Has w.messages (Answered request answer)
+      → IsOk (learn w.book request answer)
+  pub room : (request : Request) → Has w.messages (Asked request)
+      → (step w.entries request).answer ≢ Error (error_of LimitReached)
   pub versions : (e : Entry) → Has w.entries e → length (story e) ≤ most_revisions
   pub entries : length w.entries ≤ most_entries
-  pub bodies : (request : Request) (content : Content) → Has w.messages (Asked request) → request_content request ≡ Some content
+  pub bodies : (request : Request) (content : Content) → Has w.messages (Asked request)
+      → request_content request ≡ Some content
       → length (compact_text (content_data content)) < longest_body (content_kind content)
 
 abbrev pub NeverRefused : Type 0

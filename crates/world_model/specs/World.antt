@@ -66,7 +66,8 @@ sends w (Some (Send request)) = with_message w (Asked request)
 
 -- the provider has the table after the request, and its reply is sent
 abbrev pub replies : World → Request → Step → World
-replies w request after = record w { entries = after.entries; messages = w.messages ++ Answered request after.answer ∷ [] }
+replies w request after =
+    record w { entries = after.entries; messages = w.messages ++ Answered request after.answer ∷ [] }
 
 -- a request comes to the provider, a reply to the connector
 abbrev pub arrives : World → Message → World

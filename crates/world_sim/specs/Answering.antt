@@ -1,5 +1,5 @@
--- Whatever the provider's rows are and whatever is asked, its answer fits the request, and the client reads it back. This
--- is about every answer that a server writes, and not about those of a run alone.
+-- Whatever the provider's rows are and whatever is asked, its answer fits the request, and the client reads it back.
+-- This is about every answer that a server writes, and not about those of a run alone.
 use Rattle.std.specs.Prelude.{◌≡◌, ◌⊎◌, ℕ, ◌^◌, ◌<◌, false, List, length}
 use Rattle.std.specs.List.{AllByRecursion}
 use Rattle.std.specs.Str.{IsUtf8}
@@ -47,15 +47,18 @@ pub record IsAskable (request : Request) : Type 0 where
 -- fixed text, if the store fails or memory runs out
 abbrev pub MayAnswer : List StoredRecord → Request → Answer → Type 0
 MayAnswer rows request answer =
-    (answer ≡ (outcome rows request).answer) ⊎ (((refusal : Refusal) × (answer ≡ Error (error_of refusal))) ⊎ (answer ≡ Error fixed_error))
+    (answer ≡ (outcome rows request).answer)
+    ⊎ (((refusal : Refusal) × (answer ≡ Error (error_of refusal))) ⊎ (answer ≡ Error fixed_error))
 
 -- Every such answer fits its request
 abbrev pub AnswersFit : Type 0
-AnswersFit = (rows : List StoredRecord) (request : Request) (answer : Answer) → AreHeld rows → IsAskable request → MayAnswer rows request answer → Fits request answer
+AnswersFit = (rows : List StoredRecord) (request : Request) (answer : Answer) → AreHeld rows
+    → IsAskable request → MayAnswer rows request answer → Fits request answer
 
 -- and its text is read as that answer, if it is within the client's limits
 abbrev pub AnswersAreReadBack : Type 0
 AnswersAreReadBack =
-    (base : List ℕ) (rows : List StoredRecord) (request : Request) (answer : Answer) → IsBase base → AreHeld rows → IsAskable request
+    (base : List ℕ) (rows : List StoredRecord) (request : Request) (answer : Answer) → IsBase base
+    → AreHeld rows → IsAskable request
     → MayAnswer rows request answer → IsUtf8 (body_text base answer) → KeepsAnswerLimits base answer
     → AnswersSo (answer_text base false answer) request answer

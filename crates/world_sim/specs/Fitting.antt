@@ -23,17 +23,20 @@ IsWithinLimits base (Answered request answer) = KeepsAnswerLimits base answer
 -- source
 abbrev pub MessagesKeepLimits : Type 0
 MessagesKeepLimits =
-    (base : List ℕ) (events : List Event) (message : Message) → IsBase base → AllByRecursion IsLawful events → Has (run empty events).messages message
+    (base : List ℕ) (events : List Event) (message : Message) → IsBase base
+    → AllByRecursion IsLawful events → Has (run empty events).messages message
     → IsWithinLimits base message
 
 -- What the types of a message's parts guarantee when its bytes are formed: they spell a request, if it is within the
 -- limits; what an answer shows is valid, and its body is UTF-8
 abbrev pub IsFormed : (base : List ℕ) → Message → Type 0
-IsFormed base (Asked request) = IsWritable request → KeepsLimits base request → SpellsRequest (text_of base request) request
+IsFormed base (Asked request) = IsWritable request → KeepsLimits base request
+    → SpellsRequest (text_of base request) request
 IsFormed base (Answered request answer) = ShowsLawfully answer × IsUtf8 (body_text base answer)
 
 -- Every message that was ever sent in a run is read from its bytes as exactly that message, by the side that it goes to
 abbrev pub MessagesAreRead : Type 0
 MessagesAreRead =
-    (base : List ℕ) (events : List Event) (message : Message) → IsBase base → AllByRecursion IsLawful events → Has (run empty events).messages message
+    (base : List ℕ) (events : List Event) (message : Message) → IsBase base
+    → AllByRecursion IsLawful events → Has (run empty events).messages message
     → IsFormed base message → IsReadAs (message_text base message) message

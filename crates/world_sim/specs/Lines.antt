@@ -50,7 +50,13 @@ held_text User (Some active) _ = codes "active=" ++ flag_text active
 held_text User None _ = codes "active=-"
 
 abbrev pub view_text : View → List ℕ
-view_text view = kind_word view.name.kind ++ (codes " " ++ (view.name.key ++ (codes " wanted=" ++ (revision_text view.wanted ++ (codes " confirmed=" ++ (revision_text view.confirmed ++ (codes " held=" ++ (revision_text view.held ++ (codes " version=" ++ (decimal view.version ++ (codes " " ++ held_text view.name.kind view.active view.members)))))))))))
+view_text view =
+    kind_word view.name.kind ++ (codes " " ++ (view.name.key
+    ++ (codes " wanted=" ++ (revision_text view.wanted
+    ++ (codes " confirmed=" ++ (revision_text view.confirmed
+    ++ (codes " held=" ++ (revision_text view.held
+    ++ (codes " version=" ++ (decimal view.version
+    ++ (codes " " ++ held_text view.name.kind view.active view.members)))))))))))
 
 abbrev pub count_text : Count → List ℕ
 count_text count = codes "settled in " ++ (decimal count.exchanges ++ codes " exchanges")

@@ -107,17 +107,20 @@ pub record Is {R J : Type 0} (g : Registries R) (h : Journals J) (r : Running R 
 
 -- What was done, with its report. If the stores are sound after it, they were sound before, an open store stays open,
 -- and `after` holds for each world that ran before
-pub record Makes {R J : Type 0} (g : Registries R) (h : Journals J) (old new : Running R J) (after : World → Type 0) (says : World → Report) (told : ReportOf) : Type 0 where
+pub record Makes {R J : Type 0} (g : Registries R) (h : Journals J) (old new : Running R J)
+    (after : World → Type 0) (says : World → Report) (told : ReportOf) : Type 0 where
   pub was : IsSound g h new → IsSound g h old
   pub base : new.service ≡ old.service
   pub stays_open : IsSound g h new → g.is_faithful old.provider → g.is_faithful new.provider
-  pub journal_open : IsSound g h new → h.is_faithful (journal_in old.connector) → h.is_faithful (journal_in new.connector)
+  pub journal_open : IsSound g h new → h.is_faithful (journal_in old.connector)
+      → h.is_faithful (journal_in new.connector)
   pub is : IsSound g h new → (w : World) → Is g h old w → after w
   pub report : IsSound g h new → (w : World) → Is g h old w → report_of told ≡ says w
 
 -- One event: for each world that ran before it, the world after the event runs now
 abbrev pub Happens : {R J : Type 0} → Registries R → Journals J → (old new : Running R J) → Event → ReportOf → Type 0
-Happens g h old new event told = Makes g h old new (λ w. Is g h new (happens w event)) (λ w. report (message_size old.service) w event) told
+Happens g h old new event told =
+    Makes g h old new (λ w. Is g h new (happens w event)) (λ w. report (message_size old.service) w event) told
 
 -- a request was sent: it is the last message, in its bytes, and nothing else changed
 pub record Posts {R J : Type 0} (old new : Running R J) (request : Request) (told : ReportOf) : Type 0 where
@@ -132,7 +135,8 @@ pub record Posts {R J : Type 0} (old new : Running R J) (request : Request) (tol
 
 -- a message arrives: the running world has the parts of the world after that
 abbrev pub Arrives : {R J : Type 0} → Registries R → Journals J → (old new : Running R J) → Message → ReportOf → Type 0
-Arrives g h old new message told = Makes g h old new (λ w. Mirrors g h new (arrives w message)) (λ w. arrival_report w message) told
+Arrives g h old new message told =
+    Makes g h old new (λ w. Mirrors g h new (arrives w message)) (λ w. arrival_report w message) told
 
 -- ---- faults
 
@@ -160,9 +164,13 @@ IsShutOff r Restarts_provider = ⊥
 IsShutOff r Restarts_connector = ⊥
 
 -- out of memory isn't a fault of a store; a fault of a store was counted, or a side that is needed was shut before
-abbrev pub IsExcused : {R J : Type 0} → Registries R → Journals J → (old new : Running R J) → Event → WorldFault → Type 0
-IsExcused g h old new event Memory = (g.faults new.provider ≡ g.faults old.provider) × (h.faults (journal_in new.connector) ≡ h.faults (journal_in old.connector))
-IsExcused g h old new event Store = IsShutOff old event ⊎ (HasRisen (g.faults old.provider) (g.faults new.provider) ⊎ HasRisen (h.faults (journal_in old.connector)) (h.faults (journal_in new.connector)))
+abbrev pub IsExcused : {R J : Type 0} → Registries R → Journals J → (old new : Running R J) → Event
+    → WorldFault → Type 0
+IsExcused g h old new event Memory = (g.faults new.provider ≡ g.faults old.provider)
+    × (h.faults (journal_in new.connector) ≡ h.faults (journal_in old.connector))
+IsExcused g h old new event Store = IsShutOff old event
+    ⊎ (HasRisen (g.faults old.provider) (g.faults new.provider)
+    ⊎ HasRisen (h.faults (journal_in old.connector)) (h.faults (journal_in new.connector)))
 
 -- a connector that couldn't be opened again has forgotten what it saw; no other event that fails changes anything
 abbrev pub if_restart : World → Event → World
@@ -191,11 +199,13 @@ IsKnown g h old new Restarts_connector = Unit {0}
 -- what may be found if a store is opened again is what one of these worlds has
 pub record HoldsOneOf {R J : Type 0} (g : Registries R) (h : Journals J) (r : Running R J) (w v : World) : Type 0 where
   pub rows : (found : List StoredRecord) → g.may_hold r.provider found → (found ≡ world_rows w) ⊎ (found ≡ world_rows v)
-  pub entries : (found : EntryMap) → h.may_hold (journal_in r.connector) found → AreOf found w.book (world_names w) ⊎ AreOf found v.book (world_names v)
+  pub entries : (found : EntryMap) → h.may_hold (journal_in r.connector) found
+      → AreOf found w.book (world_names w) ⊎ AreOf found v.book (world_names v)
 
 -- An event failed: no message was sent, and each world that ran before it runs now, if its fault shut no store. Whether
 -- it did or not, each store holds what it held before the event, or what the event would have made of it
-pub record Fails {R J : Type 0} (g : Registries R) (h : Journals J) (old new : Running R J) (event : Event) (fault : WorldFault) : Type 0 where
+pub record Fails {R J : Type 0} (g : Registries R) (h : Journals J) (old new : Running R J)
+    (event : Event) (fault : WorldFault) : Type 0 where
   pub was : IsSound g h new → IsSound g h old
   pub base : new.service ≡ old.service
   pub sent : new.sent.items ≡ old.sent.items
@@ -204,7 +214,8 @@ pub record Fails {R J : Type 0} (g : Registries R) (h : Journals J) (old new : R
   pub excused : IsExcused g h old new event fault
 
 -- a message didn't arrive, whatever its number
-pub record FailsToArrive {R J : Type 0} (g : Registries R) (h : Journals J) (old new : Running R J) (message : Message) (fault : WorldFault) : Type 0 where
+pub record FailsToArrive {R J : Type 0} (g : Registries R) (h : Journals J) (old new : Running R J)
+    (message : Message) (fault : WorldFault) : Type 0 where
   pub was : IsSound g h new → IsSound g h old
   pub base : new.service ≡ old.service
   pub sent : new.sent.items ≡ old.sent.items
@@ -260,23 +271,29 @@ journal_after (Ok world) = journal_in world.connector
 journal_after (Err refused) = refused.2
 
 -- a world that starts: over empty stores it is the empty world
-pub record Starts {R J : Type 0} (g : Registries R) (h : Journals J) (registry : R) (journal : J) (r : Running R J) : Type 0 where
+pub record Starts {R J : Type 0} (g : Registries R) (h : Journals J) (registry : R) (journal : J)
+    (r : Running R J) : Type 0 where
   pub was : IsSound g h r → g.is_honest registry × h.is_faithful journal
   pub stays_open : g.is_faithful registry → g.is_faithful r.provider
   pub journal_open : IsSound g h r → h.is_faithful (journal_in r.connector)
-  pub is : IsSound g h r → g.is_faithful registry → g.rows registry ≡ [] → h.entries journal ≡ fin.empty → Is g h r empty
+  pub is : IsSound g h r → g.is_faithful registry → g.rows registry ≡ [] → h.entries journal ≡ fin.empty
+      → Is g h r empty
 
 -- events one after the other, with their reports
-pub record Runs {R J : Type 0} (g : Registries R) (h : Journals J) (old new : Running R J) (events : List Event) (told : List ReportOf) : Type 0 where
+pub record Runs {R J : Type 0} (g : Registries R) (h : Journals J) (old new : Running R J)
+    (events : List Event) (told : List ReportOf) : Type 0 where
   pub was : IsSound g h new → IsSound g h old
   pub base : new.service ≡ old.service
   pub stays_open : IsSound g h new → g.is_faithful old.provider → g.is_faithful new.provider
-  pub journal_open : IsSound g h new → h.is_faithful (journal_in old.connector) → h.is_faithful (journal_in new.connector)
+  pub journal_open : IsSound g h new → h.is_faithful (journal_in old.connector)
+      → h.is_faithful (journal_in new.connector)
   pub is : IsSound g h new → (w : World) → Is g h old w → Is g h new (run w events)
-  pub told_so : IsSound g h new → (w : World) → Is g h old w → map report_of told ≡ reports (message_size old.service) w events
+  pub told_so : IsSound g h new → (w : World) → Is g h old w
+      → map report_of told ≡ reports (message_size old.service) w events
 
 -- events up to one that fails, from a world that starts with connector and provider open
-pub record FailsAt {R J : Type 0} (g : Registries R) (h : Journals J) (registry : R) (journal : J) (base : List ℕ) (events : List Event) (fault : WorldFault) : Type 0 where
+pub record FailsAt {R J : Type 0} (g : Registries R) (h : Journals J) (registry : R) (journal : J)
+    (base : List ℕ) (events : List Event) (fault : WorldFault) : Type 0 where
   pub first : Running R J
   pub last : Running R J
   pub left : Running R J
@@ -294,23 +311,30 @@ pub record FailsAt {R J : Type 0} (g : Registries R) (h : Journals J) (registry 
   pub apart : Apart last left event
 
 -- Why a run failed: a fault of the journal's store was counted at the start, or an event failed, or memory ran out
-abbrev pub EndsRun : {R J : Type 0} → Registries R → Journals J → R → J → (base : List ℕ) → List Event → WorldFault → Type 0
+abbrev pub EndsRun : {R J : Type 0} → Registries R → Journals J → R → J → (base : List ℕ) → List Event
+    → WorldFault → Type 0
 EndsRun {R} {J} g h registry journal base events fault =
-    (fault ≡ Memory) ⊎ (((left : J) × HasRisen (h.faults journal) (h.faults left)) ⊎ FailsAt g h registry journal base events fault)
+    (fault ≡ Memory) ⊎ (((left : J) × HasRisen (h.faults journal) (h.faults left))
+    ⊎ FailsAt g h registry journal base events fault)
 
 -- What ran is the model's run of the events: its rows, its book, its messages with their bytes, and its reports. After
 -- each event it was safe, and from each moment to each later one nothing was lost and the headline held
-pub record IsRun {R J : Type 0} (g : Registries R) (h : Journals J) (at : List ℕ) (events : List Event) (ran : Running R J) (told : List ReportOf) : Type 0 where
+pub record IsRun {R J : Type 0} (g : Registries R) (h : Journals J) (at : List ℕ) (events : List Event)
+    (ran : Running R J) (told : List ReportOf) : Type 0 where
   pub base : ran.service ≡ at
   pub opened : g.is_faithful ran.provider
   pub journal_open : h.is_faithful (journal_in ran.connector)
   pub is : Is g h ran (run empty events)
   pub told_so : map report_of told ≡ reports (message_size at) empty events
   pub safe : (early late : List Event) → early ++ late ≡ events → Safe (run empty early)
-  pub onward : (early middle late : List Event) → (early ++ middle) ++ late ≡ events → Onward (run empty early) (run empty (early ++ middle))
-  pub headline : (early middle late : List Event) → (early ++ middle) ++ late ≡ events → Headline (run empty early) (run empty (early ++ middle))
+  pub onward : (early middle late : List Event) → (early ++ middle) ++ late ≡ events
+      → Onward (run empty early) (run empty (early ++ middle))
+  pub headline : (early middle late : List Event) → (early ++ middle) ++ late ≡ events
+      → Headline (run empty early) (run empty (early ++ middle))
 
 -- the same over empty stores, if the provider's is open and both are sound in the end
-abbrev pub RunsFromEmpty : {R J : Type 0} → Registries R → Journals J → R → J → (base : List ℕ) → List Event → (ran : Running R J) → List ReportOf → Type 0
+abbrev pub RunsFromEmpty : {R J : Type 0} → Registries R → Journals J → R → J → (base : List ℕ)
+    → List Event → (ran : Running R J) → List ReportOf → Type 0
 RunsFromEmpty g h registry journal base events ran told =
-    g.is_faithful registry → g.rows registry ≡ [] → h.entries journal ≡ fin.empty → IsSound g h ran → IsRun g h base events ran told
+    g.is_faithful registry → g.rows registry ≡ [] → h.entries journal ≡ fin.empty → IsSound g h ran
+    → IsRun g h base events ran told

@@ -39,7 +39,8 @@ only_row other = None
 -- the row that a record of this kind is under the first of these headers that makes it exactly one row
 abbrev pub row_under : (List ℕ → List Record) → Kind → List ℕ → List Record → Option Row
 row_under records_in of text [] = None
-row_under records_in of text (columns ∷ headers) = option_or (only_row (rows_of of (records_in (file_of columns text)))) (row_under records_in of text headers)
+row_under records_in of text (columns ∷ headers) =
+    option_or (only_row (rows_of of (records_in (file_of columns text)))) (row_under records_in of text headers)
 
 -- `user` or `group` and a record: the source offers that row
 unfoldable pub change_in : (List ℕ → List Record) → Kind → List ℕ → Option Event
@@ -69,7 +70,9 @@ number_in text = if is_number text then Some (digits_value 10 text) else None
 
 -- the number of a message, and how many bytes of it arrive
 unfoldable pub cut_in : List ℕ → Option Event
-cut_in text = option_and_then (λ number. option_map (λ bytes. events.Cut number bytes) (number_in (behind text))) (number_in (first_word text))
+cut_in text =
+    option_and_then (λ number. option_map (λ bytes. events.Cut number bytes) (number_in (behind text)))
+    (number_in (first_word text))
 
 -- the restart of a side
 unfoldable pub restart_in : List ℕ → Option Event
@@ -100,7 +103,8 @@ is_silent (b ∷ line) = b == 35
 
 -- the event in the line with this number; none if the line is skipped; or the fault that it isn't an event
 unfoldable pub said_at : (List ℕ → List Record) → ℕ → List ℕ → Result (Option Event) ScheduleFault
-said_at records_in number line = if is_silent line then Ok None else ok_or (option_map Some (event_in records_in line)) (Line number)
+said_at records_in number line =
+    if is_silent line then Ok None else ok_or (option_map Some (event_in records_in line)) (Line number)
 
 -- the events in these lines, the first of which has this number
 abbrev pub events_from : (List ℕ → List Record) → ℕ → List (List ℕ) → Result (List Event) ScheduleFault

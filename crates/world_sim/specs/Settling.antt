@@ -46,20 +46,23 @@ MaySettle w = (exchanges : ℕ) × (v : World) × IsSettling w exchanges v
 -- Settles: only Send and Deliver events were done, in at most three exchanges for each record. For every world that
 -- ran before, if a run reached it from empty stores with rows within the limits of the source, this was a run to
 -- convergence with this number of exchanges
-pub record Settles {R J : Type 0} (g : Registries R) (h : Journals J) (old new : Running R J) (count : Count) : Type 0 where
+pub record Settles {R J : Type 0} (g : Registries R) (h : Journals J) (old new : Running R J)
+    (count : Count) : Type 0 where
   pub done : SendsAndDelivers g h old new
   pub most : count.exchanges ≤ 3 * length (names_in h old.connector)
   pub settling : IsSound g h new → (w : World) → Is g h old w → IsSettling w count.exchanges (run w done.events)
 
 -- Stops: some Send and Deliver events were done, and the next one failed with this fault. The world that they led
 -- to still runs, if both stores are open, and may settle
-pub record Stops {R J : Type 0} (g : Registries R) (h : Journals J) (old new : Running R J) (fault : WorldFault) : Type 0 where
+pub record Stops {R J : Type 0} (g : Registries R) (h : Journals J) (old new : Running R J)
+    (fault : WorldFault) : Type 0 where
   pub between : Running R J
   pub done : SendsAndDelivers g h old between
   pub next : Event
   pub is_next : IsSendOrDeliver next
   pub fails : Fails g h between new next fault
-  pub again : IsSound g h new → g.is_faithful new.provider → h.is_faithful (journal_in new.connector) → (w : World) → Is g h old w → Is g h new (run w done.events) × MaySettle (run w done.events)
+  pub again : IsSound g h new → g.is_faithful new.provider → h.is_faithful (journal_in new.connector)
+      → (w : World) → Is g h old w → Is g h new (run w done.events) × MaySettle (run w done.events)
 
 -- ---- its steps
 
@@ -68,13 +71,16 @@ abbrev pub IsStep : World → RecordName → (made : Bool) → World → Type 0
 IsStep w name true v = Wants w name × (v ≡ exchange w name)
 IsStep w name false v = (Wants w name → ⊥) × (v ≡ w)
 
-pub record TakesStep {R J : Type 0} (g : Registries R) (h : Journals J) (old new : Running R J) (name : RecordName) (made : Bool) : Type 0 where
+pub record TakesStep {R J : Type 0} (g : Registries R) (h : Journals J) (old new : Running R J)
+    (name : RecordName) (made : Bool) : Type 0 where
   pub done : SendsAndDelivers g h old new
   pub step : IsSound g h new → (w : World) → Is g h old w → IsStep w name made (run w done.events)
 
 -- At most three exchanges; if `count` of them lead to nothing to send for the record, exactly these were made
-pub record SettlesRecord {R J : Type 0} (g : Registries R) (h : Journals J) (old new : Running R J) (name : RecordName) (exchanges : ℕ) : Type 0 where
+pub record SettlesRecord {R J : Type 0} (g : Registries R) (h : Journals J) (old new : Running R J)
+    (name : RecordName) (exchanges : ℕ) : Type 0 where
   pub done : SendsAndDelivers g h old new
   pub most : exchanges ≤ 3
-  pub made : IsSound g h new → (w : World) → Is g h old w → (count : ℕ) (v : World) → count ≤ 3 → Exchanges w name count v → Rests v name
+  pub made : IsSound g h new → (w : World) → Is g h old w → (count : ℕ) (v : World) → count ≤ 3
+      → Exchanges w name count v → Rests v name
       → (exchanges ≡ count) × (run w done.events ≡ v)

@@ -20,7 +20,8 @@ IsOpenedIn h (Open connector) = h.is_faithful connector.journal → IsOpened (h.
 IsOpenedIn h (Shut journal) = Unit {0}
 
 -- The journal was opened again, and then its entries were read; or it couldn't be opened
-pub record IsOpenedAndRead {J : Type 0} (h : Journals J) (old new : J) (result : Result (Unit {0}) WorldFault) : Type 0 where
+pub record IsOpenedAndRead {J : Type 0} (h : Journals J) (old new : J)
+    (result : Result (Unit {0}) WorldFault) : Type 0 where
   pub between : J
   pub opened : OpensAgain {T = Unit {0}} {F = WorldFault} h CountsWorldFault old between (Ok tt)
   pub read : Reads h CountsWorldFault between new result

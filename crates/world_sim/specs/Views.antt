@@ -66,7 +66,8 @@ IsNoName side Store = is_open side ≡ false
 -- was counted
 abbrev pub IsBlind : {R J : Type 0} → Registries R → (old new : Running R J) → WorldFault → Type 0
 IsBlind g old new Memory = g.faults new.provider ≡ g.faults old.provider
-IsBlind g old new Store = (is_open old.connector ≡ false) ⊎ ((old.is_provider_open ≡ false) ⊎ HasRisen (g.faults old.provider) (g.faults new.provider))
+IsBlind g old new Store = (is_open old.connector ≡ false)
+    ⊎ ((old.is_provider_open ≡ false) ⊎ HasRisen (g.faults old.provider) (g.faults new.provider))
 
 -- A look at the running world: each world that ran before it runs after it
 pub record Looks {R J : Type 0} (g : Registries R) (h : Journals J) (old new : Running R J) : Type 0 where
