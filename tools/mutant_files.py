@@ -187,13 +187,13 @@ def code_in(text):
 
 
 def logic_in(text):
-    """A text of proofs with neither comments nor empty lines."""
+    """A text of definitions and proofs without its comments and its layout."""
     text = IN_LOGIC.sub(lambda found: "" if found["comment"] else found[0], text)
-    return "\n".join(it.rstrip() for it in text.splitlines() if it.strip())
+    return " ".join(text.split()).replace("; }", " }")
 
 
 def sum_of_texts(crate):
-    """A sum over the texts of a crate, without comments, and of Rattle without layout."""
+    """A sum over the texts of a crate, without comments and layout."""
     files = [it for part in PARTS for it in sorted((CRATES / crate / part).rglob("*")) if it.is_file()]
     texts = [(code_in if it.suffix == ".rt" else logic_in)(it.read_text(encoding="utf-8")) for it in files]
     names = [str(it.relative_to(CRATES)) for it in files]
