@@ -131,7 +131,7 @@ class ProxiesTest(ProgramTest):
         return self.start(Proxy(self.folder / "push", self.push_port, replaced(FOR_PUSH, places), there))
 
     def logged(self, count):
-        """The lines of the record without their times, once there are this many. (nginx writes them after it answers.)"""
+        """The lines of the record without their times, once there are this many: nginx writes after it answers."""
         wait_until(lambda: self.access_log.read_text().count("\n") >= count, "the record")
         return [line.split(" ", 1)[1] for line in self.access_log.read_text().splitlines()]
 
