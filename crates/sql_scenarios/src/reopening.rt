@@ -26,7 +26,7 @@ fn world<R: Reopen + Drop, J: ReopenJournal + Drop>(
 }
 
 /// A text as it is printed.
-fn printed(rt: &impl Abort, alloc: Global, it: impl Display) -> String {
+fn printed(rt: &impl Abort, alloc: Global, it: impl Display + Drop) -> String {
     it.to_string(alloc).expect(rt, "memory")
 }
 
