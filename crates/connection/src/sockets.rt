@@ -1,5 +1,6 @@
 //! The connections of a listening socket.
-ghost use Rattle.std.specs.Prelude.{◌≡◌, [], IfOk};
+ghost use Rattle.std.specs.Prelude.{◌≡◌, ◌-◌, [], IfOk};
+ghost use Rattle.connection.specs.Reporting.{with_more};
 
 use crate::ahead::AheadReader;
 use crate::deadline::Deadline;
@@ -138,11 +139,21 @@ where
         }
     }
 
+    /// Counts faults of connections, and with them the answers that were lost since the last call.
+    fn count(&mut self, faults: u32)
+        ensures { self.new.faults.unreported
+            ≡ with_more (with_more self.old.faults.unreported faults)
+            (self.old.endings.lost - self.old.endings.told) }
+    {
+        self.faults.add(faults);
+        self.faults.add(self.endings.take_lost());
+    }
+
     /// Waits until every answer is sent and every stream is drained, or its time is over. It reports on
     /// standard error the faults that aren't reported yet. The result is a fault if an answer was ever lost.
     pub fn finish(&mut self, rt: &impl Eprint) -> Result<(), ConnectionFault> {
         self.endings.finish();
-        self.faults.add(self.endings.take_lost());
+        self.count(0);
         tell(rt, self.faults.take_all());
         if self.endings.has_lost() {
             Err(ConnectionFault)
@@ -213,8 +224,7 @@ where
     }
 
     fn due_faults(&mut self, faults: u32) -> u32 {
-        self.faults.add(faults);
-        self.faults.add(self.endings.take_lost());
+        self.count(faults);
         match Instant::now(self.clock) {
             Ok(now) => self.faults.take_due(now),
             Err(_) => self.faults.take_all(),
