@@ -12,7 +12,8 @@ import unittest
 from databases import OLDER_FORMS, group_entry, make_journal, sql, user_entry
 from faults import ENDED, Fault, build_shim, tell_all, workers
 from support import (
-    BOB_CREATED, CREATE_BOB, EXAMPLES, GIVEN_UP, ROOT, Provider, Running, Site, resource_id, scimlink, without_causes,
+    BOB_CREATED, CONNECTION_FAULTS, CREATE_BOB, EXAMPLES, GIVEN_UP, ROOT, Provider, Running, Site, resource_id, scimlink,
+    without_causes,
 )
 
 BOB_SHOWN = "user bob held=1 version=1 active=true"
@@ -45,7 +46,8 @@ def check_ending(run, fault, *more):
     if fault.has_come and fault.ends_run and run.status == ENDED:
         check(run.errors, "", "told by a run that was ended")
         return
-    told = set(without_causes(run.errors).splitlines())
+    lines = without_causes(run.errors).splitlines()
+    told = {"connection fault" if CONNECTION_FAULTS.fullmatch(line) else line for line in lines}
     allowed = TOLD[fault.kind] | set(more) if fault.has_come else set()
     if run.status not in (0, 1, 3) or (run.status == 3) != bool(told) or not told <= allowed:
         raise AssertionError(f"status {run.status}, told {run.errors!r}")

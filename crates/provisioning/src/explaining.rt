@@ -1,7 +1,7 @@
 //! Finds why an answer of a provider couldn't be used.
+use crate::excerpts::Excerpt;
 use crate::explanations::{Explanation, Phrase};
 use crate::faults::RecordFault;
-use crate::printable::Excerpt;
 use scim_key::{RecordName, ResourceId, Revision};
 use scim_message::{Answer, ErrorResponse, ListResponse};
 use scim_resource::{Content, Shown};

@@ -2,7 +2,7 @@
 ghost use Rattle.std.specs.Prelude.{◌≡◌};
 ghost use Rattle.provisioning.specs.Explanations.{phrase_text};
 
-use crate::printable::Excerpt;
+use crate::excerpts::Excerpt;
 use scim_key::Revision;
 use std::fmt;
 
