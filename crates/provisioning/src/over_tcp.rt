@@ -1,10 +1,11 @@
 //! The connector against the provider at an address.
-ghost use Rattle.provisioning.specs.Carrying.{CarriesSilently};
+ghost use Rattle.provisioning.specs.Carrying.{CarriesSilentlyAt};
 ghost use Rattle.provisioning.specs.Quiet.{CarriesQuietly, Concludes};
 
-use crate::carrying::{Outcome, carry};
+use crate::carrying::{Outcome, carry_at};
 use crate::faults::{RunFault, unwritten};
 use crate::lines::Lines;
+use crate::paces::Pace;
 use crate::quiet::QuietLines;
 use crate::sockets::Remote;
 use crate::sources::Sources;
@@ -28,11 +29,12 @@ pub fn push<'a, N: Net + Clock + Eprint, J: Journal, W: Write>(
     service: &ScimService,
     connector: &mut Connector<J>,
     sources: &Sources,
+    pace: Pace,
     address: &str,
     out: &mut W,
 ) -> Result<Outcome, RunFault>
-    ensures { CarriesSilently ⟦<TimedHandle<'a, N::Stream, N> as Read>⟧.remaining
-        ⟦<TimedHandle<'a, N::Stream, N> as Write>⟧.contents J.Journal service.now sources.now
+    ensures { CarriesSilentlyAt ⟦<TimedHandle<'a, N::Stream, N> as Read>⟧.remaining
+        ⟦<TimedHandle<'a, N::Stream, N> as Write>⟧.contents J.Journal pace service.now sources.now
         connector.old connector.new result }
 {
     let last = Cell::new(None);
@@ -50,13 +52,14 @@ pub fn push<'a, N: Net + Clock + Eprint, J: Journal, W: Write>(
         stderr: rt,
         last: &last,
     };
-    carry(
+    carry_at(
         alloc,
         service,
         connector,
         sources,
         &mut explaining,
         &mut lines,
+        pace,
     )
 }
 
@@ -68,11 +71,12 @@ pub fn push_quietly<'a, N: Net + Clock + Eprint, J: Journal, W: Write>(
     service: &ScimService,
     connector: &mut Connector<J>,
     sources: &Sources,
+    pace: Pace,
     address: &str,
     out: &mut W,
 ) -> Result<Outcome, RunFault>
     ensures { CarriesQuietly ⟦<TimedHandle<'a, N::Stream, N> as Read>⟧.remaining
-        ⟦<TimedHandle<'a, N::Stream, N> as Write>⟧.contents J.Journal service.now sources.now
+        ⟦<TimedHandle<'a, N::Stream, N> as Write>⟧.contents J.Journal pace service.now sources.now
         connector.old connector.new result }
 {
     let last = Cell::new(None);
@@ -90,13 +94,14 @@ pub fn push_quietly<'a, N: Net + Clock + Eprint, J: Journal, W: Write>(
         stderr: rt,
         last: &last,
     };
-    let carried = carry(
+    let carried = carry_at(
         alloc,
         service,
         connector,
         sources,
         &mut explaining,
         &mut lines,
+        pace,
     );
     let Explained { teller, .. } = lines;
     concluded(carried, teller)

@@ -1,19 +1,16 @@
 //! Pushes every record, one after another.
-ghost use Rattle.std.specs.Prelude.{◌≡◌, ◌∷◌, [], IfErr, IfOk, OnOk};
-ghost use Rattle.std.specs.FinMap.{keys};
-ghost use Rattle.mapping.specs.Settling.{IsSettleOrder};
-ghost use Rattle.provisioning.specs.declared.faults.RunFault.TheVariants.{Memory};
+ghost use Rattle.std.specs.Prelude.{◌≡◌, ◌∷◌, [], IfErr, OnOk};
 ghost use Rattle.provisioning.specs.Onward.{Onward};
 ghost use Rattle.provisioning.specs.Openings.{Opens};
 ghost use Rattle.provisioning.specs.Runs.{IsUntold, PushesAll, PushesEach, Tells, is_confirmed, tally_with};
 
 use crate::dialing::Dial;
 use crate::faults::{RunFault, unwritten};
+use crate::orders::names_in_order;
 use crate::records::{Pushed, Standing, push_record};
 use crate::telling::Tell;
 use connector_core::Connector;
 use journal_core::Journal;
-use mapping::settle_order;
 use scim_client::ScimService;
 use scim_key::RecordName;
 use std::alloc::Global;
@@ -68,20 +65,8 @@ pub fn push_all<J: Journal, D: Dial, T: Tell>(
     push_each(alloc, service, connector, dial, teller, names.as_slice())
 }
 
-/// The names of all records, in the order in which they settle.
-pub(crate) fn names_in_order<J: Journal>(
-    connector: &Connector<J>,
-) -> Result<Vec<RecordName>, RunFault>
-    ensures order { IfOk result (λ names. IsSettleOrder (keys connector.now.book) names.items) }
-    ensures fault { IfErr result (λ fault. fault ≡ Memory) }
-{
-    let mut names = connector.names()?;
-    settle_order(&mut names);
-    Ok(names)
-}
-
 /// Makes exchanges for these records, one after another.
-fn push_each<J: Journal, D: Dial, T: Tell>(
+pub(crate) fn push_each<J: Journal, D: Dial, T: Tell>(
     alloc: Global,
     service: &ScimService,
     connector: &mut Connector<J>,
