@@ -1,15 +1,14 @@
 -- Every record, several at once: users, and then groups.
 use Rattle.std.specs.Prelude.{◌≡◌, ◌⊎◌, ◌+◌, ◌&&◌, ℕ, Bool, true, false, List, [], ◌++◌, Option, Result, Ok, Err}
 use Rattle.std.specs.Prelude.{min, take, drop}
-use Rattle.std.specs.FinMap.{keys}
 use Rattle.std.specs.List.{prefix_len}
 use Rattle.scim_key.specs.declared.records.Kind.{Kind}
 use Rattle.scim_key.specs.declared.records.Kind.TheVariants.{User, Group}
 use Rattle.scim_key.specs.declared.records.RecordName.{RecordName}
-use Rattle.mapping.specs.Settling.{IsSettleOrder}
 use Rattle.journal_core.specs.declared.journals.Journal.{Ghosts}
 use Rattle.connector_core.specs.State.{State}
 use Rattle.provisioning.specs.Openings.{Opening}
+use Rattle.provisioning.specs.Orders.{IsPushOrder}
 use Rattle.provisioning.specs.Runs.{Done, greatest_count}
 use Rattle.provisioning.specs.Windows.{AllMoved, PartMoved, PushesAbreast}
 use Rattle.provisioning.specs.declared.faults.RunFault.{RunFault}
@@ -25,7 +24,7 @@ is_of_user Group = false
 abbrev pub is_user : RecordName → Bool
 is_user name = is_of_user name.kind
 
--- of records in the order in which they settle, the users, and the groups after them
+-- of records in the order in which they are pushed, the users, and the groups after them
 abbrev pub users_of : List RecordName → List RecordName
 users_of names = take (prefix_len is_user names) names
 
@@ -58,10 +57,10 @@ module _ {I O J : Type 0} (remaining : I → Option (List ℕ))
       × (result ≡ joined tally more))
       ⊎ ((fault : RunFault) × PartMoved remaining contents g base users opened old new fault × (result ≡ Err fault))
 
-  -- The records of the connector, users by key and then groups by key; or memory ran out before the first of them
-  abbrev pub PushesAllAbreast : (opened : List (Opening I O)) → (old new : State J)
+  -- The records of the connector, users and then groups, in this order; or memory ran out before the first of them
+  abbrev pub PushesAllAbreast : (leavers_first : Bool) → (opened : List (Opening I O)) → (old new : State J)
       → (before after : Option (List Done)) → Result Tally RunFault → Type 0
-  PushesAllAbreast opened old new before after result =
-      ((names : List RecordName) × IsSettleOrder (keys old.book) names
+  PushesAllAbreast leavers_first opened old new before after result =
+      ((names : List RecordName) × IsPushOrder leavers_first old.book names
       × PushesBoth (users_of names) (groups_of names) opened old new before after result)
       ⊎ ((opened ≡ []) × (result ≡ Err Memory) × (new ≡ old))

@@ -19,3 +19,5 @@ pub mod DryRuns
 pub mod Plans
 pub mod Leavers
 pub mod Quiet
+pub mod Orders
+pub mod Paces

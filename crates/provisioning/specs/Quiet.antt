@@ -9,11 +9,12 @@ use Rattle.journal_core.specs.declared.journals.Journal.{Ghosts}
 use Rattle.connector_core.specs.State.{State}
 use Rattle.connector_core.specs.declared.accepting.Verdict.{Verdict}
 use Rattle.connector_core.specs.declared.changing.ChangeFault.{ChangeFault}
-use Rattle.provisioning.specs.Carrying.{CarriesSilently}
+use Rattle.provisioning.specs.Carrying.{CarriesSilentlyAt}
 use Rattle.provisioning.specs.Runs.{IsUntold, is_confirmed}
 use Rattle.provisioning.specs.Sources.{records_of}
 use Rattle.provisioning.specs.declared.carrying.Outcome.{Outcome}
 use Rattle.provisioning.specs.declared.faults.RunFault.{RunFault}
+use Rattle.provisioning.specs.declared.paces.Pace.{Pace}
 use Rattle.provisioning.specs.declared.quiet.Counts.{Counts}
 use Rattle.provisioning.specs.declared.records.Standing.{Standing}
 use Rattle.provisioning.specs.declared.sources.Source.{Source}
@@ -74,8 +75,8 @@ Concludes (Ok outcome) (Err fault) = IsUntold fault
 Concludes (Err cause) result = result ≡ Err cause
 
 -- a run, and its counts
-abbrev pub CarriesQuietly : {I O J : Type 0} → (I → Option (List ℕ)) → (O → Option (List ℕ)) → Ghosts J → List ℕ
-    → Sources → (old new : State J) → Result Outcome RunFault → Type 0
-CarriesQuietly remaining contents g base sources old new result =
-    (carried : Result Outcome RunFault) × CarriesSilently remaining contents g base sources old new carried
+abbrev pub CarriesQuietly : {I O J : Type 0} → (I → Option (List ℕ)) → (O → Option (List ℕ)) → Ghosts J → Pace
+    → List ℕ → Sources → (old new : State J) → Result Outcome RunFault → Type 0
+CarriesQuietly remaining contents g pace base sources old new result =
+    (carried : Result Outcome RunFault) × CarriesSilentlyAt remaining contents g pace base sources old new carried
     × Concludes carried result

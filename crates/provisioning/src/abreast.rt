@@ -7,7 +7,8 @@ ghost use Rattle.provisioning.specs.Openings.{Opens};
 
 use crate::dialing::Dial;
 use crate::faults::RunFault;
-use crate::pushing::{Tally, names_in_order};
+use crate::orders::push_order;
+use crate::pushing::Tally;
 use crate::telling::Tell;
 use crate::windows::push_abreast;
 use connector_core::Connector;
@@ -18,8 +19,8 @@ use std::alloc::Global;
 use std::collections::VecDeque;
 
 /// Makes exchanges for every record of the connector, for up to `streams` of them at once: users by key,
-/// then groups by key. Groups begin when every user is done. It reports each record as soon as it and all
-/// before it are done. The run ends early if a stream can't be opened, the journal fails, a record can't be
+/// then groups by key; users who left may come before the others. Groups begin when every user is done. It
+/// reports each record as soon as it and all before it are done. The run ends early if a stream can't be opened, the journal fails, a record can't be
 /// reported, or memory runs out; then it learns from the answers that are under way.
 pub fn push_all_abreast<J: Journal, D: Dial, T: Tell>(
     alloc: Global,
@@ -27,14 +28,15 @@ pub fn push_all_abreast<J: Journal, D: Dial, T: Tell>(
     connector: &mut Connector<J>,
     dial: &mut D,
     teller: &mut T,
+    leavers_first: bool,
     streams: usize,
 ) -> Result<Tally, RunFault>
     ensures pushes { Opens (D.opened dial.old) (D.opened dial.new) (λ opened. PushesAllAbreast
-        D.Reader.remaining D.Writer.contents J.Journal service.now opened
+        D.Reader.remaining D.Writer.contents J.Journal service.now leavers_first opened
         connector.old connector.new (T.told teller.old) (T.told teller.new) result) }
     ensures onward { Onward connector.old.book connector.new.book }
 {
-    let names = names_in_order(connector)?;
+    let names = push_order(alloc, connector, leavers_first)?;
     let count = users_in(names.as_slice());
     let mut users = VecDeque::from_vec(names);
     let groups = users.split_off(count)?;

@@ -1,12 +1,13 @@
 //! A whole run of the connector.
 ghost use Rattle.std.specs.Prelude.{◌≡◌};
-ghost use Rattle.provisioning.specs.Carrying.{Carries, is_done, outcome_of};
+ghost use Rattle.provisioning.specs.Carrying.{Carries, CarriesAt, is_done, outcome_of};
 ghost use Rattle.provisioning.specs.Openings.{Opens};
 
 use crate::dialing::Dial;
 use crate::faults::RunFault;
 use crate::offering::{Hear, offer_all};
-use crate::pushing::{Tally, push_all};
+use crate::paces::{IN_TURN, Pace, push_at};
+use crate::pushing::Tally;
 use crate::sources::Sources;
 use crate::telling::Tell;
 use connector_core::Connector;
@@ -47,9 +48,26 @@ pub fn carry<J: Journal, D: Dial, T: Hear + Tell>(
         D.Reader.remaining D.Writer.contents J.Journal T.heard T.told service.now sources.now
         opened connector.old connector.new teller.old teller.new result) }
 {
+    carry_at(alloc, service, connector, sources, dial, teller, IN_TURN)
+}
+
+/// The same, but it pushes the records at a pace.
+pub fn carry_at<J: Journal, D: Dial, T: Hear + Tell>(
+    alloc: Global,
+    service: &ScimService,
+    connector: &mut Connector<J>,
+    sources: &Sources,
+    dial: &mut D,
+    teller: &mut T,
+    pace: Pace,
+) -> Result<Outcome, RunFault>
+    ensures { Opens (D.opened dial.old) (D.opened dial.new) (λ opened. CarriesAt
+        D.Reader.remaining D.Writer.contents J.Journal pace T.heard T.told service.now sources.now
+        opened connector.old connector.new teller.old teller.new result) }
+{
     match offer_all(alloc, connector, sources, teller) {
         Ok(is_taken) => {
-            let tally = push_all(alloc, service, connector, dial, teller);
+            let tally = push_at(alloc, service, connector, dial, teller, pace);
             outcome_of(is_taken, sources, tally)
         }
         Err(fault) => Err(fault),

@@ -113,7 +113,7 @@ pub(crate) fn switched_off<J: Journal>(connector: &Connector<J>, names: &[Record
 }
 
 /// Whether the wanted row says that the user left, at a revision that isn't confirmed.
-fn is_switched_off<J: Journal>(connector: &Connector<J>, name: &RecordName) -> bool
+pub(crate) fn is_switched_off<J: Journal>(connector: &Connector<J>, name: &RecordName) -> bool
     ensures { result ≡ is_switched_off (book_of connector.now.book) name.now }
 {
     has_left(connector.row(name)) && connector.wanted(name) != connector.confirmed(name)

@@ -11,7 +11,7 @@ ghost use Rattle.provisioning.specs.Sources.{are_whole};
 use crate::faults::{RunFault, unwritten};
 use crate::leavers::{names_in_use, switched_off};
 use crate::offering::{Hear, offer_all};
-use crate::pushing::names_in_order;
+use crate::orders::names_in_order;
 use crate::sources::Sources;
 use connector_core::Connector;
 use journal_core::{Journal, kind_word};

@@ -1,19 +1,17 @@
 //! Pushes every record, one after another.
-ghost use Rattle.std.specs.Prelude.{◌≡◌, ◌∷◌, [], IfErr, IfOk, OnOk};
-ghost use Rattle.std.specs.FinMap.{keys};
-ghost use Rattle.mapping.specs.Settling.{IsSettleOrder};
-ghost use Rattle.provisioning.specs.declared.faults.RunFault.TheVariants.{Memory};
+ghost use Rattle.std.specs.Prelude.{◌≡◌, ◌∷◌, [], IfErr, OnOk};
 ghost use Rattle.provisioning.specs.Onward.{Onward};
 ghost use Rattle.provisioning.specs.Openings.{Opens};
+ghost use Rattle.provisioning.specs.Paces.{PushesInTurn};
 ghost use Rattle.provisioning.specs.Runs.{IsUntold, PushesAll, PushesEach, Tells, is_confirmed, tally_with};
 
 use crate::dialing::Dial;
 use crate::faults::{RunFault, unwritten};
+use crate::orders::push_order;
 use crate::records::{Pushed, Standing, push_record};
 use crate::telling::Tell;
 use connector_core::Connector;
 use journal_core::Journal;
-use mapping::settle_order;
 use scim_client::ScimService;
 use scim_key::RecordName;
 use std::alloc::Global;
@@ -64,20 +62,25 @@ pub fn push_all<J: Journal, D: Dial, T: Tell>(
         connector.old connector.new (T.told teller.old) (T.told teller.new) result) }
     ensures onward { Onward connector.old.book connector.new.book }
 {
-    let names = names_in_order(connector)?;
-    push_each(alloc, service, connector, dial, teller, names.as_slice())
+    push_in_turn(alloc, service, connector, dial, teller, false)
 }
 
-/// The names of all records, in the order in which they settle.
-pub(crate) fn names_in_order<J: Journal>(
-    connector: &Connector<J>,
-) -> Result<Vec<RecordName>, RunFault>
-    ensures order { IfOk result (λ names. IsSettleOrder (keys connector.now.book) names.items) }
-    ensures fault { IfErr result (λ fault. fault ≡ Memory) }
+/// The same, but users who left may come before the others.
+pub(crate) fn push_in_turn<J: Journal, D: Dial, T: Tell>(
+    alloc: Global,
+    service: &ScimService,
+    connector: &mut Connector<J>,
+    dial: &mut D,
+    teller: &mut T,
+    leavers_first: bool,
+) -> Result<Tally, RunFault>
+    ensures pushes { Opens (D.opened dial.old) (D.opened dial.new) (λ opened. PushesInTurn
+        D.Reader.remaining D.Writer.contents J.Journal service.now leavers_first opened
+        connector.old connector.new (T.told teller.old) (T.told teller.new) result) }
+    ensures onward { Onward connector.old.book connector.new.book }
 {
-    let mut names = connector.names()?;
-    settle_order(&mut names);
-    Ok(names)
+    let names = push_order(alloc, connector, leavers_first)?;
+    push_each(alloc, service, connector, dial, teller, names.as_slice())
 }
 
 /// Makes exchanges for these records, one after another.
