@@ -111,8 +111,8 @@ class ParallelPeer:
                 self.threads[-1].start()
 
     def count_open(self):
-        """Counts the open connections. (A connection that push closed before it opened the last one is seen to be
-        closed.)"""
+        """Counts the connections that push has open. (One that it closed before it opened the last one is seen to be
+        closed, and so is one that it closed since.)"""
         count = sum(not exchange.is_over() for exchange in self.exchanges)
         self.most = max(self.most, count)
         if count > self.streams:
@@ -147,6 +147,17 @@ class ParallelPeer:
             is_early = not all(other.is_over() for other in others if other.record[0] == "user")
         if is_early:
             self.wrong.append(f"{exchange} beside users and groups")
+
+    def wait_for(self, push):
+        """Returns once a push does nothing but wait, and all its requests were read."""
+        wait_until(lambda: push.state() == "S" and not self.is_pending(), "the wait of the push")
+        wait_until(lambda: all(exchange.record for exchange in self.exchanges), "its requests")
+
+    def is_pending(self):
+        """Whether somebody has connected who wasn't accepted yet."""
+        waiting = select.poll()
+        waiting.register(self.listener, select.POLLIN)
+        return bool(waiting.poll(0))
 
     def asked(self, name):
         """The methods of the exchanges about a record, in their order."""

@@ -11,8 +11,8 @@ import test_push_kills
 from databases import make_journal, user_entry
 from exchanges import ERROR
 from parallel_peers import Directory, ParallelPeer
-from peers import LATE, NO_HITS, TAKEN, PeerTest, answer, head, hits, user
-from support import NOWHERE, PATIENCE, Running, Site, scimlink
+from peers import NO_HITS, TAKEN, PeerTest, answer, head, hits, user
+from support import NOWHERE, PATIENCE, TIME_LIMIT, Running, Site, scimlink
 
 REFUSED = answer(403)
 CUT = head(200, Content_Length=3) + b"{}"
@@ -64,7 +64,7 @@ class AnswersTest(AbreastTest):
 
         def script(exchange):
             def step(stream):
-                if exchange.name in after and not sent[exchange.method, after[exchange.name]].wait(LATE):
+                if exchange.name in after and not sent[exchange.method, after[exchange.name]].wait(TIME_LIMIT):
                     raise AssertionError("the next record's answer didn't come")
                 stream.sendall(said)
                 sent[exchange.method, exchange.name].set()
@@ -77,19 +77,26 @@ class AnswersTest(AbreastTest):
     def test_so_many_connections_at_once(self):
         for streams in (2, 64):
             with self.subTest(streams=streams):
-                self.site.journal.unlink(missing_ok=True)
+                self.site = Site(pathlib.Path(tempfile.mkdtemp(dir=self.folder)))
                 users = names(streams + 3)
                 self.want(*users)
-                directory, begun = Directory(), threading.Barrier(streams)
-
-                def script(exchange):
-                    if exchange.method == "GET" and exchange.name in users[:streams]:
-                        begun.wait(LATE)
-                    return directory(exchange)
-
-                peer = self.pushes(script, streams, *self.confirmed(users))
+                peer = self.pushes_in_rounds(users[:streams], streams, *self.confirmed(users))
                 self.assertEqual(peer.most, streams)
                 self.assertEqual(len(peer.exchanges), 2 * len(users))
+
+    def pushes_in_rounds(self, users, streams, *lines):
+        """A push whose exchanges about these users are answered when each has one, and push does nothing but wait."""
+        directory = Directory()
+        all_wait = threading.Barrier(len(users), lambda: peer.wait_for(push))
+
+        def script(exchange):
+            if exchange.name in users:
+                all_wait.wait(TIME_LIMIT)
+            return directory(exchange)
+
+        with ParallelPeer(script, streams) as peer, self.begin_push(peer) as push:
+            self.assert_prints(push.ends(), *lines)
+        return peer
 
     def test_answers_that_cannot_be_used(self):
         """They are learnt for their own record, and the others aren't disturbed."""
@@ -129,11 +136,9 @@ class AnswersTest(AbreastTest):
         self.assertEqual(self.pushes(directory, 16, *lines).asked("u06"), ["GET"])
 
     def test_users_before_groups(self):
-        users, groups = names(5), ["all", "none", "pair"]
-        self.want(*users, groups=[f"all,1,{' '.join(users)}", "none,1,", "pair,1,u00 u04"])
-        peer = self.pushes(Directory(), 4, *self.confirmed(users, groups))
-        self.assertEqual({exchange.record[0] for exchange in peer.exchanges[:10]}, {"user"})
-        self.assertEqual(len(peer.exchanges), 16)
+        self.want(*FOUR, groups=["all,1,ann bob cid dan", "none,1,", "pair,1,ann dan"])
+        peer = self.pushes_in_rounds(FOUR, 8, *self.confirmed(FOUR, ["all", "none", "pair"]))
+        self.assertEqual([exchange.record[0] for exchange in peer.exchanges], ["user"] * 8 + ["group"] * 6)
 
     def test_lines_are_printed_as_soon_as_all_before_are_done(self):
         self.want(*FOUR)
@@ -141,7 +146,7 @@ class AnswersTest(AbreastTest):
 
         def script(exchange):
             if (exchange.method, exchange.name) == ("POST", "cid"):
-                are_read.wait(LATE)
+                are_read.wait(TIME_LIMIT)
             return directory(exchange)
 
         lines = self.confirmed(FOUR)
@@ -183,7 +188,7 @@ class EndsTest(AbreastTest):
 
         def script(exchange):
             if exchange.method == "POST":
-                begun.wait(LATE)
+                begun.wait(TIME_LIMIT)
             return directory(exchange)
 
         with ParallelPeer(script, 3) as peer:
@@ -201,8 +206,8 @@ class EndsTest(AbreastTest):
         def script(exchange):
             said = directory(exchange)
             if exchange.method == "POST":
-                begun.wait(LATE)
-                is_over.wait(LATE)
+                begun.wait(TIME_LIMIT)
+                is_over.wait(TIME_LIMIT)
             return said
 
         with ParallelPeer(script, 4) as peer, self.begin_push(peer) as push:
