@@ -8,6 +8,7 @@ import threading
 import urllib.parse
 
 from peers import LATE, NO_HITS, TAKEN, answer, as_far_as_it_is_read, hits, read_request
+from support import wait_until
 
 # Exchanges that a push may have for a record
 MOST_EXCHANGES = 3
@@ -82,14 +83,14 @@ class ParallelPeer:
         self.acceptor.start()
         return self
 
-    def __exit__(self, kind, *_):
+    def __exit__(self, *_):
         self.stop_listening()
         for thread in self.acceptor, *self.threads:
             thread.join(LATE)
         self.listener.close()
         for exchange in self.exchanges:
             exchange.stream.close()
-        if kind is None and self.wrong:
+        if self.wrong:
             raise AssertionError("; ".join(self.wrong))
 
     def stop_listening(self):
