@@ -33,7 +33,7 @@ class Commits(Streams):
 
     def push(self, streams, delay):
         fast, slow = (1e3 / self.rate("scimlink", streams, delay, False, SYNC_MS=sync) for sync in (0, self.sync))
-        self.print_line(f"push, {streams} streams, an answer takes {delay} ms", fast, slow, streams)
+        self.print_line(f"`push --streams {streams}`, an answer takes {delay} ms", fast, slow, streams)
 
     def created(self, clients, sync):
         """The milliseconds that a creation takes."""
@@ -46,7 +46,7 @@ class Commits(Streams):
 
     def serve(self, clients):
         fast, slow = (self.created(clients, sync) for sync in (0, self.sync))
-        self.print_line(f"serve, {clients} clients", fast, slow, clients)
+        self.print_line(f"`serve`, clients: {clients}", fast, slow, clients)
 
     def measure(self):
         print(f"| | ms | ms if a sync takes {self.sync} ms more | with one commit for all | gain |")
