@@ -3,7 +3,9 @@
 Each provider also notes what no push may do (`ParallelPeer`): more than N connections at once, two of one record at
 once, more than three exchanges of a record, and an exchange of a group before all users are done.
 """
+import itertools
 import pathlib
+import subprocess
 import tempfile
 import threading
 
@@ -12,7 +14,7 @@ from databases import make_journal, user_entry
 from exchanges import ERROR
 from parallel_peers import Directory, ParallelPeer
 from peers import NO_HITS, TAKEN, PeerTest, answer, head, hits, user
-from support import NOWHERE, PATIENCE, TIME_LIMIT, Running, Site, scimlink
+from support import NOWHERE, PATIENCE, PROGRAM, TIME_LIMIT, Running, Site, scimlink, text
 
 REFUSED = answer(403)
 CUT = head(200, Content_Length=3) + b"{}"
@@ -164,9 +166,12 @@ class AnswersTest(AbreastTest):
             return answer(403, {"schemas": [ERROR], "detail": f"not {exchange.name}", "status": "403"})
 
         with ParallelPeer(script, 3) as peer:
-            run = self.site.push(peer.address, "--streams", "3")
-        self.assertEqual(run.lines, [f"user {name} unconfirmed C4" for name in FOUR])
-        self.assertEqual(run.errors.splitlines(), [f'user {name}: 403, "not {name}"' for name in FOUR])
+            command = [PROGRAM, *self.site.push_command(peer.address), "--streams", "3"]
+            # both outputs are one pipe: what is said of a record comes behind its line
+            both = {"stdout": subprocess.PIPE, "stderr": subprocess.STDOUT}
+            run = subprocess.run(command, timeout=PATIENCE, check=False, **both)
+        lines = ((f"user {name} unconfirmed C4", f'user {name}: 403, "not {name}"') for name in FOUR)
+        self.assertEqual(run.stdout.decode(), text(*itertools.chain(*lines)))
 
     def test_a_quiet_push(self):
         self.want(*FOUR)
