@@ -271,12 +271,16 @@ class Job:
         run = site.push(provider.address)
         check((run.status, run.lines, run.errors), (0, self.confirmed, ""), "the next push")
 
-    def push(self, folder, fault):
+    def push_abreast(self, folder, fault):
+        """The same as `push`, with four streams at first and one then."""
+        self.push(folder, fault, "--streams", "4")
+
+    def push(self, folder, fault, *options):
         """A push with a fault, then one without."""
         site = self.start(folder)
         with Provider(1_000_000, "--store", site.store, **fault.others) as provider:
             before = kept(site)
-            run = site.push(provider.address, **fault.options)
+            run = site.push(provider.address, *options, **fault.options)
             check_ending(run, fault)
             check(run.lines, self.confirmed[: len(run.lines)], "lines")
             if run.status == 0:
@@ -445,7 +449,8 @@ class FaultsTest(unittest.TestCase):
             self.refuse("READ", story, ways=["5"])
 
     def test_memory_of_push(self):
-        self.refuse_memory_after(open_journal, self.leaver.push)
+        for story in self.leaver.push, self.leaver.push_abreast:
+            self.refuse_memory_after(open_journal, story)
 
     def test_memory_of_serve(self):
         self.refuse_memory_after(
@@ -460,7 +465,7 @@ class FaultsTest(unittest.TestCase):
     def test_writes(self):
         self.refuse("WRITE", answer_stored, self.leaver.reset, ways=WRITE_FAULTS)
         for job in self.joiners, self.leaver:
-            self.refuse("WRITE", job.push, job.serve, job.loop, ways=WRITE_FAULTS)
+            self.refuse("WRITE", job.push, job.push_abreast, job.serve, job.loop, ways=WRITE_FAULTS)
 
     def test_reads(self):
         leaver = self.leaver
