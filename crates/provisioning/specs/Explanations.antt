@@ -1,4 +1,4 @@
--- Why an answer of a provider couldn't be used, in words.
+-- What the fault of an exchange was, in words.
 use Rattle.std.specs.Prelude.{ℕ, Bool, true, not, ◌&&◌, ◌==◌, ◌/◌, ◌%◌, nat_le, List, ◌++◌, codes, if◌then◌else◌}
 use Rattle.std.specs.Char.{encode_utf8}
 use Rattle.std.specs.Fmt.{digit_glyph}
