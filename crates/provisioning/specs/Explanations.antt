@@ -1,4 +1,4 @@
--- Why an answer of a provider couldn't be used, in words.
+-- What the fault of an exchange was, in words.
 use Rattle.std.specs.Prelude.{ℕ, List, codes}
 use Rattle.provisioning.specs.declared.explanations.Phrase.{Phrase}
 use Rattle.provisioning.specs.declared.explanations.Phrase.TheVariants as phrases

@@ -10,6 +10,6 @@ pub returns : goal.returns
 returns g c =
     let due = is_switched_off (book_of c.args.connector.now.book) in
     let parts = items_from_parts c.partition.result (filter due c.args.names.items) (filter (λ name. not (due name)) c.args.names.items)
-        (parts_from_yields_List _ due _ c.partition.ensures.ran (YieldsList-from_vec {s = c.into_iter.result} c.args.names.items c.into_iter.ensures.rest (search rules)) (λ x r q k. search (rules, tests))) in
+    (parts_from_yields_List _ due _ c.partition.ensures.ran (YieldsList-from_vec {s = c.into_iter.result} c.args.names.items c.into_iter.ensures.rest (search rules)) (λ x r q k. search (rules, tests))) in
     let is = rw c.in_ok-ordered.was at parts in
     joined c.append.new.self.items c.in_ok-ordered.ordered.items c.in_ok-ordered.others.items (filter due c.args.names.items) (filter (λ name. not (due name)) c.args.names.items) c.in_ok-append.ensures.items is.0 is.1
