@@ -8,8 +8,8 @@ use journal_core::{Entry, kind_word};
 use scim_key::ResourceId;
 use std::alloc::{AllocError, Global};
 
-/// The line of an entry, with its line end: `user bob wanted=1 confirmed=1 id=..`, and `-` for no id. An id is a text of
-/// the provider, so it is printed as `Printable` says.
+/// The line of an entry, with its line end: `user bob wanted=1 confirmed=1 id=..`, and `-` for no id. An id is a text
+/// of the provider, so it is printed as `Printable` says.
 pub fn entry_line(alloc: Global, entry: &Entry) -> Result<String, AllocError>
     ensures { IfOk result (λ line. string_bytes line ≡ entry_line entry.now) }
 {
