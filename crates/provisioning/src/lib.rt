@@ -58,3 +58,4 @@ pub use records::{Pushed, Standing, push_record};
 pub use sockets::{CONNECTION_SECONDS, Remote};
 pub use sources::{Source, Sources, UnreadFile, label, read_source, read_sources};
 pub use telling::Tell;
+pub use tracks::{Account, Flight, Track};

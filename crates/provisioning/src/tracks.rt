@@ -23,7 +23,7 @@ use world_sim::MOST_EXCHANGES;
 
 /// A record, how many exchanges were begun for it, and their last fault.
 #[derive(Drop)]
-pub(crate) struct Account {
+pub struct Account {
     pub name: RecordName,
     pub exchanges: u32,
     pub last: Option<RecordFault>,
@@ -31,7 +31,7 @@ pub(crate) struct Account {
 
 /// A request on its stream, and whether it was sent whole.
 #[derive(Drop)]
-pub(crate) struct Flight<R: Drop, W: Drop> {
+pub struct Flight<R: Drop, W: Drop> {
     pub request: Request,
     pub reader: R,
     pub writer: W,
@@ -40,7 +40,7 @@ pub(crate) struct Flight<R: Drop, W: Drop> {
 
 /// A record that was begun.
 #[derive(Drop)]
-pub(crate) enum Track<R: Drop, W: Drop> {
+pub enum Track<R: Drop, W: Drop> {
     /// An exchange for it is under way.
     UnderWay(Account, Flight<R, W>),
     /// It has this state.
@@ -49,7 +49,7 @@ pub(crate) enum Track<R: Drop, W: Drop> {
 
 impl Account {
     /// A record for which nothing was sent.
-    pub fn new(name: RecordName) -> Account
+    pub(crate) fn new(name: RecordName) -> Account
         ensures { result ≡ fresh name }
     {
         Account {
