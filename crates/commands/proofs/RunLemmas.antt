@@ -43,7 +43,7 @@ module _ {L I O : Type 0} (waiting : L → Option (List (I × O))) (remaining : 
 
 -- the records were carried as the arguments want it
 module _ {I O J L : Type 0} (remaining : I → Option (List ℕ)) (contents : O → Option (List ℕ)) (g : Ghosts J) (h : Ghosts DryJournal) (finds : EntryMap → Type 0) (is_closed : J → L → Type 0) (manner : Manner) (found : Found) (job : Job) where
-  pub pushed : (ended : Result Status CommandFault) → IsJob found job → PushesAs remaining contents g h finds is_closed manner.is_quiet manner.most_leavers job ended
+  pub pushed : (ended : Result Status CommandFault) → IsJob found job → PushesAs remaining contents g h finds is_closed manner.delivery manner.most_leavers job ended
       → IfOk ended (IsPushed remaining contents g h finds is_closed manner found)
   pushed (Ok status) is pushes = (job, is, pushes)
   pushed (Err why) is pushes = tt

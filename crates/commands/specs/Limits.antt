@@ -12,6 +12,7 @@ use Rattle.provisioning.specs.declared.dry_runs.DryJournal.{DryJournal}
 use Rattle.provisioning.specs.declared.sources.Sources.{Sources}
 use Rattle.commands.specs.Running.{IsStart, PushesKnown, ReadsFiles}
 use Rattle.commands.specs.declared.jobs.Job.{Job}
+use Rattle.commands.specs.declared.manners.Delivery.{Delivery}
 use Rattle.commands.specs.declared.status.CommandFault.{CommandFault}
 use Rattle.commands.specs.declared.status.Status.{Status}
 use Rattle.commands.specs.declared.status.Status.TheVariants.{Refused}
@@ -51,26 +52,26 @@ pub record IsOver {J : Type 0} (g : Journals J) (first : J) (start : State J) : 
 
 module _ {I O J L : Type 0} (remaining : I → Option (List ℕ)) (contents : O → Option (List ℕ)) (g : Journals J) where
   -- the records of these sources were carried by this connector, and its journal was closed
-  abbrev pub PushesSources : (is_closed : J → L → Type 0) → (quiet : Bool) → (base : List ℕ) → Sources
+  abbrev pub PushesSources : (is_closed : J → L → Type 0) → Delivery → (base : List ℕ) → Sources
       → (start : State J) → Result Status CommandFault → Type 0
-  PushesSources is_closed quiet base sources start ended =
-      (end : State J) × (left : L) × PushesKnown remaining contents g quiet base sources start end ended
+  PushesSources is_closed delivery base sources start ended =
+      (end : State J) × (left : L) × PushesKnown remaining contents g delivery base sources start end ended
       × is_closed end.journal left
 
   -- the same by a connector over this journal; or the journal couldn't be read
-  abbrev pub PushesEntries : (is_closed : J → L → Type 0) → (quiet : Bool) → (base : List ℕ) → Sources → (first : J)
+  abbrev pub PushesEntries : (is_closed : J → L → Type 0) → Delivery → (base : List ℕ) → Sources → (first : J)
       → Result Status CommandFault → Type 0
-  PushesEntries is_closed quiet base sources first ended =
-      ((start : State J) × IsOver g first start × PushesSources is_closed quiet base sources start ended)
+  PushesEntries is_closed delivery base sources first ended =
+      ((start : State J) × IsOver g first start × PushesSources is_closed delivery base sources start ended)
       ⊎ ((why : CommandFault) × (ended ≡ Err why))
 
   -- the files switch off no more users than this, and their records were carried from the journal that was opened
   abbrev pub IsCarried : (h : Journals DryJournal) → (finds : EntryMap → Type 0) → (is_closed : J → L → Type 0)
-      → (quiet : Bool) → Job → (most : ℕ) → Result Status CommandFault → Type 0
-  IsCarried h finds is_closed quiet job most ended =
+      → Delivery → Job → (most : ℕ) → Result Status CommandFault → Type 0
+  IsCarried h finds is_closed delivery job most ended =
       (first between : J) × (sources : Sources) × IsOpenedAt g finds first × IsOpenedAt g finds between
       × Approves g h job most first between (Some sources)
-      × PushesEntries is_closed quiet job.service sources between ended
+      × PushesEntries is_closed delivery job.service sources between ended
 
   -- the files switch off more users than this: the journal was only read, and closed
   abbrev pub IsStopped : (h : Journals DryJournal) → (finds : EntryMap → Type 0) → (is_closed : J → L → Type 0) → Job
@@ -82,7 +83,7 @@ module _ {I O J L : Type 0} (remaining : I → Option (List ℕ)) (contents : O 
 
   -- the one or the other; or the journal couldn't be opened or read, or a file couldn't be read, or memory ran out
   abbrev pub PushesWithin : (h : Journals DryJournal) → (finds : EntryMap → Type 0) → (is_closed : J → L → Type 0)
-      → (quiet : Bool) → Job → (most : ℕ) → Result Status CommandFault → Type 0
-  PushesWithin h finds is_closed quiet job most ended =
-      IsCarried h finds is_closed quiet job most ended
+      → Delivery → Job → (most : ℕ) → Result Status CommandFault → Type 0
+  PushesWithin h finds is_closed delivery job most ended =
+      IsCarried h finds is_closed delivery job most ended
       ⊎ (IsStopped h finds is_closed job most ended ⊎ ((why : CommandFault) × (ended ≡ Err why)))

@@ -1,9 +1,10 @@
 -- How a push is carried out, by its arguments.
-use Rattle.std.specs.Prelude.{◌≡◌, ◌≤◌, ℕ, List, Option, Some, None, Result, Ok, Err, codes}
+use Rattle.std.specs.Prelude.{◌≡◌, ◌⊎◌, ◌≤◌, ℕ, List, Option, Some, None, Result, Ok, Err, codes}
 use Rattle.clap.specs.Matches.{first_value, one_text}
 use Rattle.clap.specs.declared.parser.matches.Found.{Found}
+use Rattle.provisioning.specs.declared.paces.TheConstants.{MOST_STREAMS}
 use Rattle.commands.specs.Simulating.{is_set}
-use Rattle.commands.specs.Words.{IsNumber, number_in}
+use Rattle.commands.specs.Words.{GivesCount, IsNumber, number_in}
 use Rattle.commands.specs.declared.manners.Manner.{Manner}
 use Rattle.commands.specs.declared.manners.TheConstants.{MOST_LEAVERS}
 use Rattle.commands.specs.declared.status.CommandFault.{CommandFault}
@@ -20,15 +21,24 @@ GivesMost text value (Ok (Some most)) = IsMost text most
 GivesMost text value (Ok None) = value ≡ None
 GivesMost text value (Err why) = (why ≡ fault.MostLeavers) × ((most : ℕ) → IsMost text most → ⊥)
 
+-- one stream if `--streams` isn't there; else the number that its text spells, from 1 to the most; or it spells none
+abbrev pub GivesStreams : (value text : Option (List ℕ)) → Result ℕ CommandFault → Type 0
+GivesStreams None text result = result ≡ Ok 1
+GivesStreams (Some value) text result = GivesCount MOST_STREAMS fault.Streams text result
+
 -- what these arguments want
 pub record IsManner (found : Found) (manner : Manner) : Type 0 where
   pub planned : manner.is_planned ≡ is_set (one_text found (codes "plan"))
-  pub quiet : manner.is_quiet ≡ is_set (one_text found (codes "quiet"))
+  pub quiet : manner.delivery.is_quiet ≡ is_set (one_text found (codes "quiet"))
   pub most : GivesMost (one_text found (codes "most-leavers")) (first_value found (codes "most-leavers"))
       (Ok manner.most_leavers)
+  pub streams : GivesStreams (first_value found (codes "streams")) (one_text found (codes "streams"))
+      (Ok manner.delivery.pace.streams)
+  pub leavers_first : manner.delivery.pace.leavers_first ≡ is_set (one_text found (codes "leavers-first"))
 
--- that; or the number isn't within its limits
+-- that; or one of the numbers isn't within its limits
 abbrev pub GivesManner : Found → Result Manner CommandFault → Type 0
 GivesManner found (Ok manner) = IsManner found manner
 GivesManner found (Err why) =
     GivesMost (one_text found (codes "most-leavers")) (first_value found (codes "most-leavers")) (Err why)
+    ⊎ GivesStreams (first_value found (codes "streams")) (one_text found (codes "streams")) (Err why)

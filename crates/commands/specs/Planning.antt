@@ -21,6 +21,7 @@ use Rattle.commands.specs.Limits.{PushesWithin, is_excess}
 use Rattle.commands.specs.Manners.{IsManner}
 use Rattle.commands.specs.Running.{IsJob, PushesOver, ReadsFiles}
 use Rattle.commands.specs.declared.jobs.Job.{Job}
+use Rattle.commands.specs.declared.manners.Delivery.{Delivery}
 use Rattle.commands.specs.declared.manners.Manner.{Manner}
 use Rattle.commands.specs.declared.status.CommandFault.{CommandFault}
 use Rattle.commands.specs.declared.status.CommandFault.TheVariants as fault
@@ -91,16 +92,16 @@ IsPlanned g h finds is_closed most found status =
 module _ {I O J L : Type 0} (remaining : I → Option (List ℕ)) (contents : O → Option (List ℕ)) (g : Journals J)
     (h : Journals DryJournal) where
   -- the records of a job were carried, in this manner
-  abbrev pub PushesAs : (finds : EntryMap → Type 0) → (is_closed : J → L → Type 0) → (quiet : Bool) → (most : Option ℕ)
+  abbrev pub PushesAs : (finds : EntryMap → Type 0) → (is_closed : J → L → Type 0) → Delivery → (most : Option ℕ)
       → Job → Result Status CommandFault → Type 0
-  PushesAs finds is_closed quiet (Some most) job ended =
-      PushesWithin remaining contents g h finds is_closed quiet job most ended
-  PushesAs finds is_closed quiet None job ended = PushesOver remaining contents g finds is_closed quiet job ended
+  PushesAs finds is_closed delivery (Some most) job ended =
+      PushesWithin remaining contents g h finds is_closed delivery job most ended
+  PushesAs finds is_closed delivery None job ended = PushesOver remaining contents g finds is_closed delivery job ended
 
   -- the same of what the arguments name
   abbrev pub IsPushed : (finds : EntryMap → Type 0) → (is_closed : J → L → Type 0) → Manner → Found → Status → Type 0
   IsPushed finds is_closed manner found status =
-      (job : Job) × IsJob found job × PushesAs finds is_closed manner.is_quiet manner.most_leavers job (Ok status)
+      (job : Job) × IsJob found job × PushesAs finds is_closed manner.delivery manner.most_leavers job (Ok status)
 
   -- by whether a plan is wanted
   abbrev pub EndsAs : (planned : Bool) → (finds : EntryMap → Type 0) → (is_closed : J → L → Type 0) → Manner → Found

@@ -18,12 +18,13 @@ use Rattle.storage.specs.JournalShowing.{ShowsFrom as ShowsEntries}
 use Rattle.storage.specs.Resetting.{ResetsFrom}
 use Rattle.storage.specs.StoreShowing.{ShowsFrom as ShowsRows}
 use Rattle.storage.specs.declared.show_fault.ShowFault.{ShowFault}
-use Rattle.provisioning.specs.Carrying.{CarriesSilently}
+use Rattle.provisioning.specs.Carrying.{CarriesSilentlyAt}
 use Rattle.provisioning.specs.Faults.{unopened}
 use Rattle.provisioning.specs.Quiet.{CarriesQuietly}
 use Rattle.provisioning.specs.Sources.{ReadsSources}
 use Rattle.provisioning.specs.declared.carrying.Outcome.{Outcome}
 use Rattle.provisioning.specs.declared.faults.RunFault.{RunFault}
+use Rattle.provisioning.specs.declared.paces.Pace.{Pace}
 use Rattle.provisioning.specs.declared.sources.Sources.{Sources}
 use Rattle.provisioning.specs.declared.sources.UnreadFile.{UnreadFile}
 use Rattle.commands.specs.Addresses.{text_in}
@@ -31,6 +32,7 @@ use Rattle.commands.specs.Causes.{concluded, source_part}
 use Rattle.commands.specs.Statuses.{journal_fault, pushed_status, shown_status, unread_fault}
 use Rattle.commands.specs.Words.{wanted, wanted_base}
 use Rattle.commands.specs.declared.jobs.Job.{Job}
+use Rattle.commands.specs.declared.manners.Delivery.{Delivery}
 use Rattle.commands.specs.declared.status.CommandFault.{CommandFault}
 use Rattle.commands.specs.declared.status.CommandFault.TheVariants as fault
 use Rattle.commands.specs.declared.status.Status.{Status}
@@ -126,34 +128,36 @@ RunsOver {J} {L} g finds is_closed runs ended =
 -- ---- `push`
 
 module _ {I O J : Type 0} (remaining : I → Option (List ℕ)) (contents : O → Option (List ℕ)) (g : Journals J) where
-  -- the records of these sources were carried, and reported in this way
-  abbrev pub CarriesAs : (quiet : Bool) → (base : List ℕ) → Sources → (old new : State J) → Result Outcome RunFault
-      → Type 0
-  CarriesAs true base sources old new carried = CarriesQuietly remaining contents g base sources old new carried
-  CarriesAs false base sources old new carried = CarriesSilently remaining contents g base sources old new carried
+  -- the records of these sources were carried at this pace, and reported in this way
+  abbrev pub CarriesAs : (quiet : Bool) → Pace → (base : List ℕ) → Sources → (old new : State J)
+      → Result Outcome RunFault → Type 0
+  CarriesAs true pace base sources old new carried =
+      CarriesQuietly remaining contents g pace base sources old new carried
+  CarriesAs false pace base sources old new carried =
+      CarriesSilentlyAt remaining contents g pace base sources old new carried
 
   -- The records of these sources were carried; the status is that of this run, or its fault with the system's error
-  abbrev pub Pushes : (quiet : Bool) → (base : List ℕ) → Sources → (old new : State J) → (last : Option Error)
+  abbrev pub Pushes : (quiet : Bool) → Pace → (base : List ℕ) → Sources → (old new : State J) → (last : Option Error)
       → Result Status CommandFault → Type 0
-  Pushes quiet base sources old new last ended =
-      (carried : Result Outcome RunFault) × CarriesAs quiet base sources old new carried
+  Pushes quiet pace base sources old new last ended =
+      (carried : Result Outcome RunFault) × CarriesAs quiet pace base sources old new carried
       × (ended ≡ concluded last (pushed_status carried))
 
   -- the same; or memory ran out, and the connector is as it was
-  abbrev pub PushesKnown : (quiet : Bool) → (base : List ℕ) → Sources → (old new : State J)
-      → Result Status CommandFault → Type 0
-  PushesKnown quiet base sources old new ended =
-      ((last : Option Error) × Pushes quiet base sources old new last ended)
+  abbrev pub PushesKnown : Delivery → (base : List ℕ) → Sources → (old new : State J) → Result Status CommandFault
+      → Type 0
+  PushesKnown delivery base sources old new ended =
+      ((last : Option Error) × Pushes delivery.is_quiet delivery.pace base sources old new last ended)
       ⊎ ((why : CommandFault) × (ended ≡ Err why) × (new ≡ old))
 
   -- The files of a job were read, and their records carried; or a file couldn't be read, or memory ran out, and the
   -- connector is as it was
-  abbrev pub PushesFrom : (quiet : Bool) → Job → (old new : State J) → Result Status CommandFault → Type 0
-  PushesFrom quiet job old new ended =
-      ((sources : Sources) × ReadsFiles job (Ok sources) × PushesKnown quiet job.service sources old new ended)
+  abbrev pub PushesFrom : Delivery → Job → (old new : State J) → Result Status CommandFault → Type 0
+  PushesFrom delivery job old new ended =
+      ((sources : Sources) × ReadsFiles job (Ok sources) × PushesKnown delivery job.service sources old new ended)
       ⊎ ((why : CommandFault) × (ended ≡ Err why) × (new ≡ old))
 
   -- from a journal that was opened for it, and closed
-  abbrev pub PushesOver : {L : Type 0} → (finds : EntryMap → Type 0) → (is_closed : J → L → Type 0) → (quiet : Bool)
+  abbrev pub PushesOver : {L : Type 0} → (finds : EntryMap → Type 0) → (is_closed : J → L → Type 0) → Delivery
       → Job → Result Status CommandFault → Type 0
-  PushesOver finds is_closed quiet job ended = RunsOver g finds is_closed (PushesFrom quiet job) ended
+  PushesOver finds is_closed delivery job ended = RunsOver g finds is_closed (PushesFrom delivery job) ended

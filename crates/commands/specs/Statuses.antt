@@ -65,6 +65,7 @@ fault_status fault.Listen = Usage
 fault_status fault.To = Usage
 fault_status fault.Requests = Usage
 fault_status fault.MostLeavers = Usage
+fault_status fault.Streams = Usage
 fault_status fault.Show = Usage
 fault_status (fault.Events why) = Usage
 fault_status (fault.Users source.Header) = Refused

@@ -26,7 +26,7 @@ pub use endings::{outcome_status, pushed_status, run_status, shown_status, simul
 pub use images::{map, print_images};
 pub use jobs::Job;
 pub use looping::carry;
-pub use manners::{MOST_LEAVERS, Manner};
+pub use manners::{Delivery, MOST_LEAVERS, Manner};
 pub use output::{NotedWriter, StandardOutput, standard_output};
 pub use pushing::{push, push_over};
 pub use resetting::reset;

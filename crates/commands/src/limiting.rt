@@ -4,6 +4,7 @@ ghost use Rattle.journal_core.specs.Calls.{Reads};
 ghost use Rattle.commands.specs.Limits.{Approves, NoFewer, PushesEntries, PushesSources, PushesWithin, is_excess};
 
 use crate::jobs::Job;
+use crate::manners::Delivery;
 use crate::pushing::{close, push_known};
 use crate::status::{CommandFault, Status};
 use connection::TimedHandle;
@@ -22,17 +23,17 @@ pub(crate) fn push_within<'a, R: Runtime + Net + AllocGlobal, J: EntryStorage>(
     storage: &J,
     job: &Job<'_>,
     to: &str,
-    is_quiet: bool,
+    delivery: Delivery,
     most: u32,
 ) -> Result<Status, CommandFault>
     ensures { PushesWithin ⟦<TimedHandle<'a, R::Stream, R> as Read>⟧.remaining
         ⟦<TimedHandle<'a, R::Stream, R> as Write>⟧.contents J.Entries.Journal
-        ⟦<DryJournal as Journal>⟧ (J.finds storage.now) J.Entries.is_closed is_quiet job.now most
+        ⟦<DryJournal as Journal>⟧ (J.finds storage.now) J.Entries.is_closed delivery job.now most
         result }
 {
     let mut entries = storage.open()?;
     match approved(rt, &mut entries, job, most) {
-        Ok(Some(sources)) => push_entries(rt, entries, job, &sources, to, is_quiet),
+        Ok(Some(sources)) => push_entries(rt, entries, job, &sources, to, delivery),
         Ok(None) => {
             entries.close();
             Ok(Status::Refused)
@@ -85,14 +86,14 @@ fn push_entries<'a, R: Runtime + Net + AllocGlobal, E: StoredEntries>(
     job: &Job<'_>,
     sources: &Sources,
     to: &str,
-    is_quiet: bool,
+    delivery: Delivery,
 ) -> Result<Status, CommandFault>
     ensures { PushesEntries ⟦<TimedHandle<'a, R::Stream, R> as Read>⟧.remaining
-        ⟦<TimedHandle<'a, R::Stream, R> as Write>⟧.contents E.Journal E.is_closed is_quiet
+        ⟦<TimedHandle<'a, R::Stream, R> as Write>⟧.contents E.Journal E.is_closed delivery
         job.now.service sources.now entries result }
 {
     match Connector::open(rt.alloc(), entries) {
-        Ok(connector) => push_sources(rt, connector, job, sources, to, is_quiet),
+        Ok(connector) => push_sources(rt, connector, job, sources, to, delivery),
         Err((fault, entries)) => {
             entries.close();
             Err(CommandFault::from(RunFault::from(fault)))
@@ -107,13 +108,13 @@ fn push_sources<'a, R: Runtime + Net + AllocGlobal, E: StoredEntries>(
     job: &Job<'_>,
     sources: &Sources,
     to: &str,
-    is_quiet: bool,
+    delivery: Delivery,
 ) -> Result<Status, CommandFault>
     ensures { PushesSources ⟦<TimedHandle<'a, R::Stream, R> as Read>⟧.remaining
-        ⟦<TimedHandle<'a, R::Stream, R> as Write>⟧.contents E.Journal E.is_closed is_quiet
+        ⟦<TimedHandle<'a, R::Stream, R> as Write>⟧.contents E.Journal E.is_closed delivery
         job.now.service sources.now connector result }
 {
-    let ended = push_known(rt, &mut connector, job, sources, to, is_quiet);
+    let ended = push_known(rt, &mut connector, job, sources, to, delivery);
     close(connector);
     ended
 }

@@ -1,11 +1,13 @@
 //! How a push is carried out.
 ghost use Rattle.std.specs.Prelude.{◌≡◌, codes};
 ghost use Rattle.clap.specs.Matches.{first_value, found_of, one_text};
-ghost use Rattle.commands.specs.Manners.{GivesManner, GivesMost};
+ghost use Rattle.commands.specs.Manners.{GivesManner, GivesMost, GivesStreams};
 ghost use Rattle.commands.specs.Simulating.{is_set};
 
 use crate::status::CommandFault;
+use crate::words::counted;
 use clap::ArgMatches;
+use provisioning::{MOST_STREAMS, Pace};
 
 /// The most users that `--most-leavers` may allow.
 pub const MOST_LEAVERS: u32 = 1_000_000;
@@ -15,10 +17,19 @@ pub const MOST_LEAVERS: u32 = 1_000_000;
 pub struct Manner {
     /// It prints what it would ask for, and asks for nothing.
     pub is_planned: bool,
-    /// It prints only the records that aren't confirmed, and counts.
-    pub is_quiet: bool,
     /// The most users that it may switch off.
     pub most_leavers: Option<u32>,
+    /// How it carries records.
+    pub delivery: Delivery,
+}
+
+/// How records are carried to a provider.
+#[derive(Clone, Copy)]
+pub struct Delivery {
+    /// Only the records that aren't confirmed are printed, and counts.
+    pub is_quiet: bool,
+    /// How many records are pushed at once, and in which order.
+    pub pace: Pace,
 }
 
 impl Manner {
@@ -28,8 +39,14 @@ impl Manner {
     {
         Ok(Manner {
             is_planned: is_planned(words),
-            is_quiet: is_quiet(words),
             most_leavers: most_leavers(words)?,
+            delivery: Delivery {
+                is_quiet: is_quiet(words),
+                pace: Pace {
+                    streams: streams(words)?,
+                    leavers_first: leavers_first(words),
+                },
+            },
         })
     }
 }
@@ -58,4 +75,22 @@ fn most_leavers(words: &ArgMatches<'_>) -> Result<Option<u32>, CommandFault>
         (None, None) => Ok(None),
         _ => Err(CommandFault::MostLeavers),
     }
+}
+
+/// For how many records exchanges may be under way at once: one, unless the arguments say otherwise.
+fn streams(words: &ArgMatches<'_>) -> Result<u32, CommandFault>
+    ensures { GivesStreams (first_value (found_of words.now) (codes "streams"))
+        (one_text (found_of words.now) (codes "streams")) result }
+{
+    match words.get_str("streams") {
+        Some(_) => counted(words, "streams", MOST_STREAMS, CommandFault::Streams),
+        None => Ok(1),
+    }
+}
+
+/// Whether the arguments ask for users who left to come first.
+fn leavers_first(words: &ArgMatches<'_>) -> bool
+    ensures { result ≡ is_set (one_text (found_of words.now) (codes "leavers-first")) }
+{
+    words.get_one("leavers-first").unwrap_or(false)
 }

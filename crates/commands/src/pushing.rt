@@ -7,7 +7,7 @@ ghost use Rattle.commands.specs.Running.{GivesConnector, Pushes, PushesFrom, Pus
 use crate::endings::pushed_status;
 use crate::jobs::Job;
 use crate::limiting::push_within;
-use crate::manners::Manner;
+use crate::manners::{Delivery, Manner};
 use crate::output::{NotedWriter, standard_output};
 use crate::planning::plan_over;
 use crate::status::{CommandFault, Status};
@@ -16,7 +16,7 @@ use clap::ArgMatches;
 use connection::TimedHandle;
 use connector_core::Connector;
 use journal_core::Journal;
-use provisioning::{DryJournal, RunFault, Sources, push_quietly};
+use provisioning::{DryJournal, Pace, RunFault, Sources, push_quietly};
 use std::alloc::Global;
 use std::io::{Read, Write};
 use std::net::Net;
@@ -72,8 +72,8 @@ fn push_named<'a, R: Runtime + Net + AllocGlobal, J: EntryStorage>(
     let to = to(words)?;
     let job = Job::of(rt.alloc(), words)?;
     match manner.most_leavers {
-        Some(most) => push_within(rt, storage, &job, to, manner.is_quiet, most),
-        None => push_over(rt, storage, &job, to, manner.is_quiet),
+        Some(most) => push_within(rt, storage, &job, to, manner.delivery, most),
+        None => push_over(rt, storage, &job, to, manner.delivery),
     }
 }
 
@@ -83,14 +83,14 @@ pub fn push_over<'a, R: Runtime + Net + AllocGlobal, J: EntryStorage>(
     storage: &J,
     job: &Job<'_>,
     to: &str,
-    is_quiet: bool,
+    delivery: Delivery,
 ) -> Result<Status, CommandFault>
     ensures { PushesOver ⟦<TimedHandle<'a, R::Stream, R> as Read>⟧.remaining
         ⟦<TimedHandle<'a, R::Stream, R> as Write>⟧.contents J.Entries.Journal (J.finds storage.now)
-        J.Entries.is_closed is_quiet job.now result }
+        J.Entries.is_closed delivery job.now result }
 {
     let mut connector = open_connector(rt.alloc(), storage)?;
-    let ended = push_from(rt, &mut connector, job, to, is_quiet);
+    let ended = push_from(rt, &mut connector, job, to, delivery);
     close(connector);
     ended
 }
@@ -124,14 +124,14 @@ fn push_from<'a, R: Runtime + Net + AllocGlobal, J: Journal>(
     connector: &mut Connector<J>,
     job: &Job<'_>,
     to: &str,
-    is_quiet: bool,
+    delivery: Delivery,
 ) -> Result<Status, CommandFault>
     ensures { PushesFrom ⟦<TimedHandle<'a, R::Stream, R> as Read>⟧.remaining
-        ⟦<TimedHandle<'a, R::Stream, R> as Write>⟧.contents J.Journal is_quiet job.now
+        ⟦<TimedHandle<'a, R::Stream, R> as Write>⟧.contents J.Journal delivery job.now
         connector.old connector.new result }
 {
     let sources = job.read(rt)?;
-    push_known(rt, connector, job, &sources, to, is_quiet)
+    push_known(rt, connector, job, &sources, to, delivery)
 }
 
 /// Carries the records of files.
@@ -141,17 +141,17 @@ pub(crate) fn push_known<'a, R: Runtime + Net + AllocGlobal, J: Journal>(
     job: &Job<'_>,
     sources: &Sources,
     to: &str,
-    is_quiet: bool,
+    delivery: Delivery,
 ) -> Result<Status, CommandFault>
     ensures { PushesKnown ⟦<TimedHandle<'a, R::Stream, R> as Read>⟧.remaining
-        ⟦<TimedHandle<'a, R::Stream, R> as Write>⟧.contents J.Journal is_quiet job.now.service
+        ⟦<TimedHandle<'a, R::Stream, R> as Write>⟧.contents J.Journal delivery job.now.service
         sources.now connector.old connector.new result }
 {
     let mut out = standard_output(rt)?;
-    if is_quiet {
-        push_quietly_to(rt, connector, job, sources, to, &mut out)
+    if delivery.is_quiet {
+        push_quietly_to(rt, connector, job, sources, to, delivery.pace, &mut out)
     } else {
-        push_to(rt, connector, job, sources, to, &mut out)
+        push_to(rt, connector, job, sources, to, delivery.pace, &mut out)
     }
 }
 
@@ -162,13 +162,15 @@ fn push_to<'a, R: Runtime + Net + AllocGlobal, J: Journal, W: Write + Drop>(
     job: &Job<'_>,
     sources: &Sources,
     to: &str,
+    pace: Pace,
     out: &mut NotedWriter<W>,
 ) -> Result<Status, CommandFault>
     ensures { Pushes ⟦<TimedHandle<'a, R::Stream, R> as Read>⟧.remaining
-        ⟦<TimedHandle<'a, R::Stream, R> as Write>⟧.contents J.Journal false job.now.service
+        ⟦<TimedHandle<'a, R::Stream, R> as Write>⟧.contents J.Journal false pace job.now.service
         sources.now connector.old connector.new out.new.last result }
 {
-    let ended = provisioning::push(rt, rt.alloc(), &job.service, connector, sources, to, out);
+    let (alloc, service) = (rt.alloc(), &job.service);
+    let ended = provisioning::push(rt, alloc, service, connector, sources, pace, to, out);
     out.concluded(pushed_status(ended))
 }
 
@@ -179,12 +181,14 @@ fn push_quietly_to<'a, R: Runtime + Net + AllocGlobal, J: Journal, W: Write + Dr
     job: &Job<'_>,
     sources: &Sources,
     to: &str,
+    pace: Pace,
     out: &mut NotedWriter<W>,
 ) -> Result<Status, CommandFault>
     ensures { Pushes ⟦<TimedHandle<'a, R::Stream, R> as Read>⟧.remaining
-        ⟦<TimedHandle<'a, R::Stream, R> as Write>⟧.contents J.Journal true job.now.service
+        ⟦<TimedHandle<'a, R::Stream, R> as Write>⟧.contents J.Journal true pace job.now.service
         sources.now connector.old connector.new out.new.last result }
 {
-    let carried = push_quietly(rt, rt.alloc(), &job.service, connector, sources, to, out);
+    let (alloc, service) = (rt.alloc(), &job.service);
+    let carried = push_quietly(rt, alloc, service, connector, sources, pace, to, out);
     out.concluded(pushed_status(carried))
 }

@@ -11,7 +11,7 @@ use crate::words::MOST_REQUESTS;
 use connection::ConnectionFault;
 use mapping::WriteFault;
 use provider_store::RegistryOpenFault;
-use provisioning::{LoopFault, RunFault, UnreadFile};
+use provisioning::{LoopFault, MOST_STREAMS, RunFault, UnreadFile};
 use scim_key::Kind;
 use source_csv::{ReadFault, SourceFault};
 use std::alloc::{AllocError, AllocFailed};
@@ -86,6 +86,8 @@ pub enum CommandFault {
     Requests,
     #[error("error: --most-leavers is 0 to {most}", most = MOST_LEAVERS)]
     MostLeavers,
+    #[error("error: --streams is 1 to {most}", most = MOST_STREAMS)]
+    Streams,
     #[error("error: show takes one of --store FILE and --journal FILE")]
     Show,
     #[error("error: {0}")]
@@ -139,7 +141,7 @@ impl CommandFault {
             CommandFault::Words | CommandFault::Subcommand => Status::Usage,
             CommandFault::Base | CommandFault::Listen | CommandFault::To => Status::Usage,
             CommandFault::Requests | CommandFault::MostLeavers => Status::Usage,
-            CommandFault::Show => Status::Usage,
+            CommandFault::Streams | CommandFault::Show => Status::Usage,
             CommandFault::Events(_) => Status::Usage,
             CommandFault::Users(SourceFault::Header) => Status::Refused,
             CommandFault::Users(SourceFault::Memory) => Status::Fault,

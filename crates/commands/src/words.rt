@@ -104,9 +104,21 @@ pub fn requests(matches: &ArgMatches<'_>) -> Result<u32, CommandFault>
     ensures { GivesCount MOST_REQUESTS Requests
         (one_text (found_of matches.now) (codes "requests")) result }
 {
-    match matches.get_one("requests") {
-        Some(count) if (1..=MOST_REQUESTS).contains(&count) => Ok(count),
-        _ => Err(CommandFault::Requests),
+    counted(matches, "requests", MOST_REQUESTS, CommandFault::Requests)
+}
+
+/// The number of this argument, from 1 to the most, or what is wrong with the arguments.
+pub(crate) fn counted(
+    matches: &ArgMatches<'_>,
+    name: &str,
+    most: u32,
+    wrong: CommandFault,
+) -> Result<u32, CommandFault>
+    ensures { GivesCount most wrong (one_text (found_of matches.now) name.now) result }
+{
+    match matches.get_one(name) {
+        Some(count) if (1..=most).contains(&count) => Ok(count),
+        _ => Err(wrong),
     }
 }
 

@@ -44,7 +44,7 @@ module _ {I O J : Type 0} (remaining : I → Option (List ℕ)) (contents : O �
   causes_onward : (last : List (Opening I O)) (scene : Scene I O J) (rest : List (Track I O)) (new : State J) (fault : RunFault) → Causes remaining contents g base last scene rest new fault → Onward scene.state.book new.book
   causes_onward last scene rest new fault (inl c) = same_onward scene.state new c.1
   causes_onward last scene rest new fault (inr (inl c)) = advances_onward c.0 last scene.state new (Err fault) c.2
-  causes_onward last scene rest new fault (inr (inr c)) = same_onward scene.state new c.3
+  causes_onward last scene rest new fault (inr (inr c)) = same_onward scene.state new c.4
 
   closes_onward : (track : Track I O) (old new : State J) (result : Result (Unit {0}) RunFault) → Closes remaining g track old new result → Onward old.book new.book
   closes_onward (UnderWay a f) old new (Ok done) c = learnt_onward f old new (Ok c.0) c.1

@@ -1,14 +1,26 @@
 -- A run whose teller isn't known.
-use Rattle.std.proofs.Common.{ℕ, List, Option, None, Result, inl, inr}
+use Rattle.std.proofs.Common.{List, Option, None, Result, inl, inr}
 use Rattle.journal_core.specs.declared.journals.Journal.{Ghosts}
 use Rattle.connector_core.specs.State.{State}
 use Rattle.provisioning.specs.Openings.{Opening}
+use Rattle.provisioning.specs.Runs.{Done}
 use Rattle.provisioning.specs.declared.faults.RunFault.{RunFault}
+use Rattle.provisioning.specs.declared.offering.Judged.{Judged}
+use Rattle.provisioning.specs.declared.pushing.Tally.{Tally}
 use Rattle.provisioning.specs.declared.sources.Sources.{Sources}
-use Rattle.provisioning.specs.Carrying.{Carries, CarriesSilently}
+use Rattle.provisioning.specs.Carrying.{CarriesBy, SilentlyBy}
 use Rattle.provisioning.specs.declared.carrying.Outcome.{Outcome}
 
-pub silent : {I O J T : Type 0} (remaining : I → Option (List ℕ)) (contents : O → Option (List ℕ)) (g : Ghosts J) (base : List ℕ) (sources : Sources) (opened : List (Opening I O)) (old new : State J) (before after : T) (result : Result Outcome RunFault)
-    → Carries {T = T} remaining contents g (λ told. None) (λ told. None) base sources opened old new before after result → CarriesSilently remaining contents g base sources old new result
-silent remaining contents g base sources opened old new before after result (inl all) = (opened, inl (all.0, tt, all.2, all.3, all.4, all.5, all.6))
-silent remaining contents g base sources opened old new before after result (inr part) = (opened, inr part)
+module _ {I O J : Type 0} (pushes : (opened : List (Opening I O)) → (old new : State J) → (before after : Option (List Done)) → Result Tally RunFault → Type 0) (g : Ghosts J) (sources : Sources) (opened : List (Opening I O)) (old new : State J) where
+  -- nothing is known about the reporter, so any one may take the place of the first
+  pub silent : {T : Type 0} (before after : T) (result : Result Outcome RunFault)
+      → CarriesBy {T = T} pushes g (λ told. None) (λ told. None) sources opened old new before after result → SilentlyBy pushes g sources old new result
+  silent before after result (inl all) = (opened, inl (all.0, tt, all.2, all.3, all.4, all.5, all.6))
+  silent before after result (inr part) = (opened, inr part)
+
+  -- a reporter reports by another
+  pub told_by : {S T : Type 0} (inner : S → T) (heard : T → Option (List Judged)) (told : T → Option (List Done)) (before after : S) (result : Result Outcome RunFault)
+      → CarriesBy pushes g (λ s. heard (inner s)) (λ s. told (inner s)) sources opened old new before after result
+      → CarriesBy pushes g heard told sources opened old new (inner before) (inner after) result
+  told_by inner heard told before after result (inl all) = inl (all.0, inner all.1, all.2, all.3, all.4, all.5, all.6)
+  told_by inner heard told before after result (inr part) = inr part

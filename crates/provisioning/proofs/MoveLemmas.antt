@@ -140,7 +140,7 @@ module _ {I O J : Type 0} (remaining : I → Option (List ℕ)) (contents : O �
       → Causes remaining contents g base last scene rest new fault → Causes remaining contents g base last (with_first track scene) (track ∷ rest) new fault
   causes_beside track last scene rest new fault (inl c) = inl (ap (λ xs. track ∷ xs) c.0, c.1, c.2)
   causes_beside track last scene rest new fault (inr (inl c)) = inr (inl (c.0, with_after c.0 track rest scene.tracks c.1, c.2))
-  causes_beside track last scene rest new fault (inr (inr c)) = inr (inr (c.0, with_after c.0 track rest scene.tracks c.1, c.2, c.3, c.4))
+  causes_beside track last scene rest new fault (inr (inr c)) = inr (inr (c.0, c.1, with_after (IsDone c.0 c.1) track rest scene.tracks c.2, c.3, c.4, c.5))
 
   pub stops_beside : (track : Track I O) (opened : List (Opening I O)) (told : List Done) (old : Scene I O J) (rest : List (Track I O)) (new : State J) (fault : RunFault)
       → Stops remaining contents g base opened told old rest new fault

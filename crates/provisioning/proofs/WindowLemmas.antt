@@ -377,7 +377,7 @@ module _ {I O J : Type 0} (remaining : I → Option (List ℕ)) (contents : O �
       stops_on ((o1 ++ o2) ++ o3) [] so.done old (with_first (IsDone f.account f.standing) after) after.tracks after.state fault
           (moves_to_done o1 o2 o3 old here there after first before now tally d so takes f)
           (stops_here remaining contents g base [] (with_first (IsDone f.account f.standing) after) after.tracks after.state fault
-          (inr (inr (IsDone f.account f.standing, with_front (IsDone f.account f.standing) after.tracks, refl, refl, untold)))),
+          (inr (inr (f.account, f.standing, with_front (IsDone f.account f.standing) after.tracks, refl, refl, untold)))),
       refl,
     ),
   )

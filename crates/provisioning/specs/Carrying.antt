@@ -52,18 +52,30 @@ abbrev pub CarriesAt : {I O J T : Type 0} → (I → Option (List ℕ)) → (O �
 CarriesAt remaining contents g pace heard told base sources opened old new before after result =
     CarriesBy (PushesAt remaining contents g base pace) g heard told sources opened old new before after result
 
--- the same, if it isn't known what was reported before, and which streams were opened before
+-- the same, if it isn't known which streams were opened before, and how it is reported
+abbrev pub CarriesToldAt : {I O J T : Type 0} → (I → Option (List ℕ)) → (O → Option (List ℕ)) → Ghosts J → Pace
+    → (heard : T → Option (List Judged)) → (told : T → Option (List Done)) → List ℕ → Sources → (old new : State J)
+    → Result Outcome RunFault → Type 0
+CarriesToldAt {I} {O} {J} {T} remaining contents g pace heard told base sources old new result =
+    (opened : List (Opening I O)) × (before : T) × (after : T)
+    × CarriesAt remaining contents g pace heard told base sources opened old new before after result
+
+-- in any way, if it isn't known what was reported before, and which streams were opened before
+abbrev pub SilentlyBy : {I O J : Type 0}
+    → (pushes : (opened : List (Opening I O)) → (old new : State J) → (before after : Option (List Done))
+    → Result Tally RunFault → Type 0) → Ghosts J → Sources → (old new : State J) → Result Outcome RunFault → Type 0
+SilentlyBy {I} {O} pushes g sources old new result = (opened : List (Opening I O))
+    × CarriesBy {T = Unit {0}} pushes g (λ told. None) (λ told. None) sources opened old new tt tt result
+
 abbrev pub CarriesSilently : {I O J : Type 0} → (I → Option (List ℕ)) → (O → Option (List ℕ)) → Ghosts J
     → List ℕ → Sources → (old new : State J) → Result Outcome RunFault → Type 0
-CarriesSilently {I} {O} remaining contents g base sources old new result =
-    (opened : List (Opening I O)) × Carries {T = Unit {0}} remaining contents g (λ told. None)
-    (λ told. None) base sources opened old new tt tt result
+CarriesSilently remaining contents g base sources old new result =
+    SilentlyBy (PushesAll remaining contents g base) g sources old new result
 
 abbrev pub CarriesSilentlyAt : {I O J : Type 0} → (I → Option (List ℕ)) → (O → Option (List ℕ)) → Ghosts J → Pace
     → List ℕ → Sources → (old new : State J) → Result Outcome RunFault → Type 0
-CarriesSilentlyAt {I} {O} remaining contents g pace base sources old new result =
-    (opened : List (Opening I O)) × CarriesAt {T = Unit {0}} remaining contents g pace (λ told. None)
-    (λ told. None) base sources opened old new tt tt result
+CarriesSilentlyAt remaining contents g pace base sources old new result =
+    SilentlyBy (PushesAt remaining contents g base pace) g sources old new result
 
 -- ---- with a provider in the same program
 

@@ -1,5 +1,5 @@
 -- Every record, one after another or several at once.
-use Rattle.std.specs.Prelude.{◌≡◌, ◌⊎◌, ℕ, Bool, List, [], Option, Result, Err}
+use Rattle.std.specs.Prelude.{◌≡◌, ◌⊎◌, ℕ, Bool, true, false, List, [], Option, Result, Err, nat_lt}
 use Rattle.scim_key.specs.declared.records.RecordName.{RecordName}
 use Rattle.journal_core.specs.declared.journals.Journal.{Ghosts}
 use Rattle.connector_core.specs.State.{State}
@@ -23,17 +23,16 @@ module _ {I O J : Type 0} (remaining : I → Option (List ℕ)) (contents : O �
       × PushesEach remaining contents g base names opened old new before after result)
       ⊎ ((opened ≡ []) × (result ≡ Err Memory) × (new ≡ old))
 
-  -- by one stream, one after another; by more, several at once
-  abbrev pub PushesBy : (streams : ℕ) → (leavers_first : Bool) → (opened : List (Opening I O)) → (old new : State J)
+  -- one after another, or several at once
+  abbrev pub PushesBy : (several : Bool) → (leavers_first : Bool) → (opened : List (Opening I O)) → (old new : State J)
       → (before after : Option (List Done)) → Result Tally RunFault → Type 0
-  PushesBy 0 leavers_first opened old new before after result =
+  PushesBy false leavers_first opened old new before after result =
       PushesInTurn leavers_first opened old new before after result
-  PushesBy 1 leavers_first opened old new before after result =
-      PushesInTurn leavers_first opened old new before after result
-  PushesBy streams leavers_first opened old new before after result =
+  PushesBy true leavers_first opened old new before after result =
       PushesAllAbreast remaining contents g base leavers_first opened old new before after result
 
+  -- several at once, if there is more than one stream
   abbrev pub PushesAt : Pace → (opened : List (Opening I O)) → (old new : State J) → (before after : Option (List Done))
       → Result Tally RunFault → Type 0
   PushesAt pace opened old new before after result =
-      PushesBy pace.streams pace.leavers_first opened old new before after result
+      PushesBy (nat_lt 1 pace.streams) pace.leavers_first opened old new before after result

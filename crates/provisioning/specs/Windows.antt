@@ -137,15 +137,16 @@ module _ {I O J : Type 0} (remaining : I → Option (List ℕ))
   -- ---- what ends a run
 
   -- The cause of a fault: no stream was opened for the next record, or memory ran out; or a record that was under way
-  -- couldn't go on, or learning from its answer ended the run; or a record couldn't be reported. The other records are
-  -- these
+  -- couldn't go on, or learning from its answer ended the run; or a record that is done couldn't be reported. The other
+  -- records are these
   abbrev pub Causes : (last : List (Opening I O)) → Scene I O J → (rest : List (Track I O)) → (new : State J)
       → RunFault → Type 0
   Causes last scene rest new fault =
       ((rest ≡ scene.tracks) × (new ≡ scene.state) × IsUnmade last fault)
       ⊎ (((track : Track I O) × IsWith track rest scene.tracks
       × Advances remaining contents g base track last scene.state new (Err fault))
-      ⊎ ((track : Track I O) × IsWith track rest scene.tracks × (last ≡ []) × (new ≡ scene.state) × IsUntold fault))
+      ⊎ ((account : Account) × (standing : Standing) × IsWith (phases.Done account standing) rest scene.tracks
+      × (last ≡ []) × (new ≡ scene.state) × IsUntold fault))
 
   -- moves, until this fault ended the run
   pub record Stops (opened : List (Opening I O)) (told : List Done) (old : Scene I O J) (rest : List (Track I O))

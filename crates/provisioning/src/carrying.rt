@@ -6,8 +6,8 @@ ghost use Rattle.provisioning.specs.Openings.{Opens};
 use crate::dialing::Dial;
 use crate::faults::RunFault;
 use crate::offering::{Hear, offer_all};
-use crate::paces::{Pace, push_at};
-use crate::pushing::{Tally, push_all};
+use crate::paces::{IN_TURN, Pace, push_at};
+use crate::pushing::Tally;
 use crate::sources::Sources;
 use crate::telling::Tell;
 use connector_core::Connector;
@@ -48,13 +48,7 @@ pub fn carry<J: Journal, D: Dial, T: Hear + Tell>(
         D.Reader.remaining D.Writer.contents J.Journal T.heard T.told service.now sources.now
         opened connector.old connector.new teller.old teller.new result) }
 {
-    match offer_all(alloc, connector, sources, teller) {
-        Ok(is_taken) => {
-            let tally = push_all(alloc, service, connector, dial, teller);
-            outcome_of(is_taken, sources, tally)
-        }
-        Err(fault) => Err(fault),
-    }
+    carry_at(alloc, service, connector, sources, dial, teller, IN_TURN)
 }
 
 /// The same, but it pushes the records at a pace.

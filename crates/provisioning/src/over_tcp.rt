@@ -1,14 +1,16 @@
 //! The connector against the provider at an address.
-ghost use Rattle.provisioning.specs.Carrying.{CarriesSilentlyAt};
+ghost use Rattle.provisioning.specs.Carrying.{CarriesSilentlyAt, CarriesToldAt};
 ghost use Rattle.provisioning.specs.Quiet.{CarriesQuietly, Concludes};
 
 use crate::carrying::{Outcome, carry_at};
 use crate::faults::{RunFault, unwritten};
 use crate::lines::Lines;
+use crate::offering::Hear;
 use crate::paces::Pace;
 use crate::quiet::QuietLines;
 use crate::sockets::Remote;
 use crate::sources::Sources;
+use crate::telling::Tell;
 use crate::watching::{Explained, Explaining};
 use connection::TimedHandle;
 use connector_core::Connector;
@@ -37,30 +39,9 @@ pub fn push<'a, N: Net + Clock + Eprint, J: Journal, W: Write>(
         ⟦<TimedHandle<'a, N::Stream, N> as Write>⟧.contents J.Journal pace service.now sources.now
         connector.old connector.new result }
 {
-    let last = Cell::new(None);
-    let remote = Remote {
-        alloc,
-        runtime: rt,
-        address,
-    };
-    let mut explaining = Explaining {
-        dial: remote,
-        last: &last,
-    };
-    let mut lines = Explained {
-        teller: Lines { out, stderr: rt },
-        stderr: rt,
-        last: &last,
-    };
-    carry_at(
-        alloc,
-        service,
-        connector,
-        sources,
-        &mut explaining,
-        &mut lines,
-        pace,
-    )
+    let lines = Lines { out, stderr: rt };
+    let (carried, _lines) = carry_to(rt, alloc, service, connector, sources, pace, address, lines);
+    carried
 }
 
 /// The same, but it prints a line only for each record that isn't confirmed, and at the end how many records were
@@ -79,18 +60,38 @@ pub fn push_quietly<'a, N: Net + Clock + Eprint, J: Journal, W: Write>(
         ⟦<TimedHandle<'a, N::Stream, N> as Write>⟧.contents J.Journal pace service.now sources.now
         connector.old connector.new result }
 {
+    let lines = QuietLines::over(Lines { out, stderr: rt }, sources);
+    let (carried, lines) = carry_to(rt, alloc, service, connector, sources, pace, address, lines);
+    concluded(carried, lines)
+}
+
+/// The same, reported by a teller, which it returns.
+fn carry_to<'a, N: Net + Clock + Eprint, J: Journal, T: Hear + Tell + Drop>(
+    rt: &'a N,
+    alloc: Global,
+    service: &ScimService,
+    connector: &mut Connector<J>,
+    sources: &Sources,
+    pace: Pace,
+    address: &str,
+    teller: T,
+) -> (Result<Outcome, RunFault>, T)
+    ensures { CarriesToldAt ⟦<TimedHandle<'a, N::Stream, N> as Read>⟧.remaining
+        ⟦<TimedHandle<'a, N::Stream, N> as Write>⟧.contents J.Journal pace T.heard T.told
+        service.now sources.now connector.old connector.new result.0 }
+{
     let last = Cell::new(None);
     let remote = Remote {
         alloc,
         runtime: rt,
         address,
     };
-    let mut explaining = Explaining {
+    let mut dial = Explaining {
         dial: remote,
         last: &last,
     };
-    let mut lines = Explained {
-        teller: QuietLines::over(Lines { out, stderr: rt }, sources),
+    let mut explained = Explained {
+        teller,
         stderr: rt,
         last: &last,
     };
@@ -99,12 +100,12 @@ pub fn push_quietly<'a, N: Net + Clock + Eprint, J: Journal, W: Write>(
         service,
         connector,
         sources,
-        &mut explaining,
-        &mut lines,
+        &mut dial,
+        &mut explained,
         pace,
     );
-    let Explained { teller, .. } = lines;
-    concluded(carried, teller)
+    let Explained { teller, .. } = explained;
+    (carried, teller)
 }
 
 /// Prints the counts of a run that no fault ended.

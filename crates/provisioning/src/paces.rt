@@ -1,14 +1,12 @@
 //! Pushes every record, one after another or several at once.
-ghost use Rattle.std.specs.Prelude.{◌≡◌};
 ghost use Rattle.provisioning.specs.Onward.{Onward};
 ghost use Rattle.provisioning.specs.Openings.{Opens};
-ghost use Rattle.provisioning.specs.Paces.{PushesAt, PushesInTurn};
+ghost use Rattle.provisioning.specs.Paces.{PushesAt};
 
 use crate::abreast::push_all_abreast;
 use crate::dialing::Dial;
 use crate::faults::RunFault;
-use crate::orders::push_order;
-use crate::pushing::{Tally, push_each};
+use crate::pushing::{Tally, push_in_turn};
 use crate::telling::Tell;
 use connector_core::Connector;
 use journal_core::Journal;
@@ -27,6 +25,12 @@ pub struct Pace {
     pub leavers_first: bool,
 }
 
+/// One record after another, in the order of keys.
+pub(crate) const IN_TURN: Pace = Pace {
+    streams: 1,
+    leavers_first: false,
+};
+
 /// Makes exchanges for every record of the connector at this pace. With one stream, a record begins when the
 /// one before it is done.
 pub fn push_at<J: Journal, D: Dial, T: Tell>(
@@ -42,38 +46,19 @@ pub fn push_at<J: Journal, D: Dial, T: Tell>(
         connector.old connector.new (T.told teller.old) (T.told teller.new) result) }
     ensures onward { Onward connector.old.book connector.new.book }
 {
-    let Pace {
-        streams,
-        leavers_first,
-    } = pace;
-    match streams {
-        0 | 1 => push_in_turn(alloc, service, connector, dial, teller, leavers_first),
-        _ => push_all_abreast(
+    let leavers_first = pace.leavers_first;
+    if pace.streams > 1 {
+        let streams = pace.streams as usize;
+        push_all_abreast(
             alloc,
             service,
             connector,
             dial,
             teller,
             leavers_first,
-            streams as usize,
-        ),
+            streams,
+        )
+    } else {
+        push_in_turn(alloc, service, connector, dial, teller, leavers_first)
     }
-}
-
-/// Makes exchanges for every record of the connector, one after another.
-fn push_in_turn<J: Journal, D: Dial, T: Tell>(
-    alloc: Global,
-    service: &ScimService,
-    connector: &mut Connector<J>,
-    dial: &mut D,
-    teller: &mut T,
-    leavers_first: bool,
-) -> Result<Tally, RunFault>
-    ensures pushes { Opens (D.opened dial.old) (D.opened dial.new) (λ opened. PushesInTurn
-        D.Reader.remaining D.Writer.contents J.Journal service.now leavers_first opened
-        connector.old connector.new (T.told teller.old) (T.told teller.new) result) }
-    ensures onward { Onward connector.old.book connector.new.book }
-{
-    let names = push_order(alloc, connector, leavers_first)?;
-    push_each(alloc, service, connector, dial, teller, names.as_slice())
 }

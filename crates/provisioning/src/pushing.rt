@@ -2,11 +2,12 @@
 ghost use Rattle.std.specs.Prelude.{◌≡◌, ◌∷◌, [], IfErr, OnOk};
 ghost use Rattle.provisioning.specs.Onward.{Onward};
 ghost use Rattle.provisioning.specs.Openings.{Opens};
+ghost use Rattle.provisioning.specs.Paces.{PushesInTurn};
 ghost use Rattle.provisioning.specs.Runs.{IsUntold, PushesAll, PushesEach, Tells, is_confirmed, tally_with};
 
 use crate::dialing::Dial;
 use crate::faults::{RunFault, unwritten};
-use crate::orders::names_in_order;
+use crate::orders::push_order;
 use crate::records::{Pushed, Standing, push_record};
 use crate::telling::Tell;
 use connector_core::Connector;
@@ -61,12 +62,29 @@ pub fn push_all<J: Journal, D: Dial, T: Tell>(
         connector.old connector.new (T.told teller.old) (T.told teller.new) result) }
     ensures onward { Onward connector.old.book connector.new.book }
 {
-    let names = names_in_order(connector)?;
+    push_in_turn(alloc, service, connector, dial, teller, false)
+}
+
+/// The same, but users who left may come before the others.
+pub(crate) fn push_in_turn<J: Journal, D: Dial, T: Tell>(
+    alloc: Global,
+    service: &ScimService,
+    connector: &mut Connector<J>,
+    dial: &mut D,
+    teller: &mut T,
+    leavers_first: bool,
+) -> Result<Tally, RunFault>
+    ensures pushes { Opens (D.opened dial.old) (D.opened dial.new) (λ opened. PushesInTurn
+        D.Reader.remaining D.Writer.contents J.Journal service.now leavers_first opened
+        connector.old connector.new (T.told teller.old) (T.told teller.new) result) }
+    ensures onward { Onward connector.old.book connector.new.book }
+{
+    let names = push_order(alloc, connector, leavers_first)?;
     push_each(alloc, service, connector, dial, teller, names.as_slice())
 }
 
 /// Makes exchanges for these records, one after another.
-pub(crate) fn push_each<J: Journal, D: Dial, T: Tell>(
+fn push_each<J: Journal, D: Dial, T: Tell>(
     alloc: Global,
     service: &ScimService,
     connector: &mut Connector<J>,

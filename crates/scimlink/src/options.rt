@@ -161,6 +161,18 @@ static COMMANDS: &[CommandText] = &[
                 rule: Rule::Without("plan"),
                 help: Help::Text("prints only records that aren't confirmed, and counts"),
             },
+            OptionText {
+                name: "streams",
+                value: Value::Count,
+                rule: Rule::Without("plan"),
+                help: Help::Text("how many records are under way at once, one by default"),
+            },
+            OptionText {
+                name: "leavers-first",
+                value: Value::Nothing,
+                rule: Rule::Without("plan"),
+                help: Help::Text("carries users who left before the others"),
+            },
         ],
     },
     CommandText {

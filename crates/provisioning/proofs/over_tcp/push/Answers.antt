@@ -1,6 +1,8 @@
 use Rattle.provisioning.proofs.CarryLemmas.{silent}
+use Rattle.provisioning.specs.Paces.{PushesAt}
 use Rattle.provisioning.proofs.over_tcp.push.Goals as goal
 
--- nothing is known about the reporter, so any one may take the place of the first
 pub returns : goal.returns
-returns g c = silent _ _ g.J.Journal c.args.service.now c.args.sources.now c.carry.ensures.0 c.args.connector.now c.carry.new.connector c.carry.new.teller c.carry.new.teller c.carry.result c.carry.ensures.2
+returns g c =
+    let told = c.carry_to.ensures in
+    silent (PushesAt _ _ g.J.Journal c.args.service.now c.args.pace) g.J.Journal c.args.sources.now told.0 c.args.connector.now c.carry_to.new.connector told.1 told.2 c.carry_to.result.0 told.3

@@ -2,7 +2,7 @@ use Rattle.std.proofs.Common.{[], ap, Err, inl, inr, refl, rules}
 use Rattle.std.proofs.lemmas.Result.{err_from_is_err_and}
 use Rattle.provisioning.proofs.OnwardLemmas.{onward_still}
 use Rattle.provisioning.proofs.ListLemmas.{adds_none}
-use Rattle.provisioning.proofs.pushing.push_all.Goals as goal
+use Rattle.provisioning.proofs.pushing.push_in_turn.Goals as goal
 
 pub returns-in_err-names-clause-pushes : goal.returns-in_err-names-clause-pushes
 returns-in_err-names-clause-pushes g c =
