@@ -1,5 +1,5 @@
 -- The moves of a push at any pace.
-use Rattle.std.proofs.Common.{◌≡◌, ℕ, zero, suc, Bool, List, [], ◌∷◌, ◌++◌, Option, Some, None, Result, Ok, Err, refl, ap, sym, subst, inl, inr}
+use Rattle.std.proofs.Common.{◌≡◌, ℕ, nat_lt, Bool, true, false, List, [], ◌∷◌, ◌++◌, Option, Some, None, Result, Ok, Err, refl, ap, sym, subst, inl, inr}
 use Rattle.std.specs.List.{AllByRecursion}
 use Rattle.source_csv.specs.Records.{IsRow}
 use Rattle.journal_core.specs.declared.journals.Journal.{Ghosts as Journals}
@@ -67,11 +67,10 @@ module _ {J I O : Type 0} (P Q : Type 0) (h : Journals J) (received : I → Opti
         (among_then (streams_in one.moves) (streams_in more.moves) opened others one.streams more.streams);
   }
 
-  by_streams : (streams : ℕ) (leavers_first : Bool) (opened : List (Opening I O)) (old new : Connector J) (before after : Option (List Done)) (result : Result Tally RunFault)
-      → PushesBy received posted h base streams leavers_first opened old new before after result → Makes opened old.book new.book
-  by_streams zero leavers_first opened old new before after result pushes = as_abreast opened old.book new.book (in_turn_made P Q h received posted base leavers_first opened old new before after result pushes)
-  by_streams (suc zero) leavers_first opened old new before after result pushes = as_abreast opened old.book new.book (in_turn_made P Q h received posted base leavers_first opened old new before after result pushes)
-  by_streams (suc (suc more)) leavers_first opened old new before after result pushes = abreast_made P Q h received posted base leavers_first opened old new before after result pushes
+  several_made : (several leavers_first : Bool) (opened : List (Opening I O)) (old new : Connector J) (before after : Option (List Done)) (result : Result Tally RunFault)
+      → PushesBy received posted h base several leavers_first opened old new before after result → Makes opened old.book new.book
+  several_made false leavers_first opened old new before after result pushes = as_abreast opened old.book new.book (in_turn_made P Q h received posted base leavers_first opened old new before after result pushes)
+  several_made true leavers_first opened old new before after result pushes = abreast_made P Q h received posted base leavers_first opened old new before after result pushes
 
   pub pace_made : {T : Type 0} (heard : T → Option (List Judged)) (told : T → Option (List Done)) (pace : Pace) (sources : Sources) (opened : List (Opening I O)) (old new : Connector J) (before after : T)
       (result : Result Outcome RunFault) → CarriesAt received posted h pace heard told base sources opened old new before after result
@@ -79,7 +78,7 @@ module _ {J I O : Type 0} (P Q : Type 0) (h : Journals J) (received : I → Opti
   pace_made heard told pace sources opened old new before after result carries all = elim carries [
     | inl c ↦ then_makes [] opened old.book c.0.book new.book
         (as_abreast [] old.book c.0.book (offers_made P Q h received posted base sources old c.0 (heard before) (heard c.1) (Ok c.2) c.4 all))
-        (by_streams pace.streams pace.leavers_first opened c.0 new (told c.1) (told after) c.3 c.5)
+        (several_made (nat_lt 1 pace.streams) pace.leavers_first opened c.0 new (told c.1) (told after) c.3 c.5)
     | inr f ↦ subst (λ (l : List (Opening I O)). Makes l old.book new.book) (sym f.1)
         (as_abreast [] old.book new.book (offers_made P Q h received posted base sources old new (heard before) (heard after) (Err f.0) f.2 all))
   ]
