@@ -85,7 +85,7 @@ module _ {J I O : Type 0} (P Q : Type 0) (h : Journals J) (received : I → Opti
 
   -- ---- one move
 
-  begun_more : (first opened : List (Opening I O)) (told : List Done) (old new : Scene I O J) → IsBegun posted base first told old new → From opened new → From (first ++ opened) old
+  begun_more : (first opened : List (Opening I O)) (told : List Done) (old new : Scene I O J) → IsBegun received posted h base first told old new → From opened new → From (first ++ opened) old
   begun_more first opened told old new b from bs are apart =
       let so : AreApart (map name_of old.tracks ++ b.name ∷ new.waiting) = subst (λ (l : List RecordName). AreApart (map name_of old.tracks ++ l)) b.waiting apart in
       let away = apart_one b.name (names_of old.tracks new.waiting) (map name_of old.tracks ++ b.name ∷ new.waiting) (holds_between b.name (map name_of old.tracks) new.waiting) so in
@@ -110,7 +110,7 @@ module _ {J I O : Type 0} (P Q : Type 0) (h : Journals J) (received : I → Opti
       (begun P Q h received posted base last (faulted c.fault c.account) first opened c.track new.state.book c.begins out.1 (all_away c.account.name out.1 c.others old.waiting out.2 away.0)
       (makes_out P Q h received posted base last (c.track, set) out.1 into.0 opened new.state.book into.2 ends)))
 
-  reported_more : (first opened : List (Opening I O)) (told : List Done) (old new : Scene I O J) → IsReported first told old new → From opened new → From (first ++ opened) old
+  reported_more : (first opened : List (Opening I O)) (told : List Done) (old new : Scene I O J) → IsReported received posted h base first told old new → From opened new → From (first ++ opened) old
   reported_more first opened told old new r from bs are apart =
       let done = IsDone r.account r.standing in
       let out = take_out Sets bs new.tracks done (subst (λ (l : List (Track I O)). Holds done new.tracks l) (sym are) (holds_of done new.tracks old.tracks r.tracks)) in
@@ -120,7 +120,7 @@ module _ {J I O : Type 0} (P Q : Type 0) (h : Journals J) (received : I → Opti
       (makes_done P Q h received posted base last r.account r.standing out.0 out.1 (first ++ opened) old.state.book
       (makes_skip P Q h received posted base last first opened out.1 old.state.book (on_book opened out.1 old.state new.state r.state ends)))
 
-  moved_more : (first opened : List (Opening I O)) (told : List Done) (old new : Scene I O J) → IsMoved first told old new → From opened new → From (first ++ opened) old
+  moved_more : (first opened : List (Opening I O)) (told : List Done) (old new : Scene I O J) → IsMoved received posted h base first told old new → From opened new → From (first ++ opened) old
   moved_more first opened told old new m from bs are apart =
       let out = take_out Sets bs m.others m.track (subst (λ (l : List (Track I O)). Holds m.track m.others l) (sym are) (holds_of m.track m.others old.tracks m.before)) in
       let into = put_in Sets out.1 m.others new.tracks m.track out.0 out.2 (holds_of m.track m.others new.tracks m.after) in

@@ -230,7 +230,7 @@ module _ {J I O : Type 0} (P Q : Type 0) (h : Journals J) (received : I → Opti
   fits_apart name (b ∷ bs) waits apart (rest, inr (e, of, holds), fits) =
       all_of (λ (e : Asking I O). e.0 ≢ name) e rest waits holds (λ same. apart.0 (sym (named_so b e of) ∙ same)) (fits_apart name bs rest apart.1 fits)
 
-  pub set_out : (a : Account) (opened : List (Opening I O)) (book : BookMap) (track : Track I O) → Begins posted base a opened (book_of book) track → SetOut track
+  abbrev pub set_out : (a : Account) (opened : List (Opening I O)) (book : BookMap) (track : Track I O) → Begins posted base a opened (book_of book) track → SetOut track
   set_out a opened book (UnderWay later f) begins = (begins.stream, begins.set_out)
   set_out a opened book (IsDone later standing) begins = tt
 

@@ -1,4 +1,5 @@
 //! Laws of all traces, with nothing to run.
+ghost use Rattle.promise.specs.Abreast.{AbreastMovesAreTraces, PushAtPaceAndServeAreATrace, PushesAtPacesAreMoves, PushesInTurnAreMoves};
 ghost use Rattle.promise.specs.Calls.{ExchangesAreSteps, OffersAreSteps, ReopeningAfterChanges, ReopeningAfterExchanges, ReopeningIsAStep, ServingIsAStep};
 ghost use Rattle.promise.specs.Moves.{ListenersAreMoves, MovesAreTraces, PushAndServeAreATrace, PushesAreMoves};
 ghost use Rattle.promise.specs.Traces.{TracesAreRuns};
@@ -53,5 +54,20 @@ pub fn programs_are_traces<R: Registry, J: Journal, D: Dial, T: Hear + Tell, L: 
     ensures moves { MovesAreTraces R.Registry J.Journal D.Reader.remaining D.Writer.contents
         L.Reader.remaining L.Writer.contents }
     ensures together { PushAndServeAreATrace R.Registry J.Journal D.Reader.remaining
+        D.Writer.contents L.Reader.remaining L.Writer.contents T.heard T.told L.waiting }
+{}
+
+/// What a push at any pace does beside `serve` is a trace, also if it makes several exchanges at once. Each
+/// request is what the connector asks for when it is sent, and the answer is learnt on its stream, as the
+/// book is then; other records' requests and answers may lie between. A push that makes one exchange after
+/// another does nothing else meanwhile, in whichever order its records come.
+pub fn pushes_at_any_pace_are_traces<R: Registry, J: Journal, D: Dial, T: Hear + Tell, L: Listen>()
+    ensures in_turn { PushesInTurnAreMoves R.Registry J.Journal D.Reader.remaining D.Writer.contents
+        L.Reader.remaining L.Writer.contents T.heard T.told L.waiting }
+    ensures push { PushesAtPacesAreMoves R.Registry J.Journal D.Reader.remaining D.Writer.contents
+        L.Reader.remaining L.Writer.contents T.heard T.told L.waiting }
+    ensures moves { AbreastMovesAreTraces R.Registry J.Journal D.Reader.remaining D.Writer.contents
+        L.Reader.remaining L.Writer.contents }
+    ensures together { PushAtPaceAndServeAreATrace R.Registry J.Journal D.Reader.remaining
         D.Writer.contents L.Reader.remaining L.Writer.contents T.heard T.told L.waiting }
 {}
