@@ -32,7 +32,7 @@ use Rattle.provisioning.specs.declared.tracks.Track.{Track}
 use Rattle.provisioning.specs.declared.tracks.Track.TheVariants.{UnderWay, Done as IsDone}
 use Rattle.world_model.specs.World.{Asked}
 use Rattle.world_sim.specs.Fitting.{IsFormed}
-use Rattle.promise.specs.Abreast.{AbreastDoes}
+use Rattle.promise.specs.Abreast.{AbreastDoes, exchange_of}
 use Rattle.promise.specs.Moves.{AreAmong, Asking, Move, Move.asks, Move.hears, streams_in}
 use Rattle.promise.proofs.Bags.{Holds, all_of, either_first, holds_first, with_of}
 use Rattle.promise.proofs.Calls.{unsent}
@@ -105,6 +105,13 @@ module _ {I O : Type 0} (received : I → Option (List ℕ)) (posted : O → Opt
   asked_so written (Ok done) came starts spelled heard = asked_whole written came starts spelled heard
   asked_so written (Err fault) came starts spelled same = subst (λ (r : Result Answer ExchangeFault). IsAsked received posted base request reader writer r) (sym same) (asked_part written fault starts spelled)
 
+-- a request that was sent on this stream, and what came there
+pub asked_of : {I O : Type 0} (received : I → Option (List ℕ)) (posted : O → Option (List ℕ)) (base : List ℕ) (f : Flight I O) (stream : I × O) → IsSetOut posted base f.request stream f → (came : Result Answer ExchangeFault)
+    → IsHeard received f.request f.reader f.sent came → IsAsked received posted base f.request stream.0 stream.1 came
+asked_of {I} received posted base f stream set came heard =
+    asked_so received posted base f.request stream.0 stream.1 set.written f.sent came set.starts set.spelled
+    (subst (λ (r : I). IsHeard received f.request r f.sent came) set.reader_is heard)
+
 module _ {J I O : Type 0} (P Q : Type 0) (h : Journals J) (received : I → Option (List ℕ)) (posted : O → Option (List ℕ)) (base : List ℕ) (last : BookMap) where
   -- ---- the records that were begun
 
@@ -115,9 +122,6 @@ module _ {J I O : Type 0} (P Q : Type 0) (h : Journals J) (received : I → Opti
 
   abbrev pub Begun : Type 0
   Begun = (track : Track I O) × SetOut track
-
-  abbrev exchange_of : Flight I O → I × O → Came → Exchange I O
-  exchange_of f stream came = record { request = f.request; reader = stream.0; writer = stream.1; came = came }
 
   -- this exchange is that of the record
   abbrev IsExchangeOf : (track : Track I O) → SetOut track → Asking I O → Type 0
@@ -209,9 +213,7 @@ module _ {J I O : Type 0} (P Q : Type 0) (h : Journals J) (received : I → Opti
   pub heard : (a : Account) (f : Flight I O) (set : SetOut (UnderWay a f)) (bs : List Begun) (opened : List (Opening I O)) (old new : Connector J) (result : Result (Option RecordFault) RunFault)
       → IsLearnt received h f old new result → Makes opened bs new.book → Makes opened ((UnderWay a f, set) ∷ bs) old.book
   heard a f set bs opened old new result learnt m =
-      let said : IsHeard received f.request set.0.0 f.sent (answer_in learnt.came) = subst (λ (r : I). IsHeard received f.request r f.sent (answer_in learnt.came)) set.1.reader_is learnt.heard in
-      let asked : IsAsked received posted base f.request set.0.0 set.0.1 (answer_in learnt.came) =
-      asked_so received posted base f.request set.0.0 set.0.1 set.1.written f.sent (answer_in learnt.came) set.1.starts set.1.spelled said in
+      let asked = asked_of received posted base f set.0 set.1 (answer_in learnt.came) learnt.heard in
       elim (asked.spelled) [
         | inl none ↦ unspelled a f set bs opened old.book new.book (unsent h (text_of base f.request) f.request learnt.came (posted set.0.1) asked.written old new asked.sent none learnt.becomes) m
         | inr spells ↦ spelled a f set bs opened old new learnt.came spells asked learnt.becomes m

@@ -9,6 +9,7 @@ pub mod Traces
 pub mod Calls
 pub mod Pushes
 pub mod Flights
+pub mod Reopening
 pub mod Abreast
 pub mod Paces
 pub mod Moves

@@ -1,37 +1,49 @@
 -- What a push does at any pace, as a list of moves: several exchanges may be under way at once.
 use Rattle.std.specs.Prelude.{◌≡◌, ◌≢◌, ℕ, Bool, List, [], ◌∷◌, Option, Some, Result}
 use Rattle.std.specs.List.{AllByRecursion}
+use Rattle.scim_key.specs.declared.records.RecordName.{RecordName}
 use Rattle.scim_resource.specs.Rows.{StoredRecord}
 use Rattle.provider_core.specs.declared.registry.Registry.{Ghosts as Registries}
 use Rattle.connection.specs.declared.serving.ConnectionFault.{ConnectionFault}
 use Rattle.connection.specs.Listening.{Takes}
 use Rattle.connection.specs.Turns.{ServesTurns}
 use Rattle.source_csv.specs.Records.{IsRow}
+use Rattle.journal_core.specs.Entries.{EntryMap}
 use Rattle.journal_core.specs.declared.journals.Journal.{Ghosts as Journals}
 use Rattle.connector_core.specs.Asking.{asking}
 use Rattle.connector_core.specs.Changing.{taking}
 use Rattle.connector_core.specs.Maps.{BookMap, book_of}
-use Rattle.connector_core.specs.State.{State as Connector}
+use Rattle.connector_core.specs.State.{IsOpened, LeavesBook, State as Connector}
 use Rattle.connector_core.specs.declared.asking.Ask.TheVariants.{Send}
 use Rattle.provisioning.specs.Carrying.{CarriesAt, CarriesBy}
-use Rattle.provisioning.specs.Exchanges.{Becomes, IsAsked, answer_in}
+use Rattle.provisioning.specs.Exchanges.{Becomes, Came, Exchange, IsAsked, answer_in}
 use Rattle.provisioning.specs.Openings.{Opening}
 use Rattle.provisioning.specs.Paces.{PushesInTurn}
 use Rattle.provisioning.specs.Runs.{Done}
+use Rattle.provisioning.specs.Tracks.{IsLearnt, IsSetOut}
 use Rattle.provisioning.specs.Windows.{IsWith}
 use Rattle.provisioning.specs.declared.carrying.Outcome.{Outcome}
+use Rattle.provisioning.specs.declared.faults.RecordFault.{RecordFault}
 use Rattle.provisioning.specs.declared.faults.RunFault.{RunFault}
 use Rattle.provisioning.specs.declared.offering.Judged.{Judged}
 use Rattle.provisioning.specs.declared.paces.Pace.{Pace}
 use Rattle.provisioning.specs.declared.sources.Sources.{Sources}
+use Rattle.provisioning.specs.declared.tracks.Flight.{Flight}
+use Rattle.world_model.specs.Safe.{Has}
 use Rattle.world_model.specs.World.{Asked}
 use Rattle.world_sim.specs.Fitting.{IsFormed}
+use Rattle.promise.specs.Calls.{BringsReply}
 use Rattle.promise.specs.Moves.{AreAmong, AreKnown, Asking, Delivers, Interleaves, IsListener, IsPush, Move}
 use Rattle.promise.specs.Moves.{Move.offers, Move.asks, Move.hears, Move.serves, Reaches, ServeDoes}
 use Rattle.promise.specs.Moves.{rows_of_files, streams_in}
-use Rattle.promise.specs.Traces.{State}
+use Rattle.promise.specs.Traces.{State, Trace}
 
 -- ---- what a connector does
+
+-- the exchange of a request that is under way on this stream, if this comes
+abbrev pub exchange_of : {I O : Type 0} → Flight I O → I × O → Came → Exchange I O
+exchange_of f stream came =
+    record { request = f.request; reader = stream.0; writer = stream.1; came = came }
 
 -- An exchange is over: its request was sent on its stream, and the connector learns from what came there
 pub record IsOver {J I O : Type 0} (h : Journals J) (received : I → Option (List ℕ)) (posted : O → Option (List ℕ))
@@ -59,6 +71,13 @@ module _ {J I O P Q : Type 0} (h : Journals J) (received : I → Option (List �
       × (before.book ≡ book) × AbreastDoes moves others after.book last)
   AbreastDoes (serves c ∷ moves) waits book last = ⊥
 
+-- exchanges that are over, one after another, each on the connector that the one before left
+abbrev pub AreOver : {J I O : Type 0} → Journals J → (I → Option (List ℕ)) → (O → Option (List ℕ)) → List ℕ
+    → List (Asking I O) → (old new : Connector J) → Type 0
+AreOver h received posted base [] old new = new ≡ old
+AreOver {J} h received posted base (e ∷ es) old new = (between : Connector J)
+    × IsOver h received posted base e old between × AreOver h received posted base es between new
+
 -- the moves of a push at any pace, on streams among those that it opened
 pub record IsPushAbreast {J I O : Type 0} (P Q : Type 0) (h : Journals J) (received : I → Option (List ℕ))
     (posted : O → Option (List ℕ)) (base : List ℕ) (opened : List (Opening I O)) (book last : BookMap) : Type 0 where
@@ -78,6 +97,25 @@ module _ {R J I O P Q : Type 0} (g : Registries R) (h : Journals J) (received : 
       → ServeDoes g remaining contents base served old.rows rows → Interleaves pushed served all
       → Delivers received remaining base all old.sent old.written
       → Reaches g h received posted remaining contents base old book rows
+
+  -- What is learnt from the answer to a request that was sent on a stream is an exchange that is over
+  abbrev pub FlightsAreExchanges : Type 0
+  FlightsAreExchanges =
+      (base : List ℕ) (name : RecordName) (stream : I × O) (f : Flight I O) (before after : Connector J)
+      (result : Result (Option RecordFault) RunFault) → IsSetOut posted base f.request stream f
+      → IsLearnt received h f before after result
+      → (came : Came) × IsOver h received posted base (name, exchange_of f stream came) before after
+
+  -- The connector is opened again after exchanges that were under way at once, whether or not one of them failed and
+  -- shut the journal. Before the first of them, a stop left the book
+  abbrev pub ReopeningAfterSeveral : Type 0
+  ReopeningAfterSeveral =
+      (base : List ℕ) (mid : State) (es : List (Asking I O)) (before after : Connector J)
+      → AreOver h received posted base es before after → before.book ≡ mid.book
+      → AllByRecursion (λ e. Has mid.sent e.1.request × BringsReply received mid.written e.1.request e.1.reader) es
+      → LeavesBook h before → h.is_honest after.journal → (found : EntryMap) (book : BookMap)
+      → h.may_hold after.journal found → IsOpened found book
+      → Trace g h received posted remaining contents base mid (record mid { book = book })
 
   module _ {T L : Type 0} (heard : T → Option (List Judged)) (told : T → Option (List Done))
       (waiting : L → Option (List (P × Q))) where
