@@ -1,5 +1,5 @@
 -- The moves of a push that makes several exchanges at once.
-use Rattle.std.proofs.Common.{◌≡◌, ◌≢◌, ℕ, zero, suc, Bool, true, false, List, [], ◌∷◌, ◌++◌, map, take, drop, Option, Some, None, Result, Ok, Err, refl, ap, sym, subst, ◌∙◌, append_assoc, append-nil, inl, inr}
+use Rattle.std.proofs.Common.{◌≡◌, ◌≢◌, ℕ, Bool, true, false, List, [], ◌∷◌, ◌++◌, map, Option, Result, Ok, Err, refl, ap, sym, subst, ◌∙◌, append_assoc, append-nil, inl, inr}
 use Rattle.std.proofs.lemmas.List.{take-append-drop}
 use Rattle.std.specs.List.{AllByRecursion, prefix_len}
 use Rattle.std.specs.List.Sorted.{IsPermutation}
@@ -14,7 +14,7 @@ use Rattle.provisioning.specs.Orders.{IsPushOrder}
 use Rattle.provisioning.specs.Leavers.{is_switched_off}
 use Rattle.provisioning.specs.Runs.{Done}
 use Rattle.provisioning.specs.Tracks.{Advances, Begins, Closes, faulted, fresh}
-use Rattle.provisioning.specs.Windows.{AllMoved, AreMoves, Causes, IsBegun, IsContinued, IsMove, IsMoved, IsReported, IsWith, LooksThrough, PartMoved, Point, PushesAbreast, Scene, Stops, at_start, name_of, names_in}
+use Rattle.provisioning.specs.Windows.{AllMoved, AreMoves, Causes, IsBegun, IsContinued, IsMove, IsMoved, IsReported, IsWith, LooksThrough, PartMoved, Point, PushesAbreast, Scene, at_start, name_of, names_in}
 use Rattle.provisioning.specs.declared.faults.RunFault.{RunFault}
 use Rattle.provisioning.specs.declared.pushing.Tally.{Tally}
 use Rattle.provisioning.specs.declared.tracks.Account.{Account}

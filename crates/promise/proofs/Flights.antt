@@ -1,5 +1,5 @@
 -- A push that makes several exchanges at once, from its end to its beginning: each request that is under way waits for what came.
-use Rattle.std.proofs.Common.{◌≡◌, ◌≢◌, ◌⊎◌, ℕ, List, [], ◌∷◌, ◌++◌, map, Option, Some, None, Result, Ok, Err, refl, ap, sym, subst, ◌∙◌, append_assoc, append-nil, inl, inr}
+use Rattle.std.proofs.Common.{◌≡◌, ◌≢◌, ◌⊎◌, ℕ, List, [], ◌∷◌, ◌++◌, map, Option, Some, Result, Ok, Err, refl, ap, sym, subst, ◌∙◌, inl, inr}
 use Rattle.std.specs.List.{AllByRecursion}
 use Rattle.scim_key.specs.declared.records.RecordName.{RecordName}
 use Rattle.scim_message.specs.declared.messages.Answer.{Answer}
@@ -18,7 +18,7 @@ use Rattle.connector_core.specs.Asking.{asking}
 use Rattle.connector_core.specs.Maps.{BookMap, book_of}
 use Rattle.connector_core.specs.State.{State as Connector}
 use Rattle.connector_core.specs.declared.asking.Ask.TheVariants.{Send}
-use Rattle.provisioning.specs.Exchanges.{Becomes, Came, Exchange, IsAsked, answer_in, opening_of}
+use Rattle.provisioning.specs.Exchanges.{Becomes, Came, IsAsked, answer_in}
 use Rattle.provisioning.specs.Halves.{IsReply, Starts}
 use Rattle.provisioning.specs.Openings.{Opening}
 use Rattle.provisioning.specs.Tracks.{Begins, IsHeard, IsLearnt, IsReadFrom, IsSetOut, SetsOut}

@@ -1,5 +1,5 @@
 -- The names of a connector's records are apart, in whichever order they are pushed.
-use Rattle.std.proofs.Common.{◌≡◌, ◌≢◌, ◌++◌, Bool, true, false, not, ◌&&◌, List, [], ◌∷◌, map, take, drop, refl, ap, sym, ◌∙◌, subst, Ordering, Less, Equal, Greater}
+use Rattle.std.proofs.Common.{◌≡◌, ◌≢◌, ◌++◌, Bool, true, false, not, ◌&&◌, List, [], ◌∷◌, map, refl, sym, subst, Ordering, Less, Equal, Greater}
 use Rattle.std.proofs.lemmas.List.Sorted.{IsPermutation-filter_both, IsPermutation-trans}
 use Rattle.std.proofs.lemmas.Map.Keys.{IsDistinct-from_sorted, IsDistinct-IsPermutation}
 use Rattle.std.specs.Cmp.{eq_by_cmp_equiv}

@@ -1,5 +1,5 @@
 -- The moves of a push at any pace.
-use Rattle.std.proofs.Common.{◌≡◌, ℕ, nat_lt, Bool, true, false, List, [], ◌∷◌, ◌++◌, Option, Some, None, Result, Ok, Err, refl, ap, sym, subst, inl, inr}
+use Rattle.std.proofs.Common.{ℕ, nat_lt, Bool, true, false, List, [], ◌∷◌, ◌++◌, Option, Some, None, Result, Ok, Err, refl, ap, sym, subst, inl, inr}
 use Rattle.std.specs.List.{AllByRecursion}
 use Rattle.source_csv.specs.Records.{IsRow}
 use Rattle.journal_core.specs.declared.journals.Journal.{Ghosts as Journals}
@@ -8,7 +8,7 @@ use Rattle.connector_core.specs.Maps.{BookMap}
 use Rattle.connector_core.specs.State.{State as Connector}
 use Rattle.provisioning.specs.Carrying.{CarriesAt}
 use Rattle.provisioning.specs.Openings.{Opening}
-use Rattle.provisioning.specs.Paces.{PushesAt, PushesBy}
+use Rattle.provisioning.specs.Paces.{PushesBy}
 use Rattle.provisioning.specs.Runs.{Done}
 use Rattle.provisioning.specs.declared.carrying.Outcome.{Outcome}
 use Rattle.provisioning.specs.declared.faults.RunFault.{RunFault}
