@@ -78,6 +78,6 @@ pub fn pushes_at_any_pace_are_traces<R: Registry, J: Journal, D: Dial, T: Hear +
 pub fn several_exchanges_are_steps<R: Registry, J: Journal, I: Read, O: Write, P: Read, Q: Write>()
     ensures over { FlightsAreExchanges R.Registry J.Journal I.remaining O.contents P.remaining
         Q.contents }
-    ensures reopening { ReopeningAfterSeveral R.Registry J.Journal I.remaining O.contents P.remaining
-        Q.contents }
+    ensures reopening { ReopeningAfterSeveral R.Registry J.Journal I.remaining O.contents
+        P.remaining Q.contents }
 {}
