@@ -1,4 +1,6 @@
 pub mod Lists
+pub mod Bags
+pub mod Names
 pub mod Typed
 pub mod Promises
 pub mod Errors
@@ -6,4 +8,8 @@ pub mod Bytes
 pub mod Traces
 pub mod Calls
 pub mod Pushes
+pub mod Flights
+pub mod Reopening
+pub mod Abreast
+pub mod Paces
 pub mod Moves

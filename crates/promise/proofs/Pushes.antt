@@ -1,5 +1,5 @@
 -- The moves of a push.
-use Rattle.std.proofs.Common.{◌≡◌, ℕ, Bool, List, [], ◌∷◌, ◌++◌, map, Option, Some, None, Result, Ok, Err, refl, ap, sym, subst, ◌∙◌, append_assoc, inl, inr}
+use Rattle.std.proofs.Common.{◌≡◌, ℕ, Bool, false, List, [], ◌∷◌, ◌++◌, map, Option, Some, None, Result, Ok, Err, refl, ap, sym, subst, ◌∙◌, append_assoc, inl, inr}
 use Rattle.std.specs.List.{AllByRecursion}
 use Rattle.scim_key.specs.declared.records.RecordName.{RecordName}
 use Rattle.scim_key.specs.declared.records.Kind.{Kind}
@@ -11,12 +11,13 @@ use Rattle.journal_core.specs.declared.journals.Journal.{Ghosts as Journals}
 use Rattle.connector_core.specs.Changing.{taking, taking_all}
 use Rattle.connector_core.specs.Maps.{BookMap}
 use Rattle.connector_core.specs.State.{State as Connector}
-use Rattle.provisioning.specs.Carrying.{Carries}
+use Rattle.provisioning.specs.Carrying.{Carries, CarriesBy}
 use Rattle.provisioning.specs.Exchanges.{Exchange, IsExchange, opening_of, openings_of}
 use Rattle.provisioning.specs.Offering.{OffersAll, OffersFile, OffersGroups, rows_in}
 use Rattle.provisioning.specs.Openings.{Opening}
+use Rattle.provisioning.specs.Paces.{PushesInTurn}
 use Rattle.provisioning.specs.Records.{AreExchanges, Ends, EndsRun, IsPushed}
-use Rattle.provisioning.specs.Runs.{AreDone, Done, EndsAt, PushesAll, PushesEach}
+use Rattle.provisioning.specs.Runs.{AreDone, Done, EndsAt, PushesEach}
 use Rattle.provisioning.specs.Sources.{records_of}
 use Rattle.provisioning.specs.declared.carrying.Outcome.{Outcome}
 use Rattle.provisioning.specs.declared.faults.RunFault.{RunFault}
@@ -34,16 +35,16 @@ all_split : {X : Type 0} (F : X → Type 0) (xs ys : List X) → AllByRecursion 
 all_split F [] ys all = (tt, all)
 all_split F (x ∷ xs) ys all = let more = all_split F xs ys all.1 in ((all.0, more.0), more.1)
 
-among_skip : {X : Type 0} (first xs all : List X) → AreAmong xs all → AreAmong xs (first ++ all)
+pub among_skip : {X : Type 0} (first xs all : List X) → AreAmong xs all → AreAmong xs (first ++ all)
 among_skip first [] all are = tt
 among_skip first (x ∷ xs) all are = (first ++ are.0, are.1, ap (λ l. first ++ l) are.2 ∙ sym (append_assoc first are.0 (x ∷ are.1)), are.3)
 
-among_then : {X : Type 0} (xs ys all more : List X) → AreAmong xs all → AreAmong ys more → AreAmong (xs ++ ys) (all ++ more)
+pub among_then : {X : Type 0} (xs ys all more : List X) → AreAmong xs all → AreAmong ys more → AreAmong (xs ++ ys) (all ++ more)
 among_then [] ys all more are others = among_skip all ys more others
 among_then (x ∷ xs) ys all more are others =
     (are.0, are.1 ++ more, ap (λ l. l ++ more) are.2 ∙ append_assoc are.0 (x ∷ are.1) more, among_then xs ys are.1 more are.3 others)
 
-streams_then : {I O P Q : Type 0} (ms ns : List (Move I O P Q)) → streams_in (ms ++ ns) ≡ streams_in ms ++ streams_in ns
+pub streams_then : {I O P Q : Type 0} (ms ns : List (Move I O P Q)) → streams_in (ms ++ ns) ≡ streams_in ms ++ streams_in ns
 streams_then [] ns = refl
 streams_then (offers row ∷ ms) ns = streams_then ms ns
 streams_then (asks e ∷ ms) ns = ap (λ l. opening_of e.1 ∷ l) (streams_then ms ns)
@@ -142,9 +143,9 @@ module _ {J I O : Type 0} (P Q : Type 0) (h : Journals J) (received : I → Opti
         | inr untold ↦ unchanged part.last part.between new untold.1
       ]
 
-  all_made : (opened : List (Opening I O)) (old new : Connector J) (before after : Option (List Done)) (result : Result Tally RunFault)
-      → PushesAll received posted h base opened old new before after result → Makes opened old.book new.book
-  all_made opened old new before after result pushes = elim pushes [
+  pub in_turn_made : (leavers_first : Bool) (opened : List (Opening I O)) (old new : Connector J) (before after : Option (List Done)) (result : Result Tally RunFault)
+      → PushesInTurn received posted h base leavers_first opened old new before after result → Makes opened old.book new.book
+  in_turn_made leavers_first opened old new before after result pushes = elim pushes [
     | inl some ↦ each_made some.0 opened old new before after result some.2
     | inr none ↦ unchanged opened old new none.2
   ]
@@ -180,7 +181,7 @@ module _ {J I O : Type 0} (P Q : Type 0) (h : Journals J) (received : I → Opti
   groups_made None old new before after result none all = unchanged [] old new none.0
   groups_made (Some source) old new before after result so all = file_made source.kind (records_of source) old new before after result so all
 
-  offers_made : (sources : Sources) (old new : Connector J) (before after : Option (List Judged)) (result : Result Bool RunFault)
+  pub offers_made : (sources : Sources) (old new : Connector J) (before after : Option (List Judged)) (result : Result Bool RunFault)
       → OffersAll h sources old new before after result → AllByRecursion IsRow (rows_of_files sources) → Makes [] old.book new.book
   offers_made sources old new before after result so all =
       let split = all_split IsRow (rows_in (records_of sources.users)) (rows_if sources.groups) all in
@@ -193,12 +194,17 @@ module _ {J I O : Type 0} (P Q : Type 0) (h : Journals J) (received : I → Opti
 
   -- ---- a push
 
+  pub turn_made : {T : Type 0} (heard : T → Option (List Judged)) (told : T → Option (List Done)) (leavers_first : Bool) (sources : Sources) (opened : List (Opening I O)) (old new : Connector J) (before after : T)
+      (result : Result Outcome RunFault) → CarriesBy (PushesInTurn received posted h base leavers_first) h heard told sources opened old new before after result
+      → AllByRecursion IsRow (rows_of_files sources) → Makes opened old.book new.book
+  turn_made heard told leavers_first sources opened old new before after result carries all = elim carries [
+    | inl c ↦ both [] opened old.book c.0.book new.book
+        (offers_made sources old c.0 (heard before) (heard c.1) (Ok c.2) c.4 all)
+        (in_turn_made leavers_first opened c.0 new (told c.1) (told after) c.3 c.5)
+    | inr f ↦ on_streams opened [] old.book new.book f.1 (offers_made sources old new (heard before) (heard after) (Err f.0) f.2 all)
+  ]
+
   pub push_made : {T : Type 0} (heard : T → Option (List Judged)) (told : T → Option (List Done)) (sources : Sources) (opened : List (Opening I O)) (old new : Connector J) (before after : T)
       (result : Result Outcome RunFault) → Carries received posted h heard told base sources opened old new before after result
       → AllByRecursion IsRow (rows_of_files sources) → Makes opened old.book new.book
-  push_made heard told sources opened old new before after result carries all = elim carries [
-    | inl c ↦ both [] opened old.book c.0.book new.book
-        (offers_made sources old c.0 (heard before) (heard c.1) (Ok c.2) c.4 all)
-        (all_made opened c.0 new (told c.1) (told after) c.3 c.5)
-    | inr f ↦ on_streams opened [] old.book new.book f.1 (offers_made sources old new (heard before) (heard after) (Err f.0) f.2 all)
-  ]
+  push_made heard told sources opened old new before after result carries all = turn_made heard told false sources opened old new before after result carries all

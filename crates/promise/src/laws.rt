@@ -1,4 +1,5 @@
 //! Laws of all traces, with nothing to run.
+ghost use Rattle.promise.specs.Abreast.{AbreastMovesAreTraces, FlightsAreExchanges, PushAtPaceAndServeAreATrace, PushesAtPacesAreMoves, PushesInTurnAreMoves, ReopeningAfterSeveral};
 ghost use Rattle.promise.specs.Calls.{ExchangesAreSteps, OffersAreSteps, ReopeningAfterChanges, ReopeningAfterExchanges, ReopeningIsAStep, ServingIsAStep};
 ghost use Rattle.promise.specs.Moves.{ListenersAreMoves, MovesAreTraces, PushAndServeAreATrace, PushesAreMoves};
 ghost use Rattle.promise.specs.Traces.{TracesAreRuns};
@@ -54,4 +55,29 @@ pub fn programs_are_traces<R: Registry, J: Journal, D: Dial, T: Hear + Tell, L: 
         L.Reader.remaining L.Writer.contents }
     ensures together { PushAndServeAreATrace R.Registry J.Journal D.Reader.remaining
         D.Writer.contents L.Reader.remaining L.Writer.contents T.heard T.told L.waiting }
+{}
+
+/// What a push at any pace does beside `serve` is a trace, also if it makes several exchanges at once. Each
+/// request is what the connector asks for when it is sent, and the answer is learnt on its stream, as the
+/// book is then; other records' requests and answers may lie between. A push that makes one exchange after
+/// another does nothing else meanwhile, in whichever order its records come.
+pub fn pushes_at_any_pace_are_traces<R: Registry, J: Journal, D: Dial, T: Hear + Tell, L: Listen>()
+    ensures in_turn { PushesInTurnAreMoves R.Registry J.Journal D.Reader.remaining D.Writer.contents
+        L.Reader.remaining L.Writer.contents T.heard T.told L.waiting }
+    ensures push { PushesAtPacesAreMoves R.Registry J.Journal D.Reader.remaining D.Writer.contents
+        L.Reader.remaining L.Writer.contents T.heard T.told L.waiting }
+    ensures moves { AbreastMovesAreTraces R.Registry J.Journal D.Reader.remaining D.Writer.contents
+        L.Reader.remaining L.Writer.contents }
+    ensures together { PushAtPaceAndServeAreATrace R.Registry J.Journal D.Reader.remaining
+        D.Writer.contents L.Reader.remaining L.Writer.contents T.heard T.told L.waiting }
+{}
+
+/// The calls of a push that makes several exchanges at once: what is learnt from an answer on the stream of
+/// its request is an exchange that is over; and if a fault shut the journal meanwhile, the connector that is
+/// opened again has a book to which a trace leads.
+pub fn several_exchanges_are_steps<R: Registry, J: Journal, I: Read, O: Write, P: Read, Q: Write>()
+    ensures over { FlightsAreExchanges R.Registry J.Journal I.remaining O.contents P.remaining
+        Q.contents }
+    ensures reopening { ReopeningAfterSeveral R.Registry J.Journal I.remaining O.contents
+        P.remaining Q.contents }
 {}

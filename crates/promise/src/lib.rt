@@ -3,4 +3,7 @@
 
 mod laws;
 
-pub use laws::{calls_are_steps, programs_are_traces, traces_are_runs, typed_traces_are_runs};
+pub use laws::{
+    calls_are_steps, programs_are_traces, pushes_at_any_pace_are_traces,
+    several_exchanges_are_steps, traces_are_runs, typed_traces_are_runs,
+};
