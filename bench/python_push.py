@@ -1,10 +1,14 @@
-"""The work of `push` by Python's own modules, for bench/serve.py: python_push.py USERS JOURNAL HOST:PORT.
+"""The work of `push` by Python's own modules, for serve.py and streams.py:
+
+    python_push.py USERS JOURNAL HOST:PORT [WORKERS]
 
 All rows are entries of the journal, by one commit, before anything is sent. Then each record is looked
 for, created where it isn't there, and confirmed in the journal by a commit of its own. Each record is
-told as soon as it is done.
+told as soon as it and all before it are done. WORKERS, 1 by default, are threads that look and create.
 """
+import concurrent.futures
 import csv
+import functools
 import http.client
 import json
 import sys
@@ -41,27 +45,30 @@ def exchange(to, method, path, body=None):
     return response.status, answer
 
 
-def push(journal, to, row):
+def carry(to, row):
+    """Looks for a user and creates it: its id."""
     sought = urllib.parse.quote(f'userName eq "{row["login"]}"')
     status, found = exchange(to, "GET", f"/v2/Users?filter={sought}")
     assert (status, found["totalResults"]) == (200, 0), found
     status, made = exchange(to, "POST", "/v2/Users", content(row))
     assert (status, made["userName"]) == (201, row["login"]), made
-    journal.execute(PUT, (row["login"], json.dumps(row), int(row["revision"]), made["id"]))
-    print(f"user {row['login']} confirmed {row['revision']}", flush=True)
+    return made["id"]
 
 
 def main():
-    users, path, to = sys.argv[1:]
+    users, path, to, workers = [*sys.argv[1:], "1"][:4]
     journal = stores.connect(path)
     journal.execute("CREATE TABLE entry (name TEXT PRIMARY KEY, row TEXT NOT NULL, confirmed INTEGER NOT NULL, id TEXT)")
     with open(users, encoding="utf-8", newline="") as file:
-        rows = list(csv.DictReader(file))
+        rows = sorted(csv.DictReader(file), key=lambda row: row["login"])
     journal.execute("BEGIN")
     journal.executemany(PUT, ((row["login"], json.dumps(row), 0, None) for row in rows))
     journal.execute("COMMIT")
-    for row in sorted(rows, key=lambda row: row["login"]):
-        push(journal, to, row)
+    with concurrent.futures.ThreadPoolExecutor(int(workers)) as pool:
+        carried = pool.map(functools.partial(carry, to), rows) if workers != "1" else (carry(to, row) for row in rows)
+        for row, id in zip(rows, carried):
+            journal.execute(PUT, (row["login"], json.dumps(row), int(row["revision"]), id))
+            print(f"user {row['login']} confirmed {row['revision']}", flush=True)
 
 
 main()

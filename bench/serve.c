@@ -1,5 +1,5 @@
 #define _GNU_SOURCE
-/* Both ends of a measurement, for bench/serve.py and bench/slow.py:
+/* Both ends of a measurement, for bench/serve.py, bench/slow.py and bench/streams.py:
  *   serve load PORT CLIENTS COUNT STEP AMONG STATUS REQUEST
  *       asks so many times from so many clients at once, a connection each, wants this status each
  *       time, and prints the seconds. The n-th asking has the number (n * STEP) % AMONG; eight `@` in
@@ -15,8 +15,11 @@
  *       what a push of so many new users asks of the system and of SQLite, and nothing else: a row for
  *       each user in one commit, and then for each a search, a creation, a commit of what came of
  *       them, and a line. It needs -DSTORE -lsqlite3 too.
+ *   serve hold PORT MILLISECONDS
+ *       prints a port, and answers each connection as the provider at PORT does, but so long after it came.
  */
 #include <arpa/inet.h>
+#include <poll.h>
 #include <pthread.h>
 #include <stdio.h>
 #include <stdlib.h>
@@ -67,11 +70,17 @@ static void put(const struct text *form, char *request, const char *marks, const
     for (; (mark = memmem(mark, form->bytes + form->length - mark, marks, wide)); mark += wide) memcpy(request + (mark - form->bytes), digits, wide);
 }
 
-/* Asks on a connection of its own, and wants an answer with this status. */
-static void ask(const char *request, size_t length, char *taken, const char *wanted) {
+static int connected(void) {
     struct sockaddr_in to = {.sin_family = AF_INET, .sin_port = htons(port), .sin_addr.s_addr = htonl(INADDR_LOOPBACK)};
     int peer = socket(AF_INET, SOCK_STREAM, 0);
-    if (connect(peer, (struct sockaddr *)&to, sizeof to) || write(peer, request, length) != (ssize_t)length) fail(3);
+    if (connect(peer, (struct sockaddr *)&to, sizeof to)) fail(3);
+    return peer;
+}
+
+/* Asks on a connection of its own, and wants an answer with this status. */
+static void ask(const char *request, size_t length, char *taken, const char *wanted) {
+    int peer = connected();
+    if (write(peer, request, length) != (ssize_t)length) fail(3);
     size_t got = 0;
     for (ssize_t more; (more = read(peer, taken + got, ANSWER_ROOM - got)) > 0;) got += more;
     close(peer);
@@ -230,7 +239,8 @@ static void answer(int peer, int n, int stores) {
     if (write(peer, text.bytes, text.length) < 0) fail(4);
 }
 
-static int limit(int stores) {
+/* Listens, and prints where. */
+static int listening(void) {
     struct sockaddr_in at = {.sin_family = AF_INET, .sin_addr.s_addr = htonl(INADDR_LOOPBACK)};
     socklen_t size = sizeof at;
     int one = 1, listener = socket(AF_INET, SOCK_STREAM, 0);
@@ -239,6 +249,36 @@ static int limit(int stores) {
     getsockname(listener, (struct sockaddr *)&at, &size);
     printf("listening 127.0.0.1:%d\n", ntohs(at.sin_port));
     fflush(stdout);
+    return listener;
+}
+
+static double delay;
+
+/* Hands a request on, and the answer back, not before its time. */
+static void *hold(void *place) {
+    char part[ROOM], taken[ROOM];
+    double due = seconds() + delay;
+    struct pollfd ends[] = {{.fd = (long)place, .events = POLLIN}, {.fd = connected(), .events = POLLIN}};
+    ssize_t got = 0;
+    for (ssize_t more; poll(ends, 2, -1) > 0 && !ends[1].revents;)
+        if ((more = read(ends[0].fd, part, sizeof part)) <= 0) ends[0].fd = -1;
+        else if (write(ends[1].fd, part, more) != more) fail(4);
+    for (ssize_t more; (more = read(ends[1].fd, taken + got, sizeof taken - got)) > 0;) got += more;
+    close(ends[1].fd);
+    if (due > seconds()) usleep((due - seconds()) * 1e6);
+    if (write((long)place, taken, got) != got) fail(4);
+    close((long)place);
+    return 0;
+}
+
+static void holding(void) {
+    pthread_t thread;
+    for (int listener = listening();;)
+        if (pthread_create(&thread, 0, hold, (void *)(long)accept(listener, 0, 0)) || pthread_detach(thread)) fail(3);
+}
+
+static int limit(int stores) {
+    int listener = listening();
     for (int n = 0; n < count; n++) {
         int peer = accept(listener, 0, 0);
         answer(peer, n, stores);
@@ -258,6 +298,10 @@ int main(int words, char **word) {
         port = atoi(word[2]), clients = atoi(word[3]), status = word[5];
         take_text(&text, word[6]);
         return waiting(atof(word[4]));
+    }
+    if (words == 4 && !strcmp(word[1], "hold")) {
+        port = atoi(word[2]), delay = atoi(word[3]) / 1e3;
+        holding();
     }
 #ifdef STORE
     if (words == 7 && !strcmp(word[1], "push")) {

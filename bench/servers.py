@@ -101,9 +101,9 @@ class Servers:
         change = [store, kind, users] if store and kind else []
         return [self.tool, "limit", count, self.room / "answer", *change]
 
-    def start(self, words):
+    def start(self, words, env=None):
         """Starts a server: its run, and its port."""
-        run = subprocess.Popen([str(word) for word in words], stdout=subprocess.PIPE, text=True)
+        run = subprocess.Popen([str(word) for word in words], stdout=subprocess.PIPE, text=True, env=env)
         return run, run.stdout.readline().rpartition(":")[2].strip()
 
     @contextlib.contextmanager

@@ -67,6 +67,8 @@ class Trial:
         self.after = self.note(self.provider.search(self.name), self.revision_after())
         if SOURCE in self.extensions:
             self.in_epoch = self.replace(id, IN_EPOCH, False, self.version())
+            if is_success(self.in_epoch):
+                self.note(self.provider.read(id), IN_EPOCH)
 
     # ---- requests
 
@@ -225,6 +227,9 @@ def source_extension(trial):
         return NOT_MET, "The user is shown without its revision. Joiners get an account, and leavers keep it: C1"
     if any(shown != wanted for shown, wanted in revisions if wanted != IN_EPOCH):
         return NOT_MET, "The user is shown with another revision than it was given. Leavers keep their accounts"
+    if not is_success(trial.in_epoch):
+        told = f"But a revision with an epoch is answered {trial.in_epoch.detail}: use revisions without one"
+        return MET, f"push sees which revision an account has. {told}"
     in_epoch = [shown for shown, wanted in revisions if wanted == IN_EPOCH]
     if set(in_epoch) != {IN_EPOCH}:
         return MET, "push sees which revision an account has. But epochs aren't kept: use revisions without one"

@@ -374,6 +374,9 @@ def contents(path):
 
 # ---- assertions
 
+# The line of one fault of a connection to a provider, and that of several
+CONNECTION_FAULTS = re.compile(r"connection fault(?: \(([2-9]|[1-9][0-9]+)\))?")
+
 
 def without_causes(errors):
     """Standard error without the second lines of faults, which test_faults_told.py asserts, and without what a push
@@ -424,5 +427,12 @@ class ProgramTest(unittest.TestCase):
         """A provider that has ended after this many connections, some of which had a fault."""
         with Provider(requests, *options) as provider:
             yield provider
-            faults = ["connection fault"] * connection_faults
-            self.assert_prints(provider.ends(), status=3 if faults else 0, errors=faults)
+            ended = provider.ends()
+            self.assertEqual((ended.output, self.connection_faults(ended)), (b"", connection_faults))
+            self.assertEqual(ended.status, 3 if connection_faults else 0)
+
+    def connection_faults(self, run):
+        """How many faults of connections a provider reported. It reported nothing else."""
+        counts = [CONNECTION_FAULTS.fullmatch(line) for line in run.errors.splitlines()]
+        self.assertTrue(all(counts), run.errors)
+        return sum(int(count[1] or 1) for count in counts)

@@ -1,9 +1,9 @@
-"""What `push` says on standard error about the answers that it couldn't use."""
+"""What `push` says on standard error about the faults of exchanges."""
 import pathlib
 import tempfile
 
 from exchanges import ERROR
-from peers import NO_HITS, TAKEN, PeerTest, answer, hits, user
+from peers import NO_HITS, TAKEN, PeerTest, answer, head, hits, reset, user
 from support import Site
 
 HTML = b"<html><body>Sign in</body></html>"
@@ -19,7 +19,9 @@ SEARCHES = [
     (answer(401), "C4", "401"),
     (refusal(401, "token expired"), "C4", '401, "token expired"'),
     (answer(401, {"detail": "token expired"}), "C4", "401"),
-    (refusal(429, "slow down", Retry_After="120"), "C4", '429, "slow down"'),
+    (refusal(429, "slow down", Retry_After="120"), "C4", '429, "slow down", Retry-After: 120'),
+    (answer(503, Retry_After="Mon, 30 Nov 2026 07:00:00 GMT"), "C4", "503, Retry-After: Mon, 30 Nov 2026 07:00:00 GMT"),
+    (refusal(403, "not you", Retry_After="120"), "C4", '403, "not you"'),
     (answer(503, HTML, Content_Type="text/html"), "C4", "503"),
     (answer(500, b"x" * 100_000), "C4", "500"),
     (refusal(400, ""), "C4", "400"),
@@ -37,6 +39,26 @@ SEARCHES = [
     (hits(user("bob", 3)), "C1", "revision 3 is above the wanted 2"),
     (hits(user("bob", 1, None)), "C2", "no entity tag in meta.version"),
     (hits(user("bob", 1, "v1")), "C2", "no entity tag in meta.version"),
+    # what isn't a response with a length
+    (b"SSH-2.0-OpenSSH_9.2\r\n", "K1", r'not one HTTP response: "SSH-2.0-OpenSSH_9.2\x0D\x0A"'),
+    (head(200, Transfer_Encoding="chunked") + b"2\r\n{}\r\n", "K1", "200 with Transfer-Encoding: chunked"),
+    (head(200) + b"{}", "K1", "200 without Content-Length"),
+    (
+        head(200, Content_Length=8_388_609) + b"{}",
+        "K1",
+        "200 with Content-Length: 8388609, repeated, no number, or above 8388608",
+    ),
+    (answer(302, Location="https://idp.example/"), "K2", "302, Location: https://idp.example/"),
+    (answer(204, Link="x" * 4_096), "K2", "the head has more than 4096 bytes"),
+    # bodies that aren't an answer
+    (answer(204), "K2", "204 without a JSON body"),
+    (answer(200, HTML, Content_Type="text/html"), "K2", f'200, text/html, not JSON: "{HTML.decode()}"'),
+    (answer(200, b"no"), "K2", '200, not JSON: "no"'),
+    (answer(200, {"items": []}), "K3", '200, JSON of another shape: "{"items": []}"'),
+    # what the stream said
+    (b"", "H10", "the connection ended before an answer"),
+    (b"H", "H10", 'the answer ended after 1 byte: "H"'),
+    (reset, "H11", "reading failed after 0 bytes: connection reset"),
 ]
 
 FOUND = hits(user("bob", 1))
@@ -51,6 +73,7 @@ REPLACEMENTS = [
 CREATIONS = [
     (refusal(400, "no department"), "C4", '400, "no department"'),
     (answer(201, user("bob", 2, None)), "C2", "no entity tag in meta.version"),
+    (answer(200, user("bob", 2, '"v2"')), "K3", "200 in place of 201"),
 ]
 
 
@@ -81,18 +104,10 @@ class ExplanationsTest(PeerTest):
     def test_the_last_fault_is_said(self):
         refused = refusal(500, "oops")
         self.assert_said([refusal(401, "who"), NO_HITS, refused], "C4", '500, "oops"')
+        self.assert_said([refused, refused, b""], "H10", "the connection ended before an answer")
         # the exchanges after it had no fault
         self.assert_said([refused, NO_HITS, TAKEN], "C4", '500, "oops"')
         self.assert_said([FOUND, refused, answer(412)], "C4", '500, "oops"')
-
-    def test_faults_without_an_answer(self):
-        """Nothing is said of them, also if an answer before them couldn't be used."""
-        wrong, refused = answer(200, b"no"), refusal(500, "oops")
-        for steps, code in ([wrong] * 3, "K2"), ([refused, refused, b""], "H10"), ([refused, wrong, wrong], "K2"):
-            site = Site(pathlib.Path(tempfile.mkdtemp(dir=self.folder)))
-            site.write_users("bob,2,,,,,active")
-            with self.subTest(code):
-                self.meets(steps, f"user bob unconfirmed {code}", status=1, site=site, said=[])
 
     def test_records_without_a_code(self):
         shown = answer(200, user("bob", 2, '"v2"'))
@@ -107,7 +122,7 @@ class ExplanationsTest(PeerTest):
         self.site.write_groups("crew,1,ann", "none,1,")
         steps = [answer(404)] * 3 + [b""] * 3 + [refusal(403, "no groups")] * 3
         lines = ["user ann unconfirmed C4", "user bob unconfirmed H10", "group crew unconfirmed waits ann", "group none unconfirmed C4"]
-        said = ["user ann: 404", 'group none: 403, "no groups"']
+        said = ["user ann: 404", "user bob: the connection ended before an answer", 'group none: 403, "no groups"']
         self.meets(steps, *lines, status=1, said=said)
 
     def test_another_id_than_the_known_one(self):

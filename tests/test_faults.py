@@ -12,7 +12,8 @@ import unittest
 from databases import OLDER_FORMS, group_entry, make_journal, sql, user_entry
 from faults import ENDED, Fault, build_shim, tell_all, workers
 from support import (
-    BOB_CREATED, CREATE_BOB, EXAMPLES, GIVEN_UP, ROOT, Provider, Running, Site, resource_id, scimlink, without_causes,
+    BOB_CREATED, CONNECTION_FAULTS, CREATE_BOB, EXAMPLES, GIVEN_UP, ROOT, Provider, Running, Site, resource_id, scimlink,
+    without_causes,
 )
 
 BOB_SHOWN = "user bob held=1 version=1 active=true"
@@ -45,7 +46,8 @@ def check_ending(run, fault, *more):
     if fault.has_come and fault.ends_run and run.status == ENDED:
         check(run.errors, "", "told by a run that was ended")
         return
-    told = set(without_causes(run.errors).splitlines())
+    lines = without_causes(run.errors).splitlines()
+    told = {"connection fault" if CONNECTION_FAULTS.fullmatch(line) else line for line in lines}
     allowed = TOLD[fault.kind] | set(more) if fault.has_come else set()
     if run.status not in (0, 1, 3) or (run.status == 3) != bool(told) or not told <= allowed:
         raise AssertionError(f"status {run.status}, told {run.errors!r}")
@@ -269,12 +271,16 @@ class Job:
         run = site.push(provider.address)
         check((run.status, run.lines, run.errors), (0, self.confirmed, ""), "the next push")
 
-    def push(self, folder, fault):
+    def push_abreast(self, folder, fault):
+        """The same as `push`, with four streams at first and one then."""
+        self.push(folder, fault, "--streams", "4")
+
+    def push(self, folder, fault, *options):
         """A push with a fault, then one without."""
         site = self.start(folder)
         with Provider(1_000_000, "--store", site.store, **fault.others) as provider:
             before = kept(site)
-            run = site.push(provider.address, **fault.options)
+            run = site.push(provider.address, *options, **fault.options)
             check_ending(run, fault)
             check(run.lines, self.confirmed[: len(run.lines)], "lines")
             if run.status == 0:
@@ -443,7 +449,8 @@ class FaultsTest(unittest.TestCase):
             self.refuse("READ", story, ways=["5"])
 
     def test_memory_of_push(self):
-        self.refuse_memory_after(open_journal, self.leaver.push)
+        for story in self.leaver.push, self.leaver.push_abreast:
+            self.refuse_memory_after(open_journal, story)
 
     def test_memory_of_serve(self):
         self.refuse_memory_after(
@@ -458,7 +465,7 @@ class FaultsTest(unittest.TestCase):
     def test_writes(self):
         self.refuse("WRITE", answer_stored, self.leaver.reset, ways=WRITE_FAULTS)
         for job in self.joiners, self.leaver:
-            self.refuse("WRITE", job.push, job.serve, job.loop, ways=WRITE_FAULTS)
+            self.refuse("WRITE", job.push, job.push_abreast, job.serve, job.loop, ways=WRITE_FAULTS)
 
     def test_reads(self):
         leaver = self.leaver

@@ -122,6 +122,24 @@ class EntryTest(JournalTest):
             "group night crew wanted=1 confirmed=0 id=-",
         )
 
+    def test_ids_that_are_no_printable_text(self):
+        users = [user_entry("ann", id="x\x1b[2J\nuser bob\\"), user_entry("bob", id="\u00e9~ \x7f")]
+        make_journal(self.site.journal, users)
+        self.assert_shows(
+            r"user ann wanted=1 confirmed=0 id=x\x1B[2J\x0Auser bob\x5C",
+            r"user bob wanted=1 confirmed=0 id=\xC3\xA9~ \x7F",
+        )
+
+    def test_an_id_of_several_records(self):
+        users = [user_entry("ann", id="b"), user_entry("bob", id="a"), user_entry("cid", id="b"), user_entry("dan")]
+        make_journal(self.site.journal, [*users, user_entry("eve")], [group_entry("crew", id="a"), group_entry("b", id="b")])
+        self.assert_prints(
+            self.site.show_journal(),
+            *(f"user {key} wanted=1 confirmed=0 id={id_}" for key, id_ in zip(("ann", "bob", "cid", "dan", "eve"), "bab--")),
+            *(f"group {key} wanted=1 confirmed=0 id={id_}" for key, id_ in (("b", "b"), ("crew", "a"))),
+            errors=["group crew has the id of user bob", "user cid has the id of user ann", "group b has the id of user cid"],
+        )
+
     def test_what_the_program_writes_sqlite_reads(self):
         self.assert_shows()
         self.assertEqual(self.entries(), [[], []])
@@ -389,6 +407,23 @@ class OlderFormatTest(JournalTest):
                 self.assertEqual(sql(path, "SELECT name FROM sqlite_schema WHERE name LIKE '%entry_3'"), [])
             self.assert_reports(self.site.show_journal(), 0)
             self.assert_carried(users, groups)
+
+    def test_an_opening_that_failed_once(self):
+        """The reason is looked for, and the next opening would succeed. But nothing is carried over."""
+        shim = build_shim(self.folder)
+        for form, users in self.each_form():
+            tables = contents(make_journal(self.site.journal, users, self.GROUPS, form))[1]
+            # a plan reads as much before it sees that the format is older
+            looking = Fault(shim, self.folder, "READ", 0)
+            scimlink("push", "--users", "nowhere", "--journal", self.site.journal, "--to", NOWHERE, "--plan", **looking.options)
+            for place in (1, looking.count() // 2, looking.count()):
+                self.remove_journal()
+                path = make_journal(self.site.journal, users, self.GROUPS, form)
+                before = path.read_bytes()
+                fault = Fault(shim, self.folder, "READ", place, "5")
+                self.assert_fault(scimlink("show", "--journal", path, **fault.options), "journal fault J1")
+                self.assertEqual(path.read_bytes(), before)
+                self.assertEqual(contents(path)[1], tables)
 
     def test_as_many_records_as_a_journal_may_have(self):
         users = [user_entry(f"u{place:06}", confirmed=1, id=resource_id(place)) for place in range(1, 100_001)]

@@ -120,14 +120,20 @@ class ProxiesTest(ProgramTest):
         }
         return Proxy(self.folder / f"before-{certificate}", self.tls_port, replaced(FOR_SERVE, places))
 
-    def behind_push(self):
+    def behind_push(self, connect_timeout="5s"):
         """The page's proxy for `push`, whose provider accounts.example is the other proxy."""
         places = {
             "127.0.0.1:8081": f"127.0.0.1:{self.push_port}",
             "/etc/ssl/certs/ca-certificates.crt": self.folder / "ca.pem",
+            "connect_timeout 5s": f"connect_timeout {connect_timeout}",
         }
         there = f"upstream accounts.example {{ server 127.0.0.1:{self.tls_port}; }}"
         return self.start(Proxy(self.folder / "push", self.push_port, replaced(FOR_PUSH, places), there))
+
+    def logged(self, count):
+        """The lines of the record without their times, once there are this many: nginx writes after it answers."""
+        wait_until(lambda: self.access_log.read_text().count("\n") >= count, "the record")
+        return [line.split(" ", 1)[1] for line in self.access_log.read_text().splitlines()]
 
     def push(self):
         return self.site.push(f"127.0.0.1:{self.push_port}")
@@ -172,7 +178,7 @@ class BeforeServeTest(ProxiesTest):
             f'connector PUT /v2/Users/{resource_id(1)} 200 http://{there}',
             "connector POST /v2/Users 413 -",
         ]
-        self.assertEqual([line.split(" ", 1)[1] for line in self.access_log.read_text().splitlines()], record)
+        self.assertEqual(self.logged(len(record)), record)
         for line in record[0], record[3]:
             self.assertIn(f" {line}\n", PAGE)
 
@@ -235,10 +241,18 @@ class BehindPushTest(ProxiesTest):
         self.start(self.before_serve(address))
         self.assert_prints(self.push(), "user bob confirmed 1")
 
+    def test_a_provider_that_says_nothing(self):
+        self.site.write_users("bob,1,,,,,active")
+        with socket.create_server(("127.0.0.1", self.tls_port)):
+            self.behind_push(connect_timeout="1s")
+            run = self.push()
+        self.assert_prints(run, "user bob unconfirmed C4", status=1)
+        self.assertEqual(run.errors, "user bob: 504\n")
+
     def test_a_wrong_token(self):
         self.site.write_users("bob,1,,,,,active")
         self.behind_push()
-        self.start(self.before_serve(self.provider().address, token="ANOTHER"))
+        # as long as those that the page makes
+        self.start(self.before_serve(self.provider().address, token="a" * 64))
         self.assert_prints(self.push(), "user bob unconfirmed C4", status=1)
-        record = [line.split(" ", 1)[1] for line in self.access_log.read_text().splitlines()]
-        self.assertEqual(record, ["- GET /v2/Users?filter=userName+eq+%22bob%22 401 -"] * 3)
+        self.assertEqual(self.logged(3), ["- GET /v2/Users?filter=userName+eq+%22bob%22 401 -"] * 3)

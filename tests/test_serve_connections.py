@@ -51,6 +51,21 @@ class ConnectionTest(ProgramTest):
             answer = provider.ask("GET", "/v2/Users")
             self.assertEqual((answer.status, answer.content["totalResults"]), (200, 0))
 
+    def test_faults_are_reported_once_a_second(self):
+        with Provider(10 + 2) as provider:
+            began = time.monotonic()
+            for _ in range(10):
+                provider.connect().close()
+            self.assert_not_found(provider.exchange(FIND_BOB))
+            # those of the first second are reported once it is over
+            time.sleep(1)
+            self.assert_not_found(provider.exchange(FIND_BOB))
+            seconds = time.monotonic() - began
+            ended = provider.ends()
+        self.assertEqual(self.connection_faults(ended), 10)
+        self.assertTrue(ended.errors.startswith("connection fault\nconnection fault ("), ended.errors)
+        self.assertLessEqual(len(ended.errors.splitlines()), 2 + int(seconds))
+
     def test_connections_that_cannot_be_accepted(self):
         with Provider(3) as provider:
             self.assertEqual(provider.exchange(CREATE_BOB), BOB_CREATED)

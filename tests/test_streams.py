@@ -58,7 +58,7 @@ WRITINGS = [
 # Two interruptions at the first byte, and three at the next: with the two parts of what passes, seven calls
 INTERRUPTIONS = Script(1_000, [(0, 2, EINTR), (1, 3, EINTR)])
 
-# How the answer to a creation passes, 278 bytes of which are its head, and what is printed
+# How the answer to a creation passes, 278 bytes of which are its head, what is printed, and what is said of a fault
 ANSWERS_READ = [
     (Script(1), "confirmed 1"),
     (Script(7), "confirmed 1"),
@@ -69,26 +69,26 @@ ANSWERS_READ = [
     (Script(1_000, [(278, 1, EPIPE)]), "unconfirmed H11"),
     # what would have to wait is read again, until the time of the exchange is over
     (Script(1_000, [(300, 1, EAGAIN)]), "confirmed 1"),
-    (Script(1_000, [(300, 1, ETIMEDOUT)]), "unconfirmed H11"),
+    (Script(1_000, [(300, 1, ETIMEDOUT)]), "unconfirmed H11", "reading failed after 300 bytes: timed out"),
     (Script(1_000, [(0, 1, NOTHING)]), "unconfirmed H10"),
     (Script(1_000, [(278, 1, NOTHING)]), "unconfirmed H10"),
     (Script(1_000, [(665, 1, NOTHING)]), "unconfirmed H10"),
     (Script(1, [(0, 99_334, EINTR)]), "confirmed 1"),
-    (Script(1, [(0, 99_335, EINTR)]), "unconfirmed H14"),
+    (Script(1, [(0, 99_335, EINTR)]), "unconfirmed H14", "665 bytes came by 100000 reads"),
     (Script(1_000, [(665, 1_000_000, EINTR)]), "unconfirmed H14"),
 ]
-# How the request for a creation passes, what is printed, and how many of its 371 bytes are sent
+# How the request for a creation passes, what is printed, how many of its 371 bytes are sent, and what is said of a fault
 REQUESTS_WRITTEN = [
     (Script(1), "confirmed 1", 371),
     (Script(7), "confirmed 1", 371),
     (Script(1_000), "confirmed 1", 371),
     (Script(1_000, [(0, 2, EINTR), (157, 3, EINTR), (370, 1, EINTR)]), "confirmed 1", 371),
     (Script(1_000, [(0, 1, EPIPE)]), "unconfirmed H12", 0),
-    (Script(1_000, [(157, 1, EPIPE)]), "unconfirmed H12", 157),
+    (Script(1_000, [(157, 1, EPIPE)]), "unconfirmed H12", 157, "sending failed after 157 bytes"),
     (Script(1_000, [(200, 1, EAGAIN)]), "unconfirmed H12", 200),
     (Script(1_000, [(370, 1, NOTHING)]), "unconfirmed H12", 370),
     (Script(1_000, [(0, 99_998, EINTR)]), "confirmed 1", 371),
-    (Script(1_000, [(0, 99_999, EINTR)]), "unconfirmed H14", 371),
+    (Script(1_000, [(0, 99_999, EINTR)]), "unconfirmed H14", 371, "371 bytes sent by 100000 writes"),
     (Script(1_000, [(0, 100_000, EINTR)]), "unconfirmed H14", 0),
 ]
 
@@ -251,8 +251,9 @@ class ServeStreamTest(StreamTest):
 
 
 class PushStreamTest(StreamTest):
-    def creates(self, line, **scripts):
-        """A push creates bob, and the streams of that exchange follow scripts: what came of its request."""
+    def creates(self, line, said=None, **scripts):
+        """A push creates bob, and the streams of that exchange follow scripts: what came of its request. `said` is what
+        it says on standard error about a fault, if that is to be asserted."""
         site = Site(self.new_folder())
         site.write_users("bob,1,,,,,active")
         is_confirmed = line.startswith("confirmed")
@@ -261,17 +262,19 @@ class PushStreamTest(StreamTest):
         with PartsPeer(steps) as peer:
             run = site.push(peer.address, **self.scripted(2, **scripts).options)
             self.assert_prints(run, f"user bob {line}", status=0 if is_confirmed else 1)
+        if said:
+            self.assertEqual(run.errors, text(f"user bob: {said}"))
         return peer.requests[1]
 
     def test_answers_that_come_by_a_script(self):
-        for script, line in ANSWERS_READ:
+        for script, line, *said in ANSWERS_READ:
             with self.subTest(script=str(script)):
-                self.assertEqual(self.creates(line, reads=script), CREATE_BOB)
+                self.assertEqual(self.creates(line, *said, reads=script), CREATE_BOB)
 
     def test_requests_that_are_taken_by_a_script(self):
-        for script, line, sent in REQUESTS_WRITTEN:
+        for script, line, sent, *said in REQUESTS_WRITTEN:
             with self.subTest(script=str(script)):
-                self.assertEqual(self.creates(line, writes=script), CREATE_BOB[:sent])
+                self.assertEqual(self.creates(line, *said, writes=script), CREATE_BOB[:sent])
 
     def test_a_write_that_fails_once_at_each_place(self):
         def sent(place):

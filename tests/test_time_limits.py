@@ -7,6 +7,7 @@ import contextlib
 import itertools
 import time
 
+from parallel_peers import Directory, ParallelPeer
 from peers import LATE, NO_HITS, TAKEN, Peer, answer, say_nothing, user
 from support import CREATE_BOB, TIME_LIMIT, ProgramTest, Provider, Site, read_all
 from test_slow_clients import LIST, narrow_connection
@@ -27,7 +28,7 @@ def trickle_an_answer(stream):
 class TimeLimitTest(ProgramTest):
     def test_each_connection_and_exchange_ends_after_its_time(self):
         clients = [self.a_silent_client, self.a_trickling_client, self.a_client_that_takes_nothing]
-        waits = [*clients, self.a_silent_provider, self.a_trickling_provider]
+        waits = [*clients, self.a_silent_provider, self.a_trickling_provider, self.a_silent_connection_of_four]
         with concurrent.futures.ThreadPoolExecutor(len(waits)) as pool:
             runs = {wait.__name__: pool.submit(wait) for wait in waits}
         for name, run in runs.items():
@@ -76,6 +77,32 @@ class TimeLimitTest(ProgramTest):
         created = answer(201, user("bob", 1))
         return self.push_bob("trickling", trickle_an_answer, [NO_HITS, created], "user bob confirmed 1", 0)
 
+    def a_silent_connection_of_four(self):
+        """The others are read after it, and may be late by then: whatever was lost is asked again."""
+        names, times, directory = ["ann", "bob", "cid", "dan"], [time.monotonic()], Directory()
+
+        def script(exchange):
+            return silent if exchange is peer.exchanges[0] else directory(exchange)
+
+        def silent(stream):
+            times.append(time.monotonic())
+            say_nothing(stream)
+            times.append(time.monotonic())
+
+        site = self.new_site("four")
+        site.write_users(*(f"{name},1,,,,,active" for name in names))
+        with ParallelPeer(script, 4) as peer:
+            run = site.push(peer.address, "--streams", "4")
+        self.assert_prints(run, *(f"user {name} confirmed 1" for name in names))
+        self.assertEqual(peer.asked("ann"), ["GET", "GET", "POST"])
+        before, after, end = times
+        return end - before, end - after
+
+    def new_site(self, name):
+        folder = self.folder / name
+        folder.mkdir()
+        return Site(folder)
+
     def push_bob(self, name, wait, steps, line, status):
         """A push to a provider that waits so for the end of the first exchange, and then takes these steps."""
         times = [time.monotonic()]
@@ -85,9 +112,7 @@ class TimeLimitTest(ProgramTest):
             wait(stream)
             times.append(time.monotonic())
 
-        folder = self.folder / name
-        folder.mkdir()
-        site = Site(folder)
+        site = self.new_site(name)
         site.write_users("bob,1,,,,,active")
         with Peer([timed, *steps]) as peer:
             self.assert_prints(site.push(peer.address), line, status=status)

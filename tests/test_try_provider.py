@@ -343,11 +343,21 @@ class TryProviderTest(ProgramTest):
                         status = 0 if becomes.startswith("confirmed") else 1
                         self.assert_prints(self.site.push(provider.address), f"user bob {becomes}", status=status)
 
-    def test_a_provider_that_drops_epochs(self):
-        with DropsEpochs(ANN) as provider:
-            run = try_provider("--to", provider.address)
-            self.assert_left_inactive(provider, self.assert_tells(run))
-            self.assertIn("But epochs aren't kept: use revisions without one", run.output.decode())
+    def test_epochs(self):
+        class RefusesEpochs(SmallProvider):
+            def replace(self, id, content, if_match):
+                has_epoch = "epoch" in content[SOURCE]
+                return answer(400, {"detail": "no"}) if has_epoch else super().replace(id, content, if_match)
+
+        for kind, said in (
+            (DropsEpochs, ". But epochs aren't kept: use revisions without one"),
+            (RefusesEpochs, '. But a revision with an epoch is answered 400, "no": use revisions without one'),
+            (ReplacesWith204, ", also with an epoch"),
+        ):
+            with self.subTest(kind.__name__), kind(ANN) as provider:
+                lines = try_provider("--to", provider.address).lines
+                self.assertEqual(lines[2], f"met: source extension. push sees which revision an account has{said}")
+                self.assert_left_inactive(provider, lines[-1])
 
     def test_providers_without_a_user(self):
         token = "The provider answers 401, \"token expired\": it wants a token, which a proxy adds"

@@ -1,21 +1,24 @@
-//! The work of `scimlink push` by rusqlite and std's TcpStream: `push USERS JOURNAL HOST:PORT`.
+//! The work of `scimlink push` by rusqlite and std's TcpStream: `push USERS JOURNAL HOST:PORT [THREADS]`.
 //!
 //! The rows of the file are one commit of the journal. Then each record that isn't confirmed is looked for by
 //! its name, and created or replaced, each over a connection of its own. What is confirmed is a commit of its
-//! own and then a line.
+//! own and then a line. Several threads take records in their order, and print lines as they come.
 use csv::{Reader, StringRecord};
 use rusqlite::{params, Connection};
 use serde::Deserialize;
 use std::error::Error;
 use std::io::{Read, Write};
 use std::net::{TcpStream, ToSocketAddrs};
+use std::sync::atomic::{AtomicUsize, Ordering};
+use std::sync::Mutex;
+use std::thread;
 use std::time::Duration;
 
 #[path = "../image.rs"]
 mod image;
 use image::{Row, User};
 
-type Result<T> = std::result::Result<T, Box<dyn Error>>;
+type Result<T> = std::result::Result<T, Box<dyn Error + Send + Sync>>;
 
 const TIME_LIMIT: Duration = Duration::from_secs(30);
 const OPEN: &str = "PRAGMA journal_mode = WAL; PRAGMA synchronous = FULL;
@@ -127,21 +130,37 @@ fn wanted(journal: &Connection) -> Result<Vec<Entry>> {
     Ok(entries.collect::<rusqlite::Result<_>>()?)
 }
 
+/// Carries a record: its line.
+fn push(journal: &Mutex<Connection>, to: &str, entry: &Entry) -> Result<String> {
+    match carry(to, entry) {
+        Ok(user) => {
+            let journal = journal.lock().map_err(|_| "a thread failed")?;
+            journal.prepare_cached(CONFIRM)?.execute(params![entry.key, entry.revision, user.id])?;
+            Ok(format!("user {} confirmed {}", entry.key, entry.revision))
+        }
+        Err(error) => Ok(format!("user {} unconfirmed {error}", entry.key)),
+    }
+}
+
 fn main() -> Result<()> {
     let words: Vec<String> = std::env::args().collect();
-    let [_, users, journal, to] = &words[..] else { return Err("push USERS JOURNAL HOST:PORT".into()) };
+    let (users, journal, to, threads) = match &words[..] {
+        [_, users, journal, to] => (users, journal, to, 1),
+        [_, users, journal, to, threads] => (users, journal, to, threads.parse()?),
+        _ => return Err("push USERS JOURNAL HOST:PORT [THREADS]".into()),
+    };
     let mut journal = Connection::open(journal)?;
     journal.execute_batch(OPEN)?;
     offer(&mut journal, users)?;
-    let mut confirm = journal.prepare(CONFIRM)?;
-    for entry in wanted(&journal)? {
-        match carry(to, &entry) {
-            Ok(user) => {
-                confirm.execute(params![entry.key, entry.revision, user.id])?;
-                println!("user {} confirmed {}", entry.key, entry.revision);
-            }
-            Err(error) => println!("user {} unconfirmed {error}", entry.key),
+    let (entries, next, journal) = (wanted(&journal)?, AtomicUsize::new(0), Mutex::new(journal));
+    let work = || -> Result<()> {
+        while let Some(entry) = entries.get(next.fetch_add(1, Ordering::Relaxed)) {
+            println!("{}", push(&journal, to, entry)?);
         }
-    }
-    Ok(())
+        Ok(())
+    };
+    thread::scope(|scope| {
+        let workers: Vec<_> = (0..threads).map(|_| scope.spawn(work)).collect();
+        workers.into_iter().try_for_each(|it| it.join().map_err(|_| "a thread failed")?)
+    })
 }

@@ -8,7 +8,7 @@ use crate::endings::shown_status;
 use crate::output::{NotedWriter, standard_output};
 use crate::status::{CommandFault, Status};
 use std::alloc::Global;
-use std::io::Write;
+use std::io::{Eprint, Write};
 use std::rt::Runtime;
 use storage::{EntryStorage, RowStorage, show_entries, show_rows};
 
@@ -59,11 +59,12 @@ fn show_journal<R: Runtime + AllocGlobal, J: EntryStorage>(
     ensures { IfOk result (AreEntriesShown J.Entries.Journal (J.finds journal.now)) }
 {
     let mut out = standard_output(rt)?;
-    print_entries(rt.alloc(), journal, &mut out)
+    print_entries(rt, rt.alloc(), journal, &mut out)
 }
 
 /// Prints the entries of a journal.
 fn print_entries<J: EntryStorage, W: Write + Drop>(
+    stderr: &impl Eprint,
     alloc: Global,
     journal: &J,
     out: &mut NotedWriter<W>,
@@ -71,6 +72,6 @@ fn print_entries<J: EntryStorage, W: Write + Drop>(
     ensures { EndsShowing (ShowsEntries J.Entries.Journal (J.finds journal.now) (W.contents out.old.inner)
         (W.contents out.new.inner)) out.new.last result }
 {
-    let shown = show_entries(alloc, journal, out);
+    let shown = show_entries(stderr, alloc, journal, out);
     out.concluded(shown_status(shown))
 }

@@ -1,4 +1,5 @@
 pub mod Reactions
+pub mod Reporting
 pub mod Serving
 pub mod Known
 pub mod Deadlines

@@ -6,6 +6,7 @@ mod answering;
 mod deadline;
 mod ending;
 mod endings;
+mod faults;
 mod held;
 mod late;
 mod laws;

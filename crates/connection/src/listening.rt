@@ -24,11 +24,12 @@ pub trait Listen {
     fn end(&mut self, reader: Self::Reader, writer: Self::Writer)
         ensures { waiting self.new ≡ waiting self.old };
 
-    /// How many answers were lost since the last call: `end` took them over, and their peers didn't take
-    /// them.
-    fn lost(&mut self) -> u32
+    /// Counts this many faults of connections that were served, and returns how many faults are to be
+    /// reported now. Answers that were lost after `end` took them over are among these. A listener may leave
+    /// some to a later call.
+    fn due_faults(&mut self, faults: u32) -> u32
         ensures { waiting self.new ≡ waiting self.old }
     {
-        0
+        faults
     }
 }

@@ -20,8 +20,8 @@ use thiserror::Error;
 pub struct ConnectionFault;
 
 /// Accepts `count` connections. It serves each with one request to the provider, and ends it before it
-/// accepts the next. It reports each fault on standard error at once, and goes on. The result is a fault if
-/// any connection had one.
+/// accepts the next. It reports faults on standard error when the listener says so, and goes on. The result
+/// is a fault if any connection had one.
 pub fn serve_connections<R: Registry, L: Listen>(
     rt: &impl Eprint,
     alloc: Global,
@@ -38,8 +38,7 @@ pub fn serve_connections<R: Registry, L: Listen>(
     let mut outcome = Ok(());
     for _turn in 0..count {
         let served = serve_next(alloc, listener, base, provider);
-        tell(rt, served);
-        tell_lost(rt, listener.lost());
+        tell(rt, listener.due_faults(u32::from(served.is_err())));
         outcome = outcome.and(served);
     }
     outcome
@@ -62,18 +61,14 @@ pub fn serve_from_memory<L: Listen>(
     serve_connections(rt, alloc, listener, count, base, &mut provider)
 }
 
-/// Reports a fault on standard error.
-fn tell(rt: &impl Eprint, served: Result<(), ConnectionFault>) {
-    if let Err(fault) = served {
-        let _ = eprintln!(rt; "{fault}");
-    }
-}
-
-/// Reports lost answers on standard error.
-pub(crate) fn tell_lost(rt: &impl Eprint, count: u32) {
-    for _ in 0..count {
-        tell(rt, Err(ConnectionFault));
-    }
+/// Reports this many faults on standard error, in one line.
+pub(crate) fn tell(rt: &impl Eprint, faults: u32) {
+    let fault = ConnectionFault;
+    let _ = match faults {
+        0 => Ok(()),
+        1 => eprintln!(rt; "{fault}"),
+        _ => eprintln!(rt; "{fault} ({faults})"),
+    };
 }
 
 /// Accepts the next connection, serves it with one request to the provider, and ends it.

@@ -1,15 +1,17 @@
 //! The connections of a listening socket.
-ghost use Rattle.std.specs.Prelude.{◌≡◌, [], IfOk};
+ghost use Rattle.std.specs.Prelude.{◌≡◌, ◌-◌, [], IfOk};
+ghost use Rattle.connection.specs.Reporting.{with_more};
 
 use crate::ahead::AheadReader;
 use crate::deadline::Deadline;
 use crate::ending::Ending;
 use crate::endings::Endings;
+use crate::faults::{FaultCount, may_report};
 use crate::held::Held;
 use crate::late::LateWriter;
 use crate::listening::Listen;
 use crate::prompt::PromptStream;
-use crate::serving::{ConnectionFault, tell_lost};
+use crate::serving::{ConnectionFault, tell};
 use crate::shared::SharedStream;
 use crate::waiting::Waiting;
 use std::alloc::Global;
@@ -25,9 +27,6 @@ const LOOKS_AT_ONCE: u32 = 50;
 const FIRST_PAUSE: u64 = 20;
 
 const LONGEST_PAUSE: u64 = 4_000;
-
-/// The fewest seconds between two reports that the system gives no connection.
-const REPORT_SECONDS: u64 = 1;
 
 /// The connections of a listening socket. Each has this time in all, from when it is accepted. A connection
 /// is given out when its request is whole, is refused by its form, has ended or failed, or is out of time.
@@ -46,6 +45,7 @@ where
     gives_up: bool,
     /// When it was last reported that the system gave no connection.
     reported: Option<Instant>,
+    faults: FaultCount,
     waiting: Waiting<L::Stream>,
     endings: Endings<'a, SharedStream<L::Stream>, C>,
 }
@@ -69,6 +69,7 @@ where
             limit,
             gives_up: false,
             reported: None,
+            faults: FaultCount::new(),
             waiting: Waiting::new(alloc),
             endings: Endings::new(alloc, clock),
         }
@@ -114,9 +115,7 @@ where
     /// The system gives no connection, because it has no descriptor left, say. It is tried again after a pause; the
     /// fault is reported once a second at most.
     fn unaccepted(&mut self, error: io::Error, now: Instant) -> io::Result<Option<L::Stream>> {
-        if let Some(reported) = self.reported
-            && now.duration_since(reported) < Duration::from_secs(REPORT_SECONDS)
-        {
+        if !may_report(self.reported, now) {
             return Ok(None);
         }
         self.reported = Some(now);
@@ -140,11 +139,22 @@ where
         }
     }
 
-    /// Waits until every answer is sent and every stream is drained, or its time is over. It reports answers
-    /// that are lost meanwhile on standard error. The result is a fault if an answer was ever lost.
+    /// Counts faults of connections, and with them the answers that were lost since the last call.
+    fn count(&mut self, faults: u32)
+        ensures { self.new.faults.unreported
+            ≡ with_more (with_more self.old.faults.unreported faults)
+            (self.old.endings.lost - self.old.endings.told) }
+    {
+        self.faults.add(faults);
+        self.faults.add(self.endings.take_lost());
+    }
+
+    /// Waits until every answer is sent and every stream is drained, or its time is over. It reports on
+    /// standard error the faults that aren't reported yet. The result is a fault if an answer was ever lost.
     pub fn finish(&mut self, rt: &impl Eprint) -> Result<(), ConnectionFault> {
         self.endings.finish();
-        tell_lost(rt, self.endings.take_lost());
+        self.count(0);
+        tell(rt, self.faults.take_all());
         if self.endings.has_lost() {
             Err(ConnectionFault)
         } else {
@@ -213,8 +223,12 @@ where
         }
     }
 
-    fn lost(&mut self) -> u32 {
-        self.endings.take_lost()
+    fn due_faults(&mut self, faults: u32) -> u32 {
+        self.count(faults);
+        match Instant::now(self.clock) {
+            Ok(now) => self.faults.take_due(now),
+            Err(_) => self.faults.take_all(),
+        }
     }
 }
 

@@ -6,6 +6,7 @@ ghost use Rattle.provisioning.specs.Openings.{Opens};
 use crate::dialing::Dial;
 use crate::explaining::Failed;
 use crate::faults::{RecordFault, RunFault, open_fault, unanswered, unlearnt};
+use crate::recording::{Heard, Recording};
 use connector_core::Connector;
 use http_text::{Input, Output};
 use journal_core::Journal;
@@ -34,18 +35,21 @@ pub(crate) fn exchange<J: Journal, D: Dial>(
         Err(error) => return Err(open_fault(error)),
     };
     let (came, input, output) = exchange_on(alloc, service, request, reader, writer);
-    dial.end(input.into_inner(), output.into_inner());
+    let Recording { reader, heard } = input.into_inner();
+    dial.end(reader, output.into_inner());
     let taken = take(connector, request, &came);
-    explain(alloc, connector, dial, name, &came, taken);
+    explain(alloc, connector, dial, name, request, &heard, &came, taken);
     taken
 }
 
 /// Has the fault of an exchange explained, if it had one.
-fn explain<'x, J: Journal, D: Dial>(
+pub(crate) fn explain<'x, J: Journal, D: Dial>(
     alloc: Global,
     connector: &'x Connector<J>,
     dial: &D,
     name: &'x RecordName,
+    request: &'x Request,
+    heard: &'x Heard,
     came: &'x Result<Answer, ExchangeFault>,
     taken: Result<Option<RecordFault>, RunFault>,
 ) {
@@ -54,6 +58,8 @@ fn explain<'x, J: Journal, D: Dial>(
             alloc,
             fault,
             name,
+            request,
+            heard,
             answer: answer_in(came),
             wanted: connector.wanted(name),
             id: connector.id(name),
@@ -71,17 +77,21 @@ fn answer_in(came: &Result<Answer, ExchangeFault>) -> Option<&Answer> {
 }
 
 /// Sends a request on a stream and reads its answer. It returns the stream too, with what was counted.
-fn exchange_on<I: Read, O: Write>(
+fn exchange_on<I: Read + Drop, O: Write>(
     alloc: Global,
     service: &ScimService,
     request: &Request,
     reader: I,
     writer: O,
-) -> (Result<Answer, ExchangeFault>, Input<I>, Output<O>)
+) -> (
+    Result<Answer, ExchangeFault>,
+    Input<Recording<I>>,
+    Output<O>,
+)
     ensures { GivesBack I.remaining O.contents service.now request.now reader writer result.0
         result.1 result.2 }
 {
-    let mut input = Input::new(reader);
+    let mut input = Input::new(Recording::new(reader));
     let mut output = Output::new(writer);
     let came = service.exchange(alloc, request, &mut input, &mut output);
     (came, input, output)

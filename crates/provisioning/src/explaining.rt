@@ -1,9 +1,14 @@
-//! Finds why an answer of a provider couldn't be used.
+//! Finds what the fault of an exchange was.
+use crate::excerpts::Excerpt;
 use crate::explanations::{Explanation, Phrase};
 use crate::faults::RecordFault;
-use crate::printable::Excerpt;
+use crate::heads::Head;
+use crate::losses::{Loss, cut, unread, unsent};
+use crate::misreadings::misread;
+use crate::recording::Heard;
+use scim_client::ExchangeFault;
 use scim_key::{RecordName, ResourceId, Revision};
-use scim_message::{Answer, ErrorResponse, ListResponse};
+use scim_message::{Answer, ErrorResponse, ListResponse, Request};
 use scim_resource::{Content, Shown};
 use std::alloc::{AllocError, Global};
 
@@ -13,6 +18,9 @@ pub struct Failed<'a> {
     pub alloc: Global,
     pub fault: RecordFault,
     pub name: &'a RecordName,
+    pub request: &'a Request,
+    /// What came on its stream.
+    pub heard: &'a Heard,
     /// The answer, if one came.
     pub answer: Option<&'a Answer>,
     /// The wanted revision.
@@ -21,13 +29,35 @@ pub struct Failed<'a> {
     pub id: Option<&'a ResourceId>,
 }
 
-/// Why the answer of an exchange couldn't be used. `None` if no answer came.
+/// What the fault of an exchange was. `None` if nothing more can be said of it.
 pub(crate) fn explain(failed: &Failed<'_>) -> Result<Option<Explanation>, AllocError> {
     match failed.fault {
         RecordFault::Unfit => explain_unfit(failed),
         RecordFault::Unversioned => phrase(Phrase::NoTag),
         RecordFault::Refused => explain_refused(failed),
-        RecordFault::Unanswered(_) | RecordFault::NoSuchRecord => Ok(None),
+        RecordFault::Unanswered(fault) => explain_unanswered(failed, fault),
+        RecordFault::NoSuchRecord => Ok(None),
+    }
+}
+
+/// Why no answer came.
+fn explain_unanswered(
+    failed: &Failed<'_>,
+    fault: ExchangeFault,
+) -> Result<Option<Explanation>, AllocError> {
+    match fault {
+        ExchangeFault::Unsent(fault) => Ok(Some(Explanation::Loss(unsent(fault)))),
+        ExchangeFault::EndedEarly => Ok(Some(Explanation::Loss(cut(failed)?))),
+        ExchangeFault::ReadFailed => Ok(Some(Explanation::Loss(unread(failed.heard)))),
+        ExchangeFault::TurnsExhausted => {
+            let count = failed.heard.count();
+            Ok(Some(Explanation::Loss(Loss::SlowReading { count })))
+        }
+        ExchangeFault::NoAnswer(fault) => match misread(failed, fault)? {
+            Some(misreading) => Ok(Some(Explanation::Misreading(misreading))),
+            None => Ok(None),
+        },
+        ExchangeFault::OutOfMemory => Ok(None),
     }
 }
 
@@ -38,20 +68,34 @@ fn phrase(phrase: Phrase) -> Result<Option<Explanation>, AllocError> {
 /// What a provider said when it refused.
 fn explain_refused(failed: &Failed<'_>) -> Result<Option<Explanation>, AllocError> {
     match failed.answer {
-        Some(Answer::Error(error)) => Ok(Some(refused(failed.alloc, error)?)),
+        Some(Answer::Error(error)) => Ok(Some(refused(failed, error)?)),
         _ => Ok(None),
     }
 }
 
-fn refused(alloc: Global, error: &ErrorResponse) -> Result<Explanation, AllocError> {
+fn refused(failed: &Failed<'_>, error: &ErrorResponse) -> Result<Explanation, AllocError> {
     let detail = match error.detail() {
-        Some(detail) => Some(Excerpt::of(alloc, detail.as_bytes())?),
+        Some(detail) => Some(Excerpt::of(failed.alloc, detail.as_bytes())?),
         None => None,
     };
+    let status = error.status();
     Ok(Explanation::Refused {
-        status: error.status(),
+        status,
         detail,
+        retry_after: retry_after(failed, status)?,
     })
+}
+
+/// When a provider with too many requests (RFC 6585, section 4), or that isn't available (RFC 9110, section
+/// 15.6.4), wants to be asked again, if it says so.
+fn retry_after(failed: &Failed<'_>, status: u16) -> Result<Option<Excerpt>, AllocError> {
+    match (status, Head::of(failed.heard.first())) {
+        (429 | 503, Some(head)) => match head.field("retry-after") {
+            Some(time) => Ok(Some(Excerpt::of(failed.alloc, time)?)),
+            None => Ok(None),
+        },
+        _ => Ok(None),
+    }
 }
 
 /// Why an answer can't be about the record.

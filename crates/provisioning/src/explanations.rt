@@ -1,8 +1,10 @@
-//! Why an answer of a provider couldn't be used, in words.
+//! What the fault of an exchange was, in words.
 ghost use Rattle.std.specs.Prelude.{◌≡◌};
 ghost use Rattle.provisioning.specs.Explanations.{phrase_text};
 
-use crate::printable::Excerpt;
+use crate::excerpts::Excerpt;
+use crate::losses::Loss;
+use crate::misreadings::Misreading;
 use scim_key::Revision;
 use std::fmt;
 
@@ -29,14 +31,19 @@ impl Phrase {
     }
 }
 
-/// Why an answer of the provider couldn't be used. Its text is printed on standard error.
+/// What the fault of an exchange was. Its text is printed on standard error.
 #[derive(Drop)]
 pub enum Explanation {
     Phrase(Phrase),
+    /// No answer came (H10 to H14).
+    Loss(Loss),
+    /// What came isn't an answer (K1 to K3).
+    Misreading(Misreading),
     /// The provider refused with this status (C4).
     Refused {
         status: u16,
         detail: Option<Excerpt>,
+        retry_after: Option<Excerpt>,
     },
     /// The resource has another name (C1).
     OtherName(Excerpt),
@@ -62,13 +69,18 @@ pub enum Explanation {
 struct Refused<'a> {
     status: u16,
     detail: &'a Option<Excerpt>,
+    retry_after: &'a Option<Excerpt>,
 }
 
 impl<'a> fmt::Display for Refused<'a> {
     fn fmt<W: fmt::Write>(&self, f: &mut fmt::Formatter<W>) -> fmt::Result {
-        match self.detail {
-            Some(detail) => write!(f, "{}, \"{detail}\"", self.status),
-            None => write!(f, "{}", self.status),
+        write!(f, "{}", self.status)?;
+        if let Some(detail) = self.detail {
+            write!(f, ", \"{detail}\"")?;
+        }
+        match self.retry_after {
+            Some(time) => write!(f, ", Retry-After: {time}"),
+            None => Ok(()),
         }
     }
 }
@@ -77,10 +89,17 @@ impl fmt::Display for Explanation {
     fn fmt<W: fmt::Write>(&self, f: &mut fmt::Formatter<W>) -> fmt::Result {
         match self {
             Explanation::Phrase(phrase) => f.write_str(phrase.words()),
-            Explanation::Refused { status, detail } => {
+            Explanation::Loss(loss) => write!(f, "{loss}"),
+            Explanation::Misreading(misreading) => write!(f, "{misreading}"),
+            Explanation::Refused {
+                status,
+                detail,
+                retry_after,
+            } => {
                 let refused = Refused {
                     status: *status,
                     detail,
+                    retry_after,
                 };
                 write!(f, "{refused}")
             }

@@ -24,7 +24,7 @@ use std::time::Clock;
 
 /// Runs the connector against the provider at an address, HOST:PORT. It prints a line for each record as
 /// soon as the record is done, and reports rows that the connector refuses, and older rows, on standard error.
-/// There it also says why the provider's answer about an unconfirmed record couldn't be used.
+/// There it also says what the last fault of an unconfirmed record was.
 pub fn push<'a, N: Net + Clock + Eprint, J: Journal, W: Write>(
     rt: &'a N,
     alloc: Global,

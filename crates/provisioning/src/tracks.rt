@@ -7,9 +7,10 @@ ghost use Rattle.provisioning.specs.Records.{most_exchanges};
 ghost use Rattle.provisioning.specs.Tracks.{Advances, Closes, ComesOfOpening, GoesOn, IsHeard, IsLearnt, IsSetOut, StandsAt, counted, faulted, fresh};
 
 use crate::dialing::Dial;
-use crate::exchanging::take;
+use crate::exchanging::{explain, take};
 use crate::faults::{RecordFault, RunFault, open_fault};
 use crate::halves::{read_reply, send_request};
+use crate::recording::Recording;
 use crate::records::{Standing, standing_after};
 use connector_core::{Ask, AskFault, Connector};
 use http_text::{Input, Output};
@@ -23,7 +24,7 @@ use world_sim::MOST_EXCHANGES;
 
 /// A record, how many exchanges were begun for it, and their last fault.
 #[derive(Drop)]
-pub(crate) struct Account {
+pub struct Account {
     pub name: RecordName,
     pub exchanges: u32,
     pub last: Option<RecordFault>,
@@ -31,7 +32,7 @@ pub(crate) struct Account {
 
 /// A request on its stream, and whether it was sent whole.
 #[derive(Drop)]
-pub(crate) struct Flight<R: Drop, W: Drop> {
+pub struct Flight<R: Drop, W: Drop> {
     pub request: Request,
     pub reader: R,
     pub writer: W,
@@ -40,7 +41,7 @@ pub(crate) struct Flight<R: Drop, W: Drop> {
 
 /// A record that was begun.
 #[derive(Drop)]
-pub(crate) enum Track<R: Drop, W: Drop> {
+pub enum Track<R: Drop, W: Drop> {
     /// An exchange for it is under way.
     UnderWay(Account, Flight<R, W>),
     /// It has this state.
@@ -49,7 +50,7 @@ pub(crate) enum Track<R: Drop, W: Drop> {
 
 impl Account {
     /// A record for which nothing was sent.
-    pub fn new(name: RecordName) -> Account
+    pub(crate) fn new(name: RecordName) -> Account
         ensures { result ≡ fresh name }
     {
         Account {
@@ -179,6 +180,7 @@ fn learn_from<J: Journal, D: Dial>(
     alloc: Global,
     connector: &mut Connector<J>,
     dial: &D,
+    name: &RecordName,
     flight: Flight<D::Reader, D::Writer>,
 ) -> Result<Option<RecordFault>, RunFault>
     ensures { IsLearnt D.Reader.remaining J.Journal flight connector.old connector.new result }
@@ -189,27 +191,30 @@ fn learn_from<J: Journal, D: Dial>(
         writer,
         sent,
     } = flight;
-    let (came, reader) = hear(alloc, &request, reader, sent);
+    let (came, recording) = hear(alloc, &request, reader, sent);
+    let Recording { reader, heard } = recording;
     dial.end(reader, writer);
-    take(connector, &request, &came)
+    let taken = take(connector, &request, &came);
+    explain(alloc, connector, dial, name, &request, &heard, &came, taken);
+    taken
 }
 
-/// Reads the answer to a request, if it was sent whole. It returns the reader too.
-fn hear<R: Read>(
+/// Reads the answer to a request, if it was sent whole. It returns the reader too, with what came on it.
+fn hear<R: Read + Drop>(
     alloc: Global,
     request: &Request,
     reader: R,
     sent: Result<(), ExchangeFault>,
-) -> (Result<Answer, ExchangeFault>, R)
+) -> (Result<Answer, ExchangeFault>, Recording<R>)
     ensures { IsHeard R.remaining request.now reader sent result.0 }
 {
     match sent {
         Ok(()) => {
-            let mut input = Input::new(reader);
+            let mut input = Input::new(Recording::new(reader));
             let came = read_reply(alloc, request, &mut input);
             (came, input.into_inner())
         }
-        Err(fault) => (Err(fault), reader),
+        Err(fault) => (Err(fault), Recording::new(reader)),
     }
 }
 
@@ -228,7 +233,7 @@ pub(crate) fn advance<J: Journal, D: Dial>(
 {
     match track {
         Track::UnderWay(account, flight) => {
-            let fault = learn_from(alloc, connector, dial, flight)?;
+            let fault = learn_from(alloc, connector, dial, &account.name, flight)?;
             go_on(alloc, service, connector, dial, faulted(account, fault))
         }
         Track::Done(account, standing) => Ok(Track::Done(account, standing)),
@@ -261,10 +266,12 @@ pub(crate) fn close<J: Journal, D: Dial>(
     ensures { Closes D.Reader.remaining J.Journal track connector.old connector.new result }
 {
     match track {
-        Track::UnderWay(_, flight) => match learn_from(alloc, connector, dial, flight) {
-            Ok(_) => Ok(()),
-            Err(fault) => Err(fault),
-        },
+        Track::UnderWay(begun, flight) => {
+            match learn_from(alloc, connector, dial, &begun.name, flight) {
+                Ok(_) => Ok(()),
+                Err(fault) => Err(fault),
+            }
+        }
         Track::Done(..) => Ok(()),
     }
 }

@@ -1,7 +1,8 @@
 //! Runs whose faults are explained.
 use crate::dialing::Dial;
-use crate::explaining::{Failed, explain};
+use crate::explaining::Failed;
 use crate::explanations::Explanation;
+use crate::keeping::{Explanations, keep, take};
 use crate::offering::{Hear, Judged};
 use crate::records::{Pushed, Standing};
 use crate::telling::Tell;
@@ -11,11 +12,11 @@ use std::cell::Cell;
 use std::io;
 use std::io::Eprint;
 
-/// Opens the streams of another, and keeps why the last answer couldn't be used.
+/// Opens the streams of another, and keeps the last explanation of each record that isn't reported.
 #[derive(Drop)]
 pub(crate) struct Explaining<'a, D: Drop> {
     pub dial: D,
-    pub last: &'a Cell<Option<Explanation>>,
+    pub last: &'a Cell<Option<Explanations>>,
 }
 
 impl<'a, D: Dial + Drop> Dial for Explaining<'a, D> {
@@ -33,7 +34,7 @@ impl<'a, D: Dial + Drop> Dial for Explaining<'a, D> {
 
     /// Keeps what the fault was. If memory runs out, nothing is known about it.
     fn explain(&self, failed: &Failed<'_>) {
-        self.last.set(explain(failed).unwrap_or_default());
+        keep(self.last, failed);
     }
 }
 
@@ -42,7 +43,7 @@ impl<'a, D: Dial + Drop> Dial for Explaining<'a, D> {
 pub(crate) struct Explained<'a, T: Drop, E> {
     pub teller: T,
     pub stderr: &'a E,
-    pub last: &'a Cell<Option<Explanation>>,
+    pub last: &'a Cell<Option<Explanations>>,
 }
 
 impl<'a, T: Hear + Drop, E: Eprint> Hear for Explained<'a, T, E> {
@@ -58,7 +59,7 @@ impl<'a, T: Tell + Drop, E: Eprint> Tell for Explained<'a, T, E> {
 
     fn tell(&mut self, name: &RecordName, pushed: &Pushed) -> io::Result<()> {
         let told = self.teller.tell(name, pushed);
-        let last = self.last.replace(None);
+        let last = take(self.last, name);
         if let (Standing::Unconfirmed(Some(_)), Some(explanation)) = (&pushed.standing, &last) {
             report(self.stderr, name, explanation);
         }

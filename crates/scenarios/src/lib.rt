@@ -12,8 +12,6 @@ mod readings;
 #[cfg(test)]
 mod registries;
 #[cfg(test)]
-mod reopening;
-#[cfg(test)]
 mod responses;
 #[cfg(test)]
 mod streams;

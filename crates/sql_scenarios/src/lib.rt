@@ -3,4 +3,10 @@
 #![tactic(auto)]
 
 #[cfg(test)]
+mod journals;
+#[cfg(test)]
+mod registries;
+#[cfg(test)]
+mod reopening;
+#[cfg(test)]
 mod schedules;

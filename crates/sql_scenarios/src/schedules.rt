@@ -68,7 +68,7 @@ fn told<R: Reopen + Drop, J: ReopenJournal + Drop>(
 }
 
 /// Asserts that two texts are the same.
-fn assert_same(rt: &impl Abort, text: String, wanted: &str) {
+pub(crate) fn assert_same(rt: &impl Abort, text: String, wanted: &str) {
     assert_eq!(rt; text.as_str(), wanted);
 }
 
@@ -82,7 +82,7 @@ fn schedules_over_memory(rt: HostRuntime) {
 }
 
 /// A registry in SQLite in memory.
-fn registry(rt: &impl Abort, alloc: Global) -> SqlRegistry<MemStore> {
+pub(crate) fn registry(rt: &impl Abort, alloc: Global) -> SqlRegistry<MemStore> {
     let conn = Connection::open_in_memory(alloc).expect(rt, "memory");
     match SqlRegistry::open(alloc, conn) {
         Ok(registry) => registry,
@@ -91,7 +91,7 @@ fn registry(rt: &impl Abort, alloc: Global) -> SqlRegistry<MemStore> {
 }
 
 /// A journal in SQLite in memory.
-fn journal(rt: &impl Abort, alloc: Global) -> SqlJournal<MemStore> {
+pub(crate) fn journal(rt: &impl Abort, alloc: Global) -> SqlJournal<MemStore> {
     let conn = Connection::open_in_memory(alloc).expect(rt, "memory");
     match SqlJournal::open(alloc, conn) {
         Ok(journal) => journal,

@@ -6,6 +6,7 @@ use Rattle.scim_key.specs.declared.records.RecordName.{RecordName}
 use Rattle.source_csv.specs.Records.{row_name, row_revision}
 use Rattle.journal_core.specs.Words.{kind_word}
 use Rattle.journal_core.specs.declared.entries.Entry.{Entry}
+use Rattle.storage.specs.Printable.{printable_text}
 
 -- the id, or a hyphen if none is known
 abbrev pub id_text : Option (List ℕ) → List ℕ
@@ -18,9 +19,10 @@ line_of name wanted confirmed id =
     ++ (codes " wanted=" ++ (revision_text wanted
     ++ (codes " confirmed=" ++ (revision_text confirmed ++ (codes " id=" ++ (id ++ codes "\n"))))))))
 
--- the key of the name, the wanted revision, the confirmed revision or 0, and the id
+-- the key of the name, the wanted revision, the confirmed revision or 0, and the id as it is printed
 abbrev pub entry_line : Entry → List ℕ
-entry_line entry = line_of (row_name entry.row) (row_revision entry.row) entry.confirmed (id_text entry.id)
+entry_line entry =
+    line_of (row_name entry.row) (row_revision entry.row) entry.confirmed (printable_text (id_text entry.id))
 
 -- the lines of these entries, in order
 abbrev pub lines_of : List Entry → List ℕ

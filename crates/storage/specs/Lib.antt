@@ -5,6 +5,7 @@ pub mod StoreLines
 pub mod ShowFaults
 pub mod StoreShowing
 pub mod JournalOpened
+pub mod Printable
 pub mod JournalLines
 pub mod JournalShowing
 pub mod Resetting

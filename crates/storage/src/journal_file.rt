@@ -5,16 +5,17 @@ ghost use Rattle.storage.specs.JournalOpened.{FindsEntries, IsOpened, IsOpenedAg
 use crate::database::{DatabaseFile, Remains, connected, fault_of, renewed};
 use crate::entry_storage::{EntryStorage, StoredEntries};
 use crate::looking::{LookFault, seen_in};
-use crate::reason::{DatabaseReason, failure_in, failure_since};
+use crate::reason::{DatabaseReason, NO_TABLES, failure_in, failure_since};
 use journal_core::{Journal, JournalFault};
 use journal_store::{JournalOpenFault, SqlJournal, is_older};
+use sql_tables::is_blank;
 use sqlite::{Alter, Connection, Error, File, FileStore};
 use sqlite_disk::{Disk, Files};
 use std::alloc::Global;
 use std::rt::HostRuntime;
 
-/// A statement that leaves the contents of the file as they are.
-const SAME: &str = "UPDATE journal_format SET number = number";
+/// A statement that leaves the tables as they are.
+const SAME: [&str; 1] = ["UPDATE journal_format SET number = number"];
 
 /// A file that keeps the journal of a connector. Opening makes the file if there is none.
 #[derive(Clone, Copy)]
@@ -125,14 +126,20 @@ fn reopened_if<D: Disk + Drop>(
     }
 }
 
-/// Why the entries of a connection that was opened again can't be used: it opens them, and writes what is there.
-/// If the store fails, the connection is handed back.
+/// Why the entries of a connection that was opened again can't be used: it opens them, and writes what is there. It
+/// makes no tables, and carries none over. If the store fails, the connection is handed back.
 fn refusal<S: Alter + Drop>(
     alloc: Global,
     conn: Connection<S>,
 ) -> Result<Option<DatabaseReason>, Connection<S>> {
+    if is_blank(conn.schema()) {
+        return Ok(failure_in(conn, &NO_TABLES));
+    }
+    if is_older(&conn) {
+        return Ok(failure_in(conn, &SAME));
+    }
     match SqlJournal::open(alloc, conn) {
-        Ok(entries) => Ok(failure_in(SqlJournal::close(entries), SAME)),
+        Ok(entries) => Ok(failure_in(SqlJournal::close(entries), &SAME)),
         Err((JournalOpenFault::Store, conn)) => Err(conn),
         Err((_fault, _conn)) => Ok(None),
     }

@@ -6,13 +6,16 @@ ghost use Rattle.storage.specs.JournalShowing.{ShowsFrom, WritesEntries};
 
 use crate::entry_storage::{EntryStorage, StoredEntries};
 use crate::journal_lines::entry_line;
+use crate::shared_ids::report_shared_ids;
 use crate::show_fault::ShowFault;
 use journal_core::{Entry, Journal};
 use std::alloc::Global;
-use std::io::Write;
+use std::io::{Eprint, Write};
 
-/// Opens the entries, writes a line for each (users by key, then groups by key), and closes them.
+/// Opens the entries, writes a line for each (users by key, then groups by key), and closes them. It reports ids that
+/// several records have on standard error.
 pub fn show_entries<K: EntryStorage, W: Write>(
+    stderr: &impl Eprint,
     alloc: Global,
     storage: &K,
     out: &mut W,
@@ -22,14 +25,15 @@ pub fn show_entries<K: EntryStorage, W: Write>(
         (W.contents out.new)) }
 {
     let mut entries = storage.open()?;
-    let shown = write_entries(alloc, &mut entries, out);
+    let shown = write_entries(stderr, alloc, &mut entries, out);
     entries.close();
     shown
 }
 
 /// Writes a line for each entry (users by key, then groups by key), and flushes. After a fault, any part of
-/// the lines may be written.
+/// the lines may be written. Then it reports ids that several records have on standard error.
 pub fn write_entries<J: Journal, W: Write>(
+    stderr: &impl Eprint,
     alloc: Global,
     journal: &mut J,
     out: &mut W,
@@ -40,7 +44,8 @@ pub fn write_entries<J: Journal, W: Write>(
 {
     let entries = journal.load()?;
     write_lines(alloc, entries.as_slice(), out)?;
-    Ok(out.flush()?)
+    out.flush()?;
+    Ok(report_shared_ids(stderr, alloc, entries.as_slice())?)
 }
 
 fn write_lines<W: Write>(alloc: Global, entries: &[Entry], out: &mut W) -> Result<(), ShowFault>

@@ -6,6 +6,14 @@ use sqlite_std_file::OpenError;
 use std::io::{self, ErrorKind};
 use thiserror::Error as Fault;
 
+/// Statements that leave a database without tables as it is.
+pub(crate) const NO_TABLES: [&str; 4] = [
+    "BEGIN",
+    "CREATE TABLE reason (one)",
+    "DROP TABLE reason",
+    "COMMIT",
+];
+
 /// Why a database file can't be used. Its text is what the system or the library says.
 #[derive(Clone, Copy, Debug, Fault)]
 pub enum DatabaseReason {
@@ -20,15 +28,17 @@ pub enum DatabaseReason {
     Failed(ErrorCode),
 }
 
-/// Why a database doesn't execute a statement, if it fails.
+/// Why a database doesn't execute some statements, if one fails.
 pub(crate) fn failure_in<S: Alter + Drop>(
     mut conn: Connection<S>,
-    statement: &str,
+    statements: &[&str],
 ) -> Option<DatabaseReason> {
-    match conn.execute(statement, &[]) {
-        Ok(_) => None,
-        Err(error) => failure_of(error),
+    for statement in statements {
+        if let Err(error) = conn.execute(statement, &[]) {
+            return failure_of(error);
+        }
     }
+    None
 }
 
 /// How the disk has failed since the file was opened.

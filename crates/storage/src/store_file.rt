@@ -3,17 +3,18 @@ ghost use Rattle.std.specs.Prelude.{true, false, IfErr, IfOk, IsTrue};
 ghost use Rattle.storage.specs.StoreOpened.{FindsRows, IsOpenedAt, LeavesRows};
 
 use crate::database::{DatabaseFile, Remains, connected, fault_of};
-use crate::reason::{DatabaseReason, failure_in, failure_since};
+use crate::reason::{DatabaseReason, NO_TABLES, failure_in, failure_since};
 use crate::row_storage::{RowStorage, StoredRows};
 use provider_core::Registry;
 use provider_store::{RegistryOpenFault, SqlRegistry};
+use sql_tables::is_blank;
 use sqlite::{Alter, Connection, Error, File, FileStore};
 use sqlite_disk::{Disk, Files};
 use std::alloc::Global;
 use std::rt::HostRuntime;
 
-/// A statement that leaves the contents of the file as they are.
-const SAME: &str = "UPDATE provider_format SET number = number";
+/// A statement that leaves the tables as they are.
+const SAME: [&str; 1] = ["UPDATE provider_format SET number = number"];
 
 /// A file that keeps the rows of a provider. Opening makes the file if there is none.
 #[derive(Clone, Copy)]
@@ -94,14 +95,17 @@ fn rows_in<D: Disk + Drop>(
     }
 }
 
-/// Why the rows of a connection that was opened again can't be used: it opens them, and writes what is there.
-/// If the store fails, the connection is handed back.
+/// Why the rows of a connection that was opened again can't be used: it opens them, and writes what is there. It makes
+/// no tables. If the store fails, the connection is handed back.
 fn refusal<S: Alter + Drop>(
     alloc: Global,
     conn: Connection<S>,
 ) -> Result<Option<DatabaseReason>, Connection<S>> {
+    if is_blank(conn.schema()) {
+        return Ok(failure_in(conn, &NO_TABLES));
+    }
     match SqlRegistry::open(alloc, conn) {
-        Ok(rows) => Ok(failure_in(SqlRegistry::close(rows), SAME)),
+        Ok(rows) => Ok(failure_in(SqlRegistry::close(rows), &SAME)),
         Err((RegistryOpenFault::Store, conn)) => Err(conn),
         Err((_fault, _conn)) => Ok(None),
     }

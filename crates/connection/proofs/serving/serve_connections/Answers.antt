@@ -12,7 +12,7 @@ pub loop-turn-preserved : goal.loop-turn-preserved
 loop-turn-preserved g c = let m = one_more g.L.Listen.waiting g.L.Reader.Read.remaining g.L.Writer.Write.contents g.R.Registry c.args.base.now c.loop-turn.invariant c.serve_next-served.ensures in record {
   turns = m.turns;
   count_is = m.count_is;
-  takes = taken_still _ _ _ (all_opened m.turns) m.takes c.lost.ensures;
+  takes = taken_still _ _ _ (all_opened m.turns) m.takes c.due_faults.ensures;
   served = m.served;
   result_is = c.and-outcome.ensures ∙ m.result_is;
 }

@@ -1,7 +1,8 @@
-use Rattle.std.proofs.Common.{◌++◌, ◌∙◌, ap, not, filter, rules, tests}
+use Rattle.std.proofs.Common.{not, filter, rules, tests}
 use Rattle.std.proofs.lemmas.Iterator.Adapters.{YieldsList-from_vec}
 use Rattle.std.proofs.lemmas.Iterator.Consumers.{items_from_parts, parts_from_yields_List}
 use Rattle.connector_core.specs.Maps.{book_of}
+use Rattle.provisioning.proofs.ListLemmas.{joined}
 use Rattle.provisioning.specs.Leavers.{is_switched_off}
 use Rattle.provisioning.proofs.orders.with_leavers_first.Goals as goal
 
@@ -11,4 +12,4 @@ returns g c =
     let parts = items_from_parts c.partition.result (filter due c.args.names.items) (filter (λ name. not (due name)) c.args.names.items)
     (parts_from_yields_List _ due _ c.partition.ensures.ran (YieldsList-from_vec {s = c.into_iter.result} c.args.names.items c.into_iter.ensures.rest (search rules)) (λ x r q k. search (rules, tests))) in
     let is = rw c.in_ok-ordered.was at parts in
-    c.in_ok-append.ensures.items ∙ ap (λ xs. xs ++ c.in_ok-ordered.others.items) is.0 ∙ ap (λ xs. filter due c.args.names.items ++ xs) is.1
+    joined c.append.new.self.items c.in_ok-ordered.ordered.items c.in_ok-ordered.others.items (filter due c.args.names.items) (filter (λ name. not (due name)) c.args.names.items) c.in_ok-append.ensures.items is.0 is.1

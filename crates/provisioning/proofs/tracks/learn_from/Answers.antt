@@ -2,4 +2,4 @@ use Rattle.provisioning.proofs.TrackLemmas.{learnt_by}
 use Rattle.provisioning.proofs.tracks.learn_from.Goals as goal
 
 pub returns : goal.returns
-returns g c = learnt_by g.D.Reader.Read.remaining g.J.Journal c.args.flight c.hear-came.result.0 c.args.connector.now c.take.new.connector c.take.result c.hear-came.ensures c.take.ensures
+returns g c = learnt_by g.D.Reader.Read.remaining g.J.Journal c.args.flight c.hear-came.result.0 c.args.connector.now c.take-taken.new.connector c.take-taken.result c.hear-came.ensures c.take-taken.ensures

@@ -1,13 +1,9 @@
-//! Bytes of others, as they are printed.
+//! Texts of others, as they are printed.
 ghost use Rattle.std.specs.Prelude.{◌≡◌, ◌<◌, true};
 ghost use Rattle.std.specs.Fmt.{digit_glyph};
-ghost use Rattle.provisioning.specs.Explanations.{is_plain};
+ghost use Rattle.storage.specs.Printable.{is_plain};
 
-use std::alloc::{AllocError, Global};
 use std::fmt;
-
-/// The most bytes of one text of others that are printed.
-const EXCERPT_LIMIT: usize = 200;
 
 /// Bytes of others. Printable ASCII is printed as it is, but for the backslash; any other byte as `\xNN`.
 #[derive(Clone, Copy)]
@@ -38,7 +34,7 @@ fn digit_glyph(digit: u8) -> char
 
 impl fmt::Display for PrintableByte {
     ghost use Rattle.std.specs.Prelude.{Some};
-    ghost use Rattle.provisioning.specs.Explanations.{printable_byte};
+    ghost use Rattle.storage.specs.Printable.{printable_byte};
 
     ghost output = { λ byte. Some (printable_byte byte.0) };
 
@@ -53,32 +49,15 @@ impl fmt::Display for PrintableByte {
 }
 
 impl<'a> fmt::Display for Printable<'a> {
+    ghost use Rattle.std.specs.Prelude.{Some};
+    ghost use Rattle.storage.specs.Printable.{printable_text};
+
+    ghost output = { λ text. Some (printable_text text.0.now) };
+
     fn fmt<W: fmt::Write>(&self, f: &mut fmt::Formatter<W>) -> fmt::Result {
         for byte in self.0 {
             write!(f, "{}", PrintableByte(*byte))?;
         }
         Ok(())
-    }
-}
-
-/// The first bytes of a text of others.
-#[derive(Drop)]
-pub struct Excerpt {
-    bytes: Vec<u8>,
-}
-
-impl Excerpt {
-    /// The first bytes of a text.
-    pub(crate) fn of(alloc: Global, bytes: &[u8]) -> Result<Excerpt, AllocError> {
-        let count = bytes.len().min(EXCERPT_LIMIT);
-        Ok(Excerpt {
-            bytes: Vec::from_slice(alloc, &bytes[..count])?,
-        })
-    }
-}
-
-impl fmt::Display for Excerpt {
-    fn fmt<W: fmt::Write>(&self, f: &mut fmt::Formatter<W>) -> fmt::Result {
-        write!(f, "{}", Printable(&self.bytes))
     }
 }
