@@ -1,7 +1,8 @@
--- Every message of a run fits its limits, and is read as it was sent.
+-- Every message of a run, also among others, fits its limits, and is read as it was sent.
 use Rattle.std.proofs.Common.{◌≡◌, ℕ, suc, ◌≤◌, Bool, true, false, cond, ◌==◌, List, [], ◌∷◌, length, Option, Some, None, Result, Ok, Err, refl, ap, sym, ◌∙◌, subst, arith, eqb-true}
 use Rattle.std.specs.Prelude.{ℤ, pos}
-use Rattle.std.specs.List.{slice_get}
+use Rattle.std.specs.List.{AllByRecursion, slice_get}
+use Rattle.std.specs.Option.{option_map}
 use Rattle.std.proofs.lemmas.Bool.Decides.{nat_tests}
 use Rattle.std.specs.Str.{IsUtf8}
 use Rattle.std.proofs.lemmas.Option.{slice_get_within}
@@ -17,7 +18,7 @@ use Rattle.scim_version.specs.Tags.{version_tag}
 use Rattle.scim_version.specs.declared.conditions.Condition.{Condition}
 use Rattle.scim_version.specs.declared.conditions.Condition.TheVariants.{Always, Tags}
 use Rattle.scim_resource.specs.Contents.{content_kind, content_name}
-use Rattle.scim_resource.specs.Rows.{ShownRecord}
+use Rattle.scim_resource.specs.Rows.{ShownRecord, shown}
 use Rattle.scim_resource.specs.Locations.{location_text}
 use Rattle.scim_resource.specs.Writing.{content_data, shown_data}
 use Rattle.scim_resource.specs.declared.contents.Content.{Content}
@@ -27,7 +28,7 @@ use Rattle.scim_filter.specs.Names.{name_filter}
 use Rattle.scim_filter.specs.declared.terms.TextAttribute.TheVariants.{UserName, DisplayName}
 use Rattle.scim_message.specs.Bodies.{body_text as answer_body, list_data, error_data}
 use Rattle.scim_message.specs.Fitting.{Fits, Fits.created, Fits.listed as listed_so, Fits.replaced, Fits.refused, AreLawful, ShowsLawfully, AreShownOf}
-use Rattle.scim_message.specs.Refusals.{ErrorRecord, error_of}
+use Rattle.scim_message.specs.Refusals.{error_of}
 use Rattle.scim_message.specs.declared.lists.ListResponse.{ListResponse}
 use Rattle.scim_message.specs.declared.messages.Answer.{Answer}
 use Rattle.scim_message.specs.declared.messages.Answer.TheVariants.{Created, Found, Replaced, NotModified, Error}
@@ -36,26 +37,26 @@ use Rattle.scim_message.specs.declared.messages.Request.{Request}
 use Rattle.scim_message.specs.declared.messages.Request.TheVariants.{Create, Retrieve, Search, Replace}
 use Rattle.scim_message.specs.declared.refusals.Refusal.{Refusal}
 use Rattle.scim_message.specs.declared.refusals.Refusal.TheVariants.{NameFixed, NoSuchResource, NameTaken, OtherVersion, LimitReached}
-use Rattle.provider_core.specs.Searches.{first_place}
-use Rattle.provider_core.specs.Stories.{Entry, Numbered, story, step, creating_entry, writing_entry, replacing_entry}
-use Rattle.provider_core.specs.Tables.{IsFact}
+use Rattle.provider_core.specs.Searches.{listing}
+use Rattle.provider_core.specs.Stories.{Entry, Numbered, story, step, row_of, first_entry, renewed, found_entries, creating_entry, writing_entry, replacing_entry}
+use Rattle.provider_core.specs.Tables.{IsFact, IsWholeTable, entry_named}
 use Rattle.source_csv.specs.Records.{IsRow, row_name}
 use Rattle.source_csv.specs.declared.rows.Row.{Row}
 use Rattle.source_csv.specs.declared.rows.Row.TheVariants as rows
 use Rattle.connector_core.specs.Asking.{search_for}
-use Rattle.connector_core.specs.declared.learning.LearnFault.{LearnFault}
 use Rattle.connector_core.specs.declared.learning.LearnFault.TheVariants as faults
 use Rattle.scim_filter.specs.Texts.{filter_text, nesting}
-use Rattle.connector_core.specs.Learning.{Finding, Shows, Shows_none, listed, subject}
-use Rattle.world_model.specs.Safe.{IsAt, IsImage, IsVersion}
+use Rattle.connector_core.specs.History.{rows_of}
+use Rattle.connector_core.specs.Learning.{Finding, Shows, Shows_none, listed}
+use Rattle.world_model.specs.Safe.{Has, IsAt, IsImage, IsVersion, id_in}
 use Rattle.world_model.specs.Untroubled.{longest_body}
 use Rattle.world_model.specs.World.{World, Message, Asked, Answered, empty, run}
-use Rattle.world_model.proofs.Answering.{Answers}
-use Rattle.world_model.proofs.Quiet.{Quiet, image_short, always_quiet}
-use Rattle.world_model.proofs.Ranking.{row_lawful, versions_few}
-use Rattle.world_model.proofs.Searched.{search_subject, kind_of}
-use Rattle.world_model.proofs.Sizes.{quoted_most, user_name_short, group_name_short}
-use Rattle.world_model.specs.Invariant.{AskedTruly, ShowsTruly, Sought}
+use Rattle.world_model.specs.Invariant.{AskedTruly, Names, ShowsTruly}
+use Rattle.world_model.specs.Others.{Act, run_among, KeepsApart}
+use Rattle.world_model.specs.Room.{IsLawfulAct}
+use Rattle.world_model.proofs.Ranking.{record_ours, row_lawful, versions_few_of}
+use Rattle.world_model.proofs.Searched.{filter_of, kind_of, search_is, search_said as row_found}
+use Rattle.world_model.proofs.Sizes.{image_size, quoted_most, user_name_short, group_name_short}
 use Rattle.scim_client.specs.AnswerLaws.{KeepsAnswerLimits}
 use Rattle.scim_client.specs.Answers.{AnswersSo, etag_of}
 use Rattle.scim_client.specs.Spelling.{IsWritable, KeepsLimits, IsIdText}
@@ -70,7 +71,7 @@ use Rattle.world_sim.specs.Messages.{message_text}
 use Rattle.world_sim.specs.Reading.{IsReadAs}
 use Rattle.world_sim.proofs.BodySizes.{IsBrief as IsBriefShown, shown_most, list_most, error_most, error_lawful}
 use Rattle.world_sim.proofs.TextSizes.{IsWithin}
-use Rattle.world_sim.proofs.Given.{IsPlain, AllSaid, always_said}
+use Rattle.world_sim.proofs.Given.{IsPlain, IsSpoken, always_spoken, always_spoken_among}
 use Rattle.world_sim.proofs.HeadSizes.{base_short, id_short, tag_short, keeps_limits, create_brief, replace_brief, search_brief, within, nothing_within, location_within, length_within, id_length, IsBriefAnswer, keeps_answer_limits}
 
 body_small : (kind : Kind) → longest_body kind ≤ 21000
@@ -100,34 +101,7 @@ row_kind : (row : Row) → (row_name row).kind ≡ kind_of row
 row_kind (rows.User row) = refl
 row_kind (rows.Group row) = refl
 
-same_start : (kind : Kind) (wanted : Option Expression) (start : ℤ) (count : Option ℤ) (row : Row) → Search kind wanted start count ≡ search_for row → (start ≡ pos 1) × (kind ≡ kind_of row)
-same_start kind wanted start count (rows.User row) is = (cc, cc)
-same_start kind wanted start count (rows.Group row) is = (cc, cc)
-
 -- ---- what an answer of the table is
-
-abbrev IsTame : Answer → Type 0
-IsTame (Created s) = Unit {0}
-IsTame (Found s) = Unit {0}
-IsTame (Replaced s) = Unit {0}
-IsTame (answers.List list) = list.start ≡ 1
-IsTame (NotModified kind id tag) = Unit {0}
-IsTame (Error error) = (r : Refusal) × (error ≡ error_of r)
-
-creating_tame : (taken : Option Entry) (full : Bool) (es : List Entry) (content : Content) → IsTame (creating_entry taken full es content).answer
-creating_tame (Some e) full es content = (NameTaken, refl)
-creating_tame None true es content = (LimitReached, refl)
-creating_tame None false es content = tt
-
-writing_tame : (same at_last holds : Bool) (n : Numbered) (es : List Entry) (content : Content) → IsTame (writing_entry same at_last holds n es content).answer
-writing_tame false at_last holds n es content = (NameFixed, refl)
-writing_tame true true holds n es content = (LimitReached, refl)
-writing_tame true false false n es content = (OtherVersion, refl)
-writing_tame true false true n es content = tt
-
-replacing_tame : (o : Option Numbered) (es : List Entry) (content : Content) (if_match if_none_match : Condition) → IsTame (replacing_entry o es content if_match if_none_match).answer
-replacing_tame None es content if_match if_none_match = (NoSuchResource, refl)
-replacing_tame (Some n) es content if_match if_none_match = writing_tame _ _ _ n es content
 
 -- a list that says something has one resource at most
 record IsFew (total : ℕ) (page : List ShownRecord) : Type 0 where
@@ -143,20 +117,58 @@ listed_few total [] said is = few_if (total == 0) total 0 [] Shows_none said ref
 listed_few total (s ∷ []) said is = few_if (total == 1) total 1 (s ∷ []) (Shows s) said refl (omega arith) (omega arith) is
 listed_few total (s ∷ other ∷ more) said is = absurd (cc)
 
--- ---- what an answer says
-
-clash : (fault : LearnFault) (said : Finding) → ◌≡◌ {A = Result Finding LearnFault} (Err fault) (Ok said) → ⊥
-clash fault said is = cc
-
-said_is : (x said : Finding) → ◌≡◌ {A = Result Finding LearnFault} (Ok x) (Ok said) → said ≡ x
-said_is x said is = cc
-
-name_is : (x name : RecordName) → ◌≡◌ {A = Option RecordName} (Some x) (Some name) → x ≡ name
-name_is x name is = cc
+-- a page shows the record alone
+abbrev IsOnly : RecordName → List ShownRecord → Type 0
+IsOnly name page = (s : ShownRecord) → page ≡ s ∷ [] → content_name s.content ≡ name
 
 one_found : (b : Bool) (s : ShownRecord) (said : Finding) → cond b (Ok (Shows s)) (Err faults.Unfit) ≡ Ok said → said ≡ Shows s
-one_found true s said is = said_is (Shows s) said is
-one_found false s said is = absurd (clash faults.Unfit said is)
+one_found true s said is = cc
+one_found false s said is = absurd (cc)
+
+only_one : (name : RecordName) (total : ℕ) (page : List ShownRecord) (said : Finding) → listed total page ≡ Ok said
+    → ((s : ShownRecord) → said ≡ Shows s → content_name s.content ≡ name) → IsOnly name page
+only_one name total [] said is its s page = absurd (cc)
+only_one name total (x ∷ []) said is its s page =
+    let same : x ≡ s = cc in
+    subst (λ (r : ShownRecord). content_name r.content ≡ name) same (its x (one_found (total == 1) x said is))
+only_one name total (x ∷ other ∷ more) said is its s page = absurd (cc)
+
+-- A table's answer to what is asked for a record: it shows the record, or it is an error
+data Tells (name : RecordName) : Request → Answer → Type 0 where
+  makes : (content : Content) (s : ShownRecord) → content_name content ≡ name → content_name s.content ≡ name → Tells name (Create content) (Created s)
+  writes : (id : List ℕ) (content : Content) (if_match if_none_match : Condition) (s : ShownRecord) → content_name content ≡ name → content_name s.content ≡ name
+      → Tells name (Replace id content if_match if_none_match) (Replaced s)
+  lists : (kind : Kind) (wanted : Option Expression) (start : ℤ) (count : Option ℤ) (list : ListResponse) → name.kind ≡ kind → list.start ≡ 1 → IsFew list.total list.resources
+      → IsOnly name list.resources → Tells name (Search kind wanted start count) (answers.List list)
+  errs : (request : Request) (r : Refusal) → Tells name request (Error (error_of r))
+
+creating_tells : (taken : Option Entry) (full : Bool) (es : List Entry) (content : Content) → Tells (content_name content) (Create content) (creating_entry taken full es content).answer
+creating_tells (Some e) full es content = errs (Create content) NameTaken
+creating_tells None true es content = errs (Create content) LimitReached
+creating_tells None false es content = makes content (shown (row_of (suc (length es)) (first_entry content))) refl refl
+
+module _ (id : List ℕ) (content : Content) (if_match if_none_match : Condition) where
+  abbrev Writes : Answer → Type 0
+  Writes answer = Tells (content_name content) (Replace id content if_match if_none_match) answer
+
+  writing_tells : (same at_last holds : Bool) (n : Numbered) (es : List Entry) → Writes (writing_entry same at_last holds n es content).answer
+  writing_tells false at_last holds n es = errs (Replace id content if_match if_none_match) NameFixed
+  writing_tells true true holds n es = errs (Replace id content if_match if_none_match) LimitReached
+  writing_tells true false false n es = errs (Replace id content if_match if_none_match) OtherVersion
+  writing_tells true false true n es = writes id content if_match if_none_match (shown (row_of n.number (renewed n.entry content))) refl refl
+
+  replacing_tells : (o : Option Numbered) (es : List Entry) → Writes (replacing_entry o es content if_match if_none_match).answer
+  replacing_tells None es = errs (Replace id content if_match if_none_match) NoSuchResource
+  replacing_tells (Some n) es = writing_tells _ _ _ n es
+
+searching_tells : (es : List Entry) (row : Row) → IsRow row → IsWholeTable es → Tells (row_name row) (search_for row) (step es (search_for row)).answer
+searching_tells es row law whole =
+    let P : Request → Type 0 = λ r. Tells (row_name row) r (step es r).answer in
+    let (said, says) = row_found es row law whole in
+    let list : ListResponse = listing (pos 1) None (found_entries (kind_of row) (Some (filter_of row)) es) in
+    subst P (sym (search_is row))
+    (lists (kind_of row) (Some (filter_of row)) (pos 1) None list (row_kind row) refl (listed_few list.total list.resources said says.says)
+    (only_one (row_name row) list.total list.resources said says.says says.its))
 
 -- ---- a search is read without its filter
 
@@ -189,20 +201,34 @@ pub id_lawful : (n : ℕ) → IsId (id_text n)
 unfolding id_fault
 id_lawful n = grind (arith, nat_tests, id_length n)
 
-module _ (base : List ℕ) (is_base : IsBase base) (w : World) (q : Quiet w) where
+-- the ids of a table are spelled from numbers
+id_spelled : (es : List Entry) (name : RecordName) (id : List ℕ) → id_in es name ≡ Some id → (n : ℕ) × (id ≡ id_text n)
+id_spelled es name id is = go (entry_named name es) is
+  where
+    go : (o : Option Numbered) → option_map (λ n. id_text n.number) o ≡ Some id → (n : ℕ) × (id ≡ id_text n)
+    go None was = absurd (cc)
+    go (Some n) was = (n.number, cc)
+
+module _ {ours : Names} (base : List ℕ) (is_base : IsBase base) (w : World) (q : IsSpoken ours w) where
   short : length base ≤ 110
   short = base_short base is_base
 
   image_most : (name : RecordName) (c : Content) → IsImage w.history w.entries name c → length (compact_text (content_data c)) ≤ 21000
-  image_most name c is = omega (arith, image_short w q name c is, body_small (content_kind c))
+  image_most name c is =
+      let brief = image_size (id_in w.entries) (id_spelled w.entries) is.row c (row_lawful w.history q.lawful name is.row is.accepted) is.image in
+      omega (arith, brief, body_small (content_kind c))
+
+  -- a record with an accepted row is ours
+  own_record : (name : RecordName) (row : Row) → Has (rows_of w.history name) row → ours name ≡ true
+  own_record = record_ours ours w.history q.inv.mine
 
   abbrev Keeps : Request → Type 0
   Keeps request = IsWritable request × KeepsLimits base request
 
-  version_most : (name : RecordName) (id tag : List ℕ) (revision : RevisionValue) → IsVersion w.entries name id tag revision → (length id ≤ 36) × (length tag ≤ 22)
-  version_most name id tag revision v =
+  version_most : (name : RecordName) (id tag : List ℕ) (revision : RevisionValue) → ours name ≡ true → IsVersion w.entries name id tag revision → (length id ≤ 36) × (length tag ≤ 22)
+  version_most name id tag revision own v =
       let turn = slice_get_within (story v.entry) v.turn v.content v.held in
-      let few = versions_few w.history w.entries q.inv.kept q.lawful v.place v.entry v.here in (
+      let few = versions_few_of w.history w.entries q.inv.kept q.lawful v.place v.entry v.here (ap ours v.of_record ∙ own) in (
         subst (λ (t : List ℕ). length t ≤ 36) (sym v.has_id) (id_short (suc v.place)),
         subst (λ (t : List ℕ). length t ≤ 22) (sym v.has_tag) (tag_short (suc v.turn) (omega (arith, turn, few))),
       )
@@ -219,39 +245,47 @@ module _ (base : List ℕ) (is_base : IsBase base) (w : World) (q : Quiet w) whe
   asked_fits (Search kind wanted start count) asked plain =
       subst Keeps (sym asked.is) (search_fits base short asked.row (row_lawful w.history q.lawful (row_name asked.row) asked.row asked.accepted))
   asked_fits (Replace id content if_match if_none_match) asked plain =
-      let sizes = version_most (content_name content) id asked.tag asked.older asked.version in
+      let own = own_record (content_name content) asked.image.row asked.image.accepted in
+      let sizes = version_most (content_name content) id asked.tag asked.older own asked.version in
       let brief = replace_brief id asked.tag content sizes.0 sizes.1 (image_most (content_name content) content asked.image) in
       replaced_fits id content if_match if_none_match asked.tag asked.alone plain
       ((omega arith, tt), keeps_limits base short (Replace id content (Tags (asked.tag ∷ [])) Always) brief)
 
   -- ---- what answers show
 
-  brief_shown : (s : ShownRecord) → IsFact w.entries s → IsBriefShown base s
-  brief_shown s fact =
+  -- it shows a version of a resource of ours
+  abbrev IsOwnFact : ShownRecord → Type 0
+  IsOwnFact s = (fact : IsFact w.entries s) × (ours fact.entry.name ≡ true)
+
+  own_fact : (s : ShownRecord) (name : RecordName) → ours name ≡ true → content_name s.content ≡ name → IsFact w.entries s → IsOwnFact s
+  own_fact s name own its fact = (fact, ap ours (sym (q.inv.kept.whole.named fact.place fact.turn fact.entry s.content fact.here fact.held) ∙ its) ∙ own)
+
+  brief_shown : (s : ShownRecord) → IsOwnFact s → IsBriefShown base s
+  brief_shown s (fact, own) =
       let turn = slice_get_within (story fact.entry) fact.turn s.content fact.held in
-      let few = versions_few w.history w.entries q.inv.kept q.lawful fact.place fact.entry fact.here in
+      let few = versions_few_of w.history w.entries q.inv.kept q.lawful fact.place fact.entry fact.here own in
       record {
         at = short;
         id = subst (λ (t : List ℕ). length t ≤ 36) (sym fact.id) (id_short (suc fact.place));
         tag = subst (IsWithin 22) (sym fact.version) (within (version_tag (suc fact.turn)) 22 (tag_short (suc fact.turn) (omega (arith, turn, few))));
       }
 
-  shown_short : (s : ShownRecord) → IsFact w.entries s → length (compact_text (shown_data base s)) ≤ 22797
-  shown_short s fact =
-      let content = image_most fact.entry.name s.content (q.inv.kept.imaged fact.place fact.turn fact.entry s.content fact.here refl fact.held) in
-      omega (arith, shown_most base s (brief_shown s fact), content)
+  shown_short : (s : ShownRecord) → IsOwnFact s → length (compact_text (shown_data base s)) ≤ 22797
+  shown_short s (fact, own) =
+      let content = image_most fact.entry.name s.content (q.inv.kept.imaged fact.place fact.turn fact.entry s.content fact.here own fact.held) in
+      omega (arith, shown_most base s (brief_shown s (fact, own)), content)
 
-  location_brief : (s : ShownRecord) → IsFact w.entries s → IsWithin 226 (Some (location_text base (content_kind s.content) s.id))
+  location_brief : (s : ShownRecord) → IsOwnFact s → IsWithin 226 (Some (location_text base (content_kind s.content) s.id))
   location_brief s fact = location_within base (content_kind s.content) s.id short (brief_shown s fact).id
 
-  body_brief : (s : ShownRecord) → IsFact w.entries s → length (compact_text (shown_data base s)) ≤ 30000
+  body_brief : (s : ShownRecord) → IsOwnFact s → length (compact_text (shown_data base s)) ≤ 30000
   body_brief s fact = omega (arith, shown_short s fact)
 
-  created_brief : (s : ShownRecord) → IsFact w.entries s → IsBriefAnswer base (Created s)
+  created_brief : (s : ShownRecord) → IsOwnFact s → IsBriefAnswer base (Created s)
   created_brief s fact =
       record { body = body_brief s fact; long = length_within (compact_text (shown_data base s)) (body_brief s fact); location = location_brief s fact; tag = (brief_shown s fact).tag }
 
-  replaced_brief : (s : ShownRecord) → IsFact w.entries s → IsBriefAnswer base (Replaced s)
+  replaced_brief : (s : ShownRecord) → IsOwnFact s → IsBriefAnswer base (Replaced s)
   replaced_brief s fact =
       record { body = body_brief s fact; long = length_within (compact_text (shown_data base s)) (body_brief s fact); location = location_brief s fact; tag = (brief_shown s fact).tag }
 
@@ -260,10 +294,11 @@ module _ (base : List ℕ) (is_base : IsBase base) (w : World) (q : Quiet w) whe
       let body : length (compact_text (error_data (error_of r))) ≤ 30000 = omega (arith, error_most r) in
       record { body = body; long = length_within (compact_text (error_data (error_of r))) body; location = nothing_within 226; tag = nothing_within 22 }
 
-  list_brief : (list : ListResponse) → list.start ≡ 1 → IsFew list.total list.resources → ShowsTruly w.entries (answers.List list) → IsBriefAnswer base (answers.List list)
-  list_brief list start few shows =
+  list_brief : (name : RecordName) → ours name ≡ true → (list : ListResponse) → list.start ≡ 1 → IsFew list.total list.resources → IsOnly name list.resources
+      → ShowsTruly w.entries (answers.List list) → IsBriefAnswer base (answers.List list)
+  list_brief name own list start few only shows =
       let each : (s : ShownRecord) → list.resources ≡ s ∷ [] → length (compact_text (shown_data base s)) ≤ 22797 =
-      λ s is. shown_short s (shows 0 s (ap (λ (l : List ShownRecord). slice_get l 0) is)) in
+      λ s is. shown_short s (own_fact s name own (only s is) (shows 0 s (ap (λ (l : List ShownRecord). slice_get l 0) is))) in
       let most = list_most base list 22797 few.page_few (omega (arith, start)) few.total_few each in
       let body : length (compact_text (list_data base list)) ≤ 30000 = omega (arith, most) in
       record { body = body; long = length_within (compact_text (list_data base list)) body; location = nothing_within 226; tag = nothing_within 22 }
@@ -274,116 +309,96 @@ module _ (base : List ℕ) (is_base : IsBase base) (w : World) (q : Quiet w) whe
     brief : IsBriefAnswer base answer
     fits : ShowsLawfully answer → Fits request answer
 
-  error_fits : (request : Request) (error : ErrorRecord) → IsTame (Error error) → IsFitAnswer request (Error error)
-  error_fits request error tame =
-      subst (λ (e : ErrorRecord). IsFitAnswer request (Error e)) (sym tame.1)
-      (record { brief = error_brief tame.0; fits = λ lawful. refused request (error_of tame.0) (error_lawful tame.0) })
+  page_fits : (kind : Kind) (name : RecordName) → name.kind ≡ kind → (page : List ShownRecord) → length page ≤ 1 → IsOnly name page → AreLawful page → AreShownOf kind page
+  page_fits kind name of_kind [] few only lawful = tt
+  page_fits kind name of_kind (s ∷ []) few only lawful =
+      (record { of_kind = ap (λ (n : RecordName). n.kind) (only s refl) ∙ of_kind; shown = lawful.0.shown; content = lawful.0.content }, tt)
+  page_fits kind name of_kind (s ∷ other ∷ more) few only lawful = absurd (omega (arith, few))
 
-  page_fits : (kind : Kind) (name : RecordName) → name.kind ≡ kind → (total : ℕ) (page : List ShownRecord) (said : Finding) → listed total page ≡ Ok said
-      → ((s : ShownRecord) → said ≡ Shows s → content_name s.content ≡ name) → AreLawful page → AreShownOf kind page
-  page_fits kind name of_kind total [] said is its lawful = tt
-  page_fits kind name of_kind total (s ∷ []) said is its lawful =
-      let named = its s (one_found (total == 1) s said is) in
-      (record { of_kind = ap (λ (n : RecordName). n.kind) named ∙ of_kind; shown = lawful.0.shown; content = lawful.0.content }, tt)
-  page_fits kind name of_kind total (s ∷ other ∷ more) said is its lawful = absurd (clash faults.Unfit said is)
-
-  search_kind : (kind : Kind) (wanted : Option Expression) (start : ℤ) (count : Option ℤ) (name : RecordName) → Sought w.history (Search kind wanted start count)
-      → subject (Search kind wanted start count) ≡ Some name → name.kind ≡ kind
-  search_kind kind wanted start count name sought about =
-      let law = row_lawful w.history q.lawful (row_name sought.row) sought.row sought.accepted in
-      let named = name_is (row_name sought.row) name (sym (search_subject sought.row law) ∙ ap subject (sym sought.is) ∙ about) in
-      ap (λ (n : RecordName). n.kind) (sym named) ∙ row_kind sought.row ∙ sym (same_start kind wanted start count sought.row sought.is).1
-
-  answer_fits : (request : Request) (answer : Answer) → AskedTruly w.history w.entries request → Answers w.history request answer → IsTame answer → ShowsTruly w.entries answer
-      → IsFitAnswer request answer
-  answer_fits (Create content) (Created s) asked a tame shows = record {
-    brief = created_brief s (shows 0 s refl);
-    fits = λ lawful. created content s (record {
-      of_kind = ap (λ (n : RecordName). n.kind) (a.says.its s (said_is (Shows s) a.said a.says.says) ∙ sym (name_is (content_name content) a.name a.about));
-      shown = lawful.shown;
-      content = lawful.content;
+  answer_fits : (name : RecordName) → ours name ≡ true → (request : Request) (answer : Answer) → Tells name request answer → ShowsTruly w.entries answer → IsFitAnswer request answer
+  answer_fits name own _ _ (makes content s named its) shows = record {
+    brief = created_brief s (own_fact s name own its (shows 0 s refl));
+    fits = λ lawful. created content s (record { of_kind = ap (λ (n : RecordName). n.kind) (its ∙ sym named); shown = lawful.shown; content = lawful.content });
+  }
+  answer_fits name own _ _ (writes id content if_match if_none_match s named its) shows = record {
+    brief = replaced_brief s (own_fact s name own its (shows 0 s refl));
+    fits = λ lawful. replaced id content if_match if_none_match s
+        (record { of_kind = ap (λ (n : RecordName). n.kind) (its ∙ sym named); shown = lawful.shown; content = lawful.content });
+  }
+  answer_fits name own _ _ (lists kind wanted start count list of_kind first few only) shows = record {
+    brief = list_brief name own list first few only shows;
+    fits = λ lawful. listed_so kind wanted start count list (record {
+      page = page_fits kind name of_kind list.resources few.page_few only lawful;
+      on_page = omega (arith, few.page_few);
+      total = omega (arith, few.total_few);
+      from_one = omega (arith, first);
+      start = omega (arith, first);
     });
   }
-  answer_fits (Create content) (Found s) asked a tame shows = absurd (clash faults.Unfit a.said a.says.says)
-  answer_fits (Create content) (Replaced s) asked a tame shows = absurd (clash faults.Unfit a.said a.says.says)
-  answer_fits (Create content) (answers.List list) asked a tame shows = absurd (clash faults.Unfit a.said a.says.says)
-  answer_fits (Create content) (NotModified kind id tag) asked a tame shows = absurd (clash faults.Unfit a.said a.says.says)
-  answer_fits (Create content) (Error error) asked a tame shows = error_fits (Create content) error tame
-  answer_fits (Retrieve kind id if_match if_none_match) answer asked a tame shows = absurd asked
-  answer_fits (Search kind wanted start count) (Created s) asked a tame shows = absurd (clash faults.Unfit a.said a.says.says)
-  answer_fits (Search kind wanted start count) (Found s) asked a tame shows = absurd (clash faults.Unfit a.said a.says.says)
-  answer_fits (Search kind wanted start count) (Replaced s) asked a tame shows = absurd (clash faults.Unfit a.said a.says.says)
-  answer_fits (Search kind wanted start count) (answers.List list) asked a tame shows =
-      let few = listed_few list.total list.resources a.said a.says.says in
-      let of_kind = search_kind kind wanted start count a.name asked a.about in
-      record {
-        brief = list_brief list tame few shows;
-        fits = λ lawful. listed_so kind wanted start count list (record {
-          page = page_fits kind a.name of_kind list.total list.resources a.said a.says.says a.says.its lawful;
-          on_page = omega (arith, few.page_few);
-          total = omega (arith, few.total_few);
-          from_one = omega (arith, tame);
-          start = omega (arith, tame);
-        });
-      }
-  answer_fits (Search kind wanted start count) (NotModified other id tag) asked a tame shows = absurd (clash faults.Unfit a.said a.says.says)
-  answer_fits (Search kind wanted start count) (Error error) asked a tame shows = error_fits (Search kind wanted start count) error tame
-  answer_fits (Replace id content if_match if_none_match) (Created s) asked a tame shows = absurd (clash faults.Unfit a.said a.says.says)
-  answer_fits (Replace id content if_match if_none_match) (Found s) asked a tame shows = absurd (clash faults.Unfit a.said a.says.says)
-  answer_fits (Replace id content if_match if_none_match) (Replaced s) asked a tame shows = record {
-    brief = replaced_brief s (shows 0 s refl);
-    fits = λ lawful. replaced id content if_match if_none_match s (record {
-      of_kind = ap (λ (n : RecordName). n.kind) (a.says.its s (said_is (Shows s) a.said a.says.says) ∙ sym (name_is (content_name content) a.name a.about));
-      shown = lawful.shown;
-      content = lawful.content;
-    });
+  answer_fits name own _ _ (errs request r) shows = record { brief = error_brief r; fits = λ lawful. refused request (error_of r) (error_lawful r) }
+
+  -- ---- what is answered
+
+  -- what a whole table answers to a request of ours
+  record IsOwnAnswer (request : Request) (answer : Answer) : Type 0 where
+    name : RecordName
+    own : ours name ≡ true
+    tells : Tells name request answer
+
+  answers_own : (request : Request) (es : List Entry) → IsWholeTable es → AskedTruly w.history w.entries request → IsOwnAnswer request (step es request).answer
+  answers_own (Create content) es whole asked =
+      record { name = content_name content; own = own_record (content_name content) asked.row asked.accepted; tells = creating_tells _ _ es content }
+  answers_own (Retrieve kind id if_match if_none_match) es whole asked = absurd asked
+  answers_own (Search kind wanted start count) es whole asked =
+      let row = asked.row in
+      let law = row_lawful w.history q.lawful (row_name row) row asked.accepted in
+      let P : Request → Type 0 = λ r. IsOwnAnswer r (step es r).answer in
+      subst P (sym asked.is) (record { name = row_name row; own = own_record (row_name row) row asked.accepted; tells = searching_tells es row law whole })
+  answers_own (Replace id content if_match if_none_match) es whole asked = record {
+    name = content_name content;
+    own = own_record (content_name content) asked.image.row asked.image.accepted;
+    tells = replacing_tells id content if_match if_none_match _ es;
   }
-  answer_fits (Replace id content if_match if_none_match) (answers.List list) asked a tame shows = absurd (clash faults.Unfit a.said a.says.says)
-  answer_fits (Replace id content if_match if_none_match) (NotModified kind other tag) asked a tame shows = absurd (clash faults.Unfit a.said a.says.says)
-  answer_fits (Replace id content if_match if_none_match) (Error error) asked a tame shows = error_fits (Replace id content if_match if_none_match) error tame
-
-  -- ---- what is answered is tame
-
-  answer_tame : (request : Request) (es : List Entry) → AskedTruly w.history w.entries request → IsTame (step es request).answer
-  answer_tame (Create content) es asked = creating_tame _ _ es content
-  answer_tame (Retrieve kind id if_match if_none_match) es asked = absurd asked
-  answer_tame (Search kind wanted start count) es asked = ap first_place (same_start kind wanted start count asked.row asked.is).0
-  answer_tame (Replace id content if_match if_none_match) es asked = replacing_tame _ es content if_match if_none_match
 
   -- ---- every message
 
-  module _ (said : AllSaid w.messages) where
-    answered_fits : (i : ℕ) (request : Request) (answer : Answer) → IsAt w.messages i (Answered request answer) → IsFitAnswer request answer
-    answered_fits i request answer at =
-        let given = said i (Answered request answer) at in
-        let asked = q.inv.told given.asked.0 (Asked request) given.asked.1 in
-        answer_fits request answer asked (q.answered i request answer at) (subst IsTame (sym given.is) (answer_tame request given.entries asked)) (q.inv.told i (Answered request answer) at)
+  answered_fits : (i : ℕ) (request : Request) (answer : Answer) → IsAt w.messages i (Answered request answer) → IsFitAnswer request answer
+  answered_fits i request answer at =
+      let given = q.said i (Answered request answer) at in
+      let its = answers_own request given.entries given.whole (q.inv.told given.asked.0 (Asked request) given.asked.1) in
+      answer_fits its.name its.own request answer (subst (Tells its.name request) (sym given.is) its.tells) (q.inv.told i (Answered request answer) at)
 
-    pub within_limits : (i : ℕ) (message : Message) → IsAt w.messages i message → IsWithinLimits base message
-    within_limits i (Asked request) at = asked_fits request (q.inv.told i (Asked request) at) (said i (Asked request) at)
-    within_limits i (Answered request answer) at = keeps_answer_limits base answer (answered_fits i request answer at).brief
+  pub within_limits : (i : ℕ) (message : Message) → IsAt w.messages i message → IsWithinLimits base message
+  within_limits i (Asked request) at = asked_fits request (q.inv.told i (Asked request) at) (q.said i (Asked request) at)
+  within_limits i (Answered request answer) at = keeps_answer_limits base answer (answered_fits i request answer at).brief
 
-    -- an answer is read by its request, whose filter doesn't matter
-    read_by : (request : Request) (answer : Answer) → AskedTruly w.history w.entries request → Fits request answer → IsUtf8 (answer_body base answer) → KeepsAnswerLimits base answer
-        → AnswersSo (answer_text base false answer) request answer
-    read_by (Create content) answer asked fits utf8 limits = answers_are_read base (Create content) answer is_base tt fits utf8 limits
-    read_by (Retrieve kind id if_match if_none_match) answer asked fits utf8 limits = absurd asked
-    read_by (Search kind wanted start count) answer asked fits utf8 limits =
-        any_filter (answer_text base false answer) kind None wanted start count answer
-        (answers_are_read base (Search kind None start count) answer is_base tt (without_filter kind wanted start count answer fits) utf8 limits)
-    read_by (Replace id content if_match if_none_match) answer asked fits utf8 limits =
-        let v = asked.version in
-        answers_are_read base (Replace id content if_match if_none_match) answer is_base (subst IsIdText (sym v.has_id) (id_is_text (suc v.place), id_lawful (suc v.place))) fits utf8 limits
+  -- an answer is read by its request, whose filter doesn't matter
+  read_by : (request : Request) (answer : Answer) → AskedTruly w.history w.entries request → Fits request answer → IsUtf8 (answer_body base answer) → KeepsAnswerLimits base answer
+      → AnswersSo (answer_text base false answer) request answer
+  read_by (Create content) answer asked fits utf8 limits = answers_are_read base (Create content) answer is_base tt fits utf8 limits
+  read_by (Retrieve kind id if_match if_none_match) answer asked fits utf8 limits = absurd asked
+  read_by (Search kind wanted start count) answer asked fits utf8 limits =
+      any_filter (answer_text base false answer) kind None wanted start count answer
+      (answers_are_read base (Search kind None start count) answer is_base tt (without_filter kind wanted start count answer fits) utf8 limits)
+  read_by (Replace id content if_match if_none_match) answer asked fits utf8 limits =
+      let v = asked.version in
+      answers_are_read base (Replace id content if_match if_none_match) answer is_base (subst IsIdText (sym v.has_id) (id_is_text (suc v.place), id_lawful (suc v.place))) fits utf8 limits
 
-    pub is_read : (i : ℕ) (message : Message) → IsAt w.messages i message → IsFormed base message → IsReadAs (message_text base message) message
-    is_read i (Asked request) at formed = let keeps = asked_fits request (q.inv.told i (Asked request) at) (said i (Asked request) at) in formed keeps.0 keeps.1
-    is_read i (Answered request answer) at formed =
-        let fit = answered_fits i request answer at in
-        let given = said i (Answered request answer) at in
-        read_by request answer (q.inv.told given.asked.0 (Asked request) given.asked.1) (fit.fits formed.0) formed.1 (keeps_answer_limits base answer fit.brief)
+  pub is_read : (i : ℕ) (message : Message) → IsAt w.messages i message → IsFormed base message → IsReadAs (message_text base message) message
+  is_read i (Asked request) at formed = let keeps = asked_fits request (q.inv.told i (Asked request) at) (q.said i (Asked request) at) in formed keeps.0 keeps.1
+  is_read i (Answered request answer) at formed =
+      let fit = answered_fits i request answer at in
+      let given = q.said i (Answered request answer) at in
+      read_by request answer (q.inv.told given.asked.0 (Asked request) given.asked.1) (fit.fits formed.0) formed.1 (keeps_answer_limits base answer fit.brief)
 
 pub messages_keep_limits : MessagesKeepLimits
-messages_keep_limits base events message is_base law has = within_limits base is_base (run empty events) (always_quiet events law) (always_said events) has.0 message has.1
+messages_keep_limits base events message is_base law has = within_limits base is_base (run empty events) (always_spoken events law) has.0 message has.1
 
 pub messages_are_read : MessagesAreRead
-messages_are_read base events message is_base law has = is_read base is_base (run empty events) (always_quiet events law) (always_said events) has.0 message has.1
+messages_are_read base events message is_base law has = is_read base is_base (run empty events) (always_spoken events law) has.0 message has.1
+
+-- among others too, whether the provider has room or not
+pub messages_are_read_among : (base : List ℕ) (ours : Names) (all : List Act) (message : Message) → IsBase base → KeepsApart ours all → AllByRecursion IsLawfulAct all
+    → Has (run_among empty all).messages message → IsFormed base message → IsReadAs (message_text base message) message
+messages_are_read_among base ours all message is_base apart law has =
+    is_read base is_base (run_among empty all) (always_spoken_among ours all apart law) has.0 message has.1

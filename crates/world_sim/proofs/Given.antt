@@ -1,6 +1,7 @@
--- What is asked and answered in a run: no request is bound to the absence of a version, and each reply is an answer to a request
--- that was asked before.
-use Rattle.std.proofs.Common.{◌≡◌, ℕ, Bool, true, false, cond, List, [], ◌∷◌, ◌++◌, Option, Some, None, Result, Ok, Err, inl, inr, refl, subst}
+-- What is asked and answered in a run, also among others: no request is bound to the absence of a version, each reply is the answer
+-- of a whole table to a request that was asked before, and each accepted row is valid.
+use Rattle.std.proofs.Common.{◌≡◌, ℕ, Bool, true, false, cond, List, [], ◌∷◌, ◌++◌, Option, Some, None, Result, Ok, Err, inl, inr, refl, sym, subst}
+use Rattle.std.specs.List.{AllByRecursion}
 use Rattle.std.specs.Option.{option_map}
 use Rattle.scim_version.specs.declared.conditions.Condition.TheVariants.{Always}
 use Rattle.scim_resource.specs.declared.contents.Content.{Content}
@@ -8,21 +9,33 @@ use Rattle.scim_message.specs.declared.messages.Answer.{Answer}
 use Rattle.scim_message.specs.declared.messages.Request.{Request}
 use Rattle.scim_message.specs.declared.messages.Request.TheVariants.{Create, Retrieve, Search, Replace}
 use Rattle.provider_core.specs.Stories.{Entry, step}
+use Rattle.provider_core.specs.Tables.{IsWholeTable}
 use Rattle.provider_core.proofs.TableLaws.{at_push, at_more}
+use Rattle.source_csv.specs.Records.{IsRow}
 use Rattle.source_csv.specs.declared.rows.Row.{Row}
 use Rattle.source_csv.specs.declared.rows.Row.TheVariants.{User, Group}
 use Rattle.mapping.specs.declared.groups.ImageFault.{ImageFault}
 use Rattle.mapping.specs.declared.groups.ImageFault.TheVariants.{MemberWithoutId, Memory}
 use Rattle.connector_core.specs.Book.{Book}
 use Rattle.connector_core.specs.Asking.{asking, asking_of, asking_with, request_for, search_for}
+use Rattle.connector_core.specs.Changing.{history_after}
+use Rattle.connector_core.specs.History.{History}
+use Rattle.connector_core.specs.declared.accepting.Verdict.{Verdict}
+use Rattle.connector_core.specs.declared.accepting.Verdict.TheVariants as verdicts
 use Rattle.connector_core.specs.declared.asking.Ask.{Ask}
 use Rattle.connector_core.specs.declared.asking.Ask.TheVariants.{Nothing, Waits, Send}
+use Rattle.connector_core.specs.declared.changing.ChangeFault.{ChangeFault}
 use Rattle.connector_core.specs.declared.knowledge.Known.{Known}
 use Rattle.connector_core.specs.declared.knowledge.Seen.{Seen}
 use Rattle.connector_core.specs.declared.knowledge.Seen.TheVariants.{Unknown, Absent, At}
-use Rattle.world_model.specs.World.{World, Message, Asked, Answered, Event, Changes, Sends, Delivers, Cuts, Restarts_provider, Restarts_connector, sends, delivers, message_at, happens, empty, run}
+use Rattle.world_model.specs.World.{World, Message, Asked, Answered, Event, Changes, Sends, Delivers, Cuts, Restarts_provider, Restarts_connector, sends, delivers, message_at, happens, judged, empty, run}
 use Rattle.world_model.specs.Safe.{IsAt, Has}
-use Rattle.world_model.proofs.Invariant.{message_there}
+use Rattle.world_model.specs.Untroubled.{IsLawful}
+use Rattle.world_model.specs.Invariant.{Names, InvariantOf, all_names}
+use Rattle.world_model.specs.Others.{Act, Ours, Theirs, acts, run_among, OfOurs, IsApart, KeepsApart}
+use Rattle.world_model.specs.Room.{IsLawfulAct}
+use Rattle.world_model.proofs.Invariant.{act_inv, all_of_ours, message_there, none_inv}
+use Rattle.world_model.proofs.Ranking.{AllLawful}
 
 -- ---- what is asked
 
@@ -60,10 +73,11 @@ known_plain book (Some known) request is = let asks : asking_of book known ≡ S
 
 -- ---- what is answered
 
--- the request was asked, and the answer is that of some table
+-- the request was asked, and the answer is that of some whole table
 pub record IsGiven (messages : List Message) (request : Request) (answer : Answer) : Type 0 where
   pub asked : Has messages (Asked request)
   pub entries : List Entry
+  pub whole : IsWholeTable entries
   pub is : answer ≡ (step entries request).answer
 
 abbrev IsSaid : List Message → Message → Type 0
@@ -77,7 +91,7 @@ AllSaid messages = (i : ℕ) (message : Message) → IsAt messages i message →
 said_stays : (messages : List Message) (last message : Message) → IsSaid messages message → IsSaid (messages ++ last ∷ []) message
 said_stays messages last (Asked request) said = said
 said_stays messages last (Answered request answer) said =
-    record { asked = (said.asked.0, at_more messages (last ∷ []) said.asked.0 (Asked request) said.asked.1); entries = said.entries; is = said.is }
+    record { asked = (said.asked.0, at_more messages (last ∷ []) said.asked.0 (Asked request) said.asked.1); entries = said.entries; whole = said.whole; is = said.is }
 
 said_push : (messages : List Message) (last : Message) → AllSaid messages → IsSaid messages last → AllSaid (messages ++ last ∷ [])
 said_push messages last said new i message at = elim (at_push messages last i message at) [
@@ -93,24 +107,84 @@ sends_said w (Some Nothing) plain said = said
 sends_said w (Some (Waits member)) plain said = said
 sends_said w (Some (Send request)) plain said = said_push w.messages (Asked request) said (plain request refl)
 
-delivers_said : (w : World) (number : ℕ) (o : Option Message) → message_at w.messages number ≡ o → AllSaid w.messages → AllSaid (delivers w o).messages
-delivers_said w number None is said = said
-delivers_said w number (Some (Asked request)) is said =
+delivers_said : (w : World) (number : ℕ) (o : Option Message) → message_at w.messages number ≡ o → IsWholeTable w.entries → AllSaid w.messages → AllSaid (delivers w o).messages
+delivers_said w number None is whole said = said
+delivers_said w number (Some (Asked request)) is whole said =
     let there = message_there w.messages number (Asked request) is in
-    said_push w.messages (Answered request (step w.entries request).answer) said (record { asked = there; entries = w.entries; is = refl })
-delivers_said w number (Some (Answered request answer)) is said = said
+    said_push w.messages (Answered request (step w.entries request).answer) said (record { asked = there; entries = w.entries; whole = whole; is = refl })
+delivers_said w number (Some (Answered request answer)) is whole said = said
 
-event_said : (w : World) (event : Event) → AllSaid w.messages → AllSaid (happens w event).messages
-event_said w (Changes row) said = said
-event_said w (Sends name) said = sends_said w (asking w.book name) (λ request is. known_plain w.book (w.book name) request is) said
-event_said w (Delivers number) said = delivers_said w number (message_at w.messages number) refl said
-event_said w (Cuts number length) said = said
-event_said w Restarts_provider said = said
-event_said w Restarts_connector said = said
+event_said : (w : World) (event : Event) → IsWholeTable w.entries → AllSaid w.messages → AllSaid (happens w event).messages
+event_said w (Changes row) whole said = said
+event_said w (Sends name) whole said = sends_said w (asking w.book name) (λ request is. known_plain w.book (w.book name) request is) said
+event_said w (Delivers number) whole said = delivers_said w number (message_at w.messages number) refl whole said
+event_said w (Cuts number length) whole said = said
+event_said w Restarts_provider whole said = said
+event_said w Restarts_connector whole said = said
 
-run_said : (w : World) (events : List Event) → AllSaid w.messages → AllSaid (run w events).messages
-run_said w [] said = said
-run_said w (event ∷ events) said = run_said (happens w event) events (event_said w event said)
+-- ---- valid rows
 
-pub always_said : (events : List Event) → AllSaid (run empty events).messages
-always_said events = run_said empty events (λ i message at. absurd (cc))
+row_added : (history : History) (row : Row) (verdict : Result Verdict ChangeFault) → IsRow row → AllLawful history → AllLawful (history_after history row verdict)
+row_added history row (Ok verdicts.New) law lawful = added
+  where
+    added : AllLawful (history ++ row ∷ [])
+    added i r at = elim (at_push history row i r at) [
+      | inl old ↦ lawful i r old
+      | inr new ↦ subst IsRow new.1 law
+    ]
+row_added history row (Ok verdicts.Known) law lawful = lawful
+row_added history row (Ok verdicts.Older) law lawful = lawful
+row_added history row (Err fault) law lawful = lawful
+
+-- sending and delivering accept no row
+sends_history : (w : World) (o : Option Ask) → (sends w o).history ≡ w.history
+sends_history w None = refl
+sends_history w (Some Nothing) = refl
+sends_history w (Some (Waits member)) = refl
+sends_history w (Some (Send request)) = refl
+
+delivers_history : (w : World) (o : Option Message) → (delivers w o).history ≡ w.history
+delivers_history w None = refl
+delivers_history w (Some (Asked request)) = refl
+delivers_history w (Some (Answered request answer)) = refl
+
+event_lawful : (w : World) (event : Event) → IsLawful event → AllLawful w.history → AllLawful (happens w event).history
+event_lawful w (Changes row) law lawful = row_added w.history row (judged w row) law lawful
+event_lawful w (Sends name) law lawful = subst AllLawful (sym (sends_history w (asking w.book name))) lawful
+event_lawful w (Delivers number) law lawful = subst AllLawful (sym (delivers_history w (message_at w.messages number))) lawful
+event_lawful w (Cuts number length) law lawful = lawful
+event_lawful w Restarts_provider law lawful = lawful
+event_lawful w Restarts_connector law lawful = lawful
+
+-- ---- every act
+
+-- what it rests on that the messages are read, if these records are ours
+pub record IsSpoken (ours : Names) (w : World) : Type 0 where
+  pub inv : InvariantOf ours w
+  pub lawful : AllLawful w.history
+  pub said : AllSaid w.messages
+
+none_spoken : (ours : Names) → IsSpoken ours empty
+none_spoken ours = record { inv = none_inv ours; lawful = λ i row at. absurd (cc); said = λ i message at. absurd (cc) }
+
+event_spoken : {ours : Names} (w : World) (event : Event) → OfOurs ours event → IsLawful event → IsSpoken ours w → IsSpoken ours (happens w event)
+event_spoken w event own law r =
+    record { inv = act_inv w (Ours event) own r.inv; lawful = event_lawful w event law r.lawful; said = event_said w event r.inv.kept.whole r.said }
+
+act_spoken : {ours : Names} (w : World) (act : Act) → IsApart ours act → IsLawfulAct act → IsSpoken ours w → IsSpoken ours (acts w act)
+act_spoken w (Ours event) apart law r = event_spoken w event apart law r
+act_spoken w (Theirs request) apart law r = record { inv = act_inv w (Theirs request) apart r.inv; lawful = r.lawful; said = r.said }
+
+run_spoken : (w : World) (events : List Event) → AllByRecursion IsLawful events → IsSpoken all_names w → IsSpoken all_names (run w events)
+run_spoken w [] law r = r
+run_spoken w (event ∷ events) law r = run_spoken (happens w event) events law.1 (event_spoken w event (all_of_ours event) law.0 r)
+
+among_spoken : {ours : Names} (w : World) (later : List Act) → KeepsApart ours later → AllByRecursion IsLawfulAct later → IsSpoken ours w → IsSpoken ours (run_among w later)
+among_spoken w [] apart law r = r
+among_spoken w (act ∷ later) apart law r = among_spoken (acts w act) later apart.1 law.1 (act_spoken w act apart.0 law.0 r)
+
+pub always_spoken : (events : List Event) → AllByRecursion IsLawful events → IsSpoken all_names (run empty events)
+always_spoken events law = run_spoken empty events law (none_spoken all_names)
+
+pub always_spoken_among : (ours : Names) (all : List Act) → KeepsApart ours all → AllByRecursion IsLawfulAct all → IsSpoken ours (run_among empty all)
+always_spoken_among ours all apart law = among_spoken empty all apart law (none_spoken ours)
