@@ -4,6 +4,8 @@ pub mod Promises
 pub mod Errors
 pub mod Bytes
 pub mod Traces
+pub mod AmongTyped
+pub mod AmongTraces
 pub mod Calls
 pub mod Pushes
 pub mod Moves

@@ -1,4 +1,6 @@
 pub mod Typed
 pub mod Traces
+pub mod AmongTyped
+pub mod Among
 pub mod Calls
 pub mod Moves

@@ -3,4 +3,7 @@
 
 mod laws;
 
-pub use laws::{calls_are_steps, programs_are_traces, traces_are_runs, typed_traces_are_runs};
+pub use laws::{
+    calls_are_steps, programs_are_traces, traces_are_runs, traces_are_runs_among,
+    typed_traces_are_runs,
+};
