@@ -9,3 +9,4 @@ pub mod AmongTraces
 pub mod Calls
 pub mod Pushes
 pub mod Moves
+pub mod AmongMoves

@@ -4,3 +4,4 @@ pub mod AmongTyped
 pub mod Among
 pub mod Calls
 pub mod Moves
+pub mod AmongMoves

@@ -1,5 +1,6 @@
 //! Laws of all traces, with nothing to run.
 ghost use Rattle.promise.specs.Among.{TracesAreRunsAmong, TracesWithoutOthers};
+ghost use Rattle.promise.specs.AmongMoves.{MovesAreTracesAmong, PushAndServeAreATraceAmong, PushesConnect};
 ghost use Rattle.promise.specs.AmongTyped.{TypedTracesAreRunsAmong};
 ghost use Rattle.promise.specs.Calls.{ExchangesAreSteps, OffersAreSteps, ReopeningAfterChanges, ReopeningAfterExchanges, ReopeningIsAStep, ServingIsAStep};
 ghost use Rattle.promise.specs.Moves.{ListenersAreMoves, MovesAreTraces, PushAndServeAreATrace, PushesAreMoves};
@@ -67,5 +68,18 @@ pub fn programs_are_traces<R: Registry, J: Journal, D: Dial, T: Hear + Tell, L: 
     ensures moves { MovesAreTraces R.Registry J.Journal D.Reader.remaining D.Writer.contents
         L.Reader.remaining L.Writer.contents }
     ensures together { PushAndServeAreATrace R.Registry J.Journal D.Reader.remaining
+        D.Writer.contents L.Reader.remaining L.Writer.contents T.heard T.told L.waiting }
+{}
+
+/// The same among others: the provider serves connections of theirs too. The moves of a connector, among which
+/// are those of a push (`connect`), and the moves of a listener are one trace among others, in whichever order
+/// they come, if each connection brings a request of ours that was sent before, or what is asked for there
+/// leaves our records alone (`moves`). So it is for a push and the turns of a listener (`together`).
+pub fn programs_are_traces_among<R: Registry, J: Journal, D: Dial, T: Hear + Tell, L: Listen>()
+    ensures connect { PushesConnect R.Registry J.Journal D.Reader.remaining D.Writer.contents
+        L.Reader.remaining L.Writer.contents }
+    ensures moves { MovesAreTracesAmong R.Registry J.Journal D.Reader.remaining D.Writer.contents
+        L.Reader.remaining L.Writer.contents }
+    ensures together { PushAndServeAreATraceAmong R.Registry J.Journal D.Reader.remaining
         D.Writer.contents L.Reader.remaining L.Writer.contents T.heard T.told L.waiting }
 {}

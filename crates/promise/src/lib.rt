@@ -4,6 +4,6 @@
 mod laws;
 
 pub use laws::{
-    calls_are_steps, programs_are_traces, traces_are_runs, traces_are_runs_among,
-    typed_traces_are_runs,
+    calls_are_steps, programs_are_traces, programs_are_traces_among, traces_are_runs,
+    traces_are_runs_among, typed_traces_are_runs,
 };
