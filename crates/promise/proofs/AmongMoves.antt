@@ -1,12 +1,9 @@
 -- The trace among others that the moves of a connector and of a listener make.
-use Rattle.std.proofs.Common.{IfOk, ◌≡◌, ℕ, List, [], ◌∷◌, ◌++◌, Option, Some, None, Result, Ok, Err, refl, ap, sym, subst, inl, inr}
+use Rattle.std.proofs.Common.{ℕ, List, [], ◌∷◌, ◌++◌, Option, Some, None, refl, sym, subst, inl, inr}
 use Rattle.std.proofs.lemmas.List.{append-nil}
 use Rattle.scim_resource.specs.Rows.{StoredRecord}
 use Rattle.scim_message.specs.declared.messages.Request.{Request}
 use Rattle.provider_core.specs.declared.registry.Registry.{Ghosts as Registries}
-use Rattle.http_text.specs.Forms.{request_form}
-use Rattle.http_text.specs.Message.{Message}
-use Rattle.http_text.specs.declared.fault.ReadFault.{ReadFault}
 use Rattle.scim_client.specs.Requests.{text_of}
 use Rattle.connection.specs.Turns.{fresh_writing}
 use Rattle.journal_core.specs.declared.journals.Journal.{Ghosts as Journals}
@@ -16,19 +13,15 @@ use Rattle.world_model.specs.Invariant.{Names}
 use Rattle.world_model.specs.Safe.{Has}
 use Rattle.provisioning.specs.Runs.{Done}
 use Rattle.provisioning.specs.declared.offering.Judged.{Judged}
-use Rattle.promise.specs.Among.{AsksAlone, StepAmong, StepAmong.mine, StepAmong.theirs, TraceAmong, TraceAmong.here, TraceAmong.next}
+use Rattle.promise.specs.Among.{StepAmong, StepAmong.mine, StepAmong.theirs, TraceAmong, TraceAmong.here, TraceAmong.next}
 use Rattle.promise.specs.AmongMoves.{ConnectorDoes, DeliversAmong, MovesAreTracesAmong, PushAndServeAreATraceAmong, PushesConnect, ReachesAmong}
 use Rattle.promise.specs.Moves.{Asking, Interleaves, Move, Move.offers, Move.asks, Move.hears, Move.serves, PushDoes, ServeDoes}
-use Rattle.promise.specs.Traces.{IsAtFront, State, Step.offers as offers_step, Step.asks as asks_step, Step.serves as serves_step, Step.hears as hears_step}
+use Rattle.promise.specs.Traces.{State, Step.offers as offers_step, Step.asks as asks_step, Step.serves as serves_step, Step.hears as hears_step}
+use Rattle.promise.proofs.AmongTraces.{alone_if}
 use Rattle.promise.proofs.Bytes.{reply_part}
 use Rattle.promise.proofs.Calls.{brought, carried}
 use Rattle.promise.proofs.Lists.{has_last}
 use Rattle.promise.proofs.Moves.{listeners_are_moves, pushes_are_moves}
-
--- what is read of what comes leaves our records alone
-alone_if : (ours : Names) (came : List ℕ) (read : Result Message ReadFault) → ((m : Message) → IsAtFront request_form came m → AsksAlone ours m) → IfOk read (IsAtFront request_form came) → IfOk read (AsksAlone ours)
-alone_if ours came (Ok m) alone front = alone m front
-alone_if ours came (Err fault) alone front = tt
 
 module _ {R J I O P Q : Type 0} (g : Registries R) (h : Journals J) (received : I → Option (List ℕ)) (posted : O → Option (List ℕ)) (remaining : P → Option (List ℕ)) (contents : Q → Option (List ℕ)) where
   -- ---- exchanges that follow one another

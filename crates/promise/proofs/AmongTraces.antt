@@ -16,6 +16,7 @@ use Rattle.provider_core.specs.Tables.{IsWholeTable, entry_named}
 use Rattle.provider_core.specs.declared.registry.Registry.{Ghosts as Registries}
 use Rattle.provider_core.proofs.TableLaws.{found_by_name}
 use Rattle.http_text.specs.declared.fault.ReadFault.{ReadFault}
+use Rattle.http_text.specs.Forms.{request_form}
 use Rattle.http_text.specs.Judging.{is_head}
 use Rattle.http_text.specs.Message.{Message}
 use Rattle.scim_http.specs.Meaning.{Asks}
@@ -38,7 +39,7 @@ use Rattle.world_sim.proofs.Fitting.{messages_are_read_among}
 use Rattle.promise.specs.Among.{AsksAlone, PromisedAmong, ServesTheirs, StepAmong, StepAmong.mine, StepAmong.theirs, TraceAmong, TraceAmong.here, TraceAmong.next, TracesAreRunsAmong, TracesWithoutOthers}
 use Rattle.promise.specs.AmongTyped as typed
 use Rattle.promise.specs.AmongTyped.{HasOurs}
-use Rattle.promise.specs.Traces.{IsAt, LeavesBook, Promised, State, Step, Step.offers, Step.asks, Step.serves, Step.hears, Step.reopens, Step.rests, Trace, Trace.here as alone_here, Trace.next as alone_next, id_among, start}
+use Rattle.promise.specs.Traces.{IsAt, IsAtFront, LeavesBook, Promised, State, Step, Step.offers, Step.asks, Step.serves, Step.hears, Step.reopens, Step.rests, Trace, Trace.here as alone_here, Trace.next as alone_next, id_among, start}
 use Rattle.promise.specs.Typed as own
 use Rattle.promise.proofs.AmongTyped.{Keeps, changes_keep, early_apart, ran, rows_ours, typed_traces_are_runs_among}
 use Rattle.promise.proofs.Traces.{IsRead, Settles, Spoken, goes, mirrored, spoken_start}
@@ -92,10 +93,10 @@ read_among base ours u is_base all trace =
 -- ---- one step
 
 -- the trace goes on
-record GoesAmong (base : List ℕ) (ours : Names) (u : own.State) (t : State) : Type 0 where
-  later : own.State
-  trace : typed.TraceAmong ours u later
-  spoken : Spoken base t later
+pub record GoesAmong (base : List ℕ) (ours : Names) (u : own.State) (t : State) : Type 0 where
+  pub later : own.State
+  pub trace : typed.TraceAmong ours u later
+  pub spoken : Spoken base t later
 
 all_mine : (ours : Names) (a b : own.State) → own.Trace a b → typed.TraceAmong ours a b
 all_mine ours a b own.here = typed.here
@@ -103,7 +104,7 @@ all_mine ours a b (own.next {mid = mid} more step) = typed.next (all_mine ours a
 
 -- what was not accepted earlier is accepted later alone
 module _ {R J I O P Q : Type 0} (g : Registries R) (h : Journals J) (received : I → Option (List ℕ)) (posted : O → Option (List ℕ)) (remaining : P → Option (List ℕ)) (contents : Q → Option (List ℕ)) (base : List ℕ) where
-  mine_keeps : (old new : State) → Step g h received posted remaining contents base old new → Keeps old.history new.history
+  pub mine_keeps : (old new : State) → Step g h received posted remaining contents base old new → Keeps old.history new.history
   mine_keeps old new (offers row law) = changes_keep old.history row (judged old.book row)
   mine_keeps old new (asks name request is formed) = λ row has. has
   mine_keeps old new (serves request rows out s) = λ row has. has
@@ -120,7 +121,7 @@ module _ {R J I O P Q : Type 0} (g : Registries R) (h : Journals J) (received : 
   trace_keeps ours old new (next {mid = mid} more step) row has = step_keeps ours mid new step row (trace_keeps ours old mid more row has)
 
   -- the connector has a record for each name of an accepted row
-  abbrev IsNamed : State → Type 0
+  abbrev pub IsNamed : State → Type 0
   IsNamed s = keys s.book ≡ names_of s.history
 
   came_same : (request : Request) (came : Came) (before after : Connector J) (book : BookMap) → Becomes h request came before after → LeavesBook request came before after book
@@ -134,7 +135,7 @@ module _ {R J I O P Q : Type 0} (g : Registries R) (h : Journals J) (received : 
     | inr found ↦ found.5.names ∙ found.4.listed
   ]
 
-  mine_named : (old new : State) → Step g h received posted remaining contents base old new → IsNamed old → IsNamed new
+  pub mine_named : (old new : State) → Step g h received posted remaining contents base old new → IsNamed old → IsNamed new
   mine_named old new (offers row law) named = changed_names old.book old.history row (judged old.book row) named
   mine_named old new (asks name request is formed) named = named
   mine_named old new (serves request rows out s) named = named
@@ -148,6 +149,11 @@ module _ {R J I O P Q : Type 0} (g : Registries R) (h : Journals J) (received : 
   trace_named ours old new named (next {mid = mid} more (theirs rows s)) = trace_named ours old mid named more
 
 -- ---- somebody else's connection
+
+-- what is read of what comes leaves our records alone
+pub alone_if : (ours : Names) (came : List ℕ) (read : Result Message ReadFault) → ((m : Message) → IsAtFront request_form came m → AsksAlone ours m) → IfOk read (IsAtFront request_form came) → IfOk read (AsksAlone ours)
+alone_if ours came (Ok m) alone front = alone m front
+alone_if ours came (Err fault) alone front = tt
 
 module _ (base : List ℕ) (ours : Names) (old : State) (u : own.State) (spoken : Spoken base old u) where
   -- it changed no row
@@ -242,7 +248,7 @@ module _ {R J I O P Q : Type 0} (g : Registries R) (h : Journals J) (received : 
         record { later = on.later; trace = all_mine ours u on.later on.trace; spoken = on.spoken }
     one old new u all trace spoken (theirs rows s) = theirs_step base ours old u spoken g h received posted remaining contents settled rows s
 
-    along : (old new : State) (u : own.State) → AllOurs ours new.history → typed.TraceAmong ours own.start u → Spoken base old u → Goes base ours old new → GoesAmong base ours u new
+    pub along : (old new : State) (u : own.State) → AllOurs ours new.history → typed.TraceAmong ours own.start u → Spoken base old u → Goes base ours old new → GoesAmong base ours u new
     along old new u all trace spoken here = record { later = u; trace = typed.here; spoken = spoken }
     along old new u all trace spoken (next {mid = mid} more step) =
         let so_far : AllOurs ours mid.history = λ row has. all row (step_keeps g h received posted remaining contents base ours mid new step row has) in

@@ -6,6 +6,7 @@ pub mod Bytes
 pub mod Traces
 pub mod AmongTyped
 pub mod AmongTraces
+pub mod AmongSeveral
 pub mod Calls
 pub mod Pushes
 pub mod Moves

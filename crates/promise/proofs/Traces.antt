@@ -150,7 +150,7 @@ module _ (base : List ℕ) (replies : List typed.Reply) (request : Request) (out
     reacted reads.TurnsExhausted is = silent is
 
 -- what a message means that is at the front of the text of a request
-meant : (m : Message) (text : List ℕ) (request : Request) → IsAtFront request_form text m → SpellsRequest text request → Asks m (Ok request)
+pub meant : (m : Message) (text : List ℕ) (request : Request) → IsAtFront request_form text m → SpellsRequest text request → Asks m (Ok request)
 meant m text request front spells = subst (λ n. Asks n (Ok request)) (sym (one_request_message text m spells.message front spells.is)) spells.asks
 
 -- ---- the connector

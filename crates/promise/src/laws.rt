@@ -1,6 +1,7 @@
 //! Laws of all traces, with nothing to run.
 ghost use Rattle.promise.specs.Among.{TracesAreRunsAmong, TracesWithoutOthers};
 ghost use Rattle.promise.specs.AmongMoves.{MovesAreTracesAmong, PushAndServeAreATraceAmong, PushesConnect};
+ghost use Rattle.promise.specs.AmongSeveral.{TracesOfSeveralAreRuns};
 ghost use Rattle.promise.specs.AmongTyped.{TypedTracesAreRunsAmong};
 ghost use Rattle.promise.specs.Calls.{ExchangesAreSteps, OffersAreSteps, ReopeningAfterChanges, ReopeningAfterExchanges, ReopeningIsAStep, ServingIsAStep};
 ghost use Rattle.promise.specs.Moves.{ListenersAreMoves, MovesAreTraces, PushAndServeAreATrace, PushesAreMoves};
@@ -28,10 +29,14 @@ pub fn traces_are_runs<R: Registry, J: Journal, I: Read, O: Write, P: Read, Q: W
 /// Others write at the same provider: it serves connections of theirs too, and what is asked for there leaves
 /// our records alone. Then every trace of requests and answers (`typed`), and of calls over bytes (`runs`), is
 /// a run of the model among others, so the promise holds for our records between any two moments of it,
-/// whether or not the provider has room. Without others these are the laws above (`without`).
+/// whether or not the provider has room. Several connectors may share the provider: if no two have a record in
+/// common, the promise holds for the records of each (`several`). Without others these are the laws above
+/// (`without`).
 pub fn traces_are_runs_among<R: Registry, J: Journal, I: Read, O: Write, P: Read, Q: Write>()
     ensures typed { TypedTracesAreRunsAmong }
     ensures runs { TracesAreRunsAmong R.Registry J.Journal I.remaining O.contents P.remaining
+        Q.contents }
+    ensures several { TracesOfSeveralAreRuns R.Registry J.Journal I.remaining O.contents P.remaining
         Q.contents }
     ensures without { TracesWithoutOthers R.Registry J.Journal I.remaining O.contents P.remaining
         Q.contents }
