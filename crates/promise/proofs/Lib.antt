@@ -17,3 +17,4 @@ pub mod Abreast
 pub mod Paces
 pub mod Moves
 pub mod AmongMoves
+pub mod AmongPaces

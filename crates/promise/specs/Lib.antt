@@ -7,3 +7,4 @@ pub mod Calls
 pub mod Moves
 pub mod Abreast
 pub mod AmongMoves
+pub mod AmongPaces

@@ -2,6 +2,7 @@
 ghost use Rattle.promise.specs.Abreast.{AbreastMovesAreTraces, FlightsAreExchanges, PushAtPaceAndServeAreATrace, PushesAtPacesAreMoves, PushesInTurnAreMoves, ReopeningAfterSeveral};
 ghost use Rattle.promise.specs.Among.{TracesAreRunsAmong, TracesWithoutOthers};
 ghost use Rattle.promise.specs.AmongMoves.{MovesAreTracesAmong, PushAndServeAreATraceAmong, PushesConnect};
+ghost use Rattle.promise.specs.AmongPaces.{PushAtPaceAndServeAreATraceAmong, PushesAtPacesConnect};
 ghost use Rattle.promise.specs.AmongSeveral.{TracesOfSeveralAreRuns};
 ghost use Rattle.promise.specs.AmongTyped.{TypedTracesAreRunsAmong};
 ghost use Rattle.promise.specs.Calls.{ExchangesAreSteps, OffersAreSteps, ReopeningAfterChanges, ReopeningAfterExchanges, ReopeningIsAStep, ServingIsAStep};
@@ -112,5 +113,14 @@ pub fn programs_are_traces_among<R: Registry, J: Journal, D: Dial, T: Hear + Tel
     ensures moves { MovesAreTracesAmong R.Registry J.Journal D.Reader.remaining D.Writer.contents
         L.Reader.remaining L.Writer.contents }
     ensures together { PushAndServeAreATraceAmong R.Registry J.Journal D.Reader.remaining
+        D.Writer.contents L.Reader.remaining L.Writer.contents T.heard T.told L.waiting }
+{}
+
+/// The same among others of a push at any pace: its moves are moves of a connector too (`connect`), so they and
+/// the turns of a listener are one trace among others, in whichever order they come (`together`).
+pub fn pushes_at_any_pace_are_traces_among<R: Registry, J: Journal, D: Dial, T: Hear + Tell, L: Listen>()
+    ensures connect { PushesAtPacesConnect R.Registry J.Journal D.Reader.remaining D.Writer.contents
+        L.Reader.remaining L.Writer.contents }
+    ensures together { PushAtPaceAndServeAreATraceAmong R.Registry J.Journal D.Reader.remaining
         D.Writer.contents L.Reader.remaining L.Writer.contents T.heard T.told L.waiting }
 {}
