@@ -118,7 +118,13 @@ pub fn programs_are_traces_among<R: Registry, J: Journal, D: Dial, T: Hear + Tel
 
 /// The same among others of a push at any pace: its moves are moves of a connector too (`connect`), so they and
 /// the turns of a listener are one trace among others, in whichever order they come (`together`).
-pub fn pushes_at_any_pace_are_traces_among<R: Registry, J: Journal, D: Dial, T: Hear + Tell, L: Listen>()
+pub fn pushes_at_any_pace_are_traces_among<
+    R: Registry,
+    J: Journal,
+    D: Dial,
+    T: Hear + Tell,
+    L: Listen,
+>()
     ensures connect { PushesAtPacesConnect R.Registry J.Journal D.Reader.remaining D.Writer.contents
         L.Reader.remaining L.Writer.contents }
     ensures together { PushAtPaceAndServeAreATraceAmong R.Registry J.Journal D.Reader.remaining
