@@ -30,7 +30,8 @@ module _ {R J I O P Q : Type 0} (g : Registries R) (h : Journals J) (received : 
   abbrev pub PushesAtPacesConnect : Type 0
   PushesAtPacesConnect =
       (base : List ℕ) (moves : List (Move I O P Q)) (sent : List Request) (book last : BookMap)
-      → AbreastDoes h received posted base moves [] book last → ConnectorDoes h received posted base moves sent book last
+      → AbreastDoes h received posted base moves [] book last
+      → ConnectorDoes h received posted base moves sent book last
 
   module _ {T L : Type 0} (heard : T → Option (List Judged)) (told : T → Option (List Done))
       (waiting : L → Option (List (P × Q))) where
