@@ -6,6 +6,9 @@ pub mod Promises
 pub mod Errors
 pub mod Bytes
 pub mod Traces
+pub mod AmongTyped
+pub mod AmongTraces
+pub mod AmongSeveral
 pub mod Calls
 pub mod Pushes
 pub mod Flights
@@ -13,3 +16,5 @@ pub mod Reopening
 pub mod Abreast
 pub mod Paces
 pub mod Moves
+pub mod AmongMoves
+pub mod AmongPaces

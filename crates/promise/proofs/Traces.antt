@@ -1,4 +1,4 @@
--- Each step of a trace over bytes is at most one step of a trace of requests and answers.
+-- Each step of a trace over bytes is at most one step of a trace of requests and answers, since what was said is read as it was said.
 use Rattle.std.proofs.Common.{arith, ◌≡◌, ℕ, Bool, false, List, [], ◌∷◌, ◌++◌, Option, Some, None, Result, Ok, Err, refl, ap, sym, subst, ◌∙◌, inl, inr}
 use Rattle.std.specs.FinMap.{keys}
 use Rattle.std.specs.Prelude.{◌⊎◌, IfOk}
@@ -12,6 +12,7 @@ use Rattle.scim_message.specs.declared.messages.Request.{Request}
 use Rattle.scim_message.specs.declared.refusals.Refusal.{Refusal}
 use Rattle.scim_message.specs.declared.refusals.Refusal.TheVariants as refusals
 use Rattle.provider_core.specs.Outcomes.{outcome, changed_rows}
+use Rattle.provider_core.specs.Stories.{Entry}
 use Rattle.provider_core.specs.declared.registry.Registry.{Ghosts as Registries}
 use Rattle.http_text.specs.declared.fault.ReadFault.{ReadFault}
 use Rattle.http_text.specs.declared.fault.ReadFault.TheVariants as reads
@@ -34,13 +35,14 @@ use Rattle.journal_core.specs.Entries.{EntryMap}
 use Rattle.journal_core.specs.declared.journals.Journal.{Ghosts as Journals}
 use Rattle.connector_core.specs.Asking.{asking}
 use Rattle.connector_core.specs.Changing.{history_after, judged, taking}
+use Rattle.connector_core.specs.History.{History}
 use Rattle.connector_core.specs.Learning.{after_learning, learn}
 use Rattle.connector_core.specs.Maps.{BookMap, book_of}
 use Rattle.connector_core.specs.State.{AreOf, IsOpened, State as Connector}
 use Rattle.connector_core.specs.declared.learning.Learnt.{Learnt}
 use Rattle.connector_core.specs.declared.learning.LearnFault.{LearnFault}
 use Rattle.provisioning.specs.Exchanges.{Becomes, Came, answered, lost, answer_in as answer_of}
-use Rattle.world_model.specs.World.{Asked, Answered, empty, run}
+use Rattle.world_model.specs.World.{World, Asked, Answered, empty, run}
 use Rattle.world_model.specs.Invariant.{AskedTruly}
 use Rattle.world_model.proofs.Invariant.{always_inv}
 use Rattle.world_model.specs.Safe.{Has, IsPrefixOf}
@@ -52,12 +54,12 @@ use Rattle.promise.proofs.Bytes.{one_request_message, one_response_message, part
 use Rattle.promise.proofs.Errors.{IsReadable, error_is_read, fixed_readable, refusal_readable}
 use Rattle.promise.proofs.Lists.{each_more, has_last, has_more}
 use Rattle.promise.proofs.Promises.{promised}
-use Rattle.promise.proofs.Typed.{Leads, at_start, other_error, traced, typed_traces_are_runs}
+use Rattle.promise.proofs.Typed.{at_start, other_error, traced, typed_traces_are_runs}
 
 -- ---- what was written, as answers
 
 -- these bytes are a first part of an answer that was given, or of another error, or all of it
-data Says (base : List ℕ) (replies : List typed.Reply) (request : Request) (bytes : List ℕ) : Type 0 where
+pub data Says (base : List ℕ) (replies : List typed.Reply) (request : Request) (bytes : List ℕ) : Type 0 where
   by_answer : (answer : Answer) → Has replies (request, answer) → IsFormed base (Answered request answer) → IsPrefixOf bytes (answer_text base false answer) → Says base replies request bytes
   by_error : (error : ErrorRecord) → typed.IsOtherError error → IsReadable error → IsPrefixOf bytes (answer_text base false (Error error)) → Says base replies request bytes
 
@@ -86,19 +88,19 @@ Settles {R} g = (s : R) (found : List StoredRecord) → g.is_faithful s → g.ma
 -- ---- the two states
 
 -- the trace of requests and answers that a trace over bytes makes
-record Spoken (base : List ℕ) (s : State) (u : typed.State) : Type 0 where
-  rows : s.rows ≡ u.rows
-  history : s.history ≡ u.history
-  book : s.book ≡ u.book
-  sent : s.sent ≡ u.sent
-  formed : (request : Request) → Has s.sent request → IsFormed base (Asked request)
-  written : (w : Written) → Has s.written w → Says base u.replies w.0 w.1
+pub record Spoken (base : List ℕ) (s : State) (u : typed.State) : Type 0 where
+  pub rows : s.rows ≡ u.rows
+  pub history : s.history ≡ u.history
+  pub book : s.book ≡ u.book
+  pub sent : s.sent ≡ u.sent
+  pub formed : (request : Request) → Has s.sent request → IsFormed base (Asked request)
+  pub written : (w : Written) → Has s.written w → Says base u.replies w.0 w.1
 
 -- it goes on
-record Goes (base : List ℕ) (u : typed.State) (t : State) : Type 0 where
-  later : typed.State
-  trace : typed.Trace u later
-  spoken : Spoken base t later
+pub record Goes (base : List ℕ) (u : typed.State) (t : State) : Type 0 where
+  pub later : typed.State
+  pub trace : typed.Trace u later
+  pub spoken : Spoken base t later
 
 -- ---- the provider
 
@@ -148,28 +150,21 @@ module _ (base : List ℕ) (replies : List typed.Reply) (request : Request) (out
     reacted reads.TurnsExhausted is = silent is
 
 -- what a message means that is at the front of the text of a request
-meant : (m : Message) (text : List ℕ) (request : Request) → IsAtFront request_form text m → SpellsRequest text request → Asks m (Ok request)
+pub meant : (m : Message) (text : List ℕ) (request : Request) → IsAtFront request_form text m → SpellsRequest text request → Asks m (Ok request)
 meant m text request front spells = subst (λ n. Asks n (Ok request)) (sym (one_request_message text m spells.message front spells.is)) spells.asks
 
 -- ---- the connector
 
+-- what was said is read as it was said: each request that was sent, and each answer that was given
+pub record IsRead (base : List ℕ) (u : typed.State) : Type 0 where
+  pub history : History
+  pub entries : List Entry
+  pub asked : (request : Request) → Has u.sent request → AskedTruly history entries request
+  pub spelled : (request : Request) → Has u.sent request → IsFormed base (Asked request) → SpellsRequest (text_of base request) request
+  pub answers : (request : Request) (answer : Answer) → Has u.replies (request, answer) → IsFormed base (Answered request answer) → AnswersSo (answer_text base false answer) request answer
+
 -- the only answer that is read of these bytes
-module _ (base : List ℕ) (is_base : IsBase base) (u : typed.State) (trace : typed.Trace typed.start u) where
-  ran : Leads empty u
-  ran = traced typed.start u empty trace at_start
-
-  -- a request that was sent has a text that spells it
-  spelled : (request : Request) → Has u.sent request → IsFormed base (Asked request) → SpellsRequest (text_of base request) request
-  spelled request has formed =
-      messages_are_read base ran.events (Asked request) is_base ran.lawful (ran.mirrors.sent request has) formed
-
-  asked_truly : (request : Request) → Has u.sent request → AskedTruly (run empty ran.events).history (run empty ran.events).entries request
-  asked_truly request has = let there = ran.mirrors.sent request has in (always_inv ran.events).told there.0 (Asked request) there.1
-
-  -- an answer that was given has a text that is read as that answer
-  answer_is_read : (request : Request) (answer : Answer) → Has u.replies (request, answer) → IsFormed base (Answered request answer) → AnswersSo (answer_text base false answer) request answer
-  answer_is_read request answer has formed = messages_are_read base ran.events (Answered request answer) is_base ran.lawful (ran.mirrors.replies (request, answer) has) formed
-
+module _ (base : List ℕ) (is_base : IsBase base) (u : typed.State) (said : IsRead base u) where
   -- what a client reads at the front of a text is the answer of the text
   read_at_front : (request : Request) (text : List ℕ) (m : Message) (read answer : Answer) → AnswersSo text request answer → IsAtFront response_form text m → answer_in request m ≡ Ok read → read ≡ answer
   read_at_front request text m read answer so front says =
@@ -186,10 +181,10 @@ module _ (base : List ℕ) (is_base : IsBase base) (u : typed.State) (trace : ty
       → Has u.replies (request, read) ⊎ ((error : ErrorRecord) × (read ≡ Error error) × typed.IsOtherError error)
   read_answer request bytes m read sent (by_answer answer has formed part) front says =
       inl (subst (λ (x : Answer). Has u.replies (request, x))
-      (sym (read_at_front request (answer_text base false answer) m read answer (answer_is_read request answer has formed) (at_whole bytes (answer_text base false answer) m front part) says)) has)
+      (sym (read_at_front request (answer_text base false answer) m read answer (said.answers request answer has formed) (at_whole bytes (answer_text base false answer) m front part) says)) has)
   read_answer request bytes m read sent (by_error error other readable part) front says =
       let text = answer_text base false (Error error) in
-      let so = error_is_read base is_base error readable (run empty ran.events).history (run empty ran.events).entries request (asked_truly request sent) in
+      let so = error_is_read base is_base error readable said.history said.entries request (said.asked request sent) in
       inr (error, read_at_front request text m read (Error error) so (at_whole bytes text m front part) says, other)
 
   -- ---- one step
@@ -236,17 +231,17 @@ module _ (base : List ℕ) (is_base : IsBase base) (u : typed.State) (trace : ty
 
         -- the message that was read asks for the request
         asks_for : (m : Message) → IsAtFront request_form (text_of base request) m → Asks m (Ok request)
-        asks_for m front = meant m (text_of base request) request front (spelled request (subst (λ sent. Has sent request) spoken.sent s.sent) (spoken.formed request s.sent))
+        asks_for m front = meant m (text_of base request) request front (said.spelled request (subst (λ sent. Has sent request) spoken.sent s.sent) (spoken.formed request s.sent))
 
         answered_so : (m : Message) (reply : ReplyRecord) → g.is_faithful s.after → rows ≡ g.rows s.after
             → AnswersRequest (g.is_faithful s.after) base (g.rows s.before) (g.rows s.after) (is_head m.head) request reply
             → IsPrefixOf out reply.text → Goes base u after_serving
         answered_so m reply faithful kept is part =
             let done : rows ≡ changed_rows old.rows (outcome old.rows request).change = kept ∙ is.rows faithful ∙ ap (λ r. changed_rows r (outcome r request).change) s.was in
-            let said : is.answer ≡ (outcome u.rows request).answer = is.answer_is faithful ∙ ap (λ r. (outcome r request).answer) (s.was ∙ spoken.rows) in
-            let formed : IsFormed base (Answered request (outcome u.rows request).answer) = subst (λ (a : Answer). IsFormed base (Answered request a)) said (is.lawful, is.utf8) in
+            let same : is.answer ≡ (outcome u.rows request).answer = is.answer_is faithful ∙ ap (λ r. (outcome r request).answer) (s.was ∙ spoken.rows) in
+            let formed : IsFormed base (Answered request (outcome u.rows request).answer) = subst (λ (a : Answer). IsFormed base (Answered request a)) same (is.lawful, is.utf8) in
             let text : reply.text ≡ answer_text base (is_head m.head) (outcome u.rows request).answer =
-            ap (λ (r : ReplyRecord). r.text) is.reply_is ∙ ap (λ (a : Answer). answer_text base (is_head m.head) a) said in
+            ap (λ (r : ReplyRecord). r.text) is.reply_is ∙ ap (λ (a : Answer). answer_text base (is_head m.head) a) same in
             let replies = u.replies ++ (request, (outcome u.rows request).answer) ∷ [] in
             carried_out request rows out s.sent done
             (by_answer (outcome u.rows request).answer (has_last u.replies (request, (outcome u.rows request).answer)) formed
@@ -405,7 +400,7 @@ module _ (base : List ℕ) (is_base : IsBase base) (u : typed.State) (trace : ty
 
       -- ---- every step
 
-      goes : (new : State) → Step g h received posted remaining contents base old new → Goes base u new
+      pub goes : (new : State) → Step g h received posted remaining contents base old new → Goes base u new
       goes new (offers row law) = record {
         later = _;
         trace = typed.next typed.here (typed.offers row law);
@@ -441,6 +436,26 @@ module _ (base : List ℕ) (is_base : IsBase base) (u : typed.State) (trace : ty
 
 -- ---- every trace
 
+-- in a run that the trace makes
+read_so : (base : List ℕ) (u : typed.State) → IsBase base → typed.Trace typed.start u → IsRead base u
+read_so base u is_base trace =
+    let ran = traced typed.start u empty trace at_start in
+    let w = run empty ran.events in
+    record {
+      history = w.history;
+      entries = w.entries;
+      asked = λ request has. let there = ran.mirrors.sent request has in (always_inv ran.events).told there.0 (Asked request) there.1;
+      spelled = λ request has formed. messages_are_read base ran.events (Asked request) is_base ran.lawful (ran.mirrors.sent request has) formed;
+      answers = λ request answer has formed. messages_are_read base ran.events (Answered request answer) is_base ran.lawful (ran.mirrors.replies (request, answer) has) formed;
+    }
+
+-- the worlds that the second mirrors have the first's rows, history and book
+pub mirrored : (base : List ℕ) (s : State) (u : typed.State) (w : World) → Spoken base s u → typed.Mirrors u w → IsAt s w
+mirrored base s u w spoken m = record { rows = spoken.rows ∙ m.rows; history = spoken.history ∙ m.history; book = ap book_of spoken.book ∙ m.book }
+
+pub spoken_start : (base : List ℕ) → Spoken base start typed.start
+spoken_start base = record { rows = refl; history = refl; book = refl; sent = refl; formed = λ request has. absurd (cc has.1); written = λ w has. absurd (cc has.1) }
+
 and_then : (a b c : typed.State) → typed.Trace a b → typed.Trace b c → typed.Trace a c
 and_then a b c first typed.here = first
 and_then a b c first (typed.next {mid = mid} more step) = typed.next (and_then a b mid first more) step
@@ -450,19 +465,16 @@ module _ {R J I O P Q : Type 0} (g : Registries R) (h : Journals J) (received : 
   along base old new u is_base trace spoken here = record { later = u; trace = typed.here; spoken = spoken }
   along base old new u is_base trace spoken (next {mid = mid} more step) =
       let first = along base old mid u is_base trace spoken more in
-      let last = goes base is_base first.later (and_then typed.start u first.later trace first.trace) mid first.spoken g h received posted remaining contents settled new step in
+      let last = goes base is_base first.later (read_so base first.later is_base (and_then typed.start u first.later trace first.trace)) mid first.spoken g h received posted remaining contents settled new step in
       record { later = last.later; trace = and_then u first.later last.later first.trace last.trace; spoken = last.spoken }
-
-  spoken_start : (base : List ℕ) → Spoken base start typed.start
-  spoken_start base = record { rows = refl; history = refl; book = refl; sent = refl; formed = λ request has. absurd (cc has.1); written = λ w has. absurd (cc has.1) }
 
   pub traces_are_runs : TracesAreRuns g h received posted remaining contents
   traces_are_runs base s t is_base trace more =
       let first = along base start s typed.start is_base typed.here (spoken_start base) trace in
       let last = along base s t first.later is_base first.trace first.spoken more in
       let runs = typed_traces_are_runs first.later last.later first.trace last.trace in
-      let before : IsAt s (run empty runs.early) = record { rows = first.spoken.rows ∙ runs.before.rows; history = first.spoken.history ∙ runs.before.history; book = ap book_of first.spoken.book ∙ runs.before.book } in
-      let after : IsAt t (run empty (runs.early ++ runs.late)) = record { rows = last.spoken.rows ∙ runs.after.rows; history = last.spoken.history ∙ runs.after.history; book = ap book_of last.spoken.book ∙ runs.after.book } in
+      let before = mirrored base s first.later (run empty runs.early) first.spoken runs.before in
+      let after = mirrored base t last.later (run empty (runs.early ++ runs.late)) last.spoken runs.after in
       record {
         early = runs.early;
         late = runs.late;

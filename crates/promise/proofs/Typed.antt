@@ -50,7 +50,7 @@ names_push : (names : List RecordName) (history : History) (row : Row) → names
 names_push names [] row = refl
 names_push names (r ∷ history) row = names_push (insert_key name_cmp names (row_name r)) history row
 
-changed_names : (m : BookMap) (history : History) (row : Row) (verdict : Result Verdict ChangeFault) → keys m ≡ names_of history → keys (accepted_map m row verdict) ≡ names_of (history_after history row verdict)
+pub changed_names : (m : BookMap) (history : History) (row : Row) (verdict : Result Verdict ChangeFault) → keys m ≡ names_of history → keys (accepted_map m row verdict) ≡ names_of (history_after history row verdict)
 changed_names m history row (Ok verdicts.New) same = names-put m (row_name row) (wanting (get m (row_name row)) row) ∙ ap (λ names. insert_key name_cmp names (row_name row)) same ∙ sym (names_push [] history row)
 changed_names m history row (Ok verdicts.Known) same = same
 changed_names m history row (Ok verdicts.Older) same = same
@@ -233,7 +233,7 @@ nothing : {X Y : Type 0} (f : X → Y) (xs : List X) → length xs ≡ 0 → map
 nothing f [] none = refl
 nothing f (x ∷ xs) none = absurd (cc)
 
-keys-empty : keys (fin.empty {X = Known} {R = name_cmp}) ≡ []
+pub keys-empty : keys (fin.empty {X = Known} {R = name_cmp}) ≡ []
 keys-empty = nothing (λ e. e.0) (fin.entries (fin.empty {X = Known} {R = name_cmp})) (sym (fin.len-entries (fin.empty {X = Known} {R = name_cmp})) ∙ fin.len-empty name_cmp Known)
 
 pub at_start : Mirrors start empty

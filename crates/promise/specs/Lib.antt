@@ -1,5 +1,10 @@
 pub mod Typed
 pub mod Traces
+pub mod AmongTyped
+pub mod Among
+pub mod AmongSeveral
 pub mod Calls
 pub mod Moves
 pub mod Abreast
+pub mod AmongMoves
+pub mod AmongPaces

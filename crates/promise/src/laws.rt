@@ -1,5 +1,10 @@
 //! Laws of all traces, with nothing to run.
 ghost use Rattle.promise.specs.Abreast.{AbreastMovesAreTraces, FlightsAreExchanges, PushAtPaceAndServeAreATrace, PushesAtPacesAreMoves, PushesInTurnAreMoves, ReopeningAfterSeveral};
+ghost use Rattle.promise.specs.Among.{TracesAreRunsAmong, TracesWithoutOthers};
+ghost use Rattle.promise.specs.AmongMoves.{MovesAreTracesAmong, PushAndServeAreATraceAmong, PushesConnect};
+ghost use Rattle.promise.specs.AmongPaces.{PushAtPaceAndServeAreATraceAmong, PushesAtPacesConnect};
+ghost use Rattle.promise.specs.AmongSeveral.{TracesOfSeveralAreRuns};
+ghost use Rattle.promise.specs.AmongTyped.{TypedTracesAreRunsAmong};
 ghost use Rattle.promise.specs.Calls.{ExchangesAreSteps, OffersAreSteps, ReopeningAfterChanges, ReopeningAfterExchanges, ReopeningIsAStep, ServingIsAStep};
 ghost use Rattle.promise.specs.Moves.{ListenersAreMoves, MovesAreTraces, PushAndServeAreATrace, PushesAreMoves};
 ghost use Rattle.promise.specs.Traces.{TracesAreRuns};
@@ -21,6 +26,22 @@ pub fn typed_traces_are_runs()
 /// model, so the promise holds between any two moments of it.
 pub fn traces_are_runs<R: Registry, J: Journal, I: Read, O: Write, P: Read, Q: Write>()
     ensures { TracesAreRuns R.Registry J.Journal I.remaining O.contents P.remaining Q.contents }
+{}
+
+/// Others write at the same provider: it serves connections of theirs too, and what is asked for there leaves
+/// our records alone. Then every trace of requests and answers (`typed`), and of calls over bytes (`runs`), is
+/// a run of the model among others, so the promise holds for our records between any two moments of it,
+/// whether or not the provider has room. Several connectors may share the provider: if no two have a record in
+/// common, the promise holds for the records of each (`several`). Without others these are the laws above
+/// (`without`).
+pub fn traces_are_runs_among<R: Registry, J: Journal, I: Read, O: Write, P: Read, Q: Write>()
+    ensures typed { TypedTracesAreRunsAmong }
+    ensures runs { TracesAreRunsAmong R.Registry J.Journal I.remaining O.contents P.remaining
+        Q.contents }
+    ensures several { TracesOfSeveralAreRuns R.Registry J.Journal I.remaining O.contents P.remaining
+        Q.contents }
+    ensures without { TracesWithoutOthers R.Registry J.Journal I.remaining O.contents P.remaining
+        Q.contents }
 {}
 
 /// The calls of the programs are steps of a trace: each connection that was served, if what came on it was a
@@ -80,4 +101,32 @@ pub fn several_exchanges_are_steps<R: Registry, J: Journal, I: Read, O: Write, P
         Q.contents }
     ensures reopening { ReopeningAfterSeveral R.Registry J.Journal I.remaining O.contents
         P.remaining Q.contents }
+{}
+
+/// The same among others: the provider serves connections of theirs too. The moves of a connector, among which
+/// are those of a push (`connect`), and the moves of a listener are one trace among others, in whichever order
+/// they come, if each connection brings a request of ours that was sent before, or what is asked for there
+/// leaves our records alone (`moves`). So it is for a push and the turns of a listener (`together`).
+pub fn programs_are_traces_among<R: Registry, J: Journal, D: Dial, T: Hear + Tell, L: Listen>()
+    ensures connect { PushesConnect R.Registry J.Journal D.Reader.remaining D.Writer.contents
+        L.Reader.remaining L.Writer.contents }
+    ensures moves { MovesAreTracesAmong R.Registry J.Journal D.Reader.remaining D.Writer.contents
+        L.Reader.remaining L.Writer.contents }
+    ensures together { PushAndServeAreATraceAmong R.Registry J.Journal D.Reader.remaining
+        D.Writer.contents L.Reader.remaining L.Writer.contents T.heard T.told L.waiting }
+{}
+
+/// The same among others of a push at any pace: its moves are moves of a connector too (`connect`), so they and
+/// the turns of a listener are one trace among others, in whichever order they come (`together`).
+pub fn pushes_at_any_pace_are_traces_among<
+    R: Registry,
+    J: Journal,
+    D: Dial,
+    T: Hear + Tell,
+    L: Listen,
+>()
+    ensures connect { PushesAtPacesConnect R.Registry J.Journal D.Reader.remaining D.Writer.contents
+        L.Reader.remaining L.Writer.contents }
+    ensures together { PushAtPaceAndServeAreATraceAmong R.Registry J.Journal D.Reader.remaining
+        D.Writer.contents L.Reader.remaining L.Writer.contents T.heard T.told L.waiting }
 {}
