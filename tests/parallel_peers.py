@@ -12,6 +12,8 @@ from support import wait_until
 
 # Exchanges that a push may have for a record
 MOST_EXCHANGES = 3
+# Milliseconds until the end of a connection has come, at the latest: the next one may come before it
+SOON = 200
 
 
 class Exchange:
@@ -35,11 +37,11 @@ class Exchange:
     def name(self):
         return self.record[1]
 
-    def is_over(self):
-        """Whether push has closed the connection."""
+    def is_over(self, patience=0):
+        """Whether push has closed the connection, or does so within so many milliseconds."""
         ends = select.poll()
         ends.register(self.stream, select.POLLRDHUP)
-        return bool(ends.poll(0))
+        return bool(ends.poll(patience))
 
     def __str__(self):
         return f"{self.method} of {' '.join(self.record)}" if self.record else "a connection without a request"
@@ -114,7 +116,10 @@ class ParallelPeer:
     def count_open(self):
         """Counts the connections that push has open. (One that it closed before it opened the last one is seen to be
         closed, and so is one that it closed since.)"""
-        count = sum(not exchange.is_over() for exchange in self.exchanges)
+        still = [exchange for exchange in self.exchanges if not exchange.is_over()]
+        if len(still) > self.streams:
+            still = [exchange for exchange in still if not exchange.is_over(SOON)]
+        count = len(still)
         self.most = max(self.most, count)
         if count > self.streams:
             self.wrong.append(f"{count} connections at once")
@@ -137,7 +142,7 @@ class ParallelPeer:
         """Notes what is wrong with an exchange whose request was just read."""
         others = [other for other in self.exchanges if other.record and other is not exchange]
         same = [other for other in others if other.record == exchange.record]
-        if not all(other.is_over() for other in same):
+        if not all(other.is_over(SOON) for other in same):
             self.wrong.append(f"{exchange} beside another exchange of that record")
         if len(same) >= MOST_EXCHANGES:
             self.wrong.append(f"{exchange} is exchange {len(same) + 1}")
@@ -145,7 +150,7 @@ class ParallelPeer:
         if exchange.record[0] == "user":
             is_early = any(other.record[0] == "group" for other in others)
         else:
-            is_early = not all(other.is_over() for other in others if other.record[0] == "user")
+            is_early = not all(other.is_over(SOON) for other in others if other.record[0] == "user")
         if is_early:
             self.wrong.append(f"{exchange} beside users and groups")
 
