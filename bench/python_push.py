@@ -4,7 +4,7 @@
 
 All rows are entries of the journal, by one commit, before anything is sent. Then each record is looked
 for, created where it isn't there, and confirmed in the journal by a commit of its own. Each record is
-told as soon as it and all before it are done. WORKERS, 1 by default, are threads that look and create.
+reported as soon as it and all before it are done. WORKERS, 1 by default, are threads that look and create.
 """
 import concurrent.futures
 import csv

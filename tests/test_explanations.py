@@ -13,6 +13,11 @@ def refusal(status, detail, **fields):
     return answer(status, {"schemas": [ERROR], "detail": detail, "status": str(status)}, **fields)
 
 
+def answer_with_head(size):
+    """A response without content, whose head has so many bytes."""
+    return answer(204, Link="x" * (size - len(answer(204, Link=""))))
+
+
 # What three searches for bob are answered, the code that is printed, and what is said
 SEARCHES = [
     # refusals
@@ -49,7 +54,8 @@ SEARCHES = [
         "200 with Content-Length: 8388609, repeated, no number, or above 8388608",
     ),
     (answer(302, Location="https://idp.example/"), "K2", "302, Location: https://idp.example/"),
-    (answer(204, Link="x" * 4_096), "K2", "the head has more than 4096 bytes"),
+    (answer_with_head(4_096), "K2", "204 without a JSON body"),
+    (answer_with_head(4_097), "K2", "the head has more than 4096 bytes"),
     # bodies that aren't an answer
     (answer(204), "K2", "204 without a JSON body"),
     (answer(200, HTML, Content_Type="text/html"), "K2", f'200, text/html, not JSON: "{HTML.decode()}"'),
