@@ -264,7 +264,7 @@ class OptionTest(AbreastTest):
     def test_too_many_leavers(self):
         make_journal(self.site.journal, [user_entry("bob", confirmed=1, id="bob")])
         self.site.write_users("bob,2,,,,,left")
-        excess = "1 users would be switched off, more than 0: nothing was done"
+        excess = "1 user would be switched off, more than 0: nothing was done"
         run = self.site.push(NOWHERE, "--streams", "4", "--most-leavers", "0")
         self.assert_prints(run, status=1, errors=[excess])
 

@@ -5,7 +5,7 @@ from test_push import PushTest
 
 
 def excess(count, most):
-    return f"{count} users would be switched off, more than {most}: nothing was done"
+    return f"{count} user{'s' if count != 1 else ''} would be switched off, more than {most}: nothing was done"
 
 
 class ThresholdTest(PushTest):

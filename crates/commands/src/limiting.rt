@@ -70,8 +70,9 @@ pub(crate) fn tell_excess<R: Eprint>(rt: &R, count: usize, most: Option<u32>) ->
 {
     match most {
         Some(most) if count > most as usize => {
+            let users = if count == 1 { "user" } else { "users" };
             let _ = eprintln!(rt;
-                "{count} users would be switched off, more than {most}: nothing was done"
+                "{count} {users} would be switched off, more than {most}: nothing was done"
             );
             true
         }

@@ -1,5 +1,6 @@
 -- A whole run of the connector: the rows of its files, then its records.
-use Rattle.std.specs.Prelude.{◌≡◌, ◌⊎◌, ◌&&◌, ℕ, Bool, List, [], Option, None, Result, Ok, Err, ⊤}
+use Rattle.std.specs.Prelude.{◌≡◌, ◌⊎◌, ◌≤◌, ◌&&◌, ℕ, Bool, List, [], Option, None, Result, Ok, Err, ⊤, ⊥}
+use Rattle.scim_key.specs.Stores.{HasRisen}
 use Rattle.journal_core.specs.declared.journals.Journal.{Ghosts}
 use Rattle.connector_core.specs.State.{State}
 use Rattle.provisioning.specs.Openings.{Opening}
@@ -86,21 +87,27 @@ CarriesHere remaining contents g base sources old new result =
     CarriesSilently remaining contents g base sources old new result
     ⊎ ((fault : RunFault) × (result ≡ Err fault) × (new ≡ old))
 
+-- a fault of the provider's store is counted; no other fault is one
+abbrev pub CountsLook : (old new : ℕ) → LoopFault → Type 0
+CountsLook old new Store = (old ≤ new) × HasRisen old new
+CountsLook old new (Ended fault) = new ≡ old
+
 -- why the records weren't printed after a run: the provider's store failed, a line can't be written, or memory ran out
 abbrev pub IsUnprinted : LoopFault → Type 0
 IsUnprinted Store = ⊤
 IsUnprinted (Ended fault) = IsUntold fault
 
--- the fault after a run: that of the provider's store, if one was counted, or that of the run; after a run without a
--- fault, why its records weren't printed
-abbrev pub EndsWith : (has_failed : Type 0) → Result Outcome RunFault → LoopFault → Type 0
-EndsWith has_failed (Ok outcome) fault = IsUnprinted fault
-EndsWith has_failed (Err cause) fault = (has_failed × (fault ≡ Store)) ⊎ (fault ≡ Ended cause)
+-- the fault after a run is that of the run; or, if the run had none, why its records weren't printed
+abbrev pub EndsWith : Result Outcome RunFault → RunFault → Type 0
+EndsWith (Ok outcome) fault = IsUntold fault
+EndsWith (Err cause) fault = fault ≡ cause
 
--- the result of a run is its outcome, if no fault came after it; else that fault
+-- The result of a run is the fault of the provider's store exactly if one was counted (`has_failed`). Otherwise it is
+-- the outcome, if no fault came after it, or that fault
 abbrev pub IsOutcome : (has_failed : Type 0) → Result Outcome RunFault → Result Outcome LoopFault → Type 0
-IsOutcome has_failed carried (Ok outcome) = carried ≡ Ok outcome
-IsOutcome has_failed carried (Err fault) = EndsWith has_failed carried fault
+IsOutcome has_failed carried (Ok outcome) = (has_failed → ⊥) × (carried ≡ Ok outcome)
+IsOutcome has_failed carried (Err Store) = has_failed
+IsOutcome has_failed carried (Err (Ended fault)) = (has_failed → ⊥) × EndsWith carried fault
 
 -- However it ends, nothing but such a run changed the connector; `has_failed` says that a fault of the provider's store
 -- was counted

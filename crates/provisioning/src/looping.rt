@@ -1,6 +1,7 @@
 //! Connector and provider in turn: the connector against a provider in the same program, over TCP.
-ghost use Rattle.std.specs.Prelude.{◌<◌, Ok};
-ghost use Rattle.provisioning.specs.Carrying.{CarriesHere, CarriesSilently, IsOutcome, Loops};
+ghost use Rattle.std.specs.Prelude.{◌≡◌, ◌<◌, IfErr, IfOk};
+ghost use Rattle.scim_key.specs.Stores.{CountsFaults};
+ghost use Rattle.provisioning.specs.Carrying.{CarriesHere, CarriesSilently, CountsLook, IsOutcome, IsUnprinted, Loops};
 
 use crate::carrying::{Outcome, carry};
 use crate::faults::{LoopFault, RunFault, open_fault, unwritten};
@@ -71,7 +72,9 @@ fn print_end<R: StoredRows, J: Journal, W: Write>(
     provider: &mut Provider<R>,
     out: &mut W,
 ) -> Result<Outcome, LoopFault>
-    ensures { IsOutcome (0 < R.faults provider.new) (Ok outcome) result }
+    ensures outcome { IfOk result (λ printed. printed ≡ outcome) }
+    ensures fault { IfErr result IsUnprinted }
+    ensures counted { CountsFaults CountsLook (R.faults provider.old) (R.faults provider.new) result }
 {
     if outcome.tally.is_settled {
         let exchanges = outcome.tally.exchanges;

@@ -1,9 +1,11 @@
 //! The state of the records at the end of a run.
 ghost use Rattle.std.specs.Prelude.{◌≡◌, IfErr, IfOk};
 ghost use Rattle.provider_core.specs.Rows.{row_named};
+ghost use Rattle.provider_core.specs.Stores.{CountsFault};
 ghost use Rattle.connector_core.specs.Book.{confirmed_of, wanted_of};
 ghost use Rattle.connector_core.specs.Maps.{book_of};
-ghost use Rattle.provisioning.specs.Carrying.{IsUnprinted};
+ghost use Rattle.provisioning.specs.Carrying.{CountsLook, IsUnprinted};
+ghost use Rattle.scim_key.specs.Stores.{CountsFaults};
 ghost use Rattle.world_sim.specs.Views.{viewed};
 
 use crate::faults::{LoopFault, RunFault, unwritten};
@@ -21,8 +23,9 @@ fn row_of<R: Registry>(
     provider: Provider<R>,
     name: &RecordName,
 ) -> (Provider<R>, Result<Option<Stored>, RegistryFault>)
-    ensures { R.is_faithful result.0
+    ensures row { R.is_faithful result.0
         → IfOk result.1 (λ row. row ≡ row_named name.now (R.rows provider)) }
+    ensures counted { CountsFaults CountsFault (R.faults provider) (R.faults result.0) result.1 }
 {
     let mut registry = provider.close();
     let row = registry.by_key(name);
@@ -41,6 +44,7 @@ fn view<R: Registry, J: Journal>(
         (confirmed_of (book_of connector.now.book) name)
         (row_named name (R.rows provider.old))) }
     ensures fault { IfErr result IsUnprinted }
+    ensures counted { CountsFaults CountsLook (R.faults provider.old) (R.faults provider.new) result }
 {
     let wanted = connector.wanted(&name);
     let confirmed = connector.confirmed(&name);
@@ -56,7 +60,8 @@ pub(crate) fn print_views<R: Registry, J: Journal, W: Write>(
     provider: &mut Provider<R>,
     out: &mut W,
 ) -> Result<(), LoopFault>
-    ensures { IfErr result IsUnprinted }
+    ensures fault { IfErr result IsUnprinted }
+    ensures counted { CountsFaults CountsLook (R.faults provider.old) (R.faults provider.new) result }
 {
     for name in connector.names().map_err(RunFault::from)? {
         let view = view(connector, provider, name)?;
