@@ -3,6 +3,7 @@ are as before, and the same request is then answered as by a provider whose disk
 synced a change, the change may be there.)"""
 import concurrent.futures
 import contextlib
+import dataclasses
 import os
 import shutil
 import tempfile
@@ -96,3 +97,21 @@ class StoreFaultsTest(ExchangeTest):
     def test_reads_that_fail(self):
         first, last = self.calls("READ")
         self.assert_gives_up_once("READ", [*range(first + 1, first + 31), *range(first + 31, last + 1, STEP)])
+
+    def test_a_store_that_cannot_be_opened_again(self):
+        """The end says so, and the faults of connections that weren't reported yet come before it."""
+        first, _ = self.calls("READ")
+        with tempfile.TemporaryDirectory(dir=self.folder) as folder:
+            store = shutil.copy(self.store, folder)
+            fault = Fault(self.shim, folder, "READ", first + 1, "5")
+            with Provider(1_000, "--store", store, **fault.options) as provider:
+                for _ in range(3):
+                    provider.connect().close()
+                # what is opened again is no file any more
+                os.rename(store, f"{store}.moved")
+                os.mkdir(store)
+                self.assertEqual(provider.exchange(get(LAST)), GIVEN_UP)
+                ended = provider.ends()
+        *faults, last, why = ended.errors.splitlines()
+        self.assertEqual((ended.status, last, why), (3, "store fault Y1", f" {store}: Is a directory"))
+        self.assertEqual(self.connection_faults(dataclasses.replace(ended, errors="\n".join(faults))), 3)
