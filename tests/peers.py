@@ -137,11 +137,12 @@ class Peer:
     of them have ended.
     """
 
-    def __init__(self, steps):
+    def __init__(self, steps, host="127.0.0.1", port=0):
         self.steps, self.requests, self.answered = steps, [], 0
-        self.listener = narrow_listener() if take_no_request in steps else socket.create_server(("127.0.0.1", 0))
+        self.listener = narrow_listener() if take_no_request in steps else socket.create_server((host, port))
         self.listener.settimeout(PATIENCE)
-        self.address = f"127.0.0.1:{self.listener.getsockname()[1]}"
+        self.port = self.listener.getsockname()[1]
+        self.address = f"{host}:{self.port}"
         self.pool = concurrent.futures.ThreadPoolExecutor(1)
 
     def __enter__(self):

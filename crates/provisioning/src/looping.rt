@@ -151,11 +151,7 @@ fn carry_to<
         connector.old connector.new result }
 {
     let mut streams = OwnStreams {
-        remote: Remote {
-            alloc,
-            runtime: rt,
-            address,
-        },
+        remote: Remote::new(alloc, rt, address),
         own,
     };
     let mut reports = Reports {

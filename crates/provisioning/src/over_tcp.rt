@@ -81,13 +81,8 @@ fn carry_to<'a, N: Net + Clock + Eprint, J: Journal, T: Hear + Tell + Drop>(
         service.now sources.now connector.old connector.new result.0 }
 {
     let last = Cell::new(None);
-    let remote = Remote {
-        alloc,
-        runtime: rt,
-        address,
-    };
     let mut dial = Explaining {
-        dial: remote,
+        dial: Remote::new(alloc, rt, address),
         last: &last,
     };
     let mut explained = Explained {

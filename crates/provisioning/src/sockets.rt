@@ -4,7 +4,7 @@ use connection::{Deadline, TimedHandle, timed_handles};
 use std::alloc::Global;
 use std::io;
 use std::io::ErrorKind;
-use std::net::{Net, TcpStream, ToSocketAddrs};
+use std::net::{Net, SocketAddr, TcpStream, ToSocketAddrs};
 use std::time::{Clock, Duration};
 
 /// How many seconds a connection may take in all, for connector and provider.
@@ -14,31 +14,62 @@ pub const CONNECTION_SECONDS: u64 = 30;
 const ADDRESS_SECONDS: u64 = 10;
 
 /// A provider at an address, HOST:PORT. Each stream has `CONNECTION_SECONDS`, counted from before it is
-/// opened.
+/// opened. The host is looked up for the first stream, and again if its address doesn't answer any more.
 #[derive(Drop)]
 pub struct Remote<'a, R> {
-    pub alloc: Global,
-    pub runtime: &'a R,
-    pub address: &'a str,
+    alloc: Global,
+    runtime: &'a R,
+    address: &'a str,
+    /// The address of the host that answered last.
+    last: Option<SocketAddr>,
 }
 
-/// Opens a stream to the first address of the host that answers in time.
-fn connect<R: Net + Clock>(
-    runtime: &R,
-    address: &str,
-    deadline: Deadline,
-) -> io::Result<R::Stream> {
-    let mut fault = io::Error::from(ErrorKind::InvalidInput);
-    for address in address.to_socket_addrs(runtime)? {
-        let limit = deadline
-            .left(runtime)?
-            .min(Duration::from_secs(ADDRESS_SECONDS));
-        match TcpStream::connect_timeout(runtime, &address, limit) {
-            Ok(stream) => return Ok(stream),
-            Err(error) => fault = error,
+impl<'a, R: Net + Clock> Remote<'a, R> {
+    pub(crate) fn new(alloc: Global, runtime: &'a R, address: &'a str) -> Self {
+        Remote {
+            alloc,
+            runtime,
+            address,
+            last: None,
         }
     }
-    Err(fault)
+
+    /// Opens a stream to the address that answered last, or else to the first one of the host that answers in time.
+    fn connect(&mut self, deadline: Deadline) -> io::Result<R::Stream> {
+        if let Some(address) = self.last {
+            if let Ok(stream) = connect_to(self.runtime, &address, deadline) {
+                return Ok(stream);
+            }
+        }
+        self.look_up(deadline)
+    }
+
+    /// Looks up the host, and opens a stream to its first address that answers in time.
+    fn look_up(&mut self, deadline: Deadline) -> io::Result<R::Stream> {
+        let mut fault = io::Error::from(ErrorKind::InvalidInput);
+        for address in self.address.to_socket_addrs(self.runtime)? {
+            match connect_to(self.runtime, &address, deadline) {
+                Ok(stream) => {
+                    self.last = Some(address);
+                    return Ok(stream);
+                }
+                Err(error) => fault = error,
+            }
+        }
+        Err(fault)
+    }
+}
+
+/// Opens a stream to an address, if it answers in time.
+fn connect_to<R: Net + Clock>(
+    runtime: &R,
+    address: &SocketAddr,
+    deadline: Deadline,
+) -> io::Result<R::Stream> {
+    let limit = deadline
+        .left(runtime)?
+        .min(Duration::from_secs(ADDRESS_SECONDS));
+    TcpStream::connect_timeout(runtime, address, limit)
 }
 
 impl<'a, R: Net + Clock> Dial for Remote<'a, R> {
@@ -49,7 +80,7 @@ impl<'a, R: Net + Clock> Dial for Remote<'a, R> {
     fn dial(&mut self) -> io::Result<(Self::Reader, Self::Writer)> {
         let limit = Duration::from_secs(CONNECTION_SECONDS);
         let deadline = Deadline::after(self.runtime, limit)?;
-        let stream = connect(self.runtime, self.address, deadline)?;
+        let stream = self.connect(deadline)?;
         timed_handles(self.alloc, stream, self.runtime, deadline)
     }
 
