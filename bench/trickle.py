@@ -1,14 +1,16 @@
 #!/usr/bin/env python3
 """Measures what clients that trickle cost the others of `serve`.
 
-    make build && python3 bench/trickle.py [--seconds N]
+    make build && python3 bench/trickle.py [--seconds N] [--before PROGRAM]
 
-Many clients each send a byte of a request's head now and then, and come back at once when they are closed. Beside
-them one client asks for a user, again and again. Each line has how many trickle, how many milliseconds lie between
-two bytes, and the client's answers: how many a second, alone and beside them; the median, and the slowest of 100 and
-of all, in milliseconds; and how many weren't answered within 5 s. It judges nothing.
+Many clients each send a byte of a request's head now and then, and come back at once when they are closed. Half of
+them begin with most of a long head. Beside them one client asks for a user, again and again. Each line has how many
+trickle, how many milliseconds lie between two bytes, and the client's answers: how many a second alone, and what part
+of that beside them; the median, and the slowest of 100 and of all, in milliseconds; and how many weren't answered
+within 5 s. With --before, the same follows for the program of an earlier version, in the same run. It judges nothing.
 """
 import argparse
+import os
 import socket
 import threading
 import time
@@ -17,6 +19,8 @@ from slow import FIND, Server
 
 CROWDS, PACES = (256, 600, 2_000), (30, 60, 95, 150)
 PATIENCE = 5
+# 90 % of a head of 16 KB
+MOST_OF_A_HEAD = b"GET /v2/Users HTTP/1.1\r\nHost: h\r\n" + b"A: " + b"x" * 14_700
 
 
 class Crowd:
@@ -44,15 +48,19 @@ class Crowd:
 
     def trickle(self):
         streams = [self.begin() for _ in range(self.count)]
+        # what each sends next
+        texts = [MOST_OF_A_HEAD if place % 2 else b"G" for place in range(self.count)]
         while not self.is_over.wait(self.pace / 1000):
             for place, stream in enumerate(streams):
                 try:
-                    stream.send(b"G")
+                    stream.send(texts[place])
+                    texts[place] = b"G"
                 except BlockingIOError:
                     continue
                 except OSError:
                     stream.close()
                     streams[place] = self.begin()
+                    texts[place] = MOST_OF_A_HEAD if place % 2 else b"G"
         for stream in streams:
             stream.close()
 
@@ -81,22 +89,35 @@ def answers(port, seconds):
     return sorted(times), lost
 
 
+def measured(count, pace, seconds):
+    """What a client meets beside so many that trickle."""
+    server = Server()
+    alone = len(answers(server.port, 1)[0])
+    with Crowd(server.port, count, pace):
+        time.sleep(1)
+        times, lost = answers(server.port, seconds)
+    server.run.kill()
+    server.run.wait()
+    spots = [1000 * times[min(int(share * len(times)), len(times) - 1)] for share in (0.5, 0.99, 1)] if times else []
+    shown = " ".join(f"{it:.1f}" for it in spots) or "- - -"
+    return f"{alone} {len(times) / seconds / alone:.2f} {shown} {lost}"
+
+
 def main():
     parser = argparse.ArgumentParser(description=__doc__.split("\n")[0])
     parser.add_argument("--seconds", type=int, default=5, help="how long each line takes")
-    seconds = parser.parse_args().seconds
-    print("clients pace alone beside median 99th slowest unanswered", flush=True)
+    parser.add_argument("--before", help="a program of an earlier version")
+    given = parser.parse_args()
+    print("clients pace" + " | alone part median 99th slowest unanswered" * (2 if given.before else 1), flush=True)
     for count in CROWDS:
         for pace in PACES:
-            server = Server()
-            alone, _ = answers(server.port, 1)
-            with Crowd(server.port, count, pace):
-                time.sleep(1)
-                times, lost = answers(server.port, seconds)
-            server.run.kill()
-            spots = [1000 * times[min(int(share * len(times)), len(times) - 1)] for share in (0.5, 0.99, 1)] if times else []
-            shown = " ".join(f"{it:.1f}" for it in spots) or "- - -"
-            print(f"{count} {pace} {len(alone)} {len(times) / seconds:.0f} {shown} {lost}", flush=True)
+            parts = [measured(count, pace, given.seconds)]
+            if given.before:
+                now = os.environ.get("PROGRAM")
+                os.environ["PROGRAM"] = given.before
+                parts.append(measured(count, pace, given.seconds))
+                os.environ.pop("PROGRAM") if now is None else os.environ.update(PROGRAM=now)
+            print(f"{count} {pace}", *parts, sep=" | ", flush=True)
 
 
 if __name__ == "__main__":
