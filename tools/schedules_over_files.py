@@ -5,7 +5,7 @@
     tools/schedules_over_files.py
 
 The contract of a run is proved over any stores. The proof of a run that names the types of files doesn't end, so
-`schedules_over_files.rattle`, beside this, is built without proofs. That takes about 4 minutes, so CI doesn't do it.
+`schedules_over_files.rattle`, beside this, is built without proofs. That takes about 4 minutes. CI does it last.
 """
 import difflib
 import pathlib
