@@ -1,5 +1,5 @@
 -- What is known of a request while its bytes arrive.
-use Rattle.std.proofs.Common.{◌≡◌, ℕ, ◌+◌, ◌-◌, ◌*◌, ◌/◌, ◌<◌, ◌≤◌, ◌⊎◌, inl, inr, Bool, true, false, cond, List, [], ◌∷◌, ◌++◌, length, take, drop, Option, Some, None, Result, Ok, Err, refl, sym, ap, subst, ◌∙◌, append_assoc, append-nil, arith, length-append}
+use Rattle.std.proofs.Common.{◌≡◌, ℕ, ◌+◌, ◌-◌, ◌/◌, ◌<◌, ◌≤◌, inl, inr, Bool, true, false, cond, List, [], ◌∷◌, ◌++◌, length, take, drop, Option, Some, None, Result, Ok, Err, refl, sym, ap, subst, ◌∙◌, append_assoc, append-nil, arith, length-append}
 use Rattle.std.specs.Prelude.{IsTrue, IfOk, IfSome, if◌then◌else◌, ◌==◌, ◌||◌, not, nat_lt, codes}
 use Rattle.std.specs.List.{flat_map, list_any}
 use Rattle.std.proofs.lemmas.Bool.{cases_lt}
@@ -8,14 +8,14 @@ use Rattle.std.proofs.lemmas.Result.{IfOk-at_ok}
 use Rattle.std.proofs.lemmas.List.{take-append-drop, length-take-le}
 use Rattle.std.proofs.Math.Seq.{drop-append_seam}
 use Rattle.std.proofs.lemmas.List.Folds.{list_any-append}
-use Rattle.httparse.specs.Ascii.{line_feed, carriage_return, space}
+use Rattle.httparse.specs.Ascii.{line_feed, carriage_return}
 use Rattle.httparse.specs.Grammar.{RequestHead, LineEnd, crlf, lf, print_end, print_field, print_section, print_request}
 use Rattle.http_text.specs.declared.fault.ReadFault.{ReadFault}
 use Rattle.http_text.specs.declared.fault.ReadFault.TheVariants.{Malformed, HostMissingOrRepeated, BodyTooLong, TransferCoding, Expectation}
-use Rattle.http_text.specs.Message.{Head, Message, Length, absent, stated, unreadable, minor_of, values, length_of, body_length, body_limit, head_limit}
+use Rattle.http_text.specs.Message.{Head, Message, Length, absent, stated, unreadable, minor_of, values, length_of, body_limit, head_limit}
 use Rattle.http_text.specs.Judging.{◌>>=◌, refused_where, readable_length, length_wanted, is_head, has_body, is_host_wrong, is_any, judge_head}
 use Rattle.http_text.specs.Forms.{request_form}
-use Rattle.http_text.specs.Heads.{HasNone, IsPartOfBody, IsUndecided, IsUnfinished, FindsMessage, TakesMessage}
+use Rattle.http_text.specs.Heads.{HasNone, IsPartOfBody, IsUnfinished, FindsMessage, TakesMessage}
 use Rattle.http_text.proofs.FormLaws.{request_laws}
 use Rattle.http_text.proofs.JudgeLemmas.{accepted_length}
 use Rattle.http_text.proofs.ListLemmas.{front_of, rest_from, same_split, split_last}
@@ -94,7 +94,7 @@ has_length bytes more rest old left m whole is left_is takes whole_is head_withi
     let read = subst (λ now. TakesMessage request_form now (Some rest) m) is (subst (λ now. TakesMessage request_form old now m) left_is takes) in
     let message = read.2 in
     let split : bytes ++ more ≡ message.front ++ (m.body ++ rest) =
-        read.1 ∙ ap (λ (t : List ℕ). t ++ rest) message.split ∙ append_assoc message.front m.body rest in
+    read.1 ∙ ap (λ (t : List ℕ). t ++ rest) message.split ∙ append_assoc message.front m.body rest in
     let sizes : length (bytes ++ more) ≡ length message.front + length (m.body ++ rest) = ap length split ∙ length-append message.front (m.body ++ rest) in
     let after : length (m.body ++ rest) ≡ length m.body + length rest = length-append m.body rest in
     let parts = front_of message.front (m.body ++ rest) bytes more (sym split) (omega (arith, whole_is, head_within, sizes, after)) in
@@ -211,7 +211,7 @@ has_line_feed xs ys = list_any-append (λ byte. byte == 10) xs (line_feed ∷ ys
 last_is : (short xs last : List ℕ) (x : ℕ) (ends : EndsInLine (short ++ xs)) → xs ≡ last ++ x ∷ [] → x ≡ line_feed
 last_is short xs last x ends is =
     let both : (short ++ last) ++ x ∷ [] ≡ ends.0 ++ line_feed ∷ [] =
-        append_assoc short last (x ∷ []) ∙ ap (λ (t : List ℕ). short ++ t) (sym is) ∙ ends.1 in
+    append_assoc short last (x ∷ []) ∙ ap (λ (t : List ℕ). short ++ t) (sym is) ∙ ends.1 in
     let sizes : length ((short ++ last) ++ x ∷ []) ≡ length (ends.0 ++ line_feed ∷ []) = ap length both in
     let left : length ((short ++ last) ++ x ∷ []) ≡ length (short ++ last) + 1 = length-append (short ++ last) (x ∷ []) in
     let right : length (ends.0 ++ line_feed ∷ []) ≡ length ends.0 + 1 = length-append ends.0 (line_feed ∷ []) in
@@ -232,7 +232,7 @@ no_head bytes front more split none no_line h rest reads =
           let last = split_last parts.0 (omega (arith, longer, size)) in
           let is : last.1 ≡ line_feed = last_is front parts.0 last.0 last.1 (subst EndsInLine parts.1 (head_ends h)) last.2 in
           let more_is : more ≡ last.0 ++ line_feed ∷ rest =
-              parts.2 ∙ ap (λ (t : List ℕ). t ++ rest) (last.2 ∙ ap (λ (x : ℕ). last.0 ++ x ∷ []) is) ∙ append_assoc last.0 (line_feed ∷ []) rest in
+          parts.2 ∙ ap (λ (t : List ℕ). t ++ rest) (last.2 ∙ ap (λ (x : ℕ). last.0 ++ x ∷ []) is) ∙ append_assoc last.0 (line_feed ∷ []) rest in
           let found : list_any (λ byte. byte == 10) more ≡ true = ap (list_any (λ byte. byte == 10)) more_is ∙ has_line_feed last.0 rest in
           let never : true ≡ false = sym found ∙ no_line in
           absurd (let clash : true ≡ false = never in cc)

@@ -1,5 +1,5 @@
 -- What is known of a request while its bytes arrive.
-use Rattle.std.specs.Prelude.{◌≡◌, ◌⊎◌, ◌+◌, ◌-◌, ◌*◌, ◌≤◌, ◌<◌, ℕ, List, ◌++◌, length, Result, Ok, ⊤}
+use Rattle.std.specs.Prelude.{◌≡◌, ◌⊎◌, ◌+◌, ◌-◌, ◌*◌, ◌≤◌, ◌<◌, ℕ, List, ◌++◌, length, Ok, ⊤}
 use Rattle.http_text.specs.Message.{Head, head_limit}
 use Rattle.http_text.specs.Judging.{judge_head}
 use Rattle.http_text.specs.Forms.{IsRequestHead, request_form}

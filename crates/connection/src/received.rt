@@ -1,6 +1,6 @@
 //! What has come of a request.
-ghost use Rattle.std.specs.Prelude.{◌≡◌, ◌≤◌, ◌==◌, ◌++◌, ℕ, [], length, vec_len, vec_capacity, IfSome, IsTrue, if◌then◌else◌};
-ghost use Rattle.std.specs.Result.{is_ok, OnErr};
+ghost use Rattle.std.specs.Prelude.{◌≡◌, ◌≤◌, ◌<◌, ◌+◌, ◌==◌, ◌++◌, [], length, vec_len, vec_capacity, IfSome, IsTrue, if◌then◌else◌};
+ghost use Rattle.std.specs.Result.{is_ok, OnErr, OnOk};
 ghost use Rattle.std.specs.Bool.{OnFalse};
 ghost use Rattle.std.specs.List.{list_any};
 ghost use Rattle.http_text.specs.Forms.{request_form};
@@ -40,17 +40,45 @@ impl Received {
 
     /// Makes room for so many more bytes.
     pub(crate) fn reserve(&mut self, room: usize) -> Result<(), AllocError>
-        ensures { self.new.bytes.items ≡ self.old.bytes.items }
+        ensures bytes { self.new.bytes.items ≡ self.old.bytes.items }
+        ensures room { OnOk result (vec_len self.new.bytes + room ≤ vec_capacity self.new.bytes) }
     {
         self.bytes.reserve(room)
     }
 
     /// Adds bytes that have come.
     pub(crate) fn add(&mut self, bytes: &[u8]) -> Result<(), AllocError>
-        ensures { self.new.bytes.items
+        ensures bytes { self.new.bytes.items
             ≡ (if is_ok result then self.old.bytes.items ++ bytes.now else self.old.bytes.items) }
+        ensures full { OnErr result
+            (vec_capacity self.old.bytes < vec_len self.old.bytes + length bytes.now) }
     {
         self.bytes.extend_from_slice(bytes)
+    }
+
+    /// Frees the memory that the bytes don't need.
+    pub(crate) fn shrink(&mut self)
+        ensures { self.new.bytes.items ≡ self.old.bytes.items }
+    {
+        self.bytes.shrink_to_fit();
+    }
+
+    pub(crate) fn into_bytes(self) -> Vec<u8>
+        ensures { result ≡ self.bytes }
+    {
+        let Received {
+            bytes,
+            read: _,
+            whole: _,
+        } = self;
+        bytes
+    }
+
+    /// How many bytes of memory are taken.
+    pub(crate) fn size(&self) -> usize
+        ensures { result ≡ vec_capacity self.now.bytes }
+    {
+        self.bytes.capacity()
     }
 
     /// Whether the bytes decide what is answered: they hold a whole request, or are refused. It reads them only if

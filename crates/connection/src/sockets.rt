@@ -50,10 +50,12 @@ where
     endings: Endings<'a, SharedStream<L::Stream>, C>,
 }
 
-/// What a look at all connections found.
+/// What a look at some connections found.
 enum Look<S: Drop> {
     Ready(Held<S>),
     Moves,
+    /// Nothing moved, but not all connections were looked at yet.
+    Continues,
     Waits,
 }
 
@@ -75,10 +77,14 @@ where
         }
     }
 
-    /// Looks at all connections once, and takes out the first that can be served.
+    /// Looks at the next connections, and takes out the first that can be served. It fails if another one had to
+    /// be dropped.
     fn look(&mut self) -> io::Result<Look<L::Stream>> {
         let now = Instant::now(self.clock)?;
         let has_moved = self.endings.are_due(now) && self.endings.go_on(now);
+        if self.waiting.is_round_over() && self.waiting.free_memory(now) {
+            return Err(io::Error::from(ErrorKind::TimedOut));
+        }
         if let Some(held) = self.waiting.take_ready(self.alloc, now) {
             return Ok(Look::Ready(held));
         }
@@ -87,8 +93,10 @@ where
         }
         if has_moved || self.endings.go_on(now) {
             Ok(Look::Moves)
-        } else {
+        } else if self.waiting.is_round_over() {
             Ok(Look::Waits)
+        } else {
+            Ok(Look::Continues)
         }
     }
 
@@ -112,9 +120,12 @@ where
         }
     }
 
-    /// The system gives no connection, because it has no descriptor left, say. It is tried again after a pause; the
-    /// fault is reported once a second at most.
+    /// The system gives no connection, because it has no descriptor left, say. Then the oldest connection makes room. If
+    /// none can, it is tried again after a pause; the fault is reported once a second at most.
     fn unaccepted(&mut self, error: io::Error, now: Instant) -> io::Result<Option<L::Stream>> {
+        if error.kind() != ErrorKind::ConnectionAborted && self.waiting.give_up_oldest(now) {
+            return Err(error);
+        }
         if !may_report(self.reported, now) {
             return Ok(None);
         }
@@ -175,7 +186,7 @@ fn opened<'a, S: Read + Write + OpenStream + Drop, C: Clock>(
     held: Held<S>,
     clock: &'a C,
 ) -> io::Result<(Asked<'a, S, C>, Answering<'a, S, C>)>
-    ensures { IfOk result (λ handles. (handles.0.ahead ≡ held.received) × (handles.0.given ≡ 0)
+    ensures { IfOk result (λ handles. (handles.0.ahead ≡ held.received.bytes) × (handles.0.given ≡ 0)
         × (handles.1.unsent.items ≡ [])) }
 {
     let Held {
@@ -189,7 +200,7 @@ fn opened<'a, S: Read + Write + OpenStream + Drop, C: Clock>(
     let reader = PromptStream::new(stream.try_clone()?, clock, deadline);
     let writer = PromptStream::new(stream, clock, deadline);
     Ok((
-        AheadReader::new(received, reader),
+        AheadReader::new(received.into_bytes(), reader),
         LateWriter::new(alloc, writer),
     ))
 }
@@ -208,6 +219,7 @@ where
             match self.look()? {
                 Look::Ready(held) => return opened(self.alloc, held, self.clock),
                 Look::Moves => idle = 0,
+                Look::Continues => {}
                 Look::Waits => {
                     pause(self.clock, idle);
                     idle = idle.saturating_add(1);

@@ -1,4 +1,4 @@
-use Rattle.std.proofs.Common.{List, ℕ, ◌≡◌, ◌∙◌, ◌≤◌, ◌-◌, ◌++◌, ap, sym, subst, length, replicate, Some, Option, arith, refl, vec_len}
+use Rattle.std.proofs.Common.{List, ℕ, ◌≡◌, ◌∙◌, ◌-◌, ◌++◌, ap, sym, length, replicate, Some, arith}
 use Rattle.std.proofs.lemmas.List.{length-replicate}
 use Rattle.http_text.specs.Counts.{Reading}
 use Rattle.http_text.specs.Message.{body_limit}

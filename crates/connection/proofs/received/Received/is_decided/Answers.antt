@@ -1,4 +1,4 @@
-use Rattle.std.proofs.Common.{List, ℕ, ◌≡◌, ◌∙◌, ap, sym, subst, inl, refl}
+use Rattle.std.proofs.Common.{◌∙◌, ap, sym, subst, inl, refl}
 use Rattle.http_text.specs.Forms.{request_form}
 use Rattle.http_text.specs.Heads.{IsUnfinished}
 use Rattle.connection.specs.Arriving.{Waits}

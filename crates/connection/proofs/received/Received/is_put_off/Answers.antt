@@ -1,7 +1,6 @@
-use Rattle.std.proofs.Common.{List, ℕ, ◌≡◌, ◌∙◌, ◌<◌, ◌≤◌, ◌+◌, ◌-◌, ap, sym, subst, length, take, drop, vec_len, arith}
+use Rattle.std.proofs.Common.{List, ℕ, ◌≡◌, ◌∙◌, ◌<◌, ◌+◌, ◌-◌, ap, subst, length, take, drop, vec_len, arith}
 use Rattle.std.proofs.Math.Logic.{∥∥₁_map}
 use Rattle.http_text.specs.Message.{head_limit}
-use Rattle.connection.specs.Arriving.{IsPutOff}
 use Rattle.connection.proofs.ArrivingLemmas.{put_off}
 use Rattle.connection.proofs.received.Received.is_put_off.Goals as goal
 

@@ -1,4 +1,4 @@
-use Rattle.std.proofs.Common.{◌≡◌, ◌<◌, length, IfSome, Option, Some, ℕ, inr, refl, subst, arith, rules}
+use Rattle.std.proofs.Common.{◌≡◌, ◌<◌, length, IfSome, Option, ℕ, inr, refl, subst, arith, rules}
 use Rattle.std.proofs.Math.Logic.{∥∥₁_map}
 use Rattle.connection.specs.Arriving.{HasLength}
 use Rattle.connection.proofs.ArrivingLemmas.{part_waits}

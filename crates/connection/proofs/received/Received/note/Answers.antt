@@ -1,6 +1,5 @@
-use Rattle.std.proofs.Common.{List, ℕ, ◌≡◌, length, vec_len, sym, subst, rules}
+use Rattle.std.proofs.Common.{◌≡◌, length, subst, rules}
 use Rattle.connection.specs.Arriving.{AreUndecided, HasExtent}
-use Rattle.connection.specs.declared.readiness.Extent.TheVariants.{PartOfHead}
 use Rattle.connection.proofs.ArrivingLemmas.{all_undecided}
 use Rattle.connection.proofs.received.Received.note.Goals as goal
 
