@@ -47,6 +47,8 @@ where
     reported: Option<Instant>,
     faults: FaultCount,
     waiting: Waiting<L::Stream>,
+    /// Whether the last connection that was given out had waited: then a new one comes first.
+    is_turn_of_new: bool,
     endings: Endings<'a, SharedStream<L::Stream>, C>,
 }
 
@@ -73,6 +75,7 @@ where
             reported: None,
             faults: FaultCount::new(),
             waiting: Waiting::new(alloc),
+            is_turn_of_new: false,
             endings: Endings::new(alloc, clock),
         }
     }
@@ -85,7 +88,7 @@ where
         if self.waiting.is_round_over() && self.waiting.free_memory(now) {
             return Err(io::Error::from(ErrorKind::TimedOut));
         }
-        if let Some(held) = self.waiting.take_ready(self.alloc, now) {
+        if let Some(held) = self.take_ready(now) {
             return Ok(Look::Ready(held));
         }
         if let Some(stream) = self.next_stream(now)? {
@@ -98,6 +101,17 @@ where
         } else {
             Ok(Look::Continues)
         }
+    }
+
+    /// Takes out the next connection that can be served, unless it is the turn of a new one.
+    fn take_ready(&mut self, now: Instant) -> Option<Held<L::Stream>> {
+        if self.is_turn_of_new {
+            self.is_turn_of_new = false;
+            return None;
+        }
+        let ready = self.waiting.take_ready(self.alloc, now);
+        self.is_turn_of_new = ready.is_some();
+        ready
     }
 
     /// The stream of a connection that the system has accepted. If there is nothing else to do, it waits for
@@ -120,8 +134,8 @@ where
         }
     }
 
-    /// The system gives no connection, because it has no descriptor left, say. Then the oldest connection makes room. If
-    /// none can, it is tried again after a pause; the fault is reported once a second at most.
+    /// The system gives no connection, because it has no descriptor left, say. Then the oldest connection makes
+    /// room. If none can, it is tried again after a pause; the fault is reported once a second at most.
     fn unaccepted(&mut self, error: io::Error, now: Instant) -> io::Result<Option<L::Stream>> {
         if error.kind() != ErrorKind::ConnectionAborted && self.waiting.give_up_oldest(now) {
             return Err(error);
