@@ -143,7 +143,7 @@ class SlowClientTest(ProgramTest):
     def test_clients_that_trickle_lock_nobody_out(self):
         """Each sends a byte of a head now and then, so that none is silent for long, and comes back when it is closed."""
         with many_handles(self, MOST_HELD + 500), Provider(1_000_000) as provider, \
-                Tricklers(provider, MOST_HELD + 20, 0.6 * GRANTED) as tricklers:
+                Tricklers(provider, MOST_HELD + 20, 6 * GRANTED) as tricklers:
             wait_until(lambda: tricklers.returns > 0, "a client that made room")
             for _ in range(20):
                 self.assert_prompt(provider, FIND_BOB, b"404")

@@ -14,6 +14,9 @@ use std::alloc::{AllocError, Global};
 /// A part of a head is read again if more than this part of it has come since.
 const PART: usize = 8;
 
+/// A shorter part of a request is read at each arrival.
+const FEWEST_MEASURED: usize = 256;
+
 /// The bytes that have come of a request, and what was found of them.
 #[derive(Drop)]
 pub(crate) struct Received {
@@ -117,9 +120,20 @@ impl Received {
         if is_framed(&self.bytes) || !is_part(alloc, &self.bytes) {
             return true;
         }
+        self.measure(alloc);
+        false
+    }
+
+    /// Finds how far a request is that isn't decided yet, unless reading it again costs less.
+    fn measure(&mut self, alloc: Global)
+        requires { IsUnfinished request_form self.old.bytes.items }
+        ensures { self.new.bytes ≡ self.old.bytes }
+    {
+        if self.bytes.len() < FEWEST_MEASURED {
+            return;
+        }
         let extent = extent_of(alloc, &self.bytes);
         self.note(extent);
-        false
     }
 
     /// Notes how far a request is that isn't decided yet.
