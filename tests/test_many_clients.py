@@ -11,6 +11,8 @@ from test_slow_clients import LIST, PROMPTLY, narrow_connection
 
 # More clients than any part of the program looks at by accident
 MANY = 100
+# and more than it looks at several times over, before it accepts another
+MANY_IN_PARTS = 256
 FIND_BOB = f"GET /v2/Users/{resource_id(1)} HTTP/1.1\r\nHost: h\r\n\r\n".encode()
 
 
@@ -44,15 +46,16 @@ class ManyClientsTest(ProgramTest):
         self.assertTrue(answer.startswith(b"HTTP/1.1 " + status), answer[:100])
 
     def test_each_is_answered_with_its_own(self):
-        names = [f"user-{number:03}" for number in range(MANY)]
-        order = random.Random(1).sample(range(MANY), MANY)
-        with self.serving(2 * MANY + 1) as provider, contextlib.ExitStack() as stack:
+        names = [f"user-{number:03}" for number in range(MANY_IN_PARTS)]
+        order = random.Random(1).sample(range(MANY_IN_PARTS), MANY_IN_PARTS)
+        with self.serving(2 * MANY_IN_PARTS + 1) as provider, contextlib.ExitStack() as stack:
             streams = [stack.enter_context(provider.connect()) for _ in names]
             requests = [create_user(user(name)) for name in names]
             # each has sent its request up to the end of its name, and waits
             cut = requests[0].index(b"user-") + len(names[0])
-            for stream, request in zip(streams, requests):
-                stream.sendall(request[:cut])
+            for part in slice(0, 20), slice(20, cut):
+                for stream, request in zip(streams, requests):
+                    stream.sendall(request[part])
             self.assert_prompt(provider, FIND_BOB, b"404")
             for place in order:
                 streams[place].sendall(requests[place][cut:])

@@ -1,5 +1,6 @@
 """`serve`: slow clients hold nobody up, and lose nothing."""
 import contextlib
+import resource
 import socket
 import time
 
@@ -12,7 +13,9 @@ LIST = b"GET /v2/Users HTTP/1.1\r\nHost: h\r\n\r\n"
 # Seconds within which an answer comes if nobody holds it up
 PROMPTLY = 5
 # The most connections that wait for their requests, and the seconds that each may wait even then
-MOST_HELD, GRANTED = 256, 0.1
+MOST_HELD, GRANTED = 4_096, 0.1
+# The most bytes of memory that their requests take for longer
+MOST_MEMORY = 16 * 1024 * 1024
 
 
 def narrow_connection(port):
@@ -23,6 +26,30 @@ def narrow_connection(port):
     stream.settimeout(60)
     stream.connect(("127.0.0.1", port))
     return stream
+
+
+@contextlib.contextmanager
+def many_handles(test, count):
+    """Lets this process, and the programs that it starts, have so many files and sockets open."""
+    soft, hard = resource.getrlimit(resource.RLIMIT_NOFILE)
+    if hard != resource.RLIM_INFINITY and hard < count:
+        test.skipTest(f"a process may have at most {hard} files and sockets open")
+    resource.setrlimit(resource.RLIMIT_NOFILE, (max(soft, count), hard))
+    try:
+        yield
+    finally:
+        resource.setrlimit(resource.RLIMIT_NOFILE, (soft, hard))
+
+
+def is_closed(stream):
+    """Whether the other side has closed a connection on which it sent nothing."""
+    stream.setblocking(False)
+    try:
+        return stream.recv(1) == b""
+    except BlockingIOError:
+        return False
+    except ConnectionError:
+        return True
 
 
 class SlowClientTest(ProgramTest):
@@ -101,7 +128,8 @@ class SlowClientTest(ProgramTest):
                 self.assert_prompt(provider, FIND_BOB, b"200")
 
     def test_the_oldest_client_makes_room(self):
-        with self.serving(3, connection_faults=2) as provider, contextlib.ExitStack() as silent:
+        with many_handles(self, MOST_HELD + 500), self.serving(3, connection_faults=2) as provider, \
+                contextlib.ExitStack() as silent:
             streams = [silent.enter_context(provider.connect()) for _ in range(MOST_HELD)]
             time.sleep(10 * GRANTED)
             silent.enter_context(provider.connect())
@@ -114,7 +142,8 @@ class SlowClientTest(ProgramTest):
 
     def test_clients_that_trickle_lock_nobody_out(self):
         """Each sends a byte of a head now and then, so that none is silent for long, and comes back when it is closed."""
-        with Provider(1_000_000) as provider, Tricklers(provider, MOST_HELD + 20, 0.6 * GRANTED) as tricklers:
+        with many_handles(self, MOST_HELD + 500), Provider(1_000_000) as provider, \
+                Tricklers(provider, MOST_HELD + 20, 6 * GRANTED) as tricklers:
             wait_until(lambda: tricklers.returns > 0, "a client that made room")
             for _ in range(20):
                 self.assert_prompt(provider, FIND_BOB, b"404")
@@ -125,14 +154,25 @@ class SlowClientTest(ProgramTest):
                     stream.sendall(FIND_BOB[-1:])
                     self.assertTrue(read_all(stream).startswith(b"HTTP/1.1 404"))
 
+    def test_large_requests_that_wait(self):
+        """What has come of them takes too much memory together, so the oldest are closed."""
+        part = b"POST /v2/Users HTTP/1.1\r\nHost: h\r\nContent-Length: 32768\r\n\r\n" + b" " * 32_000
+        most = MOST_MEMORY // len(part)
+        with Provider(1_000_000) as provider, contextlib.ExitStack() as stack:
+            streams = [stack.enter_context(provider.connect()) for _ in range(most + 50)]
+            for stream in streams:
+                stream.sendall(part)
+            wait_until(lambda: sum(map(is_closed, streams)) >= 50, "the end of the oldest")
+            self.assertFalse(is_closed(streams[-1]))
+            self.assert_prompt(provider, CREATE_BOB, b"201")
+            self.assertGreater(self.connection_faults(self.kill(provider)), 0)
+
     def test_a_system_without_descriptors(self):
-        """It gives no connection for a while: that is reported once a second, and uses up few of the requests."""
+        """It gives no connection while others have all of them: the oldest make room."""
         silent_clients = 40
-        with Provider(silent_clients + 10, **limited_handles(24)) as provider:
-            with contextlib.ExitStack() as silent:
-                for _ in range(silent_clients):
-                    silent.enter_context(provider.connect())
-                time.sleep(3)
+        with Provider(silent_clients + 10, **limited_handles(24)) as provider, contextlib.ExitStack() as silent:
+            streams = [silent.enter_context(provider.connect()) for _ in range(silent_clients)]
+            wait_until(lambda: is_closed(streams[0]), "the oldest made room")
             self.assert_prompt(provider, CREATE_BOB, b"201")
             self.assertGreater(self.connection_faults(self.kill(provider)), 0)
 

@@ -4,3 +4,4 @@ mod RequestLemmas
 mod HoldingLemmas
 mod StreamLemmas
 mod TurnLemmas
+mod ArrivingLemmas

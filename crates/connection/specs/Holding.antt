@@ -1,8 +1,8 @@
 -- Connections that are held until their requests are whole: what a look does, which one is served next, and which one
 -- makes room.
 use Rattle.std.specs.Prelude.{◌≡◌, ◌≢◌, ◌⊎◌, ◌+◌, ◌-◌, ◌/◌, ◌≤◌, ◌<◌, ℕ, suc, Bool, IsTrue, List, [], ◌∷◌, ◌++◌}
-use Rattle.std.specs.Prelude.{false, true, length, min, Option, Some, None}
-use Rattle.std.specs.List.{slice_index_or}
+use Rattle.std.specs.Prelude.{false, true, length, min, Option, Some, None, if◌then◌else◌, nat_lt, vec_capacity}
+use Rattle.std.specs.List.{slice_index_or, sum_by}
 use Rattle.std.specs.Io.KnownBytes.{Keeps, prepend_known}
 use Rattle.std.specs.Time.{FitsClock, instant_nanos}
 use Rattle.std.specs.declared.time.Instant.{Instant}
@@ -24,8 +24,8 @@ IsPaced old new now = ((new.moved ≡ now) × (new.next ≡ now))
 -- the connection can't be served and it was time to look, its stream was looked at now
 pub record Looks {S : Type 0} (remaining : S → Option (List ℕ)) (now : Instant) (old new : Held S) (is_ready : Bool)
     : Type 0 where
-  pub bytes : Keeps (prepend_known old.received.items (remaining old.stream))
-      (prepend_known new.received.items (remaining new.stream))
+  pub bytes : Keeps (prepend_known old.received.bytes.items (remaining old.stream))
+      (prepend_known new.received.bytes.items (remaining new.stream))
   pub deadline : new.deadline ≡ old.deadline
   pub accepted : new.accepted ≡ old.accepted
   pub paced : instant_nanos old.pace.next ≤ instant_nanos now → IsTrue is_ready ⊎ IsPaced old.pace new.pace now
@@ -39,19 +39,31 @@ module _ {S : Type 0} (remaining : S → Option (List ℕ)) (now : Instant) wher
     pub others : (n : ℕ) (d : Held S) → n ≢ place → slice_index_or new n d ≡ slice_index_or old n d
     pub length : length new ≡ length old
 
-  -- the connections before this place were looked at in turn, and none of them can be served
-  abbrev pub ArePassed : (place : ℕ) → (old new : List (Held S)) → Type 0
-  ArePassed place old new = (n : ℕ) (d : Held S) → n < place →
+  -- the connections from a place up to another were looked at in turn, and none of them can be served
+  abbrev pub ArePassed : (first end : ℕ) → (old new : List (Held S)) → Type 0
+  ArePassed first end old new = (n : ℕ) (d : Held S) → first ≤ n → n < end →
       Looks remaining now (slice_index_or old n d) (slice_index_or new n d) false
 
-  -- The first connection that can be served was taken out. Those before it were looked at, those after it weren't; or
-  -- all were looked at, and none can be served
-  abbrev pub TakesFirst : (old new : List (Held S)) → Option (Held S) → Type 0
-  TakesFirst old new None = ArePassed (length old) old new × (length new ≡ length old)
-  TakesFirst old new (Some held) = (place : ℕ) × (place < length old) × ArePassed place old new
-      × ((d : Held S) → Looks remaining now (slice_index_or old place d) held true)
-      × ((n : ℕ) (d : Held S) → place ≤ n → n < length new → slice_index_or new n d ≡ slice_index_or old (suc n) d)
+  -- Of at most `most` connections from a place on, the first that can be served was taken out. Those before it were
+  -- looked at, and no others were; or all of these were looked at, and none can be served. The place to go on with,
+  -- `next`, is the first that wasn't looked at
+  abbrev pub TakesFirst : (most first next : ℕ) → (old new : List (Held S)) → Option (Held S) → Type 0
+  TakesFirst most first next old new None =
+      (next ≡ min (length old) (first + most))
+      × ArePassed first next old new
+      × ((n : ℕ) (d : Held S) → (n < first) ⊎ (next ≤ n) → slice_index_or new n d ≡ slice_index_or old n d)
+      × (length new ≡ length old)
+  TakesFirst most first next old new (Some held) =
+      (first ≤ next) × (next < length old)
+      × ArePassed first next old new
+      × ((n : ℕ) (d : Held S) → n < first → slice_index_or new n d ≡ slice_index_or old n d)
+      × ((d : Held S) → Looks remaining now (slice_index_or old next d) held true)
+      × ((n : ℕ) (d : Held S) → next ≤ n → n < length new → slice_index_or new n d ≡ slice_index_or old (suc n) d)
       × (length new + 1 ≡ length old)
+
+-- where a call goes on: after the last connection it begins with the first one again
+abbrev pub place_to_go_on : (next count : ℕ) → ℕ
+place_to_go_on next count = if nat_lt next count then next else 0
 
 -- ---- room for one more
 
@@ -68,18 +80,31 @@ IsDue (held ∷ others) now = granted ≤ instant_nanos now - instant_nanos held
 abbrev pub HasRoom : {S : Type 0} → (most : ℕ) → List (Held S) → (now : Instant) → Type 0
 HasRoom most connections now = (length connections < most) ⊎ IsDue connections now
 
--- the oldest connection was given up for this one
-pub record GivesUpFor {S : Type 0} (held : Held S) (now : Instant) (old new : List (Held S)) : Type 0 where
+-- The oldest connection was given up, and the others stay. The place to go on with moves with its connection
+pub record GivesUp {S : Type 0} (now : Instant) (old new : List (Held S)) (next next_then : ℕ) : Type 0 where
   pub oldest : Held S
-  pub others : List (Held S)
-  pub were : old ≡ oldest ∷ others
+  pub were : old ≡ oldest ∷ new
   pub due : IsDue old now
+  pub goes_on : next_then ≡ next - 1
+
+-- the oldest connection was given up for this one
+pub record GivesUpFor {S : Type 0} (held : Held S) (now : Instant) (old new : List (Held S)) (next next_then : ℕ)
+    : Type 0 where
+  pub others : List (Held S)
+  pub gives_up : GivesUp now old others next next_then
   pub are : new ≡ others ++ held ∷ []
 
 -- Why this connection isn't held, or another one isn't any more: out of memory (`is_tight`), or there is no room; or
 -- the oldest was given up for it
 abbrev pub Refuses : {S : Type 0} → (most : ℕ) → Held S → (now : Instant) → (old new : List (Held S))
-    → (is_tight : Type 0)
+    → (next next_then : ℕ) → (is_tight : Type 0)
     → Type 0
-Refuses most held now old new is_tight =
-    ((new ≡ old) × (is_tight ⊎ (HasRoom most old now → ⊥))) ⊎ GivesUpFor held now old new
+Refuses most held now old new next next_then is_tight =
+    ((new ≡ old) × (next_then ≡ next) × (is_tight ⊎ (HasRoom most old now → ⊥)))
+    ⊎ GivesUpFor held now old new next next_then
+
+-- ---- the memory of all of them
+
+-- how many bytes of memory the requests of these connections take
+abbrev pub memory_of : {S : Type 0} → List (Held S) → ℕ
+memory_of connections = sum_by (λ held. vec_capacity held.received.bytes) connections

@@ -7,5 +7,6 @@ pub mod Listening
 pub mod Requests
 pub mod Streams
 pub mod Holding
+pub mod Arriving
 pub mod Endings
 pub mod Turns

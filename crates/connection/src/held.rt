@@ -5,7 +5,7 @@ ghost use Rattle.connection.specs.Holding.{Looks};
 
 use crate::deadline::Deadline;
 use crate::pace::Pace;
-use crate::readiness::is_ready;
+use crate::received::Received;
 use http_text::{BODY_LIMIT, HEAD_LIMIT};
 use std::alloc::Global;
 use std::io::{ErrorKind, Read};
@@ -27,19 +27,19 @@ pub(crate) struct Held<S: Drop> {
     pub(crate) deadline: Deadline,
     /// When it was accepted.
     pub(crate) accepted: Instant,
-    pub(crate) received: Vec<u8>,
+    pub(crate) received: Received,
     pub(crate) pace: Pace,
 }
 
 /// What a look at a connection found.
 #[derive(Clone, Copy)]
 enum Arrival {
+    /// Some bytes, which don't decide yet what is answered.
     Bytes,
-    /// As many bytes as one read takes: more may have come.
-    Full,
     Nothing,
-    /// No more comes: the stream has ended or failed, there is no room, or out of memory.
-    End,
+    /// The request is whole or refused, or no more comes: the stream has ended or failed, there is no room, or out
+    /// of memory.
+    Last,
 }
 
 impl<S: Read + Drop> Held<S> {
@@ -48,13 +48,13 @@ impl<S: Read + Drop> Held<S> {
         ensures stream { result.stream ≡ stream }
         ensures deadline { result.deadline ≡ deadline }
         ensures accepted { result.accepted ≡ now }
-        ensures received { result.received.items ≡ [] }
+        ensures received { result.received.bytes.items ≡ [] }
     {
         Held {
             stream,
             deadline,
             accepted: now,
-            received: Vec::new(alloc),
+            received: Received::new(alloc),
             pace: Pace::new(now),
         }
     }
@@ -70,68 +70,63 @@ impl<S: Read + Drop> Held<S> {
         if self.deadline.left_at(now).is_none() {
             return true;
         }
-        match self.receive() {
-            Arrival::Bytes | Arrival::Full => {
-                self.pace = Pace::new(now);
-                is_ready(alloc, &self.received)
-            }
-            Arrival::Nothing => {
-                self.pace.wait(now);
-                false
-            }
-            Arrival::End => true,
+        match self.receive(alloc) {
+            Arrival::Bytes => self.pace = Pace::new(now),
+            Arrival::Nothing => self.pace.wait(now),
+            Arrival::Last => return true,
         }
+        self.received.shrink();
+        false
     }
 
-    /// Takes what has come.
-    fn receive(&mut self) -> Arrival
-        ensures bytes { Keeps (prepend_known self.old.received.items (S.remaining self.old.stream))
-            (prepend_known self.new.received.items (S.remaining self.new.stream)) }
+    /// Takes what has come, up to a whole request.
+    fn receive(&mut self, alloc: Global) -> Arrival
+        ensures bytes { Keeps (prepend_known self.old.received.bytes.items (S.remaining self.old.stream))
+            (prepend_known self.new.received.bytes.items (S.remaining self.new.stream)) }
         ensures deadline { self.new.deadline ≡ self.old.deadline }
         ensures accepted { self.new.accepted ≡ self.old.accepted }
         ensures pace { self.new.pace ≡ self.old.pace }
     {
         let mut arrival = Arrival::Nothing;
         for _ in 0..MOST_READS {
-            match self.read_once() {
-                Arrival::Full => arrival = Arrival::Full,
-                Arrival::Bytes => return Arrival::Bytes,
+            match self.read_once(alloc) {
+                Arrival::Bytes => arrival = Arrival::Bytes,
                 Arrival::Nothing => return arrival,
-                Arrival::End => return Arrival::End,
+                Arrival::Last => return Arrival::Last,
             }
         }
         arrival
     }
 
     /// Takes what one read gives.
-    fn read_once(&mut self) -> Arrival
-        ensures bytes { Keeps (prepend_known self.old.received.items (S.remaining self.old.stream))
-            (prepend_known self.new.received.items (S.remaining self.new.stream)) }
+    fn read_once(&mut self, alloc: Global) -> Arrival
+        ensures bytes { Keeps (prepend_known self.old.received.bytes.items (S.remaining self.old.stream))
+            (prepend_known self.new.received.bytes.items (S.remaining self.new.stream)) }
         ensures deadline { self.new.deadline ≡ self.old.deadline }
         ensures accepted { self.new.accepted ≡ self.old.accepted }
         ensures pace { self.new.pace ≡ self.old.pace }
     {
         let mut buffer = [0; READ_LIMIT];
         let room = MOST_BYTES
-            .saturating_sub(self.received.len())
+            .saturating_sub(self.received.bytes.len())
             .min(READ_LIMIT);
         if self.received.reserve(room).is_err() {
-            return Arrival::End;
+            return Arrival::Last;
         }
         match self.stream.read(&mut buffer[..room]) {
-            Ok(0) => Arrival::End,
+            Ok(0) => Arrival::Last,
             Ok(count) => {
-                let kept = self.received.extend_from_slice(&buffer[..count]);
+                let kept = self.received.add(&buffer[..count]);
                 prove!(kept.is_ok());
-                if count < READ_LIMIT {
-                    Arrival::Bytes
+                if self.received.is_ready(alloc) {
+                    Arrival::Last
                 } else {
-                    Arrival::Full
+                    Arrival::Bytes
                 }
             }
             Err(error) => match error.kind() {
                 ErrorKind::WouldBlock | ErrorKind::Interrupted => Arrival::Nothing,
-                _ => Arrival::End,
+                _ => Arrival::Last,
             },
         }
     }

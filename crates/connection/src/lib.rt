@@ -15,6 +15,7 @@ mod pace;
 mod prompt;
 mod reactions;
 mod readiness;
+mod received;
 mod serving;
 mod shared;
 mod sockets;

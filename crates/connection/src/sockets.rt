@@ -47,13 +47,17 @@ where
     reported: Option<Instant>,
     faults: FaultCount,
     waiting: Waiting<L::Stream>,
+    /// Whether the last connection that was given out had waited: then a new one comes first.
+    is_turn_of_new: bool,
     endings: Endings<'a, SharedStream<L::Stream>, C>,
 }
 
-/// What a look at all connections found.
+/// What a look at some connections found.
 enum Look<S: Drop> {
     Ready(Held<S>),
     Moves,
+    /// Nothing moved, but not all connections were looked at yet.
+    Continues,
     Waits,
 }
 
@@ -71,15 +75,20 @@ where
             reported: None,
             faults: FaultCount::new(),
             waiting: Waiting::new(alloc),
+            is_turn_of_new: false,
             endings: Endings::new(alloc, clock),
         }
     }
 
-    /// Looks at all connections once, and takes out the first that can be served.
+    /// Looks at the next connections, and takes out the first that can be served. It fails if another one had to
+    /// be dropped.
     fn look(&mut self) -> io::Result<Look<L::Stream>> {
         let now = Instant::now(self.clock)?;
         let has_moved = self.endings.are_due(now) && self.endings.go_on(now);
-        if let Some(held) = self.waiting.take_ready(self.alloc, now) {
+        if self.waiting.is_round_over() && self.waiting.free_memory(now) {
+            return Err(io::Error::from(ErrorKind::TimedOut));
+        }
+        if let Some(held) = self.take_ready(now) {
             return Ok(Look::Ready(held));
         }
         if let Some(stream) = self.next_stream(now)? {
@@ -87,9 +96,22 @@ where
         }
         if has_moved || self.endings.go_on(now) {
             Ok(Look::Moves)
-        } else {
+        } else if self.waiting.is_round_over() {
             Ok(Look::Waits)
+        } else {
+            Ok(Look::Continues)
         }
+    }
+
+    /// Takes out the next connection that can be served, unless it is the turn of a new one.
+    fn take_ready(&mut self, now: Instant) -> Option<Held<L::Stream>> {
+        if self.is_turn_of_new {
+            self.is_turn_of_new = false;
+            return None;
+        }
+        let ready = self.waiting.take_ready(self.alloc, now);
+        self.is_turn_of_new = ready.is_some();
+        ready
     }
 
     /// The stream of a connection that the system has accepted. If there is nothing else to do, it waits for
@@ -112,9 +134,12 @@ where
         }
     }
 
-    /// The system gives no connection, because it has no descriptor left, say. It is tried again after a pause; the
-    /// fault is reported once a second at most.
+    /// The system gives no connection, because it has no descriptor left, say. Then the oldest connection makes
+    /// room. If none can, it is tried again after a pause; the fault is reported once a second at most.
     fn unaccepted(&mut self, error: io::Error, now: Instant) -> io::Result<Option<L::Stream>> {
+        if error.kind() != ErrorKind::ConnectionAborted && self.waiting.give_up_oldest(now) {
+            return Err(error);
+        }
         if !may_report(self.reported, now) {
             return Ok(None);
         }
@@ -175,7 +200,7 @@ fn opened<'a, S: Read + Write + OpenStream + Drop, C: Clock>(
     held: Held<S>,
     clock: &'a C,
 ) -> io::Result<(Asked<'a, S, C>, Answering<'a, S, C>)>
-    ensures { IfOk result (λ handles. (handles.0.ahead ≡ held.received) × (handles.0.given ≡ 0)
+    ensures { IfOk result (λ handles. (handles.0.ahead ≡ held.received.bytes) × (handles.0.given ≡ 0)
         × (handles.1.unsent.items ≡ [])) }
 {
     let Held {
@@ -189,7 +214,7 @@ fn opened<'a, S: Read + Write + OpenStream + Drop, C: Clock>(
     let reader = PromptStream::new(stream.try_clone()?, clock, deadline);
     let writer = PromptStream::new(stream, clock, deadline);
     Ok((
-        AheadReader::new(received, reader),
+        AheadReader::new(received.into_bytes(), reader),
         LateWriter::new(alloc, writer),
     ))
 }
@@ -208,6 +233,7 @@ where
             match self.look()? {
                 Look::Ready(held) => return opened(self.alloc, held, self.clock),
                 Look::Moves => idle = 0,
+                Look::Continues => {}
                 Look::Waits => {
                     pause(self.clock, idle);
                     idle = idle.saturating_add(1);

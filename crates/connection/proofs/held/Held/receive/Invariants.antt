@@ -5,7 +5,7 @@ use Rattle.connection.proofs.held.Held.receive.Given as goal
 -- no byte was lost
 abbrev pub invariant-loop : goal.invariant-loop
 invariant-loop g l = record {
-  bytes : Keeps (prepend_known l.initial.self.received.items (g.S.Read.remaining l.initial.self.stream)) (prepend_known l.self.received.items (g.S.Read.remaining l.self.stream));
+  bytes : Keeps (prepend_known l.initial.self.received.bytes.items (g.S.Read.remaining l.initial.self.stream)) (prepend_known l.self.received.bytes.items (g.S.Read.remaining l.self.stream));
   deadline : l.self.deadline ≡ l.initial.self.deadline;
   accepted : l.self.accepted ≡ l.initial.self.accepted;
   pace : l.self.pace ≡ l.initial.self.pace;
