@@ -5,10 +5,12 @@ use Rattle.sqlite_disk.specs.declared.Files.{Files}
 use Rattle.sqlite_store.specs.declared.store.FileStore.{FileStore}
 use Rattle.sqlite.specs.declared.file.Leftover.{Leftover}
 use Rattle.sqlite.specs.Files.{Finds, IsCleanLeft, IsOpened as IsConnected, LeavesFiles, file_state}
-use Rattle.sqlite.specs.Held.{Held}
-use Rattle.sqlite.specs.State.{HasCleanDisk, Survives}
+use Rattle.sqlite.specs.Held.{Held, state}
+use Rattle.sqlite.specs.State.{State, HasCleanDisk, Survives}
+use Rattle.sqlite_trees.specs.declared.store.Store as store
 use Rattle.journal_core.specs.Entries.{EntryMap}
 use Rattle.journal_core.specs.declared.journals.Journal.{Ghosts}
+use Rattle.journal_store.specs.Kept.{Kept, IsFaithful, IsHonest, kept_entries}
 use Rattle.journal_store.specs.Opening.{LeavesStanding, Stands}
 use Rattle.sql_tables.specs.Statements.{LeavesStore}
 
@@ -28,6 +30,20 @@ pub record IsOpenedAgain {J : Type 0} (g : Ghosts J) (old new : J) : Type 0 wher
   pub opened : IsOpened g new
   pub was : g.is_honest new → g.is_honest old
   pub same : g.is_honest new → g.entries new ≡ g.entries old
+
+-- ---- connections
+
+-- the tables of a connection were refused: its last commit stays
+pub record KeepsTables (before after : State) : Type 0 where
+  pub kept : HasCleanDisk after → LeavesStore before after
+  pub stop : Survives before after (LeavesStanding before)
+
+-- a journal was opened from a connection, and has the entries of its tables
+pub record OpensFrom {S : Type 0} (g : store.Ghosts S) (before : State) (journal : Kept S) : Type 0 where
+  pub faithful : IsHonest g journal → IsFaithful g journal
+  pub counts : (journal.faults ≡ 0) × (journal.writes ≡ 0)
+  pub stands : IsHonest g journal → Stands before (kept_entries g journal)
+  pub stop : Survives before (state g journal.conn) (LeavesStanding before)
 
 -- ---- files
 

@@ -3,15 +3,25 @@ use Rattle.std.specs.Prelude.{◌≡◌, ⊤, Option, Some, None, Result, Ok, Er
 use Rattle.sqlite_disk.specs.declared.Disk as disk
 use Rattle.sqlite_disk.specs.declared.Files.{Files}
 use Rattle.sqlite_store.specs.declared.store.FileStore.{FileStore}
+use Rattle.sqlite_trees.specs.declared.store.Store as store
 use Rattle.sqlite.specs.declared.file.Leftover.{Leftover}
 use Rattle.sqlite.specs.Files.{Finds, file_state}
-use Rattle.sqlite.specs.Held.{Held}
+use Rattle.sqlite.specs.Held.{Held, state}
 use Rattle.sqlite.specs.State.{HasCleanDisk, Survives}
 use Rattle.journal_store.specs.Kept.{Kept}
 use Rattle.journal_store.specs.Opening.{IsOlder}
 use Rattle.sql_tables.specs.Layouts.{no_schema}
+use Rattle.storage.specs.JournalOpened.{KeepsTables}
 use Rattle.storage.specs.declared.looking.LookFault.{LookFault}
 use Rattle.storage.specs.declared.looking.LookFault.TheVariants.{Older, Refused}
+
+module _ {S : Type 0} (g : store.Ghosts S) where
+  -- a connection has no journal that can be looked at: it has no tables, or those of an older format, and is unchanged,
+  -- or its tables were refused
+  abbrev pub IsUnseen : (before after : Held S) → Option LookFault → Type 0
+  IsUnseen before after None = (after ≡ before) × ((state g before).now.schema ≡ no_schema)
+  IsUnseen before after (Some Older) = (after ≡ before) × IsOlder (state g before).now.schema
+  IsUnseen before after (Some (Refused fault)) = KeepsTables (state g before) (state g after)
 
 -- these files were connected to, and they have no tables
 pub record FindsNoTables {D : Type 0} (g : disk.Ghosts D) (files : Files D) : Type 0 where

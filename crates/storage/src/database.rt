@@ -120,6 +120,13 @@ pub(crate) fn fault_of<F, L: Drop>(refused: (F, L)) -> F
     fault
 }
 
+/// The fault of files that were refused. What is left of them is dropped.
+pub(crate) fn fault_in<F, D: Disk + Drop>(refused: (F, Remains<D>)) -> F
+    ensures { result ≡ refused.0 }
+{
+    fault_of(refused)
+}
+
 /// Closes a connection, and connects to its files anew, which stay locked meanwhile. A connection keeps the memory
 /// that its largest transaction took; the new one has none of it. If this fails, the files are closed.
 pub(crate) fn renewed<D: Disk + Drop>(

@@ -1,8 +1,10 @@
 //! A file that keeps the entries.
-ghost use Rattle.std.specs.Prelude.{true, false, IfErr, IfOk, IsTrue};
-ghost use Rattle.storage.specs.JournalOpened.{FindsEntries, IsOpened, IsOpenedAgain, IsOpenedAt, LeavesEntries};
+ghost use Rattle.std.specs.Prelude.{◌≡◌, true, false, IfErr, IfOk, IsTrue};
+ghost use Rattle.sqlite.specs.Held.{state};
+ghost use Rattle.sqlite.specs.State.{IsLive};
+ghost use Rattle.storage.specs.JournalOpened.{FindsEntries, IsOpened, IsOpenedAgain, IsOpenedAt, KeepsTables, LeavesEntries, OpensFrom};
 
-use crate::database::{DatabaseFile, Remains, connected, fault_of, renewed};
+use crate::database::{DatabaseFile, Remains, connected, fault_in, fault_of, renewed};
 use crate::entry_storage::{EntryStorage, StoredEntries};
 use crate::looking::{LookFault, seen_in};
 use crate::reason::{DatabaseReason, NO_TABLES, failure_in, failure_since};
@@ -36,7 +38,7 @@ impl<'a> EntryStorage for JournalFile<'a> {
     fn open(&self) -> Result<Self::Entries, JournalOpenFault> {
         match entries_in(self.file.rt, self.file.open()?) {
             Ok((entries, is_carried)) => reopened_if(self.file.rt, is_carried, entries),
-            Err(refused) => Err(fault_of(refused)),
+            Err(refused) => Err(fault_in(refused)),
         }
     }
 
@@ -47,16 +49,13 @@ impl<'a> EntryStorage for JournalFile<'a> {
         }
         match seen_in(self.file.rt, self.file.open()?) {
             Ok(seen) => Ok(seen),
-            Err(refused) => Err(fault_of(refused)),
+            Err(refused) => Err(fault_in(refused)),
         }
     }
 
     fn reason(&self) -> Option<DatabaseReason> {
         match self.file.open_again() {
-            Ok(conn) => match refusal(self.file.rt.alloc(), conn) {
-                Ok(reason) => reason,
-                Err(conn) => Some(failure_since(conn)),
-            },
+            Ok(conn) => reason_in(self.file.rt.alloc(), conn),
             Err(reason) => reason,
         }
     }
@@ -99,10 +98,25 @@ fn entries_in<D: Disk + Drop>(
         Ok(conn) => conn,
         Err((error, left)) => return Err((JournalOpenFault::from(error), Err(left))),
     };
-    let is_carried = is_older(&conn);
-    match SqlJournal::open(rt.alloc(), conn) {
-        Ok(entries) => Ok((entries, is_carried)),
+    match journal_of(rt.alloc(), conn) {
+        Ok(opened) => Ok(opened),
         Err((fault, conn)) => Err((fault, Ok(conn))),
+    }
+}
+
+/// The journal of a connection, and whether an older format was carried over. If it is refused, the connection is
+/// handed back.
+fn journal_of<S: Alter>(
+    alloc: Global,
+    conn: Connection<S>,
+) -> Result<(SqlJournal<S>, bool), (JournalOpenFault, Connection<S>)>
+    ensures opened { IfOk result (λ it. OpensFrom S.Store (state S.Store conn) it.0) }
+    ensures refused { IfErr result (λ e. KeepsTables (state S.Store conn) (state S.Store e.1)) }
+{
+    let is_carried = is_older(&conn);
+    match SqlJournal::open(alloc, conn) {
+        Ok(entries) => Ok((entries, is_carried)),
+        Err(refused) => Err(refused),
     }
 }
 
@@ -118,11 +132,40 @@ fn reopened_if<D: Disk + Drop>(
     if !is_carried {
         return Ok(entries);
     }
+    journal_again(rt.alloc(), renewed(rt, connection_of(entries))?)
+}
+
+/// The connection of a journal.
+fn connection_of<S: Alter>(entries: SqlJournal<S>) -> Connection<S>
+    ensures same { result ≡ entries.conn }
+    ensures live { IsLive (state S.Store result) }
+{
     let conn = SqlJournal::close(entries);
     let _schema = conn.schema();
-    match SqlJournal::open(rt.alloc(), renewed(rt, conn)?) {
-        Ok(again) => Ok(again),
+    conn
+}
+
+/// The journal of a connection. If it is refused, the connection is dropped.
+fn journal_again<S: Alter + Drop>(
+    alloc: Global,
+    conn: Connection<S>,
+) -> Result<SqlJournal<S>, JournalOpenFault>
+    ensures { IfOk result (OpensFrom S.Store (state S.Store conn)) }
+{
+    match SqlJournal::open(alloc, conn) {
+        Ok(entries) => Ok(entries),
         Err(refused) => Err(fault_of(refused)),
+    }
+}
+
+/// Why the entries of a file that was opened again can't be used.
+fn reason_in<D: Disk + Drop>(
+    alloc: Global,
+    conn: Connection<FileStore<D>>,
+) -> Option<DatabaseReason> {
+    match refusal(alloc, conn) {
+        Ok(reason) => reason,
+        Err(conn) => Some(failure_since(conn)),
     }
 }
 

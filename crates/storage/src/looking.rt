@@ -1,14 +1,17 @@
 //! Looks at a journal in files: nothing is made, and nothing is carried over.
 ghost use Rattle.std.specs.Prelude.{◌≡◌, IfErr, IfOk, IsTrue, MatchOption, ⊤};
-ghost use Rattle.storage.specs.JournalOpened.{FindsEntries, IsOpenedAt, LeavesEntries};
-ghost use Rattle.storage.specs.Looking.{LooksAt, LooksOlder};
+ghost use Rattle.sqlite.specs.Held.{state};
+ghost use Rattle.sqlite.specs.State.{Survives};
+ghost use Rattle.storage.specs.JournalOpened.{FindsEntries, IsOpenedAt, LeavesEntries, OpensFrom};
+ghost use Rattle.storage.specs.Looking.{IsUnseen, LooksAt, LooksOlder};
 
 use crate::database::{Remains, closed, connected};
 use journal_core::Journal;
 use journal_store::{JournalOpenFault, SqlJournal, is_older};
 use sql_tables::is_blank;
-use sqlite::{Error, FileStore};
+use sqlite::{Alter, Connection, Error, FileStore};
 use sqlite_disk::{Disk, Files};
+use std::alloc::Global;
 use std::rt::HostRuntime;
 
 /// Why a journal couldn't be looked at. Its contents are unchanged.
@@ -57,15 +60,35 @@ pub(crate) fn seen_in<D: Disk + Drop>(
             return Err((fault, Err(left)));
         }
     };
+    match seen_of(rt.alloc(), conn) {
+        Ok(entries) => Ok(Some(entries)),
+        Err((Some(fault), conn)) => Err((fault, Ok(conn))),
+        Err((None, conn)) => {
+            let _ = closed(conn);
+            Ok(None)
+        }
+    }
+}
+
+/// The journal of a connection. Otherwise the connection is handed back: without a fault if it has no tables.
+fn seen_of<S: Alter>(
+    alloc: Global,
+    conn: Connection<S>,
+) -> Result<SqlJournal<S>, (Option<LookFault>, Connection<S>)>
+    ensures opened { IfOk result (OpensFrom S.Store (state S.Store conn)) }
+    ensures unwritten { IfOk result
+        (λ journal. Survives (state S.Store conn) (state S.Store journal.conn) (λ _. ⊥)) }
+    ensures unseen { IfErr result
+        (λ e. IsUnseen S.Store conn e.1 e.0) }
+{
     if is_older(&conn) {
-        return Err((LookFault::Older, Ok(conn)));
+        return Err((Some(LookFault::Older), conn));
     }
     if is_blank(conn.schema()) {
-        let _ = closed(conn);
-        return Ok(None);
+        return Err((None, conn));
     }
-    match SqlJournal::open(rt.alloc(), conn) {
-        Ok(entries) => Ok(Some(entries)),
-        Err((fault, conn)) => Err((LookFault::from(fault), Ok(conn))),
+    match SqlJournal::open(alloc, conn) {
+        Ok(entries) => Ok(entries),
+        Err((fault, conn)) => Err((Some(LookFault::from(fault)), conn)),
     }
 }

@@ -2,7 +2,7 @@
 ghost use Rattle.std.specs.Prelude.{true, false, IfErr, IfOk, IsTrue};
 ghost use Rattle.storage.specs.StoreOpened.{FindsRows, IsOpenedAt, LeavesRows};
 
-use crate::database::{DatabaseFile, Remains, connected, fault_of};
+use crate::database::{DatabaseFile, Remains, connected, fault_in};
 use crate::reason::{DatabaseReason, NO_TABLES, failure_in, failure_since};
 use crate::row_storage::{RowStorage, StoredRows};
 use provider_core::Registry;
@@ -38,16 +38,13 @@ impl<'a> RowStorage for StoreFile<'a> {
     fn open(&self) -> Result<Self::Rows, RegistryOpenFault> {
         match rows_in(self.file.rt, self.file.open()?) {
             Ok(rows) => Ok(rows),
-            Err(refused) => Err(fault_of(refused)),
+            Err(refused) => Err(fault_in(refused)),
         }
     }
 
     fn reason(&self) -> Option<DatabaseReason> {
         match self.file.open_again() {
-            Ok(conn) => match refusal(self.file.rt.alloc(), conn) {
-                Ok(reason) => reason,
-                Err(conn) => Some(failure_since(conn)),
-            },
+            Ok(conn) => reason_in(self.file.rt.alloc(), conn),
             Err(reason) => reason,
         }
     }
@@ -92,6 +89,17 @@ fn rows_in<D: Disk + Drop>(
     match SqlRegistry::open(rt.alloc(), conn) {
         Ok(rows) => Ok(rows),
         Err((fault, conn)) => Err((fault, Ok(conn))),
+    }
+}
+
+/// Why the rows of a file that was opened again can't be used.
+fn reason_in<D: Disk + Drop>(
+    alloc: Global,
+    conn: Connection<FileStore<D>>,
+) -> Option<DatabaseReason> {
+    match refusal(alloc, conn) {
+        Ok(reason) => reason,
+        Err(conn) => Some(failure_since(conn)),
     }
 }
 

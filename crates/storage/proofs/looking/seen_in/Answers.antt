@@ -1,43 +1,33 @@
-use Rattle.std.proofs.Common.{◌≡◌, ◌∙◌, rules}
-use Rattle.sqlite.specs.Files.{file_state}
-use Rattle.sql_tables.proofs.Looking.{survives_same}
-use Rattle.sql_tables.specs.Layouts.{no_schema}
-use Rattle.journal_store.specs.Opening.{IsOlder, LeavesStanding}
-use Rattle.storage.proofs.LookingLemmas.{same_store, stays_so}
+use Rattle.storage.proofs.LookingLemmas.{keeps_unseen, older_unseen}
 use Rattle.storage.proofs.RenewalLemmas.{none_left}
 use Rattle.storage.proofs.looking.seen_in.Goals as goal
 
-pub returns-then-is_older-clause-older : goal.returns-then-is_older-clause-older
-returns-then-is_older-clause-older g c = λ clean. (c.in-Ok.ensures.found clean, c.is_older.ensures.is c.if-is_older.true)
-
-pub returns-then-is_older-clause-refused : goal.returns-then-is_older-clause-refused
-returns-then-is_older-clause-refused g c = λ clean.
-    let s = file_state c.in-Ok.conn in
-    record { conn = c.in-Ok.conn; found = c.in-Ok.ensures.found clean; kept = same_store s; stop = survives_same s (LeavesStanding s) }
-
-pub returns-then-is_blank-clause-unwritten : goal.returns-then-is_blank-clause-unwritten
-returns-then-is_blank-clause-unwritten g c =
-    let blank : c.schema.result.now ≡ no_schema = c.is_blank.ensures.is c.if-is_blank.true in
-    record { conn = c.in-Ok.conn; found = c.in-Ok.ensures.found; none = rw (← c.schema.ensures.value) blank }
-
-pub returns-in-Ok-open-clause-opened : goal.returns-in-Ok-open-clause-opened
-returns-in-Ok-open-clause-opened g c =
-    let it = c.in-Ok-open.ensures in
+pub returns-in-Ok-seen_of-clause-opened : goal.returns-in-Ok-seen_of-clause-opened
+returns-in-Ok-seen_of-clause-opened g c =
+    let it = c.in-Ok-seen_of.ensures.opened in
     record {
       opened = record { faithful = it.faithful; faults = it.counts.0; writes = it.counts.1 };
       found = λ honest.
           let early = none_left it.stop.clean honest in
-          record { conn = c.in-Ok.conn; connected = c.in-Ok.ensures.connected early; found = c.in-Ok.ensures.found early; stands = it.entries honest };
+          record { conn = c.in-Ok.conn; connected = c.in-Ok.ensures.connected early; found = c.in-Ok.ensures.found early; stands = it.stands honest };
     }
 
-pub returns-in-Ok-open-clause-unwritten : goal.returns-in-Ok-open-clause-unwritten
-returns-in-Ok-open-clause-unwritten g c =
-    let s = file_state c.in-Ok.conn in
-    let current : IsOlder s.now.schema → ⊥ = λ older. let is = c.is_older.ensures.known older in search rules in
-    let there : s.now.schema ≡ no_schema → ⊥ = λ blank. let is = c.is_blank.ensures.known (c.schema.ensures.value ∙ blank) in search rules in
-    record { conn = c.in-Ok.conn; found = c.in-Ok.ensures.found; stop = stays_so s _ c.in-Ok-open.ensures.stop current there }
+pub returns-in-Ok-seen_of-clause-unwritten : goal.returns-in-Ok-seen_of-clause-unwritten
+returns-in-Ok-seen_of-clause-unwritten g c =
+    record { conn = c.in-Ok.conn; found = c.in-Ok.ensures.found; stop = c.in-Ok-seen_of.ensures.unwritten }
 
-pub returns-in-Err-open-clause-refused : goal.returns-in-Err-open-clause-refused
-returns-in-Err-open-clause-refused g c = λ clean.
-    let it = c.in-Err-open.ensures in
-    record { conn = c.in-Ok.conn; found = c.in-Ok.ensures.found (none_left it.refused.clean clean); kept = it.left clean; stop = it.refused }
+pub returns-in-Err-Some-default-clause-older : goal.returns-in-Err-Some-default-clause-older
+returns-in-Err-Some-default-clause-older g c =
+    let it = c.in-Err-Some-default in
+    older_unseen c.in-Ok.conn it.conn it.fault c.in-Ok.ensures.found (rw it.field-0-0-is at it.ensures.unseen)
+
+pub returns-in-Err-Some-default-clause-refused : goal.returns-in-Err-Some-default-clause-refused
+returns-in-Err-Some-default-clause-refused g c = λ clean.
+    let it = c.in-Err-Some-default in
+    let keeps = keeps_unseen c.in-Ok.conn it.conn it.fault (rw it.field-0-0-is at it.ensures.unseen) in
+    record { conn = c.in-Ok.conn; found = c.in-Ok.ensures.found (none_left keeps.stop.clean clean); kept = keeps.kept clean; stop = keeps.stop }
+
+pub returns-in-Err-None-default-clause-unwritten : goal.returns-in-Err-None-default-clause-unwritten
+returns-in-Err-None-default-clause-unwritten g c =
+    let it = c.in-Err-None-default in
+    record { conn = c.in-Ok.conn; found = c.in-Ok.ensures.found; none = (rw it.field-0-0-is at it.ensures.unseen).1 }
