@@ -1,9 +1,13 @@
 -- Somebody else's request at the provider of the running world.
-use Rattle.std.proofs.Common.{◌≡◌, ℕ, inl, inr, List, [], ◌∷◌, ◌++◌, refl, ap, ◌∙◌}
+use Rattle.std.proofs.Common.{◌≡◌, ℕ, inl, inr, List, [], ◌∷◌, ◌++◌, Option, Result, Ok, Err, IfErr, refl, ap, subst, ◌∙◌}
+use Rattle.scim_key.specs.Stores.{HasRisen}
 use Rattle.scim_message.specs.Messages.{answer_status}
 use Rattle.scim_message.specs.declared.messages.Request.{Request}
+use Rattle.scim_resource.specs.Contents.{content_name}
 use Rattle.scim_resource.specs.Rows.{StoredRecord}
+use Rattle.scim_resource.specs.declared.contents.Content.{Content}
 use Rattle.provider_core.specs.Outcomes.{Outcome, changed_rows, outcome}
+use Rattle.provider_core.specs.Rows.{row_named}
 use Rattle.provider_core.specs.Stores.{LeavesNoMore, LeavesOr}
 use Rattle.provider_core.specs.Stories.{rows_of, step}
 use Rattle.provider_core.specs.declared.registry.Registry.{Ghosts as Registries}
@@ -14,9 +18,9 @@ use Rattle.world_model.specs.Others.{Act, Theirs, acts, run_among, IsApart, Leav
 use Rattle.world_model.specs.Room.{IsLawfulAct}
 use Rattle.world_model.specs.Safe.{rows as world_rows}
 use Rattle.world_model.specs.World.{World, empty}
-use Rattle.world_sim.specs.Acts.{Answers, FailsToAnswer, IsExcusedTo, IsReachedAmong}
+use Rattle.world_sim.specs.Acts.{Answers, FailsToAnswer, IsExcusedTo, IsReachedAmong, write_of, write_request}
 use Rattle.world_sim.specs.GoingOn.{unknown_rows}
-use Rattle.world_sim.specs.Running.{IsSound, Mirrors}
+use Rattle.world_sim.specs.Running.{HoldsOneOf, IsSound, Mirrors}
 use Rattle.world_sim.specs.Sides.{CountsWorldFault}
 use Rattle.world_sim.specs.declared.reports.WorldFault.{WorldFault}
 use Rattle.world_sim.specs.declared.reports.WorldFault.TheVariants.{Memory, Store}
@@ -175,3 +179,42 @@ module _ {R J : Type 0} (g : Registries R) (h : Journals J) (old : Running R J) 
       rows_same faithful w m = ap (λ rows. changed_rows rows pending.change) (held faithful w m)
           ∙ ap (λ p. changed_rows (rows_of w.entries) p.change) (out faithful ∙ ap (λ rows. outcome rows request) (m.rows (was_open faithful)))
           ∙ (rows_follow_stories w.entries request m.table).rows
+
+-- ---- what others write
+
+-- the registry was looked at
+pub record IsRead {R : Type 0} (g : Registries R) (before after : R) : Type 0 where
+  pub honest : g.is_honest after → g.is_honest before
+  pub was : g.is_faithful after → g.is_faithful before
+  pub same : g.is_faithful after → g.rows after ≡ g.rows before
+  pub opened : g.is_honest after → g.is_faithful after
+  pub stop : g.is_honest after → LeavesNoMore (g.may_hold before) (g.may_hold after)
+  pub counted : g.faults after ≡ g.faults before
+
+module _ {R J : Type 0} (g : Registries R) (h : Journals J) (old : Running R J) (mid : R) (read : IsRead g old.provider mid) where
+  looked : IsSound g h (record old { provider = mid }) → (w : World) → Mirrors g h old w → Mirrors g h (record old { provider = mid }) w
+  looked sound w m = still_now g h old mid w (λ faithful. read.same faithful ∙ m.rows (read.was faithful)) (λ found holds. m.found found (read.stop sound.registry found holds)) m
+
+  looked_excuse : (new : Running R J) (fault : WorldFault) → IsExcusedTo g (record old { provider = mid }) new fault → IsExcusedTo g old new fault
+  looked_excuse new Memory same = same ∙ read.counted
+  looked_excuse new Store (inl shut) = inl shut
+  looked_excuse new Store (inr risen) = inr (subst (λ n. HasRisen n (g.faults new.provider)) read.counted risen)
+
+  module _ (new : Running R J) (row : Option StoredRecord) (content : Content) (request : Request)
+      (finds : g.is_faithful mid → row ≡ row_named (content_name content) (g.rows old.provider)) (is : request ≡ write_request row content) where
+    the_request : IsSound g h (record old { provider = mid }) → request ≡ write_of (g.rows old.provider) content
+    the_request sound = is ∙ ap (λ r. write_request r content) (finds (read.opened sound.registry))
+
+    fails_theirs : (fault : WorldFault) → FailsToAnswer g h (record old { provider = mid }) new request fault → FailsToAnswer g h old new (write_of (g.rows old.provider) content) fault
+    fails_theirs fault f = record {
+      was = λ sound. sound_old g h old mid read.honest (f.was sound);
+      is = λ sound known w m. f.is sound known w (looked (f.was sound) w m);
+      leaves = λ sound w m. subst (λ r. HoldsOneOf g h new w (acts w (Theirs r))) (the_request (f.was sound)) (f.leaves sound w (looked (f.was sound) w m));
+      rows_unknown = λ w m. f.rows_unknown w (unknown_now g h old mid w m);
+      excused = looked_excuse new fault f.excused;
+    }
+
+    pub fails_told : (result : Result ℕ WorldFault) → IfErr result (FailsToAnswer g h (record old { provider = mid }) new request)
+        → IfErr result (FailsToAnswer g h old new (write_of (g.rows old.provider) content))
+    fails_told (Ok status) f = tt
+    fails_told (Err fault) f = fails_theirs fault f

@@ -1,10 +1,17 @@
 -- Others who write at the provider of the running world: administrators, other tools, other connectors.
-use Rattle.std.specs.Prelude.{◌≡◌, ◌⊎◌, ℕ, List, false}
+use Rattle.std.specs.Prelude.{◌≡◌, ◌⊎◌, ℕ, List, Option, Some, None, false}
 use Rattle.std.specs.List.{AllByRecursion}
 use Rattle.scim_key.specs.Bases.{IsBase}
+use Rattle.scim_key.specs.Identifiers.{id_text}
 use Rattle.scim_key.specs.Stores.{HasRisen}
 use Rattle.scim_message.specs.Messages.{answer_status}
 use Rattle.scim_message.specs.declared.messages.Request.{Request}
+use Rattle.scim_message.specs.declared.messages.Request.TheVariants.{Create, Replace}
+use Rattle.scim_resource.specs.Contents.{content_name}
+use Rattle.scim_resource.specs.Rows.{StoredRecord}
+use Rattle.scim_resource.specs.declared.contents.Content.{Content}
+use Rattle.scim_version.specs.declared.conditions.Condition.TheVariants.{Always}
+use Rattle.provider_core.specs.Rows.{row_named}
 use Rattle.provider_core.specs.Stories.{step}
 use Rattle.provider_core.specs.declared.registry.Registry.{Ghosts as Registries}
 use Rattle.journal_core.specs.declared.journals.Journal.{Ghosts as Journals}
@@ -58,3 +65,13 @@ pub record FailsToAnswer {R J : Type 0} (g : Registries R) (h : Journals J) (old
   pub leaves : IsSound g h new → (w : World) → Mirrors g h old w → HoldsOneOf g h new w (acts w (Theirs request))
   pub rows_unknown : (w : World) → Mirrors (unknown_rows g) h old w → Mirrors (unknown_rows g) h new w
   pub excused : IsExcusedTo g old new fault
+
+-- The request by which others write a content: a creation, or the unconditional replacement of the resource that has
+-- its name
+abbrev pub write_request : Option StoredRecord → Content → Request
+write_request None content = Create content
+write_request (Some row) content = Replace (id_text row.number) content Always Always
+
+-- the same over these rows
+abbrev pub write_of : List StoredRecord → Content → Request
+write_of rows content = write_request (row_named (content_name content) rows) content
