@@ -48,12 +48,14 @@ pub record Answers {R J : Type 0} (g : Registries R) (h : Journals J) (old new :
   pub is : IsSound g h new → (w : World) → Mirrors g h old w → Mirrors g h new (acts w (Theirs request))
   pub among : IsSound g h new → (ours : Names) (w : World) → LeavesAlone ours request → IsAmong g h ours old w
       → IsAmong g h ours new (acts w (Theirs request))
-  pub answer : IsSound g h new → (w : World) → Mirrors g h old w → status ≡ answer_status (step w.entries request).answer
+  pub answer : IsSound g h new → (w : World) → Mirrors g h old w
+      → status ≡ answer_status (step w.entries request).answer
 
 -- out of memory isn't a fault of the registry's store; a fault of it was counted, or the provider was shut before
 abbrev pub IsExcusedTo : {R J : Type 0} → Registries R → (old new : Running R J) → WorldFault → Type 0
 IsExcusedTo g old new Memory = g.faults new.provider ≡ g.faults old.provider
-IsExcusedTo g old new Store = (old.is_provider_open ≡ false) ⊎ HasRisen (g.faults old.provider) (g.faults new.provider)
+IsExcusedTo g old new Store =
+    (old.is_provider_open ≡ false) ⊎ HasRisen (g.faults old.provider) (g.faults new.provider)
 
 -- Somebody else's request wasn't answered: each world that ran before it runs now, if its fault didn't shut the
 -- registry. Whether it did or not, the registry holds what it held before, or what the request would have made of it,
