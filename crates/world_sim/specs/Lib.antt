@@ -6,6 +6,7 @@ pub mod Fitting
 pub mod Answering
 pub mod Running
 pub mod GoingOn
+pub mod Acts
 pub mod Following
 pub mod Settling
 pub mod Schedules

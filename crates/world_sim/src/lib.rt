@@ -5,6 +5,7 @@ mod events;
 mod following;
 mod laws;
 mod messages;
+mod others;
 mod printing;
 mod random;
 mod reading;

@@ -110,7 +110,7 @@ impl View {
 }
 
 /// The provider's row of a record, if it has one.
-fn row_of<R: Registry>(
+pub(crate) fn row_of<R: Registry>(
     provider: Provider<R>,
     name: &RecordName,
 ) -> (Provider<R>, Result<Option<Stored>, WorldFault>)

@@ -215,7 +215,7 @@ fn keeps_form(base: &Base)
 }
 
 /// The answer to a request, the change of the rows, and the bytes of the reply.
-fn prepared<R: Registry>(
+pub(crate) fn prepared<R: Registry>(
     alloc: Global,
     provider: &mut Provider<R>,
     base: &Base,

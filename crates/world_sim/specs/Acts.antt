@@ -1,0 +1,79 @@
+-- Others who write at the provider of the running world: administrators, other tools, other connectors.
+use Rattle.std.specs.Prelude.{◌≡◌, ◌⊎◌, ℕ, List, Option, Some, None, false}
+use Rattle.std.specs.List.{AllByRecursion}
+use Rattle.scim_key.specs.Bases.{IsBase}
+use Rattle.scim_key.specs.Identifiers.{id_text}
+use Rattle.scim_key.specs.Stores.{HasRisen}
+use Rattle.scim_message.specs.Messages.{answer_status}
+use Rattle.scim_message.specs.declared.messages.Request.{Request}
+use Rattle.scim_message.specs.declared.messages.Request.TheVariants.{Create, Replace}
+use Rattle.scim_resource.specs.Contents.{content_name}
+use Rattle.scim_resource.specs.Rows.{StoredRecord}
+use Rattle.scim_resource.specs.declared.contents.Content.{Content}
+use Rattle.scim_version.specs.declared.conditions.Condition.TheVariants.{Always}
+use Rattle.provider_core.specs.Rows.{row_named}
+use Rattle.provider_core.specs.Stories.{step}
+use Rattle.provider_core.specs.declared.registry.Registry.{Ghosts as Registries}
+use Rattle.journal_core.specs.declared.journals.Journal.{Ghosts as Journals}
+use Rattle.world_model.specs.Invariant.{Names}
+use Rattle.world_model.specs.Others.{Act, Theirs, acts, run_among, KeepsApart, LeavesAlone}
+use Rattle.world_model.specs.Room.{IsLawfulAct}
+use Rattle.world_model.specs.World.{World, empty}
+use Rattle.world_sim.specs.GoingOn.{unknown_rows}
+use Rattle.world_sim.specs.Running.{HoldsOneOf, IsSound, Mirrors}
+use Rattle.world_sim.specs.declared.reports.WorldFault.{WorldFault}
+use Rattle.world_sim.specs.declared.reports.WorldFault.TheVariants.{Memory, Store}
+use Rattle.world_sim.specs.declared.worlds.World.{World as Running}
+
+-- Acts lead to the world: our events, and requests of others who leave our records alone
+pub record IsReachedAmong (ours : Names) (w : World) : Type 0 where
+  pub acts : List Act
+  pub apart : KeepsApart ours acts
+  pub lawful : AllByRecursion IsLawfulAct acts
+  pub is : run_among empty acts ≡ w
+
+-- The running world is this world among others, at a valid base
+pub record IsAmong {R J : Type 0} (g : Registries R) (h : Journals J) (ours : Names) (r : Running R J) (w : World)
+    : Type 0 where
+  pub mirrors : Mirrors g h r w
+  pub base : IsBase r.service
+  pub reached : IsReachedAmong ours w
+
+-- Somebody else's request was answered with this status: the world after that act runs now. If others leave our
+-- records alone, it is a world among others as before
+pub record Answers {R J : Type 0} (g : Registries R) (h : Journals J) (old new : Running R J) (request : Request)
+    (status : ℕ) : Type 0 where
+  pub was : IsSound g h new → IsSound g h old
+  pub stays_open : IsSound g h new → g.is_faithful old.provider → g.is_faithful new.provider
+  pub is : IsSound g h new → (w : World) → Mirrors g h old w → Mirrors g h new (acts w (Theirs request))
+  pub among : IsSound g h new → (ours : Names) (w : World) → LeavesAlone ours request → IsAmong g h ours old w
+      → IsAmong g h ours new (acts w (Theirs request))
+  pub answer : IsSound g h new → (w : World) → Mirrors g h old w
+      → status ≡ answer_status (step w.entries request).answer
+
+-- out of memory isn't a fault of the registry's store; a fault of it was counted, or the provider was shut before
+abbrev pub IsExcusedTo : {R J : Type 0} → Registries R → (old new : Running R J) → WorldFault → Type 0
+IsExcusedTo g old new Memory = g.faults new.provider ≡ g.faults old.provider
+IsExcusedTo g old new Store =
+    (old.is_provider_open ≡ false) ⊎ HasRisen (g.faults old.provider) (g.faults new.provider)
+
+-- Somebody else's request wasn't answered: each world that ran before it runs now, if its fault didn't shut the
+-- registry. Whether it did or not, the registry holds what it held before, or what the request would have made of it,
+-- and nothing else of the world changed
+pub record FailsToAnswer {R J : Type 0} (g : Registries R) (h : Journals J) (old new : Running R J)
+    (request : Request) (fault : WorldFault) : Type 0 where
+  pub was : IsSound g h new → IsSound g h old
+  pub is : IsSound g h new → g.is_faithful new.provider → (w : World) → Mirrors g h old w → Mirrors g h new w
+  pub leaves : IsSound g h new → (w : World) → Mirrors g h old w → HoldsOneOf g h new w (acts w (Theirs request))
+  pub rows_unknown : (w : World) → Mirrors (unknown_rows g) h old w → Mirrors (unknown_rows g) h new w
+  pub excused : IsExcusedTo g old new fault
+
+-- The request by which others write a content: a creation, or the unconditional replacement of the resource that has
+-- its name
+abbrev pub write_request : Option StoredRecord → Content → Request
+write_request None content = Create content
+write_request (Some row) content = Replace (id_text row.number) content Always Always
+
+-- the same over these rows
+abbrev pub write_of : List StoredRecord → Content → Request
+write_of rows content = write_request (row_named (content_name content) rows) content
