@@ -153,7 +153,7 @@ fn journal_again<S: Alter + Drop>(
     ensures { IfOk result (OpensFrom S.Store (state S.Store conn)) }
 {
     match SqlJournal::open(alloc, conn) {
-        Ok(entries) => Ok(entries),
+        Ok(again) => Ok(again),
         Err(refused) => Err(fault_of(refused)),
     }
 }
