@@ -105,9 +105,16 @@ fn serve_rows<'a, R: Runtime + Net + AllocGlobal, K: RowStorage>(
         ⟦<LateWriter<PromptStream<'a, SharedStream<R::Stream>, R>> as Write>⟧.contents
         K.Rows.Registry (K.finds storage.now) base.now rows requests) }
 {
-    let outcome = serve_stored(rt, rt.alloc(), storage, rows, sockets, requests, base);
-    let finished = sockets.finish(rt);
-    Ok(status_after(outcome?, finished))
+    match serve_stored(rt, rt.alloc(), storage, rows, sockets, requests, base) {
+        Ok(outcome) => {
+            let finished = sockets.finish(rt);
+            Ok(status_after(outcome, finished))
+        }
+        Err(refused) => {
+            let _finished = sockets.finish(rt);
+            Err(CommandFault::from(refused))
+        }
+    }
 }
 
 /// The exit status after connections, and after the answers that were still being sent.
