@@ -45,8 +45,8 @@ def many_handles(test, count):
 
 
 def connect_all(provider, count):
-    """So many connections. They are opened in parts, so that the system's queue never overflows: whoever doesn't get into
-    it waits for a second."""
+    """So many connections. They are opened in parts, since whoever doesn't get into the system's queue waits for a
+    second."""
     streams = []
     while len(streams) < count:
         streams += [provider.connect() for _ in range(min(PART, count - len(streams)))]
