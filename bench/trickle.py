@@ -11,6 +11,7 @@ within 5 s. With --before, the same follows for the program of an earlier versio
 """
 import argparse
 import os
+import resource
 import socket
 import threading
 import time
@@ -19,6 +20,8 @@ from slow import FIND, Server
 
 CROWDS, PACES = (256, 600, 2_000), (30, 60, 95, 150)
 PATIENCE = 5
+# How many files and sockets this process and `serve` may each have open, if the system lets them
+MOST_HANDLES = 5_000
 # 90 % of a head of 16 KB
 MOST_OF_A_HEAD = b"GET /v2/Users HTTP/1.1\r\nHost: h\r\n" + b"A: " + b"x" * 14_700
 
@@ -108,6 +111,9 @@ def main():
     parser.add_argument("--seconds", type=int, default=5, help="how long each line takes")
     parser.add_argument("--before", help="a program of an earlier version")
     given = parser.parse_args()
+    soft, hard = resource.getrlimit(resource.RLIMIT_NOFILE)
+    wanted = max(soft, MOST_HANDLES)
+    resource.setrlimit(resource.RLIMIT_NOFILE, (wanted if hard == resource.RLIM_INFINITY else min(wanted, hard), hard))
     print("clients pace" + " | alone part median 99th slowest unanswered" * (2 if given.before else 1), flush=True)
     for count in CROWDS:
         for pace in PACES:

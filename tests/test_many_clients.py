@@ -11,7 +11,7 @@ from test_slow_clients import LIST, PROMPTLY, narrow_connection
 
 # More clients than any part of the program looks at by accident
 MANY = 100
-# and more than it looks at several times over, before it accepts another
+# Many times as many as it looks at before it accepts another
 MANY_IN_PARTS = 256
 FIND_BOB = f"GET /v2/Users/{resource_id(1)} HTTP/1.1\r\nHost: h\r\n\r\n".encode()
 

@@ -1,5 +1,6 @@
 """`serve`: slow clients hold nobody up, and lose nothing."""
 import contextlib
+import os
 import resource
 import socket
 import time
@@ -10,12 +11,14 @@ from support import (
 
 FIND_BOB = f"GET /v2/Users/{resource_id(1)} HTTP/1.1\r\nHost: h\r\n\r\n".encode()
 LIST = b"GET /v2/Users HTTP/1.1\r\nHost: h\r\n\r\n"
-# Seconds within which an answer comes if nobody holds it up
-PROMPTLY = 5
+# Seconds within which an answer comes if nobody holds it up, and that a connection has in all
+PROMPTLY, LIMIT = 5, 30
 # The most connections that wait for their requests, and the seconds that each may wait even then
 MOST_HELD, GRANTED = 4_096, 0.1
 # The most bytes of memory that their requests take for longer
 MOST_MEMORY = 16 * 1024 * 1024
+# How many connections are opened together, and how many more than have a place. The system's queue takes 128
+PART, EXCESS = 100, 20
 
 
 def narrow_connection(port):
@@ -39,6 +42,17 @@ def many_handles(test, count):
         yield
     finally:
         resource.setrlimit(resource.RLIMIT_NOFILE, (soft, hard))
+
+
+def connect_all(provider, count):
+    """So many connections. They are opened in parts, since whoever doesn't get into the system's queue waits for a
+    second."""
+    streams = []
+    while len(streams) < count:
+        streams += [provider.connect() for _ in range(min(PART, count - len(streams)))]
+        held = len(streams) - EXCESS
+        wait_until(lambda: len(os.listdir(f"/proc/{provider.pid}/fd")) >= held, "a place for the connections")
+    return streams
 
 
 def is_closed(stream):
@@ -130,7 +144,7 @@ class SlowClientTest(ProgramTest):
     def test_the_oldest_client_makes_room(self):
         with many_handles(self, MOST_HELD + 500), self.serving(3, connection_faults=2) as provider, \
                 contextlib.ExitStack() as silent:
-            streams = [silent.enter_context(provider.connect()) for _ in range(MOST_HELD)]
+            streams = [silent.enter_context(stream) for stream in connect_all(provider, MOST_HELD)]
             time.sleep(10 * GRANTED)
             silent.enter_context(provider.connect())
             streams[0].settimeout(PROMPTLY)
@@ -140,11 +154,12 @@ class SlowClientTest(ProgramTest):
             time.sleep(10 * GRANTED)
             self.assert_prompt(provider, CREATE_BOB, b"201")
 
-    def test_clients_that_trickle_lock_nobody_out(self):
-        """Each sends a byte of a head now and then, so that none is silent for long, and comes back when it is closed."""
-        with many_handles(self, MOST_HELD + 500), Provider(1_000_000) as provider, \
-                Tricklers(provider, MOST_HELD + 20, 6 * GRANTED) as tricklers:
+    def assert_lets_others_in(self, provider, count, pace):
+        """So many clients each send a byte of a head at this pace, and come back when they are closed."""
+        began = time.monotonic()
+        with Tricklers(provider, count, pace) as tricklers:
             wait_until(lambda: tricklers.returns > 0, "a client that made room")
+            self.assertLess(time.monotonic() - began, LIMIT)
             for _ in range(20):
                 self.assert_prompt(provider, FIND_BOB, b"404")
                 # a request that comes within the time that each connection is granted
@@ -154,25 +169,36 @@ class SlowClientTest(ProgramTest):
                     stream.sendall(FIND_BOB[-1:])
                     self.assertTrue(read_all(stream).startswith(b"HTTP/1.1 404"))
 
+    def test_clients_that_trickle_lock_nobody_out(self):
+        with many_handles(self, MOST_HELD + 500), Provider(1_000_000) as provider:
+            self.assert_lets_others_in(provider, MOST_HELD + EXCESS, 6 * GRANTED)
+
+    def test_clients_that_are_never_silent_lock_nobody_out(self):
+        """None is silent for as long as it may wait. There are fewer places, so that the test keeps up this pace."""
+        with Provider(1_000_000, **limited_handles(120)) as provider:
+            self.assert_lets_others_in(provider, 120, 0.6 * GRANTED)
+
     def test_large_requests_that_wait(self):
         """What has come of them takes too much memory together, so the oldest are closed."""
         part = b"POST /v2/Users HTTP/1.1\r\nHost: h\r\nContent-Length: 32768\r\n\r\n" + b" " * 32_000
-        most = MOST_MEMORY // len(part)
+        most, began = MOST_MEMORY // len(part), time.monotonic()
         with Provider(1_000_000) as provider, contextlib.ExitStack() as stack:
-            streams = [stack.enter_context(provider.connect()) for _ in range(most + 50)]
+            streams = [stack.enter_context(stream) for stream in connect_all(provider, most + 50)]
             for stream in streams:
                 stream.sendall(part)
-            wait_until(lambda: sum(map(is_closed, streams)) >= 50, "the end of the oldest")
+            wait_until(lambda: all(map(is_closed, streams[:50])), "the end of the oldest")
+            self.assertLess(time.monotonic() - began, LIMIT)
             self.assertFalse(is_closed(streams[-1]))
             self.assert_prompt(provider, CREATE_BOB, b"201")
             self.assertGreater(self.connection_faults(self.kill(provider)), 0)
 
     def test_a_system_without_descriptors(self):
         """It gives no connection while others have all of them: the oldest make room."""
-        silent_clients = 40
+        silent_clients, began = 40, time.monotonic()
         with Provider(silent_clients + 10, **limited_handles(24)) as provider, contextlib.ExitStack() as silent:
             streams = [silent.enter_context(provider.connect()) for _ in range(silent_clients)]
             wait_until(lambda: is_closed(streams[0]), "the oldest made room")
+            self.assertLess(time.monotonic() - began, LIMIT)
             self.assert_prompt(provider, CREATE_BOB, b"201")
             self.assertGreater(self.connection_faults(self.kill(provider)), 0)
 
@@ -182,7 +208,7 @@ class Tricklers(Beside):
 
     def __init__(self, provider, count, pace):
         self.provider, self.pace, self.returns = provider, pace, 0
-        self.streams = [provider.connect() for _ in range(count)]
+        self.streams = connect_all(provider, count)
 
     def __exit__(self, *what):
         super().__exit__(*what)
