@@ -290,7 +290,9 @@ class Job:
                 return
             self.check_entries(site, 0, run.lines)
             self.push_again(site, provider)
-        check(show("--store", site.store), self.rows, "the store in the end")
+        # requests on several streams may be served in any order
+        order = sorted if options else list
+        check(order(show("--store", site.store)), order(self.rows), "the store in the end")
 
     def serve(self, folder, fault):
         """A push to a provider with a fault, then one to a provider without."""
