@@ -10,10 +10,10 @@ of that beside them; the median, and the slowest of 100 and of all, in milliseco
 within 5 s. With --before, the same follows for the program of an earlier version, in the same run. It judges nothing.
 """
 import argparse
+import multiprocessing
 import os
 import resource
 import socket
-import threading
 import time
 
 from slow import FIND, Server
@@ -27,20 +27,20 @@ MOST_OF_A_HEAD = b"GET /v2/Users HTTP/1.1\r\nHost: h\r\n" + b"A: " + b"x" * 14_7
 
 
 class Crowd:
-    """Clients that trickle, for as long as its context lasts."""
+    """Clients that trickle, for as long as its context lasts, in a process of their own."""
 
     def __init__(self, port, count, pace):
         self.port, self.count, self.pace = port, count, pace
-        self.is_over = threading.Event()
-        self.thread = threading.Thread(target=self.trickle, daemon=True)
+        self.is_over = multiprocessing.Event()
+        self.process = multiprocessing.Process(target=self.trickle, daemon=True)
 
     def __enter__(self):
-        self.thread.start()
+        self.process.start()
         return self
 
     def __exit__(self, *_):
         self.is_over.set()
-        self.thread.join()
+        self.process.join()
 
     def begin(self):
         """A new connection; it is set up while others go on."""
