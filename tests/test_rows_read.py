@@ -117,9 +117,13 @@ class RowsReadTest(ExchangeTest):
             last = fault.count()
         answers = []
         for place in range(first + 1, last + 1):
-            with self.subTest(place=place), self.provider(rows, 3, place)[0] as provider:
+            provider, fault = self.provider(rows, 3, place)
+            with self.subTest(place=place), provider:
                 answers.append(self.answer_if_any(provider, get(USERS)))
                 self.assertIn(answers[-1], (GIVEN_UP, expected, b""))
+                # a request that comes in parts takes some allocations more, so the fault may not have come yet
+                if not fault.has_come:
+                    continue
                 self.assertEqual(provider.exchange(get(f"{USERS}?startIndex=3&count=2")), listed(shown[2:4], 3, 5))
                 self.assertEqual(provider.exchange(get(USERS)), expected)
         self.assertIn(GIVEN_UP, answers)
