@@ -1,6 +1,6 @@
 #!/usr/bin/env python3
 """CI, as `make test` runs it: `rt ci`, which proves everything and runs the tests in Rattle and the program;
-then each module of tests/, of Python's unittest; then the schedules over files; then a table of the minutes.
+then each module of tests/, of Python's unittest; then schedules over files; then a table of the minutes.
 
 All of it runs, whatever fails before. The status is 1 if anything failed.
 """
@@ -88,10 +88,10 @@ def is_proved(table):
 
 
 def tests():
-    """What to run after `rt ci`: the name and the command of each module of tests, and of the schedules over files."""
+    """What to run after `rt ci`: the name and the command of each module of tests, and of the runs over files."""
     for it in sorted((ROOT / "tests").glob("test_*.py")):
         yield it.stem, [sys.executable, "-B", "-m", "unittest", "discover", "-s", "tests", "-p", it.name]
-    yield "schedules_over_files", [sys.executable, "-B", "tools/schedules_over_files.py"]
+    yield "runs_over_files", [sys.executable, "-B", "tools/runs_over_files.py"]
 
 
 def main():

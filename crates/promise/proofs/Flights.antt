@@ -5,13 +5,13 @@ use Rattle.scim_key.specs.declared.records.RecordName.{RecordName}
 use Rattle.scim_message.specs.declared.messages.Answer.{Answer}
 use Rattle.scim_message.specs.declared.messages.Request.{Request}
 use Rattle.http_text.specs.Counts.{Writing}
-use Rattle.scim_client.specs.Exchanges.{IsHindered, Reads, Sends, SpellsSent}
+use Rattle.scim_client.specs.Exchanges.{IsReply, Starts, SpellsSent}
 use Rattle.scim_client.specs.Requests.{text_of}
 use Rattle.scim_client.specs.declared.answers.AnswerFault.TheVariants.{NotOneResponse, NotJson, WrongShape}
 use Rattle.scim_client.specs.declared.answers.AnswerFault.TheVariants as answers
 use Rattle.scim_client.specs.declared.exchange.ExchangeFault.{ExchangeFault}
 use Rattle.scim_client.specs.declared.exchange.ExchangeFault.TheVariants.{Unsent, EndedEarly, ReadFailed, OutOfMemory, TurnsExhausted, NoAnswer}
-use Rattle.scim_client.proofs.ExchangeLemmas.{hindered_known}
+use Rattle.scim_client.proofs.ExchangeLemmas.{hindered_known, reads_none, sends_fault, sends_reply}
 use Rattle.connection.specs.Turns.{fresh_reading, fresh_writing}
 use Rattle.journal_core.specs.declared.journals.Journal.{Ghosts as Journals}
 use Rattle.connector_core.specs.Asking.{asking}
@@ -19,7 +19,6 @@ use Rattle.connector_core.specs.Maps.{BookMap, book_of}
 use Rattle.connector_core.specs.State.{State as Connector}
 use Rattle.connector_core.specs.declared.asking.Ask.TheVariants.{Send}
 use Rattle.provisioning.specs.Exchanges.{Becomes, Came, IsAsked, answer_in}
-use Rattle.provisioning.specs.Halves.{IsReply, Starts}
 use Rattle.provisioning.specs.Openings.{Opening}
 use Rattle.provisioning.specs.Tracks.{Begins, IsHeard, IsLearnt, IsReadFrom, IsSetOut, SetsOut}
 use Rattle.provisioning.specs.Windows.{name_of}
@@ -40,42 +39,7 @@ use Rattle.promise.proofs.Pushes.{among_skip}
 
 -- ---- the two halves of an exchange are one
 
-sends_reply : (text : List ℕ) (old new : Writing) (came : Result Answer ExchangeFault) → IsReply came → Starts text old new (Ok tt) → Sends text old new came
-sends_reply text old new (Ok a) reply sent = sent
-sends_reply text old new (Err (Unsent fault)) reply sent = absurd reply
-sends_reply text old new (Err EndedEarly) reply sent = sent
-sends_reply text old new (Err ReadFailed) reply sent = sent
-sends_reply text old new (Err OutOfMemory) reply sent = sent
-sends_reply text old new (Err TurnsExhausted) reply sent = sent
-sends_reply text old new (Err (NoAnswer NotOneResponse)) reply sent = sent
-sends_reply text old new (Err (NoAnswer NotJson)) reply sent = sent
-sends_reply text old new (Err (NoAnswer WrongShape)) reply sent = sent
-sends_reply text old new (Err (NoAnswer answers.OutOfMemory)) reply sent = inl sent
-
-sends_fault : (text : List ℕ) (old new : Writing) (fault : ExchangeFault) → Starts text old new (Err fault) → Sends text old new (Err fault) × IsHindered (Err fault)
-sends_fault text old new (Unsent fault) sent = (sent, tt)
-sends_fault text old new EndedEarly sent = absurd sent
-sends_fault text old new ReadFailed sent = absurd sent
-sends_fault text old new OutOfMemory sent = absurd sent
-sends_fault text old new TurnsExhausted sent = absurd sent
-sends_fault text old new (NoAnswer NotOneResponse) sent = absurd sent
-sends_fault text old new (NoAnswer NotJson) sent = absurd sent
-sends_fault text old new (NoAnswer WrongShape) sent = absurd sent
-sends_fault text old new (NoAnswer answers.OutOfMemory) sent = (inr sent, tt)
-
 module _ {I O : Type 0} (received : I → Option (List ℕ)) (posted : O → Option (List ℕ)) (base : List ℕ) (request : Request) (reader : I) (writer : O) where
-  -- what wasn't sent whole wasn't read
-  reads_none : (text : List ℕ) (old new : Writing) (fault : ExchangeFault) → Starts text old new (Err fault) → Reads request (fresh_reading (received reader)) (fresh_reading (received reader)) (Err fault)
-  reads_none text old new (Unsent fault) sent = refl
-  reads_none text old new EndedEarly sent = absurd sent
-  reads_none text old new ReadFailed sent = absurd sent
-  reads_none text old new OutOfMemory sent = absurd sent
-  reads_none text old new TurnsExhausted sent = absurd sent
-  reads_none text old new (NoAnswer NotOneResponse) sent = absurd sent
-  reads_none text old new (NoAnswer NotJson) sent = absurd sent
-  reads_none text old new (NoAnswer WrongShape) sent = absurd sent
-  reads_none text old new (NoAnswer answers.OutOfMemory) sent = inr refl
-
   asked_whole : (written : Writing) (came : Result Answer ExchangeFault) → Starts (text_of base request) (fresh_writing (posted writer)) written (Ok tt) → SpellsSent base request (fresh_writing (posted writer)) written
       → IsReadFrom received request reader came → IsAsked received posted base request reader writer came
   asked_whole written came starts spelled read = record {
@@ -96,7 +60,7 @@ module _ {I O : Type 0} (received : I → Option (List ℕ)) (posted : O → Opt
         written = written;
         sent = sends.0;
         spelled = spelled;
-        read = reads_none (text_of base request) (fresh_writing (posted writer)) written fault starts;
+        read = reads_none request (fresh_reading (received reader)) (text_of base request) (fresh_writing (posted writer)) written fault starts;
         known = hindered_known request (received reader) (received reader) (Err fault) sends.1;
       }
 

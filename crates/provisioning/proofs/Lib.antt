@@ -8,7 +8,6 @@ mod OfferLemmas
 mod MoveLemmas
 mod TrackLemmas
 mod WindowLemmas
-mod HalfLemmas
 mod AbreastLemmas
 mod DryLemmas
 mod PlanLemmas

@@ -13,7 +13,6 @@ pub mod Sources
 pub mod Turns
 pub mod Tracks
 pub mod Windows
-pub mod Halves
 pub mod Abreast
 pub mod DryRuns
 pub mod Plans

@@ -5,8 +5,7 @@ use Rattle.scim_key.specs.declared.records.RecordName.{RecordName}
 use Rattle.scim_message.specs.declared.messages.Answer.{Answer}
 use Rattle.scim_message.specs.declared.messages.Request.{Request}
 use Rattle.http_text.specs.Counts.{Reading, Writing}
-use Rattle.scim_client.specs.Exchanges.{SpellsSent, Reads, ExchangesKnown}
-use Rattle.provisioning.specs.Halves.{IsReply, Starts}
+use Rattle.scim_client.specs.Exchanges.{SpellsSent, Starts, IsReply, Reads, ExchangesKnown}
 use Rattle.scim_client.specs.Requests.{text_of}
 use Rattle.scim_client.specs.declared.exchange.ExchangeFault.{ExchangeFault}
 use Rattle.connection.specs.Turns.{fresh_reading, fresh_writing}

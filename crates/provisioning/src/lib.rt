@@ -13,7 +13,6 @@ mod explaining;
 mod explanations;
 mod faults;
 mod files;
-mod halves;
 mod heads;
 mod keeping;
 mod leavers;

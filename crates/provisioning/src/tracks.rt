@@ -9,13 +9,12 @@ ghost use Rattle.provisioning.specs.Tracks.{Advances, Closes, ComesOfOpening, Go
 use crate::dialing::Dial;
 use crate::exchanging::{explain, take};
 use crate::faults::{RecordFault, RunFault, open_fault};
-use crate::halves::{read_reply, send_request};
 use crate::recording::Recording;
 use crate::records::{Standing, standing_after};
 use connector_core::{Ask, AskFault, Connector};
 use http_text::{Input, Output};
 use journal_core::Journal;
-use scim_client::{ExchangeFault, ScimService};
+use scim_client::{ExchangeFault, ScimService, read_reply};
 use scim_key::RecordName;
 use scim_message::{Answer, Request};
 use std::alloc::Global;
@@ -165,7 +164,7 @@ fn send_on<R: Read + Drop, W: Write + Drop>(
     ensures { IsSetOut W.contents service.now request (reader, writer) result }
 {
     let mut output = Output::new(writer);
-    let sent = send_request(alloc, service, &request, &mut output);
+    let sent = service.send_request(alloc, &request, &mut output);
     Flight {
         request,
         reader,

@@ -19,37 +19,70 @@ use Rattle.scim_client.specs.declared.answers.AnswerFault.TheVariants as answers
 use Rattle.scim_client.specs.declared.exchange.ExchangeFault.{ExchangeFault}
 use Rattle.scim_client.specs.declared.exchange.ExchangeFault.TheVariants.{Unsent, EndedEarly, ReadFailed, OutOfMemory, TurnsExhausted, NoAnswer}
 use Rattle.scim_client.specs.Answers.{answer_in}
-use Rattle.scim_client.specs.Exchanges.{IsSent, Sends, fault_of, StopsReading, Reads, IsHindered, IsWithout, ExchangesKnown, HasRead, ComesOf}
+use Rattle.scim_client.specs.Exchanges.{Sends, Starts, IsReply, fault_of, StopsReading, Reads, IsHindered, IsWithout, ExchangesKnown, HasRead, ComesOf}
 use Rattle.scim_client.proofs.AnswerLemmas.{refused_is_not_said, same_said, not_both}
 
--- ---- what was sent
+-- ---- the two halves of an exchange are one
 
-module _ (text : List ℕ) (old new : Writing) (sent : IsSent old new text) where
-  sends_at_fault : (fault : ReadFault) → Sends text old new (Err (fault_of fault))
-  sends_at_fault faults.Malformed = sent
-  sends_at_fault (faults.HostMissingOrRepeated is_head) = sent
-  sends_at_fault (faults.LengthMissing is_head) = sent
-  sends_at_fault (faults.BodyTooLong is_head) = sent
-  sends_at_fault faults.HeadTooLong = sent
-  sends_at_fault (faults.TransferCoding is_head) = sent
-  sends_at_fault (faults.Expectation is_head) = sent
-  sends_at_fault faults.EndedEarly = sent
-  sends_at_fault faults.ReadFailed = sent
-  sends_at_fault faults.OutOfMemory = sent
-  sends_at_fault faults.TurnsExhausted = sent
+pub sends_reply : (text : List ℕ) (old new : Writing) (came : Result Answer ExchangeFault) → IsReply came → Starts text old new (Ok tt) → Sends text old new came
+sends_reply text old new (Ok a) reply sent = sent
+sends_reply text old new (Err (Unsent fault)) reply sent = absurd reply
+sends_reply text old new (Err EndedEarly) reply sent = sent
+sends_reply text old new (Err ReadFailed) reply sent = sent
+sends_reply text old new (Err OutOfMemory) reply sent = sent
+sends_reply text old new (Err TurnsExhausted) reply sent = sent
+sends_reply text old new (Err (NoAnswer NotOneResponse)) reply sent = sent
+sends_reply text old new (Err (NoAnswer NotJson)) reply sent = sent
+sends_reply text old new (Err (NoAnswer WrongShape)) reply sent = sent
+sends_reply text old new (Err (NoAnswer answers.OutOfMemory)) reply sent = inl sent
 
-  pub sends : (request : Request) (r : Result Message ReadFault) (result : Result Answer ExchangeFault) → ComesOf request r result → Sends text old new result
-  sends request (Err fault) result h = subst (Sends text old new) (sym h) (sends_at_fault fault)
-  sends request (Ok m) (Ok a) h = sent
-  sends request (Ok m) (Err (Unsent fault)) h = absurd h
-  sends request (Ok m) (Err EndedEarly) h = absurd h
-  sends request (Ok m) (Err ReadFailed) h = absurd h
-  sends request (Ok m) (Err OutOfMemory) h = absurd h
-  sends request (Ok m) (Err TurnsExhausted) h = absurd h
-  sends request (Ok m) (Err (NoAnswer NotOneResponse)) h = absurd h
-  sends request (Ok m) (Err (NoAnswer NotJson)) h = sent
-  sends request (Ok m) (Err (NoAnswer WrongShape)) h = sent
-  sends request (Ok m) (Err (NoAnswer answers.OutOfMemory)) h = inl sent
+pub sends_fault : (text : List ℕ) (old new : Writing) (fault : ExchangeFault) → Starts text old new (Err fault) → Sends text old new (Err fault) × IsHindered (Err fault)
+sends_fault text old new (Unsent fault) sent = (sent, tt)
+sends_fault text old new EndedEarly sent = absurd sent
+sends_fault text old new ReadFailed sent = absurd sent
+sends_fault text old new OutOfMemory sent = absurd sent
+sends_fault text old new TurnsExhausted sent = absurd sent
+sends_fault text old new (NoAnswer NotOneResponse) sent = absurd sent
+sends_fault text old new (NoAnswer NotJson) sent = absurd sent
+sends_fault text old new (NoAnswer WrongShape) sent = absurd sent
+sends_fault text old new (NoAnswer answers.OutOfMemory) sent = (inr sent, tt)
+
+-- what wasn't sent whole wasn't read
+pub reads_none : (request : Request) (reading : Reading) (text : List ℕ) (old new : Writing) (fault : ExchangeFault) → Starts text old new (Err fault) → Reads request reading reading (Err fault)
+reads_none request reading text old new (Unsent fault) sent = refl
+reads_none request reading text old new EndedEarly sent = absurd sent
+reads_none request reading text old new ReadFailed sent = absurd sent
+reads_none request reading text old new OutOfMemory sent = absurd sent
+reads_none request reading text old new TurnsExhausted sent = absurd sent
+reads_none request reading text old new (NoAnswer NotOneResponse) sent = absurd sent
+reads_none request reading text old new (NoAnswer NotJson) sent = absurd sent
+reads_none request reading text old new (NoAnswer WrongShape) sent = absurd sent
+reads_none request reading text old new (NoAnswer answers.OutOfMemory) sent = inr refl
+
+-- ---- a reply
+
+reply_at_fault : (fault : ReadFault) → IsReply (Err (fault_of fault))
+reply_at_fault faults.Malformed = tt
+reply_at_fault (faults.HostMissingOrRepeated is_head) = tt
+reply_at_fault (faults.LengthMissing is_head) = tt
+reply_at_fault (faults.BodyTooLong is_head) = tt
+reply_at_fault faults.HeadTooLong = tt
+reply_at_fault (faults.TransferCoding is_head) = tt
+reply_at_fault (faults.Expectation is_head) = tt
+reply_at_fault faults.EndedEarly = tt
+reply_at_fault faults.ReadFailed = tt
+reply_at_fault faults.OutOfMemory = tt
+reply_at_fault faults.TurnsExhausted = tt
+
+pub is_reply : (request : Request) (r : Result Message ReadFault) (result : Result Answer ExchangeFault) → ComesOf request r result → IsReply result
+is_reply request (Err fault) result h = subst IsReply (sym h) (reply_at_fault fault)
+is_reply request (Ok m) (Ok a) h = tt
+is_reply request (Ok m) (Err (Unsent fault)) h = absurd h
+is_reply request (Ok m) (Err EndedEarly) h = absurd h
+is_reply request (Ok m) (Err ReadFailed) h = absurd h
+is_reply request (Ok m) (Err OutOfMemory) h = absurd h
+is_reply request (Ok m) (Err TurnsExhausted) h = absurd h
+is_reply request (Ok m) (Err (NoAnswer fault)) h = tt
 
 -- ---- what was read
 

@@ -142,6 +142,32 @@ pub record ExchangesKnown (request : Request) (remaining left : Option (List ℕ
       → NeverHas response_form bytes
       → (result ≡ Err (NoAnswer NotOneResponse)) ⊎ IsHindered result
 
+-- ---- the two halves of an exchange
+
+-- A request is sent: its text was written whole; or as much as the fault reports, in agreement with the writer's
+-- counts; or nothing, if memory ran out first
+abbrev pub Starts : List ℕ → Writing → Writing → Result (Unit {0}) ExchangeFault → Type 0
+Starts text old new (Ok sent) = IsSent old new text
+Starts text old new (Err (Unsent fault)) = IsLost old new text fault × EndsSending old new fault
+Starts text old new (Err EndedEarly) = ⊥
+Starts text old new (Err ReadFailed) = ⊥
+Starts text old new (Err OutOfMemory) = ⊥
+Starts text old new (Err TurnsExhausted) = ⊥
+Starts text old new (Err (NoAnswer NotOneResponse)) = ⊥
+Starts text old new (Err (NoAnswer NotJson)) = ⊥
+Starts text old new (Err (NoAnswer WrongShape)) = ⊥
+Starts text old new (Err (NoAnswer answers.OutOfMemory)) = new ≡ old
+
+-- its answer is read: the result of a request that was sent whole
+abbrev pub IsReply : Result Answer ExchangeFault → Type 0
+IsReply (Ok a) = ⊤
+IsReply (Err (Unsent fault)) = ⊥
+IsReply (Err EndedEarly) = ⊤
+IsReply (Err ReadFailed) = ⊤
+IsReply (Err OutOfMemory) = ⊤
+IsReply (Err TurnsExhausted) = ⊤
+IsReply (Err (NoAnswer fault)) = ⊤
+
 -- ---- the steps of an exchange
 
 -- what was read, as the reader of responses reports it

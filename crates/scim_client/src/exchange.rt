@@ -77,32 +77,55 @@ impl ScimService {
         ensures writes { CountsTurns writer.old.calls writer.new.calls }
         ensures reads { CountsTurns reader.old.calls reader.new.calls }
     {
+        match self.send_request(alloc, request, writer) {
+            Ok(()) => read_reply(alloc, request, reader),
+            Err(fault) => Err(fault),
+        }
+    }
+
+    /// Sends a request, and reads nothing. The fault says how much was sent. If memory runs out before anything is
+    /// sent, the stream is unchanged.
+    pub fn send_request<W: Write>(
+        &self,
+        alloc: Global,
+        request: &Request,
+        writer: &mut Output<W>,
+    ) -> Result<(), ExchangeFault>
+        ensures sent { spec.Starts (text_of self.now request.now) writer.old writer.new result }
+        ensures spelled { spec.SpellsSent self.now request.now writer.old writer.new }
+        ensures writes { CountsTurns writer.old.calls writer.new.calls }
+    {
         match self.bytes_of(alloc, request) {
-            Ok(text) => ask(alloc, request, &text, reader, writer),
+            Ok(text) => send_text(&text, writer),
             Err(_) => Err(ExchangeFault::NoAnswer(AnswerFault::OutOfMemory)),
         }
     }
 }
 
-/// Sends the text of a request, and reads the answer to it.
-fn ask<R: Read, W: Write>(
+/// Sends the text of a request.
+fn send_text<W: Write>(text: &[u8], writer: &mut Output<W>) -> Result<(), ExchangeFault>
+    ensures sent { spec.Starts text.now writer.old writer.new result }
+    ensures writes { CountsTurns writer.old.calls writer.new.calls }
+{
+    match send(writer, text) {
+        Ok(()) => Ok(()),
+        Err(fault) => Err(ExchangeFault::Unsent(fault)),
+    }
+}
+
+/// Reads one response to a request that was sent; bytes after it stay in the reader.
+pub fn read_reply<R: Read>(
     alloc: Global,
     request: &Request,
-    text: &[u8],
     reader: &mut Input<R>,
-    writer: &mut Output<W>,
 ) -> Result<Answer, ExchangeFault>
-    ensures sent { spec.Sends text.now writer.old writer.new result }
+    ensures reply { spec.IsReply result }
     ensures read { spec.Reads request.now reader.old reader.new result }
     ensures known { spec.ExchangesKnown request.now reader.old.remaining reader.new.remaining
         result }
-    ensures writes { CountsTurns writer.old.calls writer.new.calls }
     ensures reads { CountsTurns reader.old.calls reader.new.calls }
 {
-    match send(writer, text) {
-        Ok(()) => receive(alloc, request, reader),
-        Err(fault) => Err(ExchangeFault::Unsent(fault)),
-    }
+    receive(alloc, request, reader)
 }
 
 /// Reads the answer to a request.

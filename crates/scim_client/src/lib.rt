@@ -11,6 +11,6 @@ mod service;
 
 pub use answer_laws::{answers_are_read, one_answer};
 pub use answers::{AnswerFault, read_answer};
-pub use exchange::ExchangeFault;
+pub use exchange::{ExchangeFault, read_reply};
 pub use request_laws::{one_request, requests_are_spelled};
 pub use service::{CreateRequest, ReplaceRequest, RetrieveRequest, ScimService, SearchRequest};

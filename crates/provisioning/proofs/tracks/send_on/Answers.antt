@@ -1,6 +1,5 @@
 use Rattle.std.proofs.Common.{refl, subst}
-use Rattle.scim_client.specs.Exchanges.{SpellsSent}
-use Rattle.provisioning.specs.Halves.{Starts}
+use Rattle.scim_client.specs.Exchanges.{SpellsSent, Starts}
 use Rattle.scim_client.specs.Requests.{text_of}
 use Rattle.http_text.specs.Counts.{Writing}
 use Rattle.provisioning.proofs.tracks.send_on.Goals as goal

@@ -1,11 +1,12 @@
 #!/usr/bin/env python3
 """Runs the schedules of tests/schedules over stores in files, and compares what is printed with NAME.out, which
-`simulate` prints of the same events over stores in memory.
+`simulate` prints of the same events over stores in memory. The schedules of tests/reluctant run over stores that can't
+be opened again at the first try, in memory and in files.
 
-    tools/schedules_over_files.py
+    tools/runs_over_files.py
 
 The contract of a run is proved over any stores. The proof of a run that names the types of files doesn't end, so
-`schedules_over_files.rattle`, beside this, is built without proofs. That takes about 4 minutes. CI does it last.
+`runs_over_files.rattle`, beside this, is built without proofs. That takes about 4 minutes. CI does it last.
 """
 import difflib
 import pathlib
@@ -15,8 +16,8 @@ import sys
 import tempfile
 
 ROOT = pathlib.Path(__file__).resolve().parent.parent
-NAME = "schedules_over_files"
-LIBRARIES = "scim_key provider_store journal_store world_sim sqlite anyhow"
+NAME = "runs_over_files"
+LIBRARIES = "scim_key scim_resource provider_core provider_store source_csv journal_core journal_store connector_core world_sim sqlite anyhow"
 # Seconds that the runs may take
 MOST_SECONDS = "600"
 
@@ -34,12 +35,13 @@ def lay_out(room):
                 shutil.copytree(ROOT / folder, room / folder)
     folder = room / "crates" / NAME
     (folder / "src").mkdir(parents=True)
-    shutil.copy(ROOT / "tools" / f"{NAME}.rattle", folder / "src/main.rt")
+    for source, module in ((NAME, "main"), ("reluctant", "reluctant")):
+        shutil.copy(ROOT / "tools" / f"{source}.rattle", folder / "src" / f"{module}.rt")
     return folder
 
 
 def main():
-    schedules = sorted((ROOT / "tests/schedules").glob("*.schedule"))
+    schedules = [it for name in ("schedules", "reluctant") for it in sorted((ROOT / "tests" / name).glob("*.schedule"))]
     wanted = [line for it in schedules for line in (it.stem, *it.with_suffix(".out").read_text().splitlines())]
     words = ["rt", "try", "--steps", "1", "--seconds", MOST_SECONDS]
     words += [word for it in schedules for word in ("--data", f"{it.name}={it}")]
@@ -51,7 +53,7 @@ def main():
     if ran.returncode or printed != wanted:
         print(*difflib.unified_diff(wanted, printed, "memory", "files", lineterm=""), ran.stderr, sep="\n")
         return 1
-    print(f"{len(schedules)} schedules report over files what they report in memory")
+    print(f"{len(schedules)} schedules report over files what is wanted")
     return 0
 
 
