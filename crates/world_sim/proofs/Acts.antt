@@ -1,5 +1,5 @@
 -- Somebody else's request at the provider of the running world.
-use Rattle.std.proofs.Common.{◌≡◌, ℕ, inl, inr, List, [], ◌∷◌, ◌++◌, Option, Result, Ok, Err, IfErr, refl, ap, subst, ◌∙◌}
+use Rattle.std.proofs.Common.{◌≡◌, ℕ, inl, inr, List, Option, Result, Ok, Err, IfErr, ap, subst, ◌∙◌}
 use Rattle.scim_key.specs.Stores.{HasRisen}
 use Rattle.scim_message.specs.Messages.{answer_status}
 use Rattle.scim_message.specs.declared.messages.Request.{Request}
@@ -13,10 +13,9 @@ use Rattle.provider_core.specs.Stories.{rows_of, step}
 use Rattle.provider_core.specs.declared.registry.Registry.{Ghosts as Registries}
 use Rattle.provider_core.proofs.StoryLaws.{rows_follow_stories}
 use Rattle.journal_core.specs.declared.journals.Journal.{Ghosts as Journals}
-use Rattle.world_model.specs.Invariant.{Names}
-use Rattle.world_model.specs.Others.{Theirs, acts, LeavesAlone}
+use Rattle.world_model.specs.Others.{Theirs, acts}
 use Rattle.world_model.specs.Safe.{rows as world_rows}
-use Rattle.world_model.specs.World.{World, empty}
+use Rattle.world_model.specs.World.{World}
 use Rattle.world_sim.specs.Acts.{Answers, FailsToAnswer, IsExcusedTo, write_of, write_request}
 use Rattle.world_sim.specs.GoingOn.{unknown_rows}
 use Rattle.world_sim.specs.Running.{HoldsOneOf, IsSound, Mirrors}

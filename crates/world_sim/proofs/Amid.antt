@@ -3,9 +3,7 @@ use Rattle.std.proofs.Common.{arith, ◌≡◌, ◌<◌, ◌+◌, ◌⊎◌, ℕ
 use Rattle.std.proofs.Math.ListN.{get_or}
 use Rattle.std.proofs.Math.Seq.{take-suc}
 use Rattle.std.proofs.lemmas.List.{append_assoc, map_push, take-append-drop}
-use Rattle.std.specs.FinMap as fin
 use Rattle.std.specs.List.{AllByRecursion}
-use Rattle.scim_key.specs.Stores.{HasRisen}
 use Rattle.scim_message.specs.Messages.{answer_status}
 use Rattle.scim_message.specs.declared.messages.Request.{Request}
 use Rattle.scim_resource.specs.Contents.{content_name}
@@ -16,17 +14,17 @@ use Rattle.provider_core.specs.Stories.{step}
 use Rattle.provider_core.specs.declared.registry.Registry.{Ghosts as Registries}
 use Rattle.journal_core.specs.declared.journals.Journal.{Ghosts as Journals}
 use Rattle.world_model.specs.Invariant.{Names, all_names}
-use Rattle.world_model.specs.Others.{Act, Ours, Theirs, HeadlineAmong, IsApart, KeepsApart, LeavesAlone, OfOurs, acts, run_among}
+use Rattle.world_model.specs.Others.{Ours, Theirs, HeadlineAmong, IsApart, KeepsApart, LeavesAlone, acts, run_among}
 use Rattle.world_model.specs.Reports.{Report, report, reports}
 use Rattle.world_model.specs.Safe.{Onward, rows as world_rows}
-use Rattle.world_model.specs.World.{World, Message, Event, empty, happens, run}
+use Rattle.world_model.specs.World.{World, Message, empty, happens, run}
 use Rattle.world_model.proofs.Headlines.{headline_holds, headline_holds_among}
 use Rattle.world_model.proofs.Invariant.{all_of_ours}
 use Rattle.world_model.proofs.Onwards.{always_onward, always_onward_among}
 use Rattle.world_model.proofs.Others.{without_others}
 use Rattle.world_model.proofs.Safety.{always_safe, always_safe_among}
 use Rattle.world_sim.specs.Acts.{Answers, write_of, write_request}
-use Rattle.world_sim.specs.Amid.{ActReport, Of_ours, Of_others, Does, EndsRunAmong, FailsToDo, IsApartFrom, IsKept, IsRunAmong, RunsAlone, RunsAmong, RunsAmongFromEmpty, act_of, act_report, act_report_of, act_reports, acts_of}
+use Rattle.world_sim.specs.Amid.{ActReport, Of_ours, Of_others, Does, EndsRunAmong, FailsToDo, IsApartFrom, IsKept, RunsAlone, RunsAmong, RunsAmongFromEmpty, act_of, act_report, act_report_of, act_reports, acts_of}
 use Rattle.world_sim.specs.Events.{event_of, events_of, report_of}
 use Rattle.world_sim.specs.Messages.{message_size}
 use Rattle.world_sim.specs.Running.{Happens, IsAmong, IsSound, Starts, journal_in, opens_of}

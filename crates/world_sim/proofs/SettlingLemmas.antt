@@ -13,7 +13,7 @@ use Rattle.connector_core.specs.Book.{Book}
 use Rattle.connector_core.specs.declared.asking.Ask.{Ask}
 use Rattle.connector_core.specs.declared.asking.Ask.TheVariants.{Nothing, Waits, Send}
 use Rattle.scim_message.specs.declared.messages.Request.{Request}
-use Rattle.world_model.specs.Invariant.{Names, all_names}
+use Rattle.world_model.specs.Invariant.{Names}
 use Rattle.world_model.specs.Others.{OfOurs, run_among}
 use Rattle.world_model.specs.Reports as model
 use Rattle.world_model.specs.Room.{HasRoom, LeavesRoom, Meanwhile}
@@ -27,7 +27,7 @@ use Rattle.world_model.proofs.OneWay.{leads_on}
 use Rattle.world_model.proofs.Settling.{settles_among}
 use Rattle.world_sim.specs.Events.{report_of}
 use Rattle.world_sim.specs.Messages.{message_size, messages_of}
-use Rattle.world_sim.specs.Running.{Fails, Happens, HasBook, Is, IsAmong, IsExcused, IsKnown, IsOpenTo, IsReached, IsReachedAmong, IsSound, Runs, if_restart, is_open, journal_in, names_in}
+use Rattle.world_sim.specs.Running.{Fails, Happens, HasBook, IsAmong, IsExcused, IsKnown, IsOpenTo, IsReached, IsReachedAmong, IsSound, Runs, if_restart, is_open, journal_in, names_in}
 use Rattle.world_sim.specs.Settling.{IsSendOrDeliver, IsSettling, MaySettle, SendsAndDelivers, Settles, SettlesRecord, Stops, TakesStep}
 use Rattle.world_sim.specs.Views.{IsNoName}
 use Rattle.world_sim.specs.declared.reports.Report.{Report}

@@ -10,7 +10,7 @@ use Rattle.scim_resource.specs.Contents.{content_name}
 use Rattle.provider_core.specs.Stories.{step}
 use Rattle.provider_core.specs.declared.registry.Registry.{Ghosts as Registries}
 use Rattle.journal_core.specs.declared.journals.Journal.{Ghosts as Journals}
-use Rattle.world_model.specs.Invariant.{Names, all_names}
+use Rattle.world_model.specs.Invariant.{Names}
 use Rattle.world_model.specs.Others.{Act, Ours, Theirs, HeadlineAmong, LeavesAlone, OfOurs, SafeAmong, acts, run_among}
 use Rattle.world_model.specs.Reports.{Report, report}
 use Rattle.world_model.specs.Safe.{Onward, rows as world_rows}

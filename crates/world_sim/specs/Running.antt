@@ -16,7 +16,7 @@ use Rattle.connector_core.specs.Book.{Book, reopened}
 use Rattle.connector_core.specs.Maps.{BookMap, book_of}
 use Rattle.connector_core.specs.State.{AreOf}
 use Rattle.world_model.specs.World.{World, Message, Asked, Answered, Event, Changes, Sends, Delivers, Cuts, Restarts_provider, Restarts_connector, message_at, names as world_names, arrives, happens, empty, run}
-use Rattle.world_model.specs.Reports.{Report, report, reports, arrival_report, sending_report}
+use Rattle.world_model.specs.Reports.{report, reports, arrival_report, sending_report}
 use Rattle.world_model.specs.Safe.{Has, Headline, Onward, Safe, rows as world_rows}
 use Rattle.world_model.specs.Untroubled.{IsLawful}
 use Rattle.world_model.specs.Invariant.{Names, all_names}

@@ -1,4 +1,4 @@
-use Rattle.std.proofs.Common.{◌≡◌, ◌<◌, [], length, take, subst, sym, rules}
+use Rattle.std.proofs.Common.{◌≡◌, ◌<◌, [], length, take, subst, rules}
 use Rattle.std.proofs.lemmas.List.{take_all}
 use Rattle.std.proofs.lemmas.Result.{err_from_is_err_and}
 use Rattle.world_sim.specs.Amid.{RunsAmong}
