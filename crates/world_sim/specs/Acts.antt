@@ -22,8 +22,8 @@ use Rattle.world_sim.specs.declared.reports.WorldFault.{WorldFault}
 use Rattle.world_sim.specs.declared.reports.WorldFault.TheVariants.{Memory, Store}
 use Rattle.world_sim.specs.declared.worlds.World.{World as Running}
 
--- Somebody else's request was answered with this status: the world after that act runs now. If others leave our
--- records alone, it is a world among others as before
+-- Somebody else's request was answered with this status: the world after that act runs now, and the registry was open
+-- before it. If others leave our records alone, it is a world among others as before
 pub record Answers {R J : Type 0} (g : Registries R) (h : Journals J) (old new : Running R J) (request : Request)
     (status : ℕ) : Type 0 where
   pub was : IsSound g h new → IsSound g h old
